@@ -1,0 +1,7 @@
+//! What a script means: values, the host that answers its acts, and its run under a bound on acts.
+//! It runs nothing.
+#![tactic(auto)]
+
+mod value;
+
+pub use value::{ExceptionClass, Value};

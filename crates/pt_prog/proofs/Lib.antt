@@ -1,0 +1,11 @@
+pub mod Law
+pub mod Follow
+pub mod Means
+pub mod Placed
+pub mod CompileLemmas
+pub mod MachineLemmas
+pub mod RunLemmas
+pub mod AdvanceLemmas
+pub mod LoopLemmas
+pub mod NumberLemmas
+pub mod ItemLemmas

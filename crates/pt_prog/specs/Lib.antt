@@ -1,0 +1,9 @@
+pub mod View
+pub mod CodeRun
+pub mod Place
+pub mod Layout
+pub mod Operated
+pub mod Machine
+pub mod Running
+pub mod Spelling
+pub mod Reading

@@ -1,0 +1,52 @@
+-- A run of code on its way to the end.
+use Rattle.std.specs.Prelude.{◌≡◌, ℕ, ◌+◌, List, [], ◌++◌, Option, Some, None, false}
+use Rattle.pt_base.specs.Taken.{Pieces, Takes, TakesFront}
+use Rattle.pt_tree.specs.Turn.{End, done, left_by}
+use Rattle.pt_meaning.specs.Run.{Ending, ended, outside, spent}
+use Rattle.pt_meaning.specs.declared.value.Value.{Value}
+use Rattle.pt_meaning.specs.declared.value.Value.TheVariants.{Exception}
+use Rattle.pt_meaning.specs.Host.{World, host}
+use Rattle.pt_prog.specs.declared.machine.Machine.{Machine}
+use Rattle.pt_prog.specs.declared.run.Stop.{Stop}
+use Rattle.pt_prog.specs.declared.run.Stop.TheVariants as stop
+use Rattle.pt_prog.specs.declared.code.Code.{Code}
+use Rattle.pt_prog.specs.declared.code.Placed.{Placed}
+use Rattle.pt_prog.specs.View.{Laid, laid, ins_of}
+use Rattle.pt_prog.specs.CodeRun.{Runs, on, turn, here}
+use Rattle.pt_prog.specs.Machine.{world_of}
+
+-- what becomes of the world in a whole run, and how it ends
+pub record Whole : Type 0 where
+  pub world : World
+  pub ending : Ending Value
+
+-- a place of a run: how many acts are left behind it, and what is written so far
+pub record Point : Type 0 where
+  pub whole : Whole
+  pub at : ℕ
+  pub left : ℕ
+  pub written : Pieces
+
+-- a run that is not broken off ends so
+abbrev pub IsEnding : Option Stop → Ending Value → Type 0
+IsEnding None (ended done) = Unit {0}
+IsEnding (Some stop.Raised) (ended (left_by v)) = Unit {0}
+IsEnding (Some (stop.Outside what line)) (outside what' line') = (what' ≡ what) × (line' ≡ line.0)
+IsEnding s e = ⊥
+
+-- the whole of the run's pieces was taken
+abbrev pub Finished : Whole → Option Stop → (old new : Pieces → Pieces → Type 0) → Type 0
+Finished whole s old new = IsEnding s whole.ending × Takes old new whole.world.written
+
+-- the run comes to what stands at the place, with the machine's slots and names
+abbrev pub RunsAt : Code → Placed → Machine → Point → Type 0
+RunsAt code placed m p = Runs host (laid code) (p.left + 1) (here false (ins_of code.texts code.constants p.at (Some placed)) m.slots) (world_of m p.written) p.whole.world p.whole.ending
+
+-- of the pieces that are left to write, a front was taken
+abbrev pub BrokenOff : Point → (old new : Pieces → Pieces → Type 0) → Type 0
+BrokenOff p old new = (rest : Pieces) × (p.whole.world.written ≡ p.written ++ rest) × TakesFront old new rest
+
+-- one act further, or at the end of the run
+abbrev pub Advanced : Laid → Point → Option Stop → Machine → (old new : Pieces → Pieces → Type 0) → Type 0
+Advanced code p None m old new = (more : Pieces) × Takes old new more × Runs host code p.left (turn code (on (p.at + 1) m.slots)) (world_of m (p.written ++ more)) p.whole.world p.whole.ending
+Advanced code p (Some why) m old new = IsEnding (Some why) p.whole.ending × (p.whole.world.written ≡ p.written) × Takes old new []
