@@ -1,15 +1,15 @@
 -- Words that spell an item of a sum, and words that spell none.
-use Rattle.std.proofs.Common.{◌≡◌, ◌≢◌, ◌<◌, ◌^◌, ℕ, ℤ, pos, negsuc, List, [], ◌∷◌, Bor, true, false, map, refl, sym, ap, subst}
-use Rattle.std.specs.Prelude.{◌||◌}
+use Rattle.std.proofs.Common.{◌≡◌, ◌≢◌, ◌<◌, ◌^◌, ℕ, ℤ, pos, negsuc, List, [], ◌∷◌, Bor, true, false, map, refl, sym, ap, subst, ◌∙◌}
+use Rattle.std.specs.Prelude.{◌||◌, codes}
 use Rattle.std.specs.Fmt.{decimal}
 use Rattle.std.specs.List.{list_all, list_any}
 use Rattle.std.specs.Str.{bytes_eq}
 use Rattle.pt_tree.specs.declared.tree.Expr.{Expr}
-use Rattle.pt_tree.specs.declared.tree.ExprNode.{Int, Str, Name}
+use Rattle.pt_tree.specs.declared.tree.ExprNode.{Int, Str, Name, Call}
 use Rattle.pt_tree.specs.Syntax as S
 use Rattle.pt_tree.specs.Syntax.{Exp}
 use Rattle.pt_tree.specs.Fold.{exp_of}
-use Rattle.pt_tree.proofs.Folds.{exp_of-Int, exp_of-Str, exp_of-Name}
+use Rattle.pt_tree.proofs.Folds.{exp_of-Int, exp_of-Str, exp_of-Name, exp_of-Call}
 use Rattle.pt_prog.specs.declared.words.TheConstants.{KEYWORDS, BUILTINS}
 use Rattle.pt_prog.specs.Spelling.{is_listed, is_reserved, is_name, is_text_byte, quoted, IsItem, spelled}
 
@@ -46,3 +46,9 @@ no_item l word unnamed no_text no_number (S.constant k (S.str t)) i e = no_text 
 no_item l word unnamed no_text no_number (S.name k x) i e = let named = i.1 in let same = ap is_name e in cc
 no_item l word unnamed no_text no_number (S.binary k o a b) i e = absurd i
 no_item l word unnamed no_text no_number (S.call k f a) i e = absurd i
+
+-- a call of `print` as the code builds it
+pub print_call_is : (e f a g : Expr) (l : ℕ) (x : List ℕ) → e.node ≡ Call f a → e.line.0 ≡ l → f.node ≡ Name x → f.line.0 ≡ l → x ≡ codes "print" → a ≡ g
+    → exp_of e ≡ S.call l (S.name l (codes "print")) (exp_of g)
+print_call_is e f a g l x is_e line_e is_f line_f is_x is_a =
+    exp_of-Call e f a is_e ∙ (λ i. S.call (line_e i) ((exp_of-Name f x is_f ∙ (λ j. S.name (line_f j) (is_x j))) i) (exp_of (is_a i)))

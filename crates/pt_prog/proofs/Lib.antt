@@ -9,3 +9,8 @@ pub mod AdvanceLemmas
 pub mod LoopLemmas
 pub mod NumberLemmas
 pub mod ItemLemmas
+pub mod CutLemmas
+pub mod SumLemmas
+pub mod SumLoop
+pub mod StatementLemmas
+pub mod LineLemmas

@@ -7,3 +7,4 @@ pub mod Machine
 pub mod Running
 pub mod Spelling
 pub mod Reading
+pub mod Lines

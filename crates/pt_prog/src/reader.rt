@@ -1,16 +1,37 @@
-ghost use Rattle.std.specs.Prelude.{◌≡◌, ℕ, ◌++◌, ◌≤◌, ◌<◌, ◌^◌, ◌∷◌, [], codes, length, true, ◌≢◌, IfOk, MatchOption, slice_index, map};
+ghost use Rattle.std.specs.Prelude.{◌≡◌, ℕ, ◌++◌, ◌≤◌, ◌<◌, ◌^◌, ◌∷◌, [], codes, length, position, true, ◌==◌, ◌≢◌, ◌-◌, IfSome, IfOk, IfErr, OnOk, MatchOption, slice_index, map};
 ghost use Rattle.std.specs.Char.{is_ascii_alphabetic};
 ghost use Rattle.std.specs.Fmt.{decimal};
-ghost use Rattle.std.specs.List.{list_all};
+ghost use Rattle.std.specs.List.{list_all, position_or_len};
 ghost use Rattle.std.specs.Str.{IsAscii, bytes_eq};
-ghost use Rattle.pt_prog.specs.Spelling.{is_name_byte, is_listed, is_reserved, is_name, is_text_byte, quoted};
-ghost use Rattle.pt_prog.specs.Reading.{item_len, IsItemRead};
+ghost use Rattle.pt_prog.specs.Spelling.{is_name_byte, is_listed, is_reserved, is_name, is_text_byte, quoted, lines_of, Spells};
+ghost use Rattle.pt_prog.specs.Lines.{lines_left, TakesLine, RefusesLine, IsRefused};
+ghost use Rattle.pt_prog.specs.Reading.{item_len, IsItemRead, IsSumRead, IsPrintRead, IsAssignmentRead, IsStatementRead};
+ghost use Rattle.pt_tree.specs.Fold.{exp_of, stm_of, stms_of};
+ghost use Rattle.pt_tree.specs.Syntax as S;
 
 use crate::words::{BUILTINS, KEYWORDS};
 use itoa::Buffer;
 use pt_base::{BinOp, Boxed, Line, Memory, Seq, Text};
 use pt_tree::{Expr, ExprNode, Script, Stmt, StmtNode};
 use std::alloc::Global;
+
+/// Why a text was not read.
+#[derive(Clone, Copy, Debug, PartialEq, Eq)]
+pub enum ReadErr {
+    /// The first line that spells no statement.
+    Unbuilt { line: Line },
+    Memory,
+}
+
+impl From<Memory> for ReadErr {
+    ghost use Rattle.pt_prog.specs.declared.reader.ReadErr.TheVariants.{Memory as out_of_memory};
+
+    ghost from_gives = { λ _ e. e ≡ out_of_memory };
+
+    fn from(_: Memory) -> Self {
+        ReadErr::Memory
+    }
+}
 
 /// The numbers that can be spelled are below this one.
 const NUMBER_LIMIT: u128 = 1 << 127;
@@ -164,4 +185,207 @@ fn item(alloc: Global, line: Line, word: &[u8]) -> Result<Option<Expr>, Memory>
         })),
         None => Ok(None),
     }
+}
+
+fn place_of(text: &[u8], byte: u8) -> Option<usize>
+    ensures { result ≡ position (λ b. b == byte) text.now }
+{
+    text.iter().position(|b| *b == byte)
+}
+
+/// The first place of a byte, or the length.
+fn place_or_len(text: &[u8], byte: u8) -> usize
+    ensures value { result ≡ position_or_len (λ b. b == byte) text.now }
+    ensures within { result ≤ length text.now }
+{
+    match place_of(text, byte) {
+        Some(at) => at,
+        None => text.len(),
+    }
+}
+
+fn starts_with_quote(text: &[u8]) -> bool
+    ensures value { result ≡ (slice_index text.now 0 == 34) }
+    ensures some { result ≡ true → 0 < length text.now }
+{
+    match text.first() {
+        Some(b) => *b == b'"',
+        None => false,
+    }
+}
+
+/// How far an item reaches at most.
+fn item_end(text: &[u8]) -> usize
+    ensures value { result ≡ item_len text.now }
+    ensures within { result ≤ length text.now }
+{
+    if !starts_with_quote(text) {
+        return place_or_len(text, b' ');
+    }
+    let rest = &text[1..];
+    let quote = place_or_len(rest, b'"');
+    if quote < rest.len() {
+        quote + 2
+    } else {
+        text.len()
+    }
+}
+
+/// The greatest number of items of a sum.
+const ITEM_LIMIT: usize = 499;
+
+#[tactic(auto, using(pt_tree::proofs::Folds::trees))]
+fn add(alloc: Global, line: Line, left: Expr, right: Expr) -> Result<Expr, Memory>
+    ensures { IfOk result (λ e. exp_of e ≡ S.binary line.0 BinOp.Add (exp_of left) (exp_of right)) }
+{
+    let left = Boxed::new(alloc, left)?;
+    let right = Boxed::new(alloc, right)?;
+    Ok(Expr {
+        line,
+        node: ExprNode::Binary {
+            left,
+            operator: BinOp::Add,
+            right,
+        },
+    })
+}
+
+/// The sum that the text spells, if it spells one.
+fn sum(alloc: Global, line: Line, text: &[u8]) -> Result<Option<Expr>, Memory>
+    ensures { IfOk result (IsSumRead line.0 text.now) }
+{
+    let (word, mut rest) = text.split_at(item_end(text));
+    let Some(mut so_far) = item(alloc, line, word)? else {
+        return Ok(None);
+    };
+    let mut others = 0;
+    while !rest.is_empty() {
+        let Some(more) = behind(rest, b" + ") else {
+            return Ok(None);
+        };
+        others += 1;
+        if others >= ITEM_LIMIT {
+            return Ok(None);
+        }
+        let (word, after) = more.split_at(item_end(more));
+        let Some(last) = item(alloc, line, word)? else {
+            return Ok(None);
+        };
+        so_far = add(alloc, line, so_far, last)?;
+        rest = after;
+    }
+    Ok(Some(so_far))
+}
+
+/// A call of `print` as a statement.
+fn print_statement(alloc: Global, line: Line, argument: Expr) -> Result<Stmt, Memory>
+    ensures { IfOk result (λ s. stm_of s ≡ S.expr line.0 (S.call line.0 (S.name line.0 (codes "print")) (exp_of argument))) }
+{
+    let print = Text::from_str(alloc, "print")?;
+    let callee = Expr {
+        line,
+        node: ExprNode::Name(print),
+    };
+    let callee = Boxed::new(alloc, callee)?;
+    let argument = Boxed::new(alloc, argument)?;
+    let call = Expr {
+        line,
+        node: ExprNode::Call { callee, argument },
+    };
+    Ok(Stmt {
+        line,
+        node: StmtNode::Expr(call),
+    })
+}
+
+/// `print(SUM)`, given what stands behind its bracket.
+fn print_call(alloc: Global, line: Line, rest: &[u8]) -> Result<Option<Stmt>, Memory>
+    ensures { IfOk result (IsPrintRead line.0 rest.now) }
+{
+    let Some(inner) = before(rest, b")") else {
+        return Ok(None);
+    };
+    let Some(argument) = sum(alloc, line, inner)? else {
+        return Ok(None);
+    };
+    let print = print_statement(alloc, line, argument)?;
+    Ok(Some(print))
+}
+
+/// `NAME = SUM`.
+fn assignment(alloc: Global, line: Line, text: &[u8]) -> Result<Option<Stmt>, Memory>
+    ensures { IfOk result (IsAssignmentRead line.0 text.now) }
+{
+    let (word, rest) = text.split_at(item_end(text));
+    if !names(word) {
+        return Ok(None);
+    }
+    let Some(spelled) = behind(rest, b" = ") else {
+        return Ok(None);
+    };
+    let Some(value) = sum(alloc, line, spelled)? else {
+        return Ok(None);
+    };
+    let target = Text::from_str(alloc, ascii(word))?;
+    Ok(Some(Stmt {
+        line,
+        node: StmtNode::Assign { target, value },
+    }))
+}
+
+/// The statement that the line spells, if it spells one.
+fn statement(alloc: Global, line: Line, text: &[u8]) -> Result<Option<Stmt>, Memory>
+    ensures { IfOk result (IsStatementRead line.0 text.now) }
+{
+    match behind(text, b"print(") {
+        Some(rest) => print_call(alloc, line, rest),
+        None => assignment(alloc, line, text),
+    }
+}
+
+/// The text up to a line feed, and the text behind it.
+fn cut(text: &[u8]) -> (&[u8], Option<&[u8]>)
+    ensures lines { lines_of text.now ≡ result.0.now ∷ lines_left result.1 }
+    ensures smaller { IfSome result.1 (λ rest. length rest.now < length text.now) }
+{
+    match place_of(text, b'\n') {
+        Some(at) => {
+            let rest = &text[at + 1..];
+            (&text[..at], Some(rest))
+        }
+        None => (text, None),
+    }
+}
+
+/// Reads a line, and adds the statement that it spells; an empty line spells none.
+fn read_line(alloc: Global, line: Line, text: &[u8], body: &mut Seq<Stmt>) -> Result<(), ReadErr>
+    ensures ok { OnOk result (TakesLine line.0 text.now body.old body.new) }
+    ensures err { IfErr result (RefusesLine line.0 text.now) }
+{
+    if text.is_empty() {
+        return Ok(());
+    }
+    let Some(s) = statement(alloc, line, text)? else {
+        return Err(ReadErr::Unbuilt { line });
+    };
+    body.push(s)?;
+    Ok(())
+}
+
+/// The script that the text spells, or the first line that spells no statement.
+pub fn read(alloc: Global, text: &[u8]) -> Result<Script, ReadErr>
+    requires { length text.now < 2 ^ 32 - 2 }
+    ensures ok { IfOk result (λ script. Spells text.now (stms_of script.body)) }
+    ensures err { IfErr result (IsRefused text.now) }
+{
+    let mut body = Seq::new(alloc);
+    let mut rest = Some(text);
+    let mut line = 1u32;
+    while let Some(text) = rest {
+        let (front, behind) = cut(text);
+        read_line(alloc, Line(line), front, &mut body)?;
+        rest = behind;
+        line += 1;
+    }
+    Ok(Script { body })
 }
