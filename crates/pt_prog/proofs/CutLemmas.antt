@@ -114,7 +114,7 @@ cut_text : (t rest : List ℕ) → list_all is_text_byte t ≡ true → item_len
 cut_text t rest all =
     let again : (t ++ 34 ∷ []) ++ rest ≡ t ++ (34 ∷ rest) = append_assoc t (34 ∷ []) rest in
     let at : position_or_len is_quote ((t ++ 34 ∷ []) ++ rest) ≡ length t =
-        ap (position_or_len is_quote) again ∙ reaches is_quote t (34 ∷ rest) (all_imp is_text_byte (λ c. not (is_quote c)) no_quote_in_text t all) refl in
+    ap (position_or_len is_quote) again ∙ reaches is_quote t (34 ∷ rest) (all_imp is_text_byte (λ c. not (is_quote c)) no_quote_in_text t all) refl in
     let long : length (quoted t) ≡ length t + 2 = omega (arith, length-append t (34 ∷ [])) in
     let whole : length (quoted t ++ rest) ≡ length (quoted t) + length rest = length-append (quoted t) rest in
     smaller (position_or_len is_quote ((t ++ 34 ∷ []) ++ rest)) (length (quoted t ++ rest)) (length t) (length (quoted t)) (length rest) at long whole

@@ -14,3 +14,6 @@ pub mod SumLemmas
 pub mod SumLoop
 pub mod StatementLemmas
 pub mod LineLemmas
+pub mod SizeLemmas
+pub mod AnswerLemmas
+pub mod ReadingLaws

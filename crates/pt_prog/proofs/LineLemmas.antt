@@ -20,6 +20,7 @@ below p xs at e = chosen (nat_lt (position_or_len p xs) (length xs)) (position_o
   where
     is_less : (m n : ℕ) → nat_lt m n ≡ true → m < n
     is_less m n e = grind (arith, nat_tests)
+
     chosen : (b : Bool) (m n : ℕ) → (b ≡ true → position_or_len p xs < length xs) → cond b (Some m) None ≡ Some n → position_or_len p xs < length xs
     chosen true m n holds e = holds refl
     chosen false m n holds e = absurd (cc)

@@ -13,7 +13,7 @@ use Rattle.pt_prog.specs.Spelling.{is_name, is_name_byte, IsSum, IsPrint, IsAssi
 use Rattle.pt_prog.specs.Reading.{item_len, IsPrintRead, IsAssignmentRead, IsStatementRead}
 use Rattle.pt_prog.proofs.CutLemmas.{cut_target, name_parts}
 
-same_front : (a b end : List ℕ) → a ++ end ≡ b ++ end → a ≡ b
+pub same_front : (a b end : List ℕ) → a ++ end ≡ b ++ end → a ≡ b
 same_front a b end e =
     let h : length (a ++ end) ≡ length (b ++ end) = ap length e in
     let n : length a ≡ length b = omega (arith, h, length-append a end, length-append b end) in
@@ -50,7 +50,7 @@ no_blank : (c : ℕ) → 32 < c → c ≡ 32 → ⊥
 no_blank c h e = omega arith
 
 -- no target of an assignment begins with `print(`
-not_both : (x value rest : List ℕ) → is_name x ≡ true → codes "print(" ++ rest ≢ x ++ (codes " = " ++ value)
+pub not_both : (x value rest : List ℕ) → is_name x ≡ true → codes "print(" ++ rest ≢ x ++ (codes " = " ++ value)
 not_both [] value rest named e = no_blank 112 (lit< tt) (ap (λ (w : List ℕ). slice_index w 0) e)
 not_both (a ∷ []) value rest named e = no_blank 114 (lit< tt) (ap (λ (w : List ℕ). slice_index w 1) e)
 not_both (a ∷ b ∷ []) value rest named e = no_blank 105 (lit< tt) (ap (λ (w : List ℕ). slice_index w 2) e)

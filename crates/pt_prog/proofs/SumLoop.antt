@@ -127,10 +127,13 @@ module _ (l : ℕ) (text : List ℕ) (value : Exp) (others : ℕ) (rest : List �
           let (g, hs, gs_is) = goes_on_with gs some r_is in
           let all : AreItems l (g ∷ hs) = subst (AreItems l) gs_is items in
           let b = behind_is g hs (r_is ∙ ap continued gs_is) in
-          let same : g ≡ last = same_item l g last all.0 i (sym (first_word l behind word after front back g hs all.0 b) ∙ spells) in
-          (hs, f_is,
-          fs_is ∙ ap (λ (x : List Exp). so_far.more ++ x) (gs_is ∙ ap (λ x. x ∷ hs) same) ∙ sym (append_assoc so_far.more (last ∷ []) hs),
-          all.1, rest_continues l behind word after front back g hs all.0 b);
+          let same : g ≡ last = same_item l g last all.0 i (sym (first_word l behind word after front back g hs all.0 b) ∙ spells) in (
+            hs,
+            f_is,
+            fs_is ∙ ap (λ (x : List Exp). so_far.more ++ x) (gs_is ∙ ap (λ x. x ∷ hs) same) ∙ sym (append_assoc so_far.more (last ∷ []) hs),
+            all.1,
+            rest_continues l behind word after front back g hs all.0 b,
+          );
     }
       where
         grown_text : (last : Exp) → word ≡ spelled last → text ≡ (spelled so_far.first ++ continued (so_far.more ++ last ∷ [])) ++ after
@@ -140,7 +143,7 @@ module _ (l : ℕ) (text : List ℕ) (value : Exp) (others : ℕ) (rest : List �
             let w = spelled last in
             let rest_is : rest ≡ codes " + " ++ (w ++ after) = is ∙ ap (λ b. codes " + " ++ b) (behind_parts ∙ ap (λ x. x ++ after) spells) in
             let longer : continued (so_far.more ++ last ∷ []) ≡ m ++ (codes " + " ++ w) =
-                continued-append so_far.more (last ∷ []) ∙ ap (λ x. m ++ (codes " + " ++ x)) (append-nil w) in
+            continued-append so_far.more (last ∷ []) ∙ ap (λ x. m ++ (codes " + " ++ x)) (append-nil w) in
             so_far.text_is ∙ ap (λ r. (a ++ m) ++ r) rest_is
             ∙ ap (λ r. (a ++ m) ++ r) (sym (append_assoc (codes " + ") w after))
             ∙ sym (append_assoc (a ++ m) (codes " + " ++ w) after)

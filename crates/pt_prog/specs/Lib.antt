@@ -8,3 +8,6 @@ pub mod Running
 pub mod Spelling
 pub mod Reading
 pub mod Lines
+pub mod Status
+pub mod StopEnd
+pub mod Answer

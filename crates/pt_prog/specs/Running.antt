@@ -5,7 +5,7 @@ use Rattle.pt_tree.specs.Turn.{End, done, left_by}
 use Rattle.pt_meaning.specs.Run.{Ending, ended, outside, spent}
 use Rattle.pt_meaning.specs.declared.value.Value.{Value}
 use Rattle.pt_meaning.specs.declared.value.Value.TheVariants.{Exception}
-use Rattle.pt_meaning.specs.Host.{World, host}
+use Rattle.pt_meaning.specs.Host.{World, host, start_world}
 use Rattle.pt_prog.specs.declared.machine.Machine.{Machine}
 use Rattle.pt_prog.specs.declared.run.Stop.{Stop}
 use Rattle.pt_prog.specs.declared.run.Stop.TheVariants as stop
@@ -19,6 +19,10 @@ use Rattle.pt_prog.specs.Machine.{world_of}
 pub record Whole : Type 0 where
   pub world : World
   pub ending : Ending Value
+
+-- the code's run from its first instruction, with no name bound and nothing written
+abbrev pub RunsWhole : Code → (limit : ℕ) → Whole → Type 0
+RunsWhole code limit whole = Runs host (laid code) limit (turn (laid code) (on 0 [])) start_world whole.world whole.ending
 
 -- a place of a run: how many acts are left behind it, and what is written so far
 pub record Point : Type 0 where

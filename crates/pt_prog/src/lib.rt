@@ -4,12 +4,14 @@
 
 mod code;
 mod compiler;
+mod end;
+mod laws;
 mod machine;
+mod program;
 mod reader;
 mod run;
 mod words;
 
-pub use code::Code;
-pub use compiler::compile;
-pub use machine::{Machine, Names, Step};
-pub use run::{ACT_LIMIT, RunErr, Stop};
+pub use end::{End, File, Out, status};
+pub use laws::{a_text_is_read_in_one_way, compiled_code_means_the_script};
+pub use program::{SCRIPT_LIMIT, top};

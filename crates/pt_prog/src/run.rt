@@ -1,10 +1,8 @@
 ghost use Rattle.std.specs.Prelude.{◌≡◌, ◌≤◌, [], ◌∷◌, Err, IfOk, OnOk, OnErr, length};
 ghost use Rattle.pt_base.specs.Faults.{Rose};
 ghost use Rattle.pt_base.specs.Taken.{Takes, TakesFront};
-ghost use Rattle.pt_meaning.specs.Host.{host, start_world};
 ghost use Rattle.pt_prog.specs.View.{laid};
-ghost use Rattle.pt_prog.specs.CodeRun.{Runs, on, turn};
-ghost use Rattle.pt_prog.specs.Running.{Whole, Point, RunsAt, Advanced, BrokenOff, Finished};
+ghost use Rattle.pt_prog.specs.Running.{Whole, Point, RunsWhole, RunsAt, Advanced, BrokenOff, Finished};
 
 use crate::code::{Code, Placed};
 use crate::machine::{Machine, Step};
@@ -82,11 +80,10 @@ fn advance<O: Sink>(
 
 /// Runs code from its first instruction to its end, or to where it stops.
 pub fn run<O: Sink>(alloc: Global, code: &Code, out: &mut O) -> Result<Option<Stop>, RunErr>
-    ghost whole: { Whole }
-    requires runs { Runs host (laid code.now) ACT_LIMIT (turn (laid code.now) (on 0 [])) start_world whole.world whole.ending }
+    requires runs { (whole : Whole) × RunsWhole code.now ACT_LIMIT whole }
     requires room { length code.now.instrs ≤ ACT_LIMIT }
-    ensures ok { IfOk result (λ stop. Finished whole stop (O.taken out.old) (O.taken out.new)) }
-    ensures err { OnErr result (TakesFront (O.taken out.old) (O.taken out.new) whole.world.written) }
+    ensures ok { IfOk result (λ stop. (whole : Whole) → RunsWhole code.now ACT_LIMIT whole → Finished whole stop (O.taken out.old) (O.taken out.new)) }
+    ensures err { OnErr result ((whole : Whole) → RunsWhole code.now ACT_LIMIT whole → TakesFront (O.taken out.old) (O.taken out.new) whole.world.written) }
     ensures cause { result ≡ Err RunErr.Write → Rose (O.faults out.old) (O.faults out.new) × (O.faults out.new ≤ O.most out.new) }
     ensures most { O.most out.new ≡ O.most out.old }
     ensures later { O.faults out.old ≤ O.faults out.new }

@@ -1,0 +1,4 @@
+x = 40
+y = x + 2
+print(y)
+print("a" + "b")

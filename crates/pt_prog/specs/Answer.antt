@@ -1,0 +1,94 @@
+-- What the program answers to its words and files, and what it writes.
+use Rattle.std.specs.Prelude.{◌≡◌, ◌≤◌, ℕ, List, [], ◌∷◌, codes, Option, Some, None, Bool, not, ◌&&◌, ◌==◌, ◌⊎◌, length, if◌then◌else◌, string_bytes, slice_index}
+use Rattle.std.specs.Str.{bytes_eq}
+use Rattle.std.specs.declared.string.String.{String}
+use Rattle.std.specs.declared.alloc.Global.{Global}
+use Rattle.pt_base.specs.Told.{Told, IsWhole}
+use Rattle.pt_base.specs.Taken.{Pieces, Takes, TakesFront}
+use Rattle.pt_tree.specs.Syntax.{Stms}
+use Rattle.pt_tree.specs.Turn.{done, left_by}
+use Rattle.pt_meaning.specs.Run.{Ending, ended, outside, spent, meaning}
+use Rattle.pt_meaning.specs.Host.{World, host, start_world}
+use Rattle.pt_meaning.specs.declared.value.Value.{Value}
+use Rattle.pt_prog.specs.declared.end.End.{End}
+use Rattle.pt_prog.specs.declared.end.End.TheVariants as end
+use Rattle.pt_prog.specs.declared.end.File.TheVariants as file
+use Rattle.pt_prog.specs.declared.end.Out.TheVariants as out
+use Rattle.pt_prog.specs.declared.run.TheConstants.{ACT_LIMIT}
+use Rattle.pt_prog.specs.declared.program.TheConstants.{SCRIPT_LIMIT}
+use Rattle.pt_prog.specs.Running.{Whole}
+use Rattle.pt_prog.specs.Spelling.{Spells, IsUnbuilt}
+
+-- the words are `run` and the name of a script, which isn't empty and doesn't begin with `-`
+abbrev pub is_command : (command name : List ℕ) → Bool
+is_command command name = bytes_eq command (codes "run") && not (length name == 0) && not (slice_index name 0 == 45)
+
+abbrev pub script_named : List (String Global) → Option (List ℕ)
+script_named (command ∷ name ∷ []) = if is_command (string_bytes command) (string_bytes name) then Some (string_bytes name) else None
+script_named words = None
+
+-- the shelf tells P of the named text
+abbrev pub OfNamed : Option (List ℕ) → (told : List ℕ → Told) → (Told → Type 0) → Type 0
+OfNamed None told P = ⊥
+OfNamed (Some name) told P = P (told name)
+
+-- the meaning of a script
+unfoldable pub meaning_of : Stms → Whole
+meaning_of ss = record { world = (meaning host ACT_LIMIT ss start_world).0; ending = (meaning host ACT_LIMIT ss start_world).1 }
+
+-- the program's end for a run's
+abbrev pub IsEndOf : Ending Value → End → Type 0
+IsEndOf (ended done) e = e ≡ end.Done
+IsEndOf (ended (left_by v)) e = e ≡ end.Raised
+IsEndOf (outside what line) e = e ≡ end.Outside what (record { 0 = line })
+IsEndOf spent e = ⊥
+
+-- the text spells a script with this meaning's end, and all that it writes was written
+pub record Ran (text : List ℕ) (e : End) (old new : Pieces → Pieces → Type 0) : Type 0 where
+  pub script : Stms
+  pub spells : Spells text script
+  pub is_end : IsEndOf (meaning_of script).ending e
+  pub wrote : Takes old new (meaning_of script).world.written
+
+-- the text spells a script, and a front of what it writes was written
+pub record WroteFront (text : List ℕ) (old new : Pieces → Pieces → Type 0) : Type 0 where
+  pub script : Stms
+  pub spells : Spells text script
+  pub wrote : TakesFront old new (meaning_of script).world.written
+
+-- the answer for a text, and what was written to out
+abbrev pub IsAnsweredFor : List ℕ → (old new : Pieces → Pieces → Type 0) → End → Type 0
+IsAnsweredFor text old new end.Done = Ran text end.Done old new
+IsAnsweredFor text old new end.Raised = Ran text end.Raised old new
+IsAnsweredFor text old new (end.Outside what line) = Ran text (end.Outside what line) old new
+IsAnsweredFor text old new (end.Unbuilt line) = IsUnbuilt text line.0 × Takes old new []
+IsAnsweredFor text old new (end.WriteFault out.Out) = WroteFront text old new
+IsAnsweredFor text old new (end.WriteFault out.Log) = ⊥
+IsAnsweredFor text old new end.Memory = Takes old new [] ⊎ WroteFront text old new
+IsAnsweredFor text old new end.Usage = ⊥
+IsAnsweredFor text old new (end.TooLong which) = ⊥
+IsAnsweredFor text old new end.ReadFault = ⊥
+
+-- the same where the text is the one that the shelf told of, or any within the limit where it doesn't tell
+abbrev pub OfText : Option (List ℕ) → (told : List ℕ → Told) → (List ℕ → Type 0) → Type 0
+OfText name told P = (text : List ℕ) × OfNamed name told (λ t. IsWhole t text) × (length text ≤ SCRIPT_LIMIT) × P text
+
+abbrev pub IsAnswered : Option (List ℕ) → (told : List ℕ → Told) → (old new : Pieces → Pieces → Type 0) → End → Type 0
+IsAnswered name told old new end.Usage = Takes old new []
+IsAnswered name told old new end.ReadFault = Takes old new []
+IsAnswered name told old new (end.TooLong file.First) = Takes old new []
+IsAnswered name told old new (end.TooLong file.Second) = ⊥
+IsAnswered name told old new end.Memory = Takes old new [] ⊎ OfText name told (λ text. WroteFront text old new)
+IsAnswered name told old new end.Done = OfText name told (λ text. IsAnsweredFor text old new end.Done)
+IsAnswered name told old new end.Raised = OfText name told (λ text. IsAnsweredFor text old new end.Raised)
+IsAnswered name told old new (end.Outside what line) = OfText name told (λ text. IsAnsweredFor text old new (end.Outside what line))
+IsAnswered name told old new (end.Unbuilt line) = OfText name told (λ text. IsAnsweredFor text old new (end.Unbuilt line))
+IsAnswered name told old new (end.WriteFault which) = OfText name told (λ text. IsAnsweredFor text old new (end.WriteFault which))
+
+-- the end is the one that the text says
+abbrev pub IsEndFor : List ℕ → End → Type 0
+IsEndFor text (end.Unbuilt line) = IsUnbuilt text line.0
+IsEndFor text end.Done = (ss : Stms) × Spells text ss × IsEndOf (meaning_of ss).ending end.Done
+IsEndFor text end.Raised = (ss : Stms) × Spells text ss × IsEndOf (meaning_of ss).ending end.Raised
+IsEndFor text (end.Outside what line) = (ss : Stms) × Spells text ss × IsEndOf (meaning_of ss).ending (end.Outside what line)
+IsEndFor text e = ⊥

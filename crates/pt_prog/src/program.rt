@@ -1,0 +1,122 @@
+ghost use Rattle.std.specs.Prelude.{◌≡◌, ◌≢◌, ◌≤◌, ◌⊎◌, ◌↔◌, [], None, Some, length, Err, IfOk, OnErr};
+ghost use Rattle.std.specs.Option.{option_copied};
+ghost use Rattle.pt_base.specs.Faults.{Rose};
+ghost use Rattle.pt_base.specs.Taken.{Takes, TakesFront};
+ghost use Rattle.pt_base.specs.Told.{IsLacked, IsLonger};
+ghost use Rattle.pt_base.specs.Told.Told.{Holds};
+ghost use Rattle.pt_tree.specs.Fold.{stms_of};
+ghost use Rattle.pt_tree.specs.Syntax.{all_size};
+ghost use Rattle.pt_prog.specs.Answer.{script_named, OfNamed, meaning_of, IsEndFor, IsAnsweredFor, IsAnswered};
+ghost use Rattle.pt_prog.specs.Running.{Finished};
+ghost use Rattle.pt_prog.specs.StopEnd.{IsEndOfStop};
+
+use crate::end::{End, File, Out};
+use crate::reader::ReadErr;
+use crate::run::{ACT_LIMIT, RunErr, Stop};
+use crate::{compiler, reader, run};
+use pt_base::{Shelf, ShelfErr, Sink};
+use pt_tree::Script;
+use std::alloc::Global;
+
+/// How many bytes a script may have.
+pub const SCRIPT_LIMIT: u64 = 1_048_576;
+
+/// The name of the script, where the words are `run` and a name.
+fn script_name(words: &[String]) -> Option<&str>
+    ensures { option_copied result ≡ script_named words.now }
+{
+    let [command, name] = words else {
+        return None;
+    };
+    if command.as_str() == "run" && !name.is_empty() && !name.as_str().starts_with('-') {
+        Some(name.as_str())
+    } else {
+        None
+    }
+}
+
+/// Compiles and runs a script.
+fn run_script<O: Sink>(alloc: Global, script: &Script, out: &mut O) -> Result<Option<Stop>, RunErr>
+    requires { all_size (stms_of script.now.body) ≤ ACT_LIMIT }
+    ensures ok { IfOk result (λ stop. Finished (meaning_of (stms_of script.now.body)) stop (O.taken out.old) (O.taken out.new)) }
+    ensures err { OnErr result (TakesFront (O.taken out.old) (O.taken out.new) (meaning_of (stms_of script.now.body)).world.written) }
+    ensures cause { result ≡ Err RunErr.Write → Rose (O.faults out.old) (O.faults out.new) × (O.faults out.new ≤ O.most out.new) }
+    ensures most { O.most out.new ≡ O.most out.old }
+    ensures later { O.faults out.old ≤ O.faults out.new }
+{
+    let code = compiler::compile(alloc, script)?;
+    run::run(alloc, &code, out)
+}
+
+/// The end of a run that was not broken off.
+fn end_of(stop: Option<Stop>) -> End
+    ensures { IsEndOfStop stop result }
+{
+    match stop {
+        None => End::Done,
+        Some(Stop::Raised) => End::Raised,
+        Some(Stop::Outside { what, line }) => End::Outside { what, line },
+    }
+}
+
+/// Answers for the text of a script.
+fn run_text<O: Sink>(alloc: Global, text: &[u8], out: &mut O) -> End
+    requires { length text.now ≤ SCRIPT_LIMIT }
+    ensures answer { IsAnsweredFor text.now (O.taken out.old) (O.taken out.new) result }
+    ensures cause { result ≡ End.WriteFault Out.Out → Rose (O.faults out.old) (O.faults out.new) × (O.faults out.new ≤ O.most out.new) }
+    ensures most { O.most out.new ≡ O.most out.old }
+    ensures later { O.faults out.old ≤ O.faults out.new }
+{
+    let script = match reader::read(alloc, text) {
+        Ok(script) => script,
+        Err(ReadErr::Unbuilt { line }) => return End::Unbuilt { line },
+        Err(ReadErr::Memory) => return End::Memory,
+    };
+    match run_script(alloc, &script, out) {
+        Ok(stop) => end_of(stop),
+        Err(RunErr::Write) => End::WriteFault { which: Out::Out },
+        Err(RunErr::Memory) => End::Memory,
+    }
+}
+
+/// All that the program does: reads the words, the script that they name, and runs it.
+///
+/// The order of answers is Usage, ReadFault, TooLong, Unbuilt, and then those of the run. After a
+/// write that failed nothing more is written. Nothing is written to the log.
+pub fn top<F: Shelf, O: Sink, L: Sink>(
+    alloc: Global,
+    words: &[String],
+    shelf: &mut F,
+    out: &mut O,
+    log: &mut L,
+) -> End
+    ensures usage { (result ≡ End.Usage) ↔ (script_named words.now ≡ None) }
+
+    // Each fault has its cause, and objects that cannot fail give none.
+    ensures read_fault { result ≡ End.ReadFault → Rose (F.faults shelf.old) (F.faults shelf.new) ⊎ OfNamed (script_named words.now) (F.told shelf.old) IsLacked }
+    ensures too_long { result ≡ End.TooLong File.First → OfNamed (script_named words.now) (F.told shelf.old) (λ t. IsLonger t SCRIPT_LIMIT) }
+    ensures write_fault { result ≡ End.WriteFault Out.Out → Rose (O.faults out.old) (O.faults out.new) }
+    ensures no_read_fault { F.most shelf.old ≡ 0 → result ≡ End.ReadFault → OfNamed (script_named words.now) (F.told shelf.old) IsLacked }
+    ensures no_write_fault { O.most out.old ≡ 0 → result ≢ End.WriteFault Out.Out }
+
+    // What was written to out, for every answer, and the text and script that it is the meaning of.
+    ensures writes { IsAnswered (script_named words.now) (F.told shelf.old) (O.taken out.old) (O.taken out.new) result }
+    ensures log { Takes (L.taken log.old) (L.taken log.new) [] × (L.faults log.new ≡ L.faults log.old) }
+    ensures kept { F.told shelf.new ≡ F.told shelf.old }
+
+    // Where no count of faults rose, the end of a text that is told is the one that the text says.
+    ensures complete { (text : _) → OfNamed (script_named words.now) (F.told shelf.old) (λ t. t ≡ Holds text) → length text ≤ SCRIPT_LIMIT → (Rose (F.faults shelf.old) (F.faults shelf.new) → ⊥) → (Rose (O.faults out.old) (O.faults out.new) → ⊥) → IsEndFor text result ⊎ (result ≡ End.Memory) }
+{
+    let Some(name) = script_name(words) else {
+        return End::Usage;
+    };
+    match shelf.read(alloc, name, SCRIPT_LIMIT) {
+        Ok(text) => run_text(alloc, text.as_slice(), out),
+        Err(ShelfErr::Failed) => End::ReadFault,
+        Err(ShelfErr::TooLong) => End::TooLong { which: File::First },
+        Err(ShelfErr::Memory) => End::Memory,
+    }
+}
+
+#[cfg(test)]
+mod tests;
