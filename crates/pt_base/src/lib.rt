@@ -30,3 +30,6 @@ pub use sink::{MemSink, Sink, SinkErr};
 pub use stack::Stack;
 pub use text::Text;
 pub use what::What;
+
+#[cfg(test)]
+mod tests;

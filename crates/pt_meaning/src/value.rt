@@ -41,3 +41,32 @@ impl Value {
         }
     }
 }
+
+#[cfg(test)]
+mod tests {
+    use super::*;
+    use std::test::Fail;
+
+    #[test]
+    fn values_are_shared(rt: HostRuntime) -> Result<(), Fail> {
+        let text = Text::from_str(rt.alloc(), "ab")?;
+        let text = Value::Str(Shared::new(rt.alloc(), text)?);
+        let is_same = match text.share()? {
+            Value::Str(text) => text.get().is("ab"),
+            _ => false,
+        };
+        assert!(rt; is_same);
+        let number = Value::Int(i128::MIN).share()?;
+        assert!(rt; matches!(number, Value::Int(i128::MIN)));
+        assert!(rt; matches!(Value::None.share()?, Value::None));
+        assert!(rt; matches!(Value::Print.share()?, Value::Print));
+        let class = ExceptionClass::TypeError;
+        assert!(rt;
+            matches!(
+                Value::Exception(class).share()?,
+                Value::Exception(ExceptionClass::TypeError)
+            )
+        );
+        Ok(())
+    }
+}

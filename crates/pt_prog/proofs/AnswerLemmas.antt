@@ -13,7 +13,7 @@ use Rattle.pt_prog.specs.declared.end.End.TheVariants as end
 use Rattle.pt_prog.specs.declared.run.RunErr.{RunErr}
 use Rattle.pt_prog.specs.declared.run.Stop.{Stop}
 use Rattle.pt_prog.specs.declared.run.Stop.TheVariants as stop
-use Rattle.pt_prog.specs.declared.run.TheConstants.{ACT_LIMIT}
+use Rattle.pt_prog.specs.Limits.{act_limit}
 use Rattle.pt_prog.specs.View.{laid}
 use Rattle.pt_prog.specs.Layout.{no_code, lay_all}
 use Rattle.pt_prog.specs.Running.{Whole, RunsWhole, IsEnding, Finished}
@@ -24,14 +24,14 @@ use Rattle.pt_prog.proofs.Means.{means}
 use Rattle.pt_prog.proofs.Placed.{stands_for, ends, length_all}
 
 -- the code of a script runs as the script means
-laid_runs : (ss : Stms) → RunsWhole (lay_all ss no_code) ACT_LIMIT (meaning_of ss)
+laid_runs : (ss : Stms) → RunsWhole (lay_all ss no_code) act_limit (meaning_of ss)
 unfolding meaning_of
-laid_runs ss = means Value World host (laid (lay_all ss no_code)) (ends (lay_all ss no_code)) ss (stands_for ss) ACT_LIMIT start_world
+laid_runs ss = means Value World host (laid (lay_all ss no_code)) (ends (lay_all ss no_code)) ss (stands_for ss) act_limit start_world
 
-pub code_runs : (code : Code) (ss : Stms) → code ≡ lay_all ss no_code → RunsWhole code ACT_LIMIT (meaning_of ss)
-code_runs code ss is = subst (λ c. RunsWhole c ACT_LIMIT (meaning_of ss)) (sym is) (laid_runs ss)
+pub code_runs : (code : Code) (ss : Stms) → code ≡ lay_all ss no_code → RunsWhole code act_limit (meaning_of ss)
+code_runs code ss is = subst (λ c. RunsWhole c act_limit (meaning_of ss)) (sym is) (laid_runs ss)
 
-pub code_fits : (code : Code) (ss : Stms) → code ≡ lay_all ss no_code → all_size ss ≤ ACT_LIMIT → length code.instrs ≤ ACT_LIMIT
+pub code_fits : (code : Code) (ss : Stms) → code ≡ lay_all ss no_code → all_size ss ≤ act_limit → length code.instrs ≤ act_limit
 code_fits code ss is h =
     let n : length code.instrs ≡ all_size ss = ap (λ c. length c.instrs) is ∙ length_all ss no_code ∙ omega arith in
     omega (arith, n, h)

@@ -14,8 +14,8 @@ use Rattle.pt_prog.specs.declared.end.End.{End}
 use Rattle.pt_prog.specs.declared.end.End.TheVariants as end
 use Rattle.pt_prog.specs.declared.end.File.TheVariants as file
 use Rattle.pt_prog.specs.declared.end.Out.TheVariants as out
-use Rattle.pt_prog.specs.declared.run.TheConstants.{ACT_LIMIT}
-use Rattle.pt_prog.specs.declared.program.TheConstants.{SCRIPT_LIMIT}
+use Rattle.pt_prog.specs.Limits.{act_limit}
+use Rattle.pt_prog.specs.Limits.{script_limit}
 use Rattle.pt_prog.specs.Running.{Whole}
 use Rattle.pt_prog.specs.Spelling.{Spells, IsUnbuilt}
 
@@ -34,7 +34,7 @@ OfNamed (Some name) told P = P (told name)
 
 -- the meaning of a script
 unfoldable pub meaning_of : Stms → Whole
-meaning_of ss = record { world = (meaning host ACT_LIMIT ss start_world).0; ending = (meaning host ACT_LIMIT ss start_world).1 }
+meaning_of ss = record { world = (meaning host act_limit ss start_world).0; ending = (meaning host act_limit ss start_world).1 }
 
 -- the program's end for a run's
 abbrev pub IsEndOf : Ending Value → End → Type 0
@@ -71,7 +71,7 @@ IsAnsweredFor text old new end.ReadFault = ⊥
 
 -- the same where the text is the one that the shelf told of, or any within the limit where it doesn't tell
 abbrev pub OfText : Option (List ℕ) → (told : List ℕ → Told) → (List ℕ → Type 0) → Type 0
-OfText name told P = (text : List ℕ) × OfNamed name told (λ t. IsWhole t text) × (length text ≤ SCRIPT_LIMIT) × P text
+OfText name told P = (text : List ℕ) × OfNamed name told (λ t. IsWhole t text) × (length text ≤ script_limit) × P text
 
 abbrev pub IsAnswered : Option (List ℕ) → (told : List ℕ → Told) → (old new : Pieces → Pieces → Type 0) → End → Type 0
 IsAnswered name told old new end.Usage = Takes old new []

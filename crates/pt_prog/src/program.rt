@@ -7,12 +7,13 @@ ghost use Rattle.pt_base.specs.Told.Told.{Holds};
 ghost use Rattle.pt_tree.specs.Fold.{stms_of};
 ghost use Rattle.pt_tree.specs.Syntax.{all_size};
 ghost use Rattle.pt_prog.specs.Answer.{script_named, OfNamed, meaning_of, IsEndFor, IsAnsweredFor, IsAnswered};
+ghost use Rattle.pt_prog.specs.Limits.{act_limit, script_limit};
 ghost use Rattle.pt_prog.specs.Running.{Finished};
 ghost use Rattle.pt_prog.specs.StopEnd.{IsEndOfStop};
 
 use crate::end::{End, File, Out};
 use crate::reader::ReadErr;
-use crate::run::{ACT_LIMIT, RunErr, Stop};
+use crate::run::{RunErr, Stop};
 use crate::{compiler, reader, run};
 use pt_base::{Shelf, ShelfErr, Sink};
 use pt_tree::Script;
@@ -37,7 +38,7 @@ fn script_name(words: &[String]) -> Option<&str>
 
 /// Compiles and runs a script.
 fn run_script<O: Sink>(alloc: Global, script: &Script, out: &mut O) -> Result<Option<Stop>, RunErr>
-    requires { all_size (stms_of script.now.body) ≤ ACT_LIMIT }
+    requires { all_size (stms_of script.now.body) ≤ act_limit }
     ensures ok { IfOk result (λ stop. Finished (meaning_of (stms_of script.now.body)) stop (O.taken out.old) (O.taken out.new)) }
     ensures err { OnErr result (TakesFront (O.taken out.old) (O.taken out.new) (meaning_of (stms_of script.now.body)).world.written) }
     ensures cause { result ≡ Err RunErr.Write → Rose (O.faults out.old) (O.faults out.new) × (O.faults out.new ≤ O.most out.new) }
@@ -61,7 +62,7 @@ fn end_of(stop: Option<Stop>) -> End
 
 /// Answers for the text of a script.
 fn run_text<O: Sink>(alloc: Global, text: &[u8], out: &mut O) -> End
-    requires { length text.now ≤ SCRIPT_LIMIT }
+    requires { length text.now ≤ script_limit }
     ensures answer { IsAnsweredFor text.now (O.taken out.old) (O.taken out.new) result }
     ensures cause { result ≡ End.WriteFault Out.Out → Rose (O.faults out.old) (O.faults out.new) × (O.faults out.new ≤ O.most out.new) }
     ensures most { O.most out.new ≡ O.most out.old }
@@ -94,7 +95,7 @@ pub fn top<F: Shelf, O: Sink, L: Sink>(
 
     // Each fault has its cause, and objects that cannot fail give none.
     ensures read_fault { result ≡ End.ReadFault → Rose (F.faults shelf.old) (F.faults shelf.new) ⊎ OfNamed (script_named words.now) (F.told shelf.old) IsLacked }
-    ensures too_long { result ≡ End.TooLong File.First → OfNamed (script_named words.now) (F.told shelf.old) (λ t. IsLonger t SCRIPT_LIMIT) }
+    ensures too_long { result ≡ End.TooLong File.First → OfNamed (script_named words.now) (F.told shelf.old) (λ t. IsLonger t script_limit) }
     ensures write_fault { result ≡ End.WriteFault Out.Out → Rose (O.faults out.old) (O.faults out.new) }
     ensures no_read_fault { F.most shelf.old ≡ 0 → result ≡ End.ReadFault → OfNamed (script_named words.now) (F.told shelf.old) IsLacked }
     ensures no_write_fault { O.most out.old ≡ 0 → result ≢ End.WriteFault Out.Out }
@@ -105,7 +106,7 @@ pub fn top<F: Shelf, O: Sink, L: Sink>(
     ensures kept { F.told shelf.new ≡ F.told shelf.old }
 
     // Where no count of faults rose, the end of a text that is told is the one that the text says.
-    ensures complete { (text : _) → OfNamed (script_named words.now) (F.told shelf.old) (λ t. t ≡ Holds text) → length text ≤ SCRIPT_LIMIT → (Rose (F.faults shelf.old) (F.faults shelf.new) → ⊥) → (Rose (O.faults out.old) (O.faults out.new) → ⊥) → IsEndFor text result ⊎ (result ≡ End.Memory) }
+    ensures complete { (text : _) → OfNamed (script_named words.now) (F.told shelf.old) (λ t. t ≡ Holds text) → length text ≤ script_limit → (Rose (F.faults shelf.old) (F.faults shelf.new) → ⊥) → (Rose (O.faults out.old) (O.faults out.new) → ⊥) → IsEndFor text result ⊎ (result ≡ End.Memory) }
 {
     let Some(name) = script_name(words) else {
         return End::Usage;

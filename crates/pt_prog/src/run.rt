@@ -1,6 +1,7 @@
 ghost use Rattle.std.specs.Prelude.{◌≡◌, ◌≤◌, [], ◌∷◌, Err, IfOk, OnOk, OnErr, length};
 ghost use Rattle.pt_base.specs.Faults.{Rose};
 ghost use Rattle.pt_base.specs.Taken.{Takes, TakesFront};
+ghost use Rattle.pt_prog.specs.Limits.{act_limit};
 ghost use Rattle.pt_prog.specs.View.{laid};
 ghost use Rattle.pt_prog.specs.Running.{Whole, Point, RunsWhole, RunsAt, Advanced, BrokenOff, Finished};
 
@@ -8,9 +9,6 @@ use crate::code::{Code, Placed};
 use crate::machine::{Machine, Step};
 use pt_base::{Line, Memory, Sink, SinkErr, Text, What};
 use std::alloc::Global;
-
-/// How many acts a run may take.
-pub const ACT_LIMIT: u64 = 10_000_000;
 
 /// Why a run stops before the end of its code.
 #[derive(Clone, Copy, Debug, PartialEq, Eq)]
@@ -80,10 +78,10 @@ fn advance<O: Sink>(
 
 /// Runs code from its first instruction to its end, or to where it stops.
 pub fn run<O: Sink>(alloc: Global, code: &Code, out: &mut O) -> Result<Option<Stop>, RunErr>
-    requires runs { (whole : Whole) × RunsWhole code.now ACT_LIMIT whole }
-    requires room { length code.now.instrs ≤ ACT_LIMIT }
-    ensures ok { IfOk result (λ stop. (whole : Whole) → RunsWhole code.now ACT_LIMIT whole → Finished whole stop (O.taken out.old) (O.taken out.new)) }
-    ensures err { OnErr result ((whole : Whole) → RunsWhole code.now ACT_LIMIT whole → TakesFront (O.taken out.old) (O.taken out.new) whole.world.written) }
+    requires runs { (whole : Whole) × RunsWhole code.now act_limit whole }
+    requires room { length code.now.instrs ≤ act_limit }
+    ensures ok { IfOk result (λ stop. (whole : Whole) → RunsWhole code.now act_limit whole → Finished whole stop (O.taken out.old) (O.taken out.new)) }
+    ensures err { OnErr result ((whole : Whole) → RunsWhole code.now act_limit whole → TakesFront (O.taken out.old) (O.taken out.new) whole.world.written) }
     ensures cause { result ≡ Err RunErr.Write → Rose (O.faults out.old) (O.faults out.new) × (O.faults out.new ≤ O.most out.new) }
     ensures most { O.most out.new ≡ O.most out.old }
     ensures later { O.faults out.old ≤ O.faults out.new }

@@ -1,6 +1,6 @@
 use Rattle.pt_tree.specs.Fold.{stms_of}
 use Rattle.pt_base.proofs.TakenLemmas.{front_of_none}
-use Rattle.pt_prog.specs.declared.run.TheConstants.{ACT_LIMIT}
+use Rattle.pt_prog.specs.Limits.{act_limit}
 use Rattle.pt_prog.specs.Answer.{meaning_of}
 use Rattle.pt_prog.specs.Running.{RunsWhole, Finished}
 use Rattle.pt_base.specs.Taken.{TakesFront}
@@ -19,10 +19,10 @@ run-requires-clause-room g c = code_fits c.in_ok-code.code (stms_of c.args.scrip
 
 pub returns-clause-ok : goal.returns-clause-ok
 returns-clause-ok g c =
-    run_ok c.run.result (meaning_of (stms_of c.args.script.now.body)) (RunsWhole c.in_ok-code.code ACT_LIMIT) (λ s w. Finished w s (g.O.Sink.taken c.args.out.now) (g.O.Sink.taken c.run.new.out))
+    run_ok c.run.result (meaning_of (stms_of c.args.script.now.body)) (RunsWhole c.in_ok-code.code act_limit) (λ s w. Finished w s (g.O.Sink.taken c.args.out.now) (g.O.Sink.taken c.run.new.out))
     (code_runs c.in_ok-code.code (stms_of c.args.script.now.body) c.in_ok-code.ensures) c.run.ensures.ok
 
 pub returns-clause-err : goal.returns-clause-err
 returns-clause-err g c =
-    run_err c.run.result (meaning_of (stms_of c.args.script.now.body)) (RunsWhole c.in_ok-code.code ACT_LIMIT) (λ w. TakesFront (g.O.Sink.taken c.args.out.now) (g.O.Sink.taken c.run.new.out) w.world.written)
+    run_err c.run.result (meaning_of (stms_of c.args.script.now.body)) (RunsWhole c.in_ok-code.code act_limit) (λ w. TakesFront (g.O.Sink.taken c.args.out.now) (g.O.Sink.taken c.run.new.out) w.world.written)
     (code_runs c.in_ok-code.code (stms_of c.args.script.now.body) c.in_ok-code.ensures) c.run.ensures.err

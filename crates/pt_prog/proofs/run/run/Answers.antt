@@ -1,12 +1,12 @@
 use Rattle.std.proofs.Common.{ap, ◌∙◌, refl, arith, length, sym}
-use Rattle.pt_prog.specs.declared.run.TheConstants.{ACT_LIMIT}
+use Rattle.pt_prog.specs.Limits.{act_limit}
 use Rattle.pt_prog.proofs.AdvanceLemmas.{on_err}
 use Rattle.pt_prog.proofs.LoopLemmas.{started, point, comes_to, one_more, stopped, broken, at_the_end}
 use Rattle.pt_prog.proofs.run.run.Goals as goal
 
 pub loop-placed-init : goal.loop-placed-init
 loop-placed-init g c = record {
-  so_far = λ whole r. started c.args.code.now whole ACT_LIMIT c.new-machine.result (g.O.Sink.taken c.args.out.now) c.new-machine.ensures.slots c.new-machine.ensures.names r;
+  so_far = λ whole r. started c.args.code.now whole act_limit c.new-machine.result (g.O.Sink.taken c.args.out.now) c.new-machine.ensures.slots c.new-machine.ensures.names r;
   most = refl;
   later = omega arith;
 }
@@ -15,14 +15,14 @@ pub advance-requires : goal.advance-requires
 advance-requires g c =
     let whole = c.requires.runs.0 in
     let reached = c.loop-placed.invariant.so_far whole c.requires.runs.1 in (
-      point c.args.code.now whole ACT_LIMIT c.loop-placed.placed-index c.loop-placed.machine _ _ reached,
-      comes_to c.args.code.now whole ACT_LIMIT c.loop-placed.placed-index c.loop-placed.machine _ _ reached
+      point c.args.code.now whole act_limit c.loop-placed.placed-index c.loop-placed.machine _ _ reached,
+      comes_to c.args.code.now whole act_limit c.loop-placed.placed-index c.loop-placed.machine _ _ reached
           c.as_slice-placed-items.result.now _ c.as_slice-placed-items.ensures c.loop-placed-test.true c.requires.room,
     )
 
 pub loop-placed-preserved : goal.loop-placed-preserved
 loop-placed-preserved g c = record {
-  so_far = λ whole r. one_more c.args.code.now whole ACT_LIMIT c.loop-placed.placed-index c.loop-placed.machine _ _ (c.loop-placed.invariant.so_far whole r)
+  so_far = λ whole r. one_more c.args.code.now whole act_limit c.loop-placed.placed-index c.loop-placed.machine _ _ (c.loop-placed.invariant.so_far whole r)
       c.as_slice-placed-items.result.now _ c.as_slice-placed-items.ensures c.loop-placed-test.true c.requires.room
       c.in_ok-stop.stop c.advance.new.machine (g.O.Sink.taken c.advance.new.out) c.in_default.is c.in_ok-stop.ensures.ok;
   most = c.in_ok-stop.ensures.most ∙ c.loop-placed.invariant.most;
@@ -31,18 +31,18 @@ loop-placed-preserved g c = record {
 
 pub returns-in-Some-clause-ok : goal.returns-in-Some-clause-ok
 returns-in-Some-clause-ok g c = λ whole r.
-    stopped c.args.code.now whole ACT_LIMIT c.loop-placed.placed-index c.loop-placed.machine _ _ (c.loop-placed.invariant.so_far whole r)
+    stopped c.args.code.now whole act_limit c.loop-placed.placed-index c.loop-placed.machine _ _ (c.loop-placed.invariant.so_far whole r)
     c.as_slice-placed-items.result.now _ c.as_slice-placed-items.ensures c.loop-placed-test.true c.requires.room
     c.in_ok-stop.stop c.in-Some.why c.advance.new.machine (g.O.Sink.taken c.advance.new.out) c.in-Some.is c.in_ok-stop.ensures.ok
 
 pub returns-in_err-stop-clause-err : goal.returns-in_err-stop-clause-err
 returns-in_err-stop-clause-err g c =
     on_err c.from_residual.result (λ whole r.
-    broken c.args.code.now whole ACT_LIMIT c.loop-placed.placed-index c.loop-placed.machine _ _ (c.loop-placed.invariant.so_far whole r)
+    broken c.args.code.now whole act_limit c.loop-placed.placed-index c.loop-placed.machine _ _ (c.loop-placed.invariant.so_far whole r)
     c.as_slice-placed-items.result.now _ c.as_slice-placed-items.ensures c.loop-placed-test.true c.requires.room
     (g.O.Sink.taken c.advance.new.out) c.in_err-stop.ensures.err)
 
 pub returns-clause-ok : goal.returns-clause-ok
 returns-clause-ok g c = λ whole r.
-    at_the_end c.args.code.now whole ACT_LIMIT c.loop-placed.placed-index c.loop-placed.machine _ _ (c.loop-placed.invariant.so_far whole r)
+    at_the_end c.args.code.now whole act_limit c.loop-placed.placed-index c.loop-placed.machine _ _ (c.loop-placed.invariant.so_far whole r)
     (let e = ap length c.as_slice-placed-items.ensures in omega arith)

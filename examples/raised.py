@@ -1,0 +1,3 @@
+print("one")
+print("one" + 1)
+print("never")

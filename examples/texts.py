@@ -1,0 +1,7 @@
+first = "co"
+second = "py"
+word = first + second + first
+print(word + "!")
+print("")
+first = "caco"
+print(first + second)
