@@ -9,13 +9,12 @@ use Rattle.pt_tree.specs.Turn.{left_by, Turn}
 use Rattle.pt_meaning.specs.declared.value.Value.{Value}
 use Rattle.pt_meaning.specs.declared.value.Value.TheVariants.{Exception}
 use Rattle.pt_meaning.specs.declared.value.ExceptionClass.{ExceptionClass}
-use Rattle.pt_meaning.specs.Run.{Ending, ended, outside}
-use Rattle.pt_meaning.specs.Host.{World, host}
+use Rattle.pt_meaning.specs.Run.{ended, outside}
+use Rattle.pt_meaning.specs.Host.{host}
 use Rattle.pt_prog.specs.declared.code.Code.{Code}
 use Rattle.pt_prog.specs.declared.code.Placed.{Placed}
 use Rattle.pt_prog.specs.declared.machine.Machine.{Machine}
 use Rattle.pt_prog.specs.declared.machine.Step.TheVariants as step
-use Rattle.pt_prog.specs.declared.run.Stop.{Stop}
 use Rattle.pt_prog.specs.declared.run.Stop.TheVariants as stop
 use Rattle.pt_prog.specs.View.{laid, ins_of}
 use Rattle.pt_prog.specs.CodeRun.{State, on, off, here, turn, Runs}

@@ -1,7 +1,7 @@
 -- From a run of the code to the answer for its text.
-use Rattle.std.proofs.Common.{◌≡◌, ◌≤◌, ◌+◌, ℕ, List, [], ◌∷◌, ◌++◌, Option, Some, None, Result, Ok, Err, length, refl, sym, ap, ◌∙◌, subst, inl, inr, arith}
+use Rattle.std.proofs.Common.{◌≡◌, ◌≤◌, ℕ, List, Option, Some, None, Result, Ok, Err, length, refl, sym, ap, ◌∙◌, subst, arith}
 use Rattle.std.specs.Prelude.{IfOk, OnErr}
-use Rattle.pt_base.specs.Taken.{Pieces, Takes, TakesFront}
+use Rattle.pt_base.specs.Taken.{Pieces}
 use Rattle.pt_tree.specs.Syntax.{Stms, all_size}
 use Rattle.pt_tree.specs.Turn.{done, left_by}
 use Rattle.pt_meaning.specs.declared.value.Value.{Value}

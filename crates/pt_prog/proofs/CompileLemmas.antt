@@ -1,5 +1,5 @@
 -- Statements that are compiled one after another.
-use Rattle.std.proofs.Common.{◌≡◌, ◌<◌, ℕ, ◌+◌, List, length, get_or, drop, refl, add-one, ap}
+use Rattle.std.proofs.Common.{◌≡◌, ◌<◌, ℕ, ◌+◌, List, length, get_or, drop, refl, add-one}
 use Rattle.std.proofs.Math.Seq.{drop-cons}
 use Rattle.pt_tree.specs.declared.tree.Stmt.{Stmt}
 use Rattle.pt_tree.specs.Fold.{stm_of, stms_of}

@@ -1,16 +1,16 @@
 -- Where an item of a sum ends, in front of what goes on with a blank.
-use Rattle.std.proofs.Common.{◌≡◌, ◌≢◌, ◌<◌, ◌≤◌, ◌^◌, ◌+◌, ℕ, pos, negsuc, List, [], ◌∷◌, ◌++◌, Some, None, Bool, true, false, cond, length, drop, take, slice_index, refl, sym, ap, ◌∙◌, subst, arith, append_assoc, length-append}
+use Rattle.std.proofs.Common.{◌≡◌, ◌<◌, ◌≤◌, ◌+◌, ℕ, pos, negsuc, List, [], ◌∷◌, ◌++◌, Some, None, Bool, true, false, cond, length, drop, slice_index, refl, ap, ◌∙◌, arith, append_assoc, length-append}
 use Rattle.std.specs.Prelude.{codes, position, nat_lt, not, ◌&&◌, ◌==◌, min}
 use Rattle.std.specs.Char.{is_ascii_alphabetic, digit_value}
 use Rattle.std.specs.Fmt.{decimal}
 use Rattle.std.specs.List.{list_all, position_or_len}
-use Rattle.std.specs.Str.Parse.{AllDigits, digits_value}
+use Rattle.std.specs.Str.Parse.{AllDigits}
 use Rattle.std.proofs.lemmas.Bool.Decides.{nat_tests}
 use Rattle.std.proofs.lemmas.List.Sums.{prefix_len-le-length}
 use Rattle.std.proofs.lemmas.Fmt.{decimal_is_IsNumeral_wide}
 use Rattle.pt_tree.specs.Syntax as S
 use Rattle.pt_tree.specs.Syntax.{Exp}
-use Rattle.pt_prog.specs.Spelling.{is_reserved, is_name, is_name_byte, is_text_byte, quoted, IsItem, AreItems, spelled, continued}
+use Rattle.pt_prog.specs.Spelling.{is_reserved, is_name, is_name_byte, is_text_byte, quoted, IsItem, spelled, continued}
 use Rattle.pt_prog.specs.Reading.{item_len}
 use Rattle.pt_prog.proofs.NumberLemmas.{small}
 

@@ -1,11 +1,10 @@
 -- The machine's run, one instruction after another.
-use Rattle.std.proofs.Common.{◌≡◌, ℕ, ◌+◌, ◌-◌, ◌<◌, ◌≤◌, List, [], ◌++◌, Option, Some, None, false, length, get_or, refl, sym, ap, ◌∙◌, subst, arith, append-nil}
+use Rattle.std.proofs.Common.{◌≡◌, ℕ, ◌+◌, ◌-◌, ◌<◌, ◌≤◌, List, [], ◌++◌, Option, Some, None, false, length, get_or, sym, ap, ◌∙◌, subst, arith, append-nil}
 use Rattle.std.proofs.lemmas.List.{get_or_default}
 use Rattle.pt_base.specs.Taken.{Pieces, Takes, TakesFront}
 use Rattle.pt_base.proofs.TakenLemmas.{takes_nothing, takes_then, takes_then_front}
 use Rattle.pt_tree.specs.Turn.{done, over}
-use Rattle.pt_meaning.specs.Run.{ended}
-use Rattle.pt_meaning.specs.Host.{World, host, start_world}
+use Rattle.pt_meaning.specs.Host.{host, start_world}
 use Rattle.pt_prog.specs.declared.code.Code.{Code}
 use Rattle.pt_prog.specs.declared.code.Placed.{Placed}
 use Rattle.pt_prog.specs.declared.machine.Machine.{Machine}

@@ -1,8 +1,7 @@
 -- What stands at a place is done where its operation is.
-use Rattle.std.proofs.Common.{◌≡◌, ℕ, ◌+◌, List, Option, Some, None, Result, Ok, Err, false, sym, ap, ◌∙◌, subst}
+use Rattle.std.proofs.Common.{◌≡◌, ℕ, ◌+◌, List, Option, Some, Result, Ok, Err, false, sym, ap, ◌∙◌, subst}
 use Rattle.std.specs.Prelude.{IfOk, slice_get, option_map}
 use Rattle.pt_base.specs.declared.memory.Memory.{Memory}
-use Rattle.pt_instr.specs.declared.Instr.{Instr}
 use Rattle.pt_instr.specs.declared.Instr.TheVariants as instr
 use Rattle.pt_instr.specs.declared.ConstNo.{ConstNo}
 use Rattle.pt_instr.specs.declared.TextNo.{TextNo}

@@ -1,21 +1,20 @@
 -- A run goes on from the state behind an act.
-use Rattle.std.proofs.Common.{◌≡◌, ℕ, zero, suc, ◌+◌, ◌<◌, List, [], ◌∷◌, ◌++◌, Option, Some, None, Bool, true, false, length, get_or, refl, sym, ap, ◌∙◌, subst, arith, append_assoc, append-nil}
-use Rattle.std.specs.Prelude.{slice_get, ◌==◌}
+use Rattle.std.proofs.Common.{◌≡◌, ℕ, ◌+◌, ◌<◌, List, [], ◌∷◌, ◌++◌, Option, Some, None, true, false, length, get_or, refl, sym, ap, ◌∙◌, subst, arith, append_assoc, append-nil}
+use Rattle.std.specs.Prelude.{◌==◌}
 use Rattle.std.proofs.lemmas.Option.{slice_get_read, slice_get_past}
 use Rattle.std.proofs.lemmas.Bool.Decides.{nat_tests}
 use Rattle.pt_base.specs.Taken.{Pieces}
 use Rattle.pt_base.specs.declared.what.What.{What}
-use Rattle.pt_tree.specs.Turn as T
-use Rattle.pt_tree.specs.Turn.{Ask, seek, deed, Answer, Reply, Mark, End, done, Turn, act, over, stuck, const, load, binary, call, store, discard}
+use Rattle.pt_tree.specs.Turn.{Ask, seek, deed, Answer, Reply, End, done, Turn, over, const, load, binary, call, store, discard}
 use Rattle.pt_meaning.specs.declared.value.Value.{Value}
 use Rattle.pt_meaning.specs.declared.value.Value.TheVariants as value
-use Rattle.pt_meaning.specs.Run.{Outcome, goes, leaves, Ending, ended, outside, spent, on_outcome}
+use Rattle.pt_meaning.specs.Run.{Outcome, goes, leaves, Ending, ended, outside, on_outcome}
 use Rattle.pt_meaning.specs.Host as H
 use Rattle.pt_meaning.specs.Host.{World, host, answer, sought, called, resulting, given, or_builtin, result_of}
 use Rattle.pt_prog.specs.declared.code.Code.{Code}
 use Rattle.pt_prog.specs.declared.code.Placed.{Placed}
 use Rattle.pt_prog.specs.View.{Laid, laid, ins_of}
-use Rattle.pt_prog.specs.CodeRun.{State, on, off, here, turn, Runs, r_over, r_spent, r_act, r_leaves}
+use Rattle.pt_prog.specs.CodeRun.{State, on, here, turn, Runs, r_over, r_spent, r_act, r_leaves}
 use Rattle.pt_prog.specs.Machine.{Passed, onto, left, at_end, lost, passed}
 
 -- the parts of an outcome

@@ -1,15 +1,13 @@
 -- Lines that spell a statement, and lines that spell none.
-use Rattle.std.proofs.Common.{◌≡◌, ◌≢◌, ◌<◌, ◌+◌, ℕ, List, [], ◌∷◌, ◌++◌, Option, Some, None, Result, Ok, Err, Bool, true, false, length, drop, take, refl, sym, ap, ◌∙◌, subst, inl, inr, lit<, arith, append_assoc, length-append, take-append-drop}
+use Rattle.std.proofs.Common.{◌≡◌, ◌≢◌, ◌<◌, ℕ, List, [], ◌∷◌, ◌++◌, Option, Some, None, Result, Ok, Err, Bool, true, false, length, drop, take, sym, ap, ◌∙◌, subst, inl, inr, lit<, arith, length-append}
 use Rattle.std.specs.Prelude.{codes, IfOk, slice_index, ◌&&◌}
-use Rattle.std.specs.Char.{is_ascii_alphabetic}
 use Rattle.std.specs.List.{list_all}
 use Rattle.std.proofs.Math.Seq.{take-append_seam, drop-append_seam}
 use Rattle.pt_base.specs.declared.memory.Memory.{Memory}
-use Rattle.pt_tree.specs.Syntax as S
 use Rattle.pt_tree.specs.Syntax.{Exp, Stm}
 use Rattle.pt_tree.specs.declared.tree.Stmt.{Stmt}
 use Rattle.pt_tree.specs.Fold.{stm_of}
-use Rattle.pt_prog.specs.Spelling.{is_name, is_name_byte, IsSum, IsPrint, IsAssignment, IsStatement}
+use Rattle.pt_prog.specs.Spelling.{is_name, is_name_byte, IsSum, IsPrint, IsAssignment}
 use Rattle.pt_prog.specs.Reading.{item_len, IsPrintRead, IsAssignmentRead, IsStatementRead}
 use Rattle.pt_prog.proofs.CutLemmas.{cut_target, name_parts}
 

@@ -1,16 +1,14 @@
 -- A sum is read from left to right in one way.
-use Rattle.std.proofs.Common.{◌≡◌, ◌≢◌, ◌<◌, ◌≤◌, ◌^◌, ◌+◌, ℕ, pos, negsuc, List, [], ◌∷◌, ◌++◌, true, length, drop, take, slice_index, refl, sym, ap, ◌∙◌, subst, arith, append_assoc, append-nil, length-append}
-use Rattle.std.specs.Prelude.{codes, ◌==◌}
+use Rattle.std.proofs.Common.{◌≡◌, ◌≢◌, ◌<◌, ◌^◌, ℕ, pos, negsuc, List, [], ◌∷◌, ◌++◌, true, length, drop, take, slice_index, sym, ap, ◌∙◌, subst, arith, length-append}
 use Rattle.std.specs.Char.{is_ascii_alphabetic, digit_value}
 use Rattle.std.specs.Fmt.{decimal}
 use Rattle.std.specs.Str.Parse.{AllDigits, digits_value}
 use Rattle.std.proofs.lemmas.Bool.Decides.{nat_tests}
 use Rattle.std.proofs.lemmas.Fmt.{decimal_is_IsNumeral_wide}
 use Rattle.std.proofs.Math.Seq.{take-append_seam, drop-append_seam}
-use Rattle.pt_base.specs.declared.operators.BinOp.TheVariants.{Add}
 use Rattle.pt_tree.specs.Syntax as S
 use Rattle.pt_tree.specs.Syntax.{Exp}
-use Rattle.pt_prog.specs.Spelling.{is_name, is_text_byte, quoted, IsItem, AreItems, spelled, continued, sum_of}
+use Rattle.pt_prog.specs.Spelling.{is_name, quoted, IsItem, spelled, continued}
 use Rattle.pt_prog.specs.Reading.{item_len}
 use Rattle.pt_prog.proofs.NumberLemmas.{small}
 use Rattle.pt_prog.proofs.CutLemmas.{cut, name_parts}

@@ -8,7 +8,7 @@ use Rattle.pt_base.specs.Taken.{Pieces, Takes, TakesFront}
 use Rattle.pt_tree.specs.Syntax.{Stms}
 use Rattle.pt_tree.specs.Turn.{done, left_by}
 use Rattle.pt_meaning.specs.Run.{Ending, ended, outside, spent, meaning}
-use Rattle.pt_meaning.specs.Host.{World, host, start_world}
+use Rattle.pt_meaning.specs.Host.{host, start_world}
 use Rattle.pt_meaning.specs.declared.value.Value.{Value}
 use Rattle.pt_prog.specs.declared.end.End.{End}
 use Rattle.pt_prog.specs.declared.end.End.TheVariants as end

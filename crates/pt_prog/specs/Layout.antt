@@ -1,8 +1,5 @@
 -- The code that is laid down for a tree: each state of the code is made of the one before.
 use Rattle.std.specs.Prelude.{ℕ, List, [], ◌∷◌, ◌++◌, length}
-use Rattle.pt_base.specs.declared.numbers.Line.{Line}
-use Rattle.pt_instr.specs.declared.ConstNo.{ConstNo}
-use Rattle.pt_instr.specs.declared.TextNo.{TextNo}
 use Rattle.pt_instr.specs.declared.Instr.{Instr}
 use Rattle.pt_instr.specs.declared.Instr.TheVariants as instr
 use Rattle.pt_tree.specs.Syntax as S

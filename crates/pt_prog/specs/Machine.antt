@@ -1,10 +1,10 @@
 -- What one instruction does, as a step of the code's run.
-use Rattle.std.specs.Prelude.{◌≡◌, ℕ, ◌+◌, List, [], ◌∷◌, ◌++◌, Option, Some, None, false}
+use Rattle.std.specs.Prelude.{◌≡◌, ℕ, ◌+◌, [], ◌∷◌, ◌++◌, Option, Some, None, false}
 use Rattle.std.specs.HashMap.{get_by_text}
 use Rattle.pt_base.specs.declared.what.What.{What}
 use Rattle.pt_base.specs.Taken.{Pieces}
-use Rattle.pt_tree.specs.Turn.{End, done, left_by, Turn, act, over, stuck}
-use Rattle.pt_meaning.specs.Run.{goes, leaves, Ending, ended, outside, on_outcome}
+use Rattle.pt_tree.specs.Turn.{End, left_by, Turn, act, over, stuck}
+use Rattle.pt_meaning.specs.Run.{on_outcome}
 use Rattle.pt_meaning.specs.declared.value.Value.{Value}
 use Rattle.pt_meaning.specs.declared.value.Value.TheVariants.{Exception}
 use Rattle.pt_meaning.specs.Host.{Names, World, host}

@@ -1,6 +1,6 @@
 -- How scripts are spelled. A text is read as the script that is spelled so, and a line that spells no statement
 -- is not built.
-use Rattle.std.specs.Prelude.{◌≡◌, ℕ, ℤ, pos, negsuc, ◌+◌, ◌^◌, ◌<◌, List, [], ◌∷◌, ◌++◌, codes, length, Bool, true, not, ◌==◌, ◌&&◌, ◌||◌, nat_le, slice_index, map, ◌⊎◌}
+use Rattle.std.specs.Prelude.{◌≡◌, ℕ, pos, negsuc, ◌+◌, ◌^◌, ◌<◌, List, [], ◌∷◌, ◌++◌, codes, length, Bool, true, not, ◌==◌, ◌&&◌, ◌||◌, nat_le, slice_index, map, ◌⊎◌}
 use Rattle.std.specs.Char.{is_ascii_digit, is_ascii_alphabetic}
 use Rattle.std.specs.Fmt.{decimal}
 use Rattle.std.specs.List.{slice_split, list_all, list_any}

@@ -1,7 +1,6 @@
 use Rattle.std.proofs.Common.{arith, ap, ◌∙◌}
-use Rattle.std.proofs.lemmas.Result.{err_from_is_err_and}
 use Rattle.pt_prog.specs.Lines.{lines_left}
-use Rattle.pt_prog.proofs.LineLemmas.{left_falls, one_line, refused, all_read}
+use Rattle.pt_prog.proofs.LineLemmas.{left_falls, one_line, all_read}
 use Rattle.pt_prog.proofs.reader.read.Goals as goal
 
 pub overflow_add-line : goal.overflow_add-line

@@ -25,7 +25,7 @@ returns-in_default-behind c =
 pub returns-then-others-ge-ITEM_LIMIT : goal.returns-then-others-ge-ITEM_LIMIT
 returns-then-others-ge-ITEM_LIMIT c =
     too_many c.args.line.0 c.args.text.now (exp_of c.loop-rest.so_far) c.loop-rest.others c.loop-rest.rest.now c.loop-rest.invariant
-    (some_left c.loop-rest.rest.now c.is_empty.result c.is_empty.ensures c.loop-rest-test.true) c.if-others-ge-ITEM_LIMIT.true
+    (some_left c.loop-rest.rest.now c.is_empty.result c.is_empty.ensures c.loop-rest-test.true) (omega (arith, c.if-others-ge-ITEM_LIMIT.true))
 
 pub returns-in_default-2 : goal.returns-in_default-2
 returns-in_default-2 c =

@@ -1,4 +1,4 @@
-use Rattle.std.proofs.Common.{ap, ◌∙◌, refl, arith, length, sym}
+use Rattle.std.proofs.Common.{ap, ◌∙◌, refl, arith, length}
 use Rattle.pt_prog.specs.Limits.{act_limit}
 use Rattle.pt_prog.proofs.AdvanceLemmas.{on_err}
 use Rattle.pt_prog.proofs.LoopLemmas.{started, point, comes_to, one_more, stopped, broken, at_the_end}
