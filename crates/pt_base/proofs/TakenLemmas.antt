@@ -1,5 +1,5 @@
 -- Pieces that are taken one call after another.
-use Rattle.std.proofs.Common.{ℕ, List, [], ◌∷◌, ◌++◌, inl, inr, append_assoc, append-nil}
+use Rattle.std.proofs.Common.{[], ◌∷◌, ◌++◌, inl, inr, append_assoc, append-nil}
 use Rattle.pt_base.specs.Taken.{Pieces, Takes, TookFront, TakesFront}
 
 module _ (old new : Pieces → Pieces → Type 0) where

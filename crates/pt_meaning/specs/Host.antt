@@ -1,5 +1,5 @@
 -- What answers the acts of a script: names, values and what is written.
-use Rattle.std.specs.Prelude.{◌≡◌, ℕ, ℤ, pos, negsuc, ◌+ℤ◌, ◌^◌, List, [], ◌∷◌, ◌++◌, codes, length, Option, Some, None, Bool, nat_lt, nat_le, if◌then◌else◌}
+use Rattle.std.specs.Prelude.{ℕ, ℤ, pos, negsuc, ◌+ℤ◌, ◌^◌, List, [], ◌∷◌, ◌++◌, codes, length, Option, Some, None, Bool, nat_lt, nat_le, if◌then◌else◌}
 use Rattle.std.specs.Fmt.{signed_decimal}
 use Rattle.std.specs.Map.{update}
 use Rattle.std.specs.Str.{bytes_eq}
@@ -12,7 +12,7 @@ use Rattle.pt_meaning.specs.declared.value.Value.TheVariants as value
 use Rattle.pt_meaning.specs.declared.value.ExceptionClass.TheVariants.{NameError, TypeError}
 use Rattle.pt_tree.specs.Syntax as S
 use Rattle.pt_tree.specs.Syntax.{Constant}
-use Rattle.pt_tree.specs.Turn.{Ask, Answer, Seek, const, load, binary, call, Deed, store, discard, seek, deed, Reply, got, raised}
+use Rattle.pt_tree.specs.Turn.{Ask, Answer, Seek, const, load, binary, call, Deed, store, discard, seek, deed, got, raised}
 use Rattle.pt_meaning.specs.Run.{Outcome, goes, leaves, Host}
 
 -- the value of each bound name (Language Reference 4.2)

@@ -1,5 +1,5 @@
 -- The run of a script, under a bound on acts (Language Reference 4; bounded evaluation).
-use Rattle.std.specs.Prelude.{ℕ, zero, suc}
+use Rattle.std.specs.Prelude.{ℕ, suc}
 use Rattle.pt_base.specs.declared.what.What.{What}
 use Rattle.pt_tree.specs.Syntax.{Stms}
 use Rattle.pt_tree.specs.Turn.{Ask, Answer, Reply, End, Turn, act, over}

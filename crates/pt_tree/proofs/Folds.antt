@@ -1,7 +1,7 @@
 -- The plain data of each kind of node, given that of its parts.
 use Rattle.std.proofs.Common.{◌≡◌, ℕ, List, ℤ, ap, ◌∙◌}
 use Rattle.pt_base.specs.declared.operators.BinOp.{BinOp}
-use Rattle.pt_tree.specs.declared.tree.Expr.{Expr, fold-Expr, fold_out-Expr}
+use Rattle.pt_tree.specs.declared.tree.Expr.{Expr, fold_out-Expr}
 use Rattle.pt_tree.specs.declared.tree.ExprNode.{ExprNode, Int, Str, Name, Binary, Call, fold-ExprNode, fold_out-ExprNode, map-ExprNode, out-ExprNode}
 use Rattle.pt_tree.specs.declared.tree.ExprNode.TheVariants.{outs-Int, outs-Str, outs-Name, outs-Binary, outs-Call}
 use Rattle.pt_tree.specs.Syntax as S
