@@ -132,7 +132,7 @@ hash_names =
 abbrev pub special_names : List (List ℕ)
 special_names = customization_names ++ operator_names ++ swapped_operator_names ++ hash_names
 
--- monitoring events, in the order of their bits (Library Reference, "sys.monitoring", "Events")
+-- monitoring events (Library Reference, "sys.monitoring", "Events"), in the order of their bits here
 abbrev pub event_names : List (List ℕ)
 event_names =
     codes "PY_START" ∷ codes "PY_RESUME" ∷ codes "PY_RETURN" ∷ codes "PY_YIELD" ∷ codes "PY_THROW" ∷

@@ -34,7 +34,7 @@ pub fn specials() -> Table<'static, u16, 46>
     Table::new(&SPECIALS)
 }
 
-/// The monitoring events, each with its bit (Library Reference, "sys.monitoring").
+/// The monitoring events (Library Reference, "sys.monitoring", "Events"), each with its bit here.
 pub fn events() -> Table<'static, u16, 16>
     ensures { result ≡ numbered 0 event_names }
 {
@@ -46,4 +46,52 @@ pub fn commands() -> Table<'static, u16, 34>
     ensures { result ≡ numbered 0 command_names }
 {
     Table::new(&COMMANDS)
+}
+
+#[cfg(test)]
+mod tests {
+    use super::*;
+    use std::test::Fail;
+
+    #[test]
+    fn names_have_their_places(rt: HostRuntime) {
+        // keyword, builtin, method, special method, event, command
+        let rows: [(&str, [Option<u16>; 6]); 14] = [
+            ("False", [Some(0), None, None, None, None, None]),
+            ("break", [Some(8), None, None, None, None, Some(0)]),
+            ("yield", [Some(34), None, None, None, None, None]),
+            ("print", [None, Some(0), None, None, None, None]),
+            ("format", [None, Some(62), Some(38), None, None, None]),
+            ("ValueError", [None, Some(89), None, None, None, None]),
+            ("index", [None, None, Some(15), None, None, None]),
+            ("__iter__", [None, None, Some(32), Some(12), None, None]),
+            ("__hash__", [None, None, None, Some(45), None, None]),
+            ("STOP_ITERATION", [None, None, None, None, Some(15), None]),
+            ("cont", [None, None, None, None, None, Some(19)]),
+            ("q", [None, None, None, None, None, Some(33)]),
+            ("", [None, None, None, None, None, None]),
+            ("Print", [None, None, None, None, None, None]),
+        ];
+        for (name, places) in rows {
+            assert_eq!(rt; keywords().get(name), places[0], "keyword {name}");
+            assert_eq!(rt; builtins().get(name), places[1], "builtin {name}");
+            assert_eq!(rt; methods().get(name), places[2], "method {name}");
+            assert_eq!(rt; specials().get(name), places[3], "special method {name}");
+            assert_eq!(rt; events().get(name), places[4], "event {name}");
+            assert_eq!(rt; commands().get(name), places[5], "command {name}");
+        }
+    }
+
+    #[test]
+    fn tables_have_other_values(rt: HostRuntime) -> Result<(), Fail> {
+        let rows = [("up", true), ("down", false)];
+        let table: Table<'_, bool, 2> = Table::new(&rows);
+        assert_eq!(rt; table.get("down"), Some(false));
+        let shown = format!(in rt.alloc(); "{table:?}")?;
+        assert_eq!(rt;
+            shown.as_str(),
+            "Table { rows: [(\"up\", true), (\"down\", false)] }"
+        );
+        Ok(())
+    }
 }

@@ -267,7 +267,7 @@ pub(crate) static SPECIALS: [(&str, u16); 46] = [
     ("__hash__", 45),
 ];
 
-/// The monitoring events, each with its bit (Library Reference, "sys.monitoring", "Events").
+/// The monitoring events (Library Reference, "sys.monitoring", "Events"), each with its bit here.
 pub(crate) static EVENTS: [(&str, u16); 16] = [
     ("PY_START", 0),
     ("PY_RESUME", 1),

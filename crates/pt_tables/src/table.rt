@@ -1,4 +1,4 @@
-ghost use Rattle.std.specs.Prelude.{◌≡◌, length, IsTrue};
+ghost use Rattle.std.specs.Prelude.{◌≡◌, ◌↔◌, length, Contains, IsTrue};
 ghost use Rattle.pt_tables.specs.Rows.{listed, names_of, value_of, are_different};
 
 use std::marker::Model;
@@ -47,7 +47,8 @@ impl<'a, V: Copy, const N: usize> Table<'a, V, N> {
 
     /// The value behind a name, or `None` where the name is not listed.
     pub fn get(&self, name: &str) -> Option<V>
-        ensures { result ≡ value_of self.now name.now }
+        ensures value { result ≡ value_of self.now name.now }
+        ensures each { (v : V) → (Contains self.now (name.now, v)) ↔ (result ≡ Some v) }
     {
         find(self.rows, name)
     }
