@@ -1,0 +1,44 @@
+-- Results that are in range.
+use Rattle.std.proofs.Common.{◌≡◌, ◌≢◌, ℕ, zero, suc, ◌+◌, ◌-◌, ◌*◌, ◌/◌, ◌%◌, ◌^◌, ◌<◌, ◌≤◌, ℤ, pos, negsuc, refl, sym, ap, ◌∙◌, arith, lt-ltb, to_z, of_z}
+use Rattle.std.specs.Prelude.{neg_ℤ, ◌+ℤ◌, ◌-ℤ◌, ◌*ℤ◌, ◌<ℤ◌, ◌≤ℤ◌, FitsSigned, true, false, int_lt}
+use Rattle.std.specs.Int.{w128}
+use Rattle.std.proofs.lemmas.Int.{ints, to_z-of_z}
+use Rattle.pt_ints.specs.declared.answer.IntAns.TheVariants.{Value, Range}
+use Rattle.pt_ints.specs.Integers.{floor_quotient, floor_remainder}
+use Rattle.pt_ints.specs.Answer.{is_in_range, ranged, divided}
+
+in_range : (z : ℤ) → FitsSigned w128 z → is_in_range z ≡ true
+in_range (pos n) f = lt-ltb n (2 ^ 127) f.sfits
+in_range (negsuc n) f = lt-ltb n (2 ^ 127) f.sfits
+
+pub ranged_value : (z v : ℤ) → FitsSigned w128 v → v ≡ z → Value v ≡ ranged z
+ranged_value z v f e = rw (← e, in_range v f) refl
+
+pub divided_value : (b z v : ℤ) → b ≢ pos 0 → FitsSigned w128 v → v ≡ z → Value v ≡ divided b z
+divided_value (pos zero) z v some f e = absurd (some refl)
+divided_value (pos (suc b)) z v some f e = ranged_value z v f e
+divided_value (negsuc b) z v some f e = ranged_value z v f e
+
+-- a number that fits its type, through its bits and back
+pub kept : (z : ℤ) → FitsSigned w128 z → to_z w128 (of_z w128 z) ≡ z
+kept z f = to_z-of_z w128 z f
+
+pub kept_less_one : (z : ℤ) → FitsSigned w128 z → FitsSigned w128 (z -ℤ pos 1) → to_z w128 (of_z w128 (to_z w128 (of_z w128 z) -ℤ pos 1)) ≡ z -ℤ pos 1
+kept_less_one z f g = ap (λ y. to_z w128 (of_z w128 (y -ℤ pos 1))) (kept z f) ∙ kept (z -ℤ pos 1) g
+
+pub kept_sum : (a b : ℤ) → FitsSigned w128 a → FitsSigned w128 b → FitsSigned w128 (a +ℤ b) → to_z w128 (of_z w128 (to_z w128 (of_z w128 a) +ℤ to_z w128 (of_z w128 b))) ≡ a +ℤ b
+kept_sum a b f g h = ap (λ y. to_z w128 (of_z w128 (y +ℤ to_z w128 (of_z w128 b)))) (kept a f) ∙ ap (λ y. to_z w128 (of_z w128 (a +ℤ y))) (kept b g) ∙ kept (a +ℤ b) h
+
+-- tests of a number that fits its type, as they compare its bits
+pub zero_bits : (z : ℤ) → FitsSigned w128 z → of_z w128 z ≡ 0 → z ≡ pos 0
+zero_bits (pos n) f e = ap pos e
+zero_bits (negsuc n) f e = absurd (omega (arith, f.sfits))
+
+pub some_bits : (z : ℤ) → (of_z w128 z ≡ 0 → ⊥) → z ≢ pos 0
+some_bits z h e = h (ap (of_z w128) e)
+
+pub below_zero : (z : ℤ) → FitsSigned w128 z → int_lt (to_z w128 (of_z w128 z)) (pos 0) ≡ true → z <ℤ pos 0
+below_zero z f e = grind (arith, ints, kept z f)
+
+pub from_zero : (z : ℤ) → FitsSigned w128 z → int_lt (to_z w128 (of_z w128 z)) (pos 0) ≡ false → z <ℤ pos 0 → ⊥
+from_zero z f e h = grind (arith, ints, kept z f)
