@@ -1,2 +1,4 @@
 pub mod DivisionLemmas
+pub mod PowerLemmas
 pub mod RangeLemmas
+pub mod ShiftLemmas

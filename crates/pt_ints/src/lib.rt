@@ -6,5 +6,9 @@ mod answer;
 mod bits;
 mod division;
 mod exact;
+mod operate;
+mod power;
+mod shift;
 
 pub use answer::IntAns;
+pub use operate::{binary, unary};
