@@ -1,3 +1,4 @@
+pub mod BitLemmas
 pub mod DivisionLemmas
 pub mod PowerLemmas
 pub mod RangeLemmas

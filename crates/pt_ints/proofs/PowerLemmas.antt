@@ -53,11 +53,11 @@ pub power_minus_one : (e : ℕ) → power (negsuc 0) e ≡ cond (e % 2 == 0) (po
 power_minus_one zero = refl
 power_minus_one (suc e) = elim (turns e) [
   | inl even ↦
-    let e' : power (negsuc 0) e ≡ pos 1 = power_minus_one e ∙ cond-true _ _ _ even.0 in
-    rw (even.1, e') refl
+      let e' : power (negsuc 0) e ≡ pos 1 = power_minus_one e ∙ cond-true _ _ _ even.0 in
+      rw (even.1, e') refl
   | inr odd ↦
-    let e' : power (negsuc 0) e ≡ negsuc 0 = power_minus_one e ∙ cond-false _ _ _ odd.0 in
-    rw (odd.1, e') refl
+      let e' : power (negsuc 0) e ≡ negsuc 0 = power_minus_one e ∙ cond-false _ _ _ odd.0 in
+      rw (odd.1, e') refl
 ]
 
 unsigned_abs-power : (a : ℤ) (e : ℕ) → unsigned_abs (power a e) ≡ unsigned_abs a ^ e

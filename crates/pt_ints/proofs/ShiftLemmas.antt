@@ -35,8 +35,8 @@ below_all : (n m k : ℕ) → n < 2 ^ 127 → m ≡ min k 127 → n / 2 ^ m ≡ 
 below_all n m k h e = elim (cases_lt k 127) [
   | inl below ↦ ap (λ i. n / 2 ^ i) (omega (arith, e))
   | inr above ↦
-    let at : m ≡ 127 = omega (arith, e) in
-    ap (λ i. n / 2 ^ i) at ∙ div-eq_of_lt h ∙ sym (div-eq_of_lt (omega (arith, grows 127 k above)))
+      let at : m ≡ 127 = omega (arith, e) in
+      ap (λ i. n / 2 ^ i) at ∙ div-eq_of_lt h ∙ sym (div-eq_of_lt (omega (arith, grows 127 k above)))
 ]
 
 shr_is : (a : ℤ) (m k : ℕ) → FitsSigned w128 a → m ≡ min k 127 → int_shr a m ≡ floor_quotient a (pos (2 ^ k))

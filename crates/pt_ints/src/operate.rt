@@ -1,12 +1,12 @@
 ghost use Rattle.std.specs.Prelude.{◌≡◌};
 ghost use Rattle.pt_ints.specs.Answer.{binary_answer, unary_answer};
 
+use crate::IntAns;
 use crate::bits::{common, differing, inversion, joined};
 use crate::division::{floor_division, modulo};
 use crate::exact::{difference, negation, product, sum};
 use crate::power::raise;
 use crate::shift::{shift_left, shift_right};
-use crate::IntAns;
 use pt_base::{BinOp, UnOp};
 
 /// `a OP b` (Language Reference 6.5 and 6.7 to 6.9). A quotient and a negative power are floating
