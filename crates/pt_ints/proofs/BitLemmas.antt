@@ -1,17 +1,17 @@
 -- Bits in two's complement without end, and those of 128 bits.
-use Rattle.std.proofs.Common.{◌≡◌, ◌≢◌, ℕ, zero, suc, ◌+◌, ◌-◌, ◌*◌, ◌/◌, ◌%◌, ◌^◌, ◌<◌, ◌≤◌, ℤ, pos, negsuc, refl, sym, ap, ◌∙◌, arith, inl, inr, to_z, of_z, subst, bit_and, bit_or, Fits}
-use Rattle.std.specs.Prelude.{FitsSigned, min, max, bit_xor, ◌⊎◌}
+use Rattle.std.proofs.Common.{◌≡◌, ℕ, zero, suc, ◌+◌, ◌-◌, ◌*◌, ◌/◌, ◌%◌, ◌^◌, ◌<◌, ◌≤◌, ℤ, pos, negsuc, refl, sym, ap, ◌∙◌, arith, inl, inr, to_z, of_z, bit_and, bit_or}
+use Rattle.std.specs.Prelude.{FitsSigned, min, max, bit_xor}
 use Rattle.std.specs.Int.{w128, bit_at, bit_not}
 use Rattle.std.proofs.Math.Nat.{pow-suc, min_comm, add_comm}
 use Rattle.std.proofs.Math.Facts.{sfits_to_z}
-use Rattle.std.proofs.lemmas.Bool.{cases_lt, cases_eq}
-use Rattle.std.proofs.lemmas.Int.{ints, of_z-to_z}
+use Rattle.std.proofs.lemmas.Bool.{cases_lt}
+use Rattle.std.proofs.lemmas.Int.{of_z-to_z}
 use Rattle.std.proofs.lemmas.Nat.{and_comm, and_le_l, or_lt, xor_lt, and-not, pow_pos, pow_below}
 use Rattle.std.proofs.lemmas.Nat.Bits.{and_pow, bit_at_and, bit_at_or, bit_at_xor, bit_at_not, bit_at_above, bit_at-lt, same_from_bits}
 use Rattle.pt_ints.specs.declared.answer.IntAns.TheVariants.{Value}
 use Rattle.pt_ints.specs.Answer.{ranged}
 use Rattle.pt_ints.specs.Integers.{bit, inverted, common_bits, joined_bits, differing_bits}
-use Rattle.pt_ints.proofs.RangeLemmas.{kept, ranged_value}
+use Rattle.pt_ints.proofs.RangeLemmas.{ranged_value}
 
 -- each number is below the power of 2 to it
 below_power : (n : ℕ) → n < 2 ^ n

@@ -1,9 +1,9 @@
 -- Quotients that are rounded towards minus infinity.
-use Rattle.std.proofs.Common.{◌≡◌, ◌≢◌, ℕ, zero, suc, ◌+◌, ◌-◌, ◌*◌, ◌/◌, ◌%◌, ◌^◌, ◌<◌, ◌≤◌, ℤ, pos, negsuc, refl, sym, ap, ◌∙◌, arith, inl, inr, to_z, of_z}
-use Rattle.std.specs.Prelude.{neg_ℤ, ◌+ℤ◌, ◌-ℤ◌, ◌*ℤ◌, ◌<ℤ◌, ◌≤ℤ◌, FitsSigned, true, int_lt}
+use Rattle.std.proofs.Common.{◌≡◌, ◌≢◌, ℕ, zero, suc, ◌+◌, ◌*◌, ◌/◌, ◌%◌, ◌<◌, ◌≤◌, ℤ, pos, negsuc, refl, sym, ap, ◌∙◌, arith, inl, inr, to_z, of_z}
+use Rattle.std.specs.Prelude.{neg_ℤ, ◌+ℤ◌, ◌-ℤ◌, ◌<ℤ◌, FitsSigned, true, int_lt}
 use Rattle.std.specs.Int.{w128, int_div_euclid, int_rem_euclid}
 use Rattle.std.proofs.Math.Nat.{zero-div, zero-mod}
-use Rattle.std.proofs.lemmas.Bool.{cases_lt, cases_eq}
+use Rattle.std.proofs.lemmas.Bool.{cases_lt}
 use Rattle.std.proofs.lemmas.Int.{ints}
 use Rattle.std.proofs.lemmas.Nat.{div-mul-add, mod-mul-add, div-add-mod', mod_below}
 use Rattle.pt_ints.specs.declared.answer.IntAns.TheVariants.{Value}
@@ -11,7 +11,7 @@ use Rattle.pt_ints.specs.Answer.{divided}
 use Rattle.pt_ints.specs.Integers.{floor_quotient, floor_remainder}
 use Rattle.pt_ints.proofs.RangeLemmas.{divided_value, kept, kept_less_one, kept_sum, zero_bits, some_bits, below_zero}
 
-quotient_is : (n d q r : ℕ) → n ≡ q * d + r → r < d → n / d ≡ q
+pub quotient_is : (n d q r : ℕ) → n ≡ q * d + r → r < d → n / d ≡ q
 quotient_is n d q r e h = ap (λ x. x / d) e ∙ div-mul-add q d r h
 
 rest_is : (n d q r : ℕ) → n ≡ q * d + r → r < d → n % d ≡ r
@@ -45,7 +45,7 @@ module _ (n d : ℕ) where
 turned : (m n : ℕ) → m ≡ suc n → neg_ℤ (pos m) ≡ negsuc n
 turned m n e = ap (λ k. neg_ℤ (pos k)) e
 
-pos_same : (m n : ℕ) → pos m ≡ pos n → m ≡ n
+pub pos_same : (m n : ℕ) → pos m ≡ pos n → m ≡ n
 pos_same m n e = cc
 
 pub floor_down : (a b : ℤ) → b <ℤ pos 0 → int_rem_euclid a b ≢ pos 0 → int_div_euclid a b -ℤ pos 1 ≡ floor_quotient a b

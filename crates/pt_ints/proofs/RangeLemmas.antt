@@ -1,11 +1,10 @@
 -- Results that are in range.
-use Rattle.std.proofs.Common.{◌≡◌, ◌≢◌, ℕ, zero, suc, ◌+◌, ◌-◌, ◌*◌, ◌/◌, ◌%◌, ◌^◌, ◌<◌, ◌≤◌, ℤ, pos, negsuc, refl, sym, ap, ◌∙◌, arith, inl, inr, lt-ltb, le-ltb, to_z, of_z}
-use Rattle.std.specs.Prelude.{neg_ℤ, ◌+ℤ◌, ◌-ℤ◌, ◌*ℤ◌, ◌<ℤ◌, ◌≤ℤ◌, FitsSigned, true, false, int_lt}
+use Rattle.std.proofs.Common.{◌≡◌, ◌≢◌, ℕ, zero, suc, ◌-◌, ◌^◌, ◌<◌, ◌≤◌, ℤ, pos, negsuc, refl, sym, ap, ◌∙◌, arith, inl, inr, lt-ltb, le-ltb, ltb-true, to_z, of_z}
+use Rattle.std.specs.Prelude.{◌+ℤ◌, ◌-ℤ◌, ◌<ℤ◌, FitsSigned, true, false, int_lt}
 use Rattle.std.specs.Int.{w128}
-use Rattle.std.proofs.lemmas.Bool.{cases_lt}
+use Rattle.std.proofs.lemmas.Bool.{cases_lt, false≢true}
 use Rattle.std.proofs.lemmas.Int.{ints, to_z-of_z}
 use Rattle.pt_ints.specs.declared.answer.IntAns.TheVariants.{Value, Range}
-use Rattle.pt_ints.specs.Integers.{floor_quotient, floor_remainder}
 use Rattle.pt_ints.specs.Answer.{is_in_range, ranged, divided}
 
 in_range : (z : ℤ) → FitsSigned w128 z → is_in_range z ≡ true
@@ -14,6 +13,13 @@ in_range (negsuc n) f = lt-ltb n (2 ^ 127) f.sfits
 
 beyond : (n : ℕ) → (n < 2 ^ 127 → ⊥) → 2 ^ 127 ≤ n
 beyond n h = elim (cases_lt n (2 ^ 127)) [ inl below ↦ absurd (h below) | inr above ↦ above ]
+
+pub fits_from : (z : ℤ) → is_in_range z ≡ true → FitsSigned w128 z
+fits_from (pos n) e = record { sfits = ltb-true n (2 ^ 127) e }
+fits_from (negsuc n) e = record { sfits = ltb-true n (2 ^ 127) e }
+
+pub out_from : (z : ℤ) → is_in_range z ≡ false → FitsSigned w128 z → ⊥
+out_from z e f = false≢true (sym e ∙ in_range z f)
 
 pub ranged_value : (z v : ℤ) → FitsSigned w128 v → v ≡ z → Value v ≡ ranged z
 ranged_value z v f e = rw (← e, in_range v f) refl

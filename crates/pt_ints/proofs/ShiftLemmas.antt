@@ -1,10 +1,10 @@
 -- Shifts, as products with powers of 2 and quotients by them.
-use Rattle.std.proofs.Common.{◌≡◌, ◌≢◌, ℕ, zero, suc, ◌+◌, ◌-◌, ◌*◌, ◌/◌, ◌%◌, ◌^◌, ◌<◌, ◌≤◌, ℤ, pos, negsuc, refl, sym, ap, ◌∙◌, arith, inl, inr, to_z, of_z, subst}
-use Rattle.std.specs.Prelude.{neg_ℤ, ◌+ℤ◌, ◌-ℤ◌, ◌*ℤ◌, FitsSigned, unsigned_abs, min}
+use Rattle.std.proofs.Common.{◌≡◌, ◌≢◌, ℕ, zero, suc, ◌-◌, ◌*◌, ◌/◌, ◌%◌, ◌^◌, ◌<◌, ◌≤◌, ℤ, pos, negsuc, refl, sym, ap, ◌∙◌, arith, inl, inr, to_z, of_z}
+use Rattle.std.specs.Prelude.{◌*ℤ◌, FitsSigned, unsigned_abs, min}
 use Rattle.std.specs.Int.{w128, int_shr}
 use Rattle.std.proofs.Math.Nat.{pow-le-pow_right, div-eq_of_lt, div-le_self}
 use Rattle.std.proofs.lemmas.Bool.{cases_lt, cases_eq}
-use Rattle.std.proofs.lemmas.Int.{ints, unsigned_abs-mul, to_z_pos}
+use Rattle.std.proofs.lemmas.Int.{unsigned_abs-mul, to_z_pos}
 use Rattle.std.proofs.lemmas.Nat.{mul-le, one_shl, pow_below}
 use Rattle.pt_ints.specs.declared.answer.IntAns.{IntAns}
 use Rattle.pt_ints.specs.declared.answer.IntAns.TheVariants.{Value, Range}

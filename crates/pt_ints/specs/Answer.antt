@@ -1,5 +1,5 @@
 -- What an operator answers at two integers.
-use Rattle.std.specs.Prelude.{ℕ, zero, suc, ◌^◌, ℤ, pos, negsuc, neg_ℤ, ◌+ℤ◌, ◌-ℤ◌, ◌*ℤ◌, Bool, nat_lt, if◌then◌else◌}
+use Rattle.std.specs.Prelude.{zero, suc, ◌^◌, ℤ, pos, negsuc, neg_ℤ, ◌+ℤ◌, ◌-ℤ◌, ◌*ℤ◌, Bool, nat_lt, if◌then◌else◌}
 use Rattle.pt_base.specs.declared.operators.BinOp.{BinOp}
 use Rattle.pt_base.specs.declared.operators.BinOp.TheVariants.{Add, Sub, Mul, Div, FloorDiv, Mod, Pow, BitAnd, BitOr, BitXor, LeftShift, RightShift}
 use Rattle.pt_base.specs.declared.operators.UnOp.{UnOp}

@@ -1,5 +1,5 @@
 -- Operations on integers without bound, as Python has them (Language Reference 6.5 to 6.9).
-use Rattle.std.specs.Prelude.{ℕ, zero, suc, ◌+◌, ◌-◌, ◌*◌, ◌/◌, ◌%◌, ◌^◌, ℤ, pos, negsuc, neg_ℤ, ◌+ℤ◌, ◌-ℤ◌, ◌*ℤ◌, bit_and, bit_or, bit_xor}
+use Rattle.std.specs.Prelude.{ℕ, zero, suc, ◌-◌, ◌/◌, ◌%◌, ◌^◌, ℤ, pos, negsuc, ◌-ℤ◌, ◌*ℤ◌, bit_and, bit_or, bit_xor}
 
 -- the quotient rounded towards minus infinity
 abbrev pub floor_quotient : ℤ → ℤ → ℤ

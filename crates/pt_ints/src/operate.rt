@@ -1,5 +1,6 @@
 ghost use Rattle.std.specs.Prelude.{◌≡◌};
 ghost use Rattle.pt_ints.specs.Answer.{binary_answer, unary_answer};
+ghost use Rattle.pt_ints.specs.Law.{IsAnswer, IsUnaryAnswer};
 
 use crate::IntAns;
 use crate::bits::{common, differing, inversion, joined};
@@ -12,7 +13,8 @@ use pt_base::{BinOp, UnOp};
 /// `a OP b` (Language Reference 6.5 and 6.7 to 6.9). A quotient and a negative power are floating
 /// point numbers there.
 pub fn binary(op: BinOp, a: i128, b: i128) -> IntAns
-    ensures { result ≡ binary_answer op a b }
+    ensures value { result ≡ binary_answer op a b }
+    ensures law { IsAnswer op a b result }
 {
     match op {
         BinOp::Add => sum(a, b),
@@ -34,7 +36,8 @@ pub fn binary(op: BinOp, a: i128, b: i128) -> IntAns
 
 /// `OP a` (Language Reference 6.6).
 pub fn unary(op: UnOp, a: i128) -> IntAns
-    ensures { result ≡ unary_answer op a }
+    ensures value { result ≡ unary_answer op a }
+    ensures law { IsUnaryAnswer op a result }
 {
     match op {
         UnOp::Plus => IntAns::Value(a),

@@ -1,5 +1,4 @@
-use Rattle.std.proofs.Common.{FitsSigned, pos, ◌+ℤ◌, rules}
-use Rattle.std.specs.Int.{w128}
+use Rattle.std.proofs.Common.{rules}
 use Rattle.pt_ints.proofs.DivisionLemmas.{remainder_down, remainder_same, nothing_left}
 use Rattle.pt_ints.proofs.RangeLemmas.{from_zero}
 use Rattle.pt_ints.proofs.division.modulo.Goals as goal

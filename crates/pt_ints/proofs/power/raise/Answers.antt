@@ -1,4 +1,3 @@
-use Rattle.std.proofs.Common.{rules}
 use Rattle.pt_ints.proofs.PowerLemmas.{of_zero, of_one, of_minus_one_even, of_minus_one_odd, of_others}
 use Rattle.pt_ints.proofs.power.raise.Goals as goal
 
