@@ -45,3 +45,6 @@ pub fn unary(op: UnOp, a: i128) -> IntAns
         UnOp::Invert => inversion(a),
     }
 }
+
+#[cfg(test)]
+mod tests;
