@@ -224,3 +224,17 @@ lawful op a b x e = subst (IsAnswer op a b) (sym e) (binary_law op a b)
 
 pub lawful_unary : (op : UnOp) (a : ℤ) (x : IntAns) → x ≡ unary_answer op a → IsUnaryAnswer op a x
 lawful_unary op a x e = subst (IsUnaryAnswer op a) (sym e) (unary_law op a)
+
+exact_unary_only : (op : UnOp) (a y z : ℤ) → IsExactUnary op a y → IsExactUnary op a z → y ≡ z
+exact_unary_only Plus a y z p q = p ∙ sym q
+exact_unary_only Minus a y z p q = p ∙ sym q
+exact_unary_only Invert a y z p q = same_bits y z (λ k. p k ∙ sym (q k))
+
+pub one_unary_answer : (op : UnOp) (a : ℤ) (x y : IntAns) → IsUnaryAnswer op a x → IsUnaryAnswer op a y → x ≡ y
+one_unary_answer op a (Value x) (Value y) p q = ap Value (exact_unary_only op a x y p.0 q.0)
+one_unary_answer op a (Value x) Range p q = absurd (q.2 (subst (FitsSigned w128) (exact_unary_only op a x q.0 p.0 q.1) p.1))
+one_unary_answer op a Range (Value y) p q = absurd (p.2 (subst (FitsSigned w128) (exact_unary_only op a y p.0 q.0 p.1) q.1))
+one_unary_answer op a Range Range p q = refl
+one_unary_answer op a (Value x) _ p q = absurd q
+one_unary_answer op a Range _ p q = absurd q
+one_unary_answer op a _ y p q = absurd p

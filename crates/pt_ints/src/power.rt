@@ -4,8 +4,7 @@ ghost use Rattle.pt_ints.specs.Integers.{power};
 
 use crate::IntAns;
 
-/// From this exponent on, the powers of 2 are out of range, and with them those of all but -1, 0
-/// and 1.
+/// From this exponent on, the powers of all numbers but -1, 0 and 1 are out of range.
 const LARGE_EXPONENT: u128 = 128;
 
 fn small_power(base: i128, exponent: u32) -> IntAns
