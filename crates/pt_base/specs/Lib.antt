@@ -5,3 +5,4 @@ pub mod Spending
 pub mod Taken
 pub mod Told
 pub mod formers
+pub mod Words

@@ -122,3 +122,10 @@ fn a_sink_in_memory_takes_pieces(rt: HostRuntime) -> Result<(), Fail> {
     assert!(rt; sink.pieces()[1].is_empty());
     Ok(())
 }
+
+#[test]
+fn causes_are_shown_as_words(rt: HostRuntime) -> Result<(), Fail> {
+    let shown = format!(in rt.alloc(); "{} {} {Memory}", What::Integer, What::Helper)?;
+    assert_eq!(rt; shown.as_str(), "integer helper out of memory");
+    Ok(())
+}

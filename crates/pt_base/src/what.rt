@@ -30,6 +30,11 @@ pub enum What {
 }
 
 impl fmt::Display for What {
+    ghost use Rattle.std.specs.Prelude.{Some};
+    ghost use Rattle.pt_base.specs.Words.{word_of};
+
+    ghost output = { λ what. Some (word_of what) };
+
     fn fmt<W: fmt::Write>(&self, f: &mut fmt::Formatter<W>) -> fmt::Result {
         f.write_str(match self {
             What::Integer => "integer",

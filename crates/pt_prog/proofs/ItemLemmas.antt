@@ -1,30 +1,37 @@
 -- Words that spell an item of a sum, and words that spell none.
-use Rattle.std.proofs.Common.{◌≡◌, ◌≢◌, ◌<◌, ◌^◌, ℕ, pos, negsuc, List, [], ◌∷◌, Bor, true, false, map, refl, sym, ap, subst, ◌∙◌}
+use Rattle.std.proofs.Common.{◌≡◌, ◌≢◌, ◌+◌, ◌<◌, ◌^◌, ℕ, pos, negsuc, List, [], ◌∷◌, true, false, refl, sym, ap, subst, ◌∙◌, inl, inr}
 use Rattle.std.specs.Prelude.{◌||◌, codes}
 use Rattle.std.specs.Fmt.{decimal}
-use Rattle.std.specs.List.{list_all, list_any}
+use Rattle.std.specs.List.{list_all}
+use Rattle.std.specs.Option.{is_some}
 use Rattle.std.specs.Str.{bytes_eq}
+use Rattle.std.proofs.lemmas.Bool.{cases_Bool}
 use Rattle.pt_tree.specs.declared.tree.Expr.{Expr}
 use Rattle.pt_tree.specs.declared.tree.ExprNode.{Int, Str, Name, Call}
 use Rattle.pt_tree.specs.Syntax as S
 use Rattle.pt_tree.specs.Syntax.{Exp}
 use Rattle.pt_tree.specs.Fold.{exp_of}
 use Rattle.pt_tree.proofs.Folds.{exp_of-Int, exp_of-Str, exp_of-Name, exp_of-Call}
-use Rattle.pt_prog.specs.declared.words.TheConstants.{KEYWORDS, BUILTINS}
+use Rattle.pt_tables.specs.Names.{keyword_names, builtin_names}
+use Rattle.pt_tables.specs.Rows.{value_of, numbered}
 use Rattle.pt_prog.specs.Spelling.{is_listed, is_reserved, is_name, is_text_byte, quoted, IsItem, spelled}
 
-pub listed-map : (ks : List (Bor (List ℕ))) (x : List ℕ) → list_any (λ k. bytes_eq k.now x) ks ≡ is_listed (map (λ k. k.now) ks) x
-listed-map [] x = refl
-listed-map (k ∷ ks) x = ap (λ b. bytes_eq k.now x || b) (listed-map ks x)
+-- a name is found in a table exactly where its list has it
+pub found_listed : (n : ℕ) (ks : List (List ℕ)) (x : List ℕ) → is_some (value_of (numbered n ks) x) ≡ is_listed ks x
+found_listed n [] x = refl
+found_listed n (k ∷ ks) x = elim (cases_Bool (bytes_eq k x)) [
+  | inl same ↦ rw same refl
+  | inr other ↦ rw other (found_listed (n + 1) ks x)
+]
 
 -- a keyword is reserved, and else a builtin name is
-pub reserved_keyword : (x : List ℕ) → is_listed (map (λ k. k.now) KEYWORDS) x ≡ true → is_reserved x ≡ true
+pub reserved_keyword : (x : List ℕ) → is_listed keyword_names x ≡ true → is_reserved x ≡ true
 unfolding is_reserved
-reserved_keyword x e = ap (λ b. b || is_listed (map (λ k. k.now) BUILTINS) x) e
+reserved_keyword x e = ap (λ b. b || is_listed builtin_names x) e
 
-pub reserved_builtin : (x : List ℕ) → is_listed (map (λ k. k.now) KEYWORDS) x ≡ false → is_reserved x ≡ is_listed (map (λ k. k.now) BUILTINS) x
+pub reserved_builtin : (x : List ℕ) → is_listed keyword_names x ≡ false → is_reserved x ≡ is_listed builtin_names x
 unfolding is_reserved
-reserved_builtin x e = ap (λ b. b || is_listed (map (λ k. k.now) BUILTINS) x) e
+reserved_builtin x e = ap (λ b. b || is_listed builtin_names x) e
 
 abbrev Reads : ℕ → List ℕ → Exp → Type 0
 Reads l word e = IsItem l e × (word ≡ spelled e)

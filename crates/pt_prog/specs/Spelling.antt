@@ -1,6 +1,6 @@
 -- How scripts are spelled. A text is read as the script that is spelled so, and a line that spells no statement
 -- is not built.
-use Rattle.std.specs.Prelude.{◌≡◌, ℕ, pos, negsuc, ◌+◌, ◌^◌, ◌<◌, List, [], ◌∷◌, ◌++◌, codes, length, Bool, true, not, ◌==◌, ◌&&◌, ◌||◌, nat_le, slice_index, map, ◌⊎◌}
+use Rattle.std.specs.Prelude.{◌≡◌, ℕ, pos, negsuc, ◌+◌, ◌^◌, ◌<◌, List, [], ◌∷◌, ◌++◌, codes, length, Bool, true, not, ◌==◌, ◌&&◌, ◌||◌, nat_le, slice_index, ◌⊎◌}
 use Rattle.std.specs.Char.{is_ascii_digit, is_ascii_alphabetic}
 use Rattle.std.specs.Fmt.{decimal}
 use Rattle.std.specs.List.{slice_split, list_all, list_any}
@@ -8,7 +8,7 @@ use Rattle.std.specs.Str.{bytes_eq}
 use Rattle.pt_base.specs.declared.operators.BinOp.TheVariants.{Add}
 use Rattle.pt_tree.specs.Syntax as S
 use Rattle.pt_tree.specs.Syntax.{Exp, Stm, Stms, none, more}
-use Rattle.pt_prog.specs.declared.words.TheConstants.{KEYWORDS, BUILTINS}
+use Rattle.pt_tables.specs.Names.{keyword_names, builtin_names}
 
 -- names (Language Reference 2.3): a letter, and then letters, digits and underscores, that is no keyword and no
 -- builtin name
@@ -19,7 +19,7 @@ abbrev pub is_listed : List (List ℕ) → List ℕ → Bool
 is_listed ks x = list_any (λ k. bytes_eq k x) ks
 
 unfoldable pub is_reserved : List ℕ → Bool
-is_reserved x = is_listed (map (λ k. k.now) KEYWORDS) x || is_listed (map (λ k. k.now) BUILTINS) x
+is_reserved x = is_listed keyword_names x || is_listed builtin_names x
 
 abbrev pub is_name : List ℕ → Bool
 is_name x = is_ascii_alphabetic (slice_index x 0) && list_all is_name_byte x && not (is_reserved x)

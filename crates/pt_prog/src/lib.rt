@@ -10,7 +10,6 @@ mod machine;
 mod program;
 mod reader;
 mod run;
-mod words;
 
 pub use end::{End, File, Out, status};
 pub use laws::{a_text_is_read_in_one_way, compiled_code_means_the_script};

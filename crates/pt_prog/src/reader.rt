@@ -1,4 +1,4 @@
-ghost use Rattle.std.specs.Prelude.{◌≡◌, ℕ, ◌++◌, ◌≤◌, ◌<◌, ◌^◌, ◌∷◌, [], codes, length, position, true, ◌==◌, ◌≢◌, ◌-◌, IfSome, IfOk, IfErr, OnOk, MatchOption, slice_index, map};
+ghost use Rattle.std.specs.Prelude.{◌≡◌, ℕ, ◌++◌, ◌≤◌, ◌<◌, ◌^◌, ◌∷◌, [], codes, length, position, true, ◌==◌, ◌≢◌, ◌-◌, IfSome, IfOk, IfErr, OnOk, MatchOption, slice_index};
 ghost use Rattle.std.specs.Char.{is_ascii_alphabetic};
 ghost use Rattle.std.specs.Fmt.{decimal};
 ghost use Rattle.std.specs.List.{list_all, position_or_len};
@@ -6,12 +6,13 @@ ghost use Rattle.std.specs.Str.{IsAscii, bytes_eq};
 ghost use Rattle.pt_prog.specs.Spelling.{is_name_byte, is_listed, is_reserved, is_name, is_text_byte, quoted, lines_of, Spells};
 ghost use Rattle.pt_prog.specs.Lines.{lines_left, TakesLine, RefusesLine, IsRefused};
 ghost use Rattle.pt_prog.specs.Reading.{item_len, IsItemRead, IsSumRead, IsPrintRead, IsAssignmentRead, IsStatementRead};
+ghost use Rattle.pt_tables.specs.Names.{keyword_names, builtin_names};
 ghost use Rattle.pt_tree.specs.Fold.{exp_of, stm_of, stms_of};
 ghost use Rattle.pt_tree.specs.Syntax as S;
 
-use crate::words::{BUILTINS, KEYWORDS};
 use itoa::Buffer;
 use pt_base::{BinOp, Boxed, Line, Memory, Seq, Text};
+use pt_tables::{builtins, keywords};
 use pt_tree::{Expr, ExprNode, Script, Stmt, StmtNode};
 use std::alloc::Global;
 
@@ -48,23 +49,23 @@ fn texts_byte(b: u8) -> bool
     32 <= b && b <= 126 && b != b'"' && b != b'\\'
 }
 
-/// Whether the word stands in the list.
-fn lists(list: &[&str], word: &[u8]) -> bool
-    ensures { result ≡ is_listed (map (λ k. k.now) list.now) word.now }
+fn is_keyword(word: &str) -> bool
+    ensures { result ≡ is_listed keyword_names word.now }
 {
-    for other in list {
-        if other.as_bytes() == word {
-            return true;
-        }
-    }
-    false
+    keywords().get(word).is_some()
 }
 
-fn reserves(word: &[u8]) -> bool
+fn is_builtin(word: &str) -> bool
+    ensures { result ≡ is_listed builtin_names word.now }
+{
+    builtins().get(word).is_some()
+}
+
+fn reserves(word: &str) -> bool
     ensures { result ≡ is_reserved word.now }
 {
-    let keyword = lists(&KEYWORDS, word);
-    let builtin = lists(&BUILTINS, word);
+    let keyword = is_keyword(word);
+    let builtin = is_builtin(word);
     keyword || builtin
 }
 
@@ -89,14 +90,6 @@ fn starts_with_letter(word: &[u8]) -> bool
     }
 }
 
-/// Whether the word is a name.
-fn names(word: &[u8]) -> bool
-    ensures { result ≡ is_name word.now }
-{
-    let reserved = reserves(word);
-    starts_with_letter(word) && all_names_bytes(word) && !reserved
-}
-
 /// ASCII bytes as a text.
 fn ascii(bytes: &[u8]) -> &str
     requires { IsAscii bytes.now }
@@ -106,6 +99,16 @@ fn ascii(bytes: &[u8]) -> &str
         Ok(text) => text,
         Err(_) => unreachable!(),
     }
+}
+
+/// Whether the word is a name.
+fn names(word: &[u8]) -> bool
+    ensures { result ≡ is_name word.now }
+{
+    if !starts_with_letter(word) || !all_names_bytes(word) {
+        return false;
+    }
+    !reserves(ascii(word))
 }
 
 /// What stands behind a front.
