@@ -25,7 +25,7 @@ pub struct Effect {
 }
 
 impl Effect {
-    pub fn aside(self, kinds: Kinds) -> Effect
+    pub(crate) fn aside(self, kinds: Kinds) -> Effect
         ensures { result ≡ record self { aside = Some kinds } }
     {
         Effect {
@@ -34,7 +34,7 @@ impl Effect {
         }
     }
 
-    pub fn above(self, count: u32) -> Effect
+    pub(crate) fn above(self, count: u32) -> Effect
         ensures { result ≡ record self { above = Some count } }
     {
         Effect {
@@ -43,7 +43,7 @@ impl Effect {
         }
     }
 
-    pub fn keeping(self, count: u32) -> Effect
+    pub(crate) fn keeping(self, count: u32) -> Effect
         ensures { result ≡ record self { keeps = count } }
     {
         Effect {
@@ -52,7 +52,7 @@ impl Effect {
         }
     }
 
-    pub fn swapping(self) -> Effect
+    pub(crate) fn swapping(self) -> Effect
         ensures { result ≡ record self { swaps = true } }
     {
         Effect {
@@ -61,7 +61,7 @@ impl Effect {
         }
     }
 
-    pub fn or_leaving(self) -> Effect
+    pub(crate) fn or_leaving(self) -> Effect
         ensures { result ≡ record self { leaves = true } }
     {
         Effect {
@@ -70,7 +70,7 @@ impl Effect {
         }
     }
 
-    pub fn or_again(self) -> Effect
+    pub(crate) fn or_again(self) -> Effect
         ensures { result ≡ record self { again = true } }
     {
         Effect {
