@@ -1,0 +1,5 @@
+pub mod Decoding
+pub mod Effects
+pub mod Encoding
+pub mod Names
+pub mod Runs

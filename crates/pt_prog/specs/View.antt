@@ -42,6 +42,7 @@ op_of ts ks (instr.SetName t) = option_map store (slice_get ts t.0)
 op_of ts ks instr.Pop = Some pop
 op_of ts ks (instr.Binary o) = Some (binary o)
 op_of ts ks (instr.Call n) = Some (call n)
+op_of ts ks i = None
 
 abbrev pub ins : Op → (at line : ℕ) → Ins
 ins op at line = record { op = op; mark = mark at line; next = at + 1 }

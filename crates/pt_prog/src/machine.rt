@@ -264,6 +264,7 @@ impl Machine {
             Instr::Pop => self.discard(),
             Instr::Binary(operator) => self.operate(operator, placed.line),
             Instr::Call(n) => { if n == 1 { self.call() } else { Ok(None) } }
+            _ => Ok(None),
         }
     }
 }
