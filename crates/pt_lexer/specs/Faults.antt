@@ -1,0 +1,80 @@
+-- Where a text has no tokens: what is at fault, and the place at which that is found.
+use Rattle.std.specs.Prelude.{◌≡◌, ℕ, ◌≤◌, ◌<◌, List, [], ◌∷◌, length, true, false, ◌⊎◌, Ok, Err}
+use Rattle.pt_base.specs.declared.numbers.Line.{Line}
+use Rattle.pt_lexer.specs.declared.source.Spot.{Spot}
+use Rattle.pt_lexer.specs.declared.source.TextEnd.{TextEnd}
+use Rattle.pt_lexer.specs.declared.token.Column.{Column}
+use Rattle.pt_lexer.specs.declared.token.LexErr.{LexErr}
+use Rattle.pt_lexer.specs.declared.token.LexErr.TheVariants as fault
+use Rattle.pt_lexer.specs.declared.token.Opening.{Opening}
+use Rattle.pt_lexer.specs.declared.token.Token.{Token}
+use Rattle.pt_lexer.specs.declared.token.TokenKind.{TokenKind}
+use Rattle.pt_lexer.specs.Words.{Next, NoWord}
+use Rattle.pt_lexer.specs.Lines.{at_of, line_of, Stops, Gap, NoPiece, turned, Body, column_of, agrees, left_margin, Turn, Lines}
+use Rattle.pt_lexer.specs.Source.{spots_of, end_of}
+
+-- the line of the outermost bracket that is open
+abbrev pub outermost : Opening → List Opening → Line
+outermost x [] = x.line
+outermost x (y ∷ opened) = outermost y opened
+
+-- What is at fault in the words of a line, and where.
+pub data Fails (end : TextEnd) : List Opening → List Spot → LexErr → ℕ → Type 0 where
+  broken : {opened : List Opening} {text : List Spot} → Gap end opened text [] → end.is_whole ≡ false → Fails end opened text (fault.NotUtf8 end.at) end.at
+  unclosed : {x : Opening} {opened : List Opening} {text : List Spot} → Gap end (x ∷ opened) text [] → end.is_whole ≡ true
+      → Fails end (x ∷ opened) text (fault.OpenBracket (outermost x opened)) end.at
+  strange : {opened : List Opening} {s : Spot} {text ss : List Spot} → Gap end opened text (s ∷ ss) → NoPiece end opened (s ∷ ss) → NoWord (s ∷ ss)
+      → ((rest : List Spot) → Stops end (s ∷ ss) rest → ⊥) → Fails end opened text (fault.BadChar s.at) s.at
+  wrong : {opened : List Opening} {text mid after : List Spot} {w : TokenKind} {e : LexErr} → Gap end opened text mid → Next mid w after
+      → turned opened w (line_of end mid) ≡ Err e → Fails end opened text e (at_of end mid)
+  later : {opened more : List Opening} {text mid after : List Spot} {w : TokenKind} {e : LexErr} {at : ℕ} → Gap end opened text mid → Next mid w after
+      → turned opened w (line_of end mid) ≡ Ok more → Fails end more after e at → Fails end opened text e at
+
+-- What is wrong with the column of a line.
+pub data Misplaced : List Column → Column → Line → LexErr → Type 0 where
+  off : {cols : List Column} {k : Column} {line : Line} → ((after : List Column) (ks : List TokenKind) → Turn cols k after ks → ⊥)
+      → Misplaced cols k line (fault.BadIndent line)
+  mixed : {cols : List Column} {k : Column} {line : Line} → agrees k cols ≡ false → Misplaced cols k line (fault.MixedTabs line)
+  too_deep : {cols after : List Column} {k : Column} {line : Line} {ks : List TokenKind} → Turn cols k after ks → 101 < length after
+      → Misplaced cols k line (fault.Limit line)
+
+-- What is at fault in a text where these columns are open, and where. All lines before it have their tokens.
+pub data Faulty (end : TextEnd) : List Column → List Spot → LexErr → ℕ → Type 0 where
+  in_words : {cols : List Column} {text : List Spot} {e : LexErr} {at : ℕ} → Fails end [] text e at → Faulty end cols text e at
+  in_column : {cols : List Column} {s : Spot} {text ss : List Spot} {e : LexErr} → Gap end [] text (s ∷ ss) → NoPiece end [] (s ∷ ss)
+      → ((rest : List Spot) → Stops end (s ∷ ss) rest → ⊥) → Misplaced cols (column_of text) s.line e → Faulty end cols text e s.at
+  below_empty : {cols : List Column} {s : Spot} {ss stop rest : List Spot} {e : LexErr} {at : ℕ} → Body end [] (s ∷ ss) [] stop rest
+      → Faulty end cols rest e at → Faulty end cols (s ∷ ss) e at
+  below_full : {cols after : List Column} {s : Spot} {ss stop rest : List Spot} {w : Token} {ws : List Token} {ks : List TokenKind} {e : LexErr} {at : ℕ}
+      → Body end [] (s ∷ ss) (w ∷ ws) stop rest → Turn cols (column_of (s ∷ ss)) after ks → agrees (column_of (s ∷ ss)) cols ≡ true → length after ≤ 101
+      → Faulty end after rest e at → Faulty end cols (s ∷ ss) e at
+
+-- the refusals in the order of their numbers
+abbrev pub number_of : LexErr → ℕ
+number_of (fault.NotUtf8 at) = 1
+number_of (fault.BadIndent line) = 2
+number_of (fault.MixedTabs line) = 3
+number_of (fault.BadChar at) = 4
+number_of (fault.OpenString line) = 5
+number_of (fault.BadNumber at) = 6
+number_of (fault.OpenBracket line) = 7
+number_of (fault.Excluded line) = 8
+number_of (fault.Limit line) = 9
+number_of fault.Memory = 10
+
+-- found earlier, or at the same place with a smaller number, or the very same
+abbrev pub Precedes : LexErr → ℕ → LexErr → ℕ → Type 0
+Precedes e at f place = (at < place) ⊎ ((at ≡ place) × ((number_of e < number_of f) ⊎ (e ≡ f)))
+
+abbrev pub margin : List Column
+margin = left_margin ∷ []
+
+-- The text has these tokens.
+abbrev pub IsTokens : (bytes : List ℕ) → List Token → Type 0
+IsTokens bytes all = Lines (end_of bytes) margin (spots_of bytes) all
+
+-- The text is refused for this: nothing in it is found at fault earlier.
+pub record IsRefused (bytes : List ℕ) (e : LexErr) : Type 0 where
+  pub at : ℕ
+  pub found : Faulty (end_of bytes) margin (spots_of bytes) e at
+  pub first : (f : LexErr) (place : ℕ) → Faulty (end_of bytes) margin (spots_of bytes) f place → Precedes e at f place
