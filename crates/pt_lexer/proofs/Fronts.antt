@@ -12,7 +12,7 @@ use Rattle.pt_lexer.specs.declared.TheConstants.{OPERATORS, KEYWORDS}
 use Rattle.pt_lexer.specs.declared.source.Spot.{Spot}
 use Rattle.pt_lexer.specs.declared.token.TokenKind.{TokenKind}
 use Rattle.pt_lexer.specs.declared.token.TokenKind.TheVariants as kind
-use Rattle.pt_lexer.specs.Words.{bytes_of, is_listed, is_operator, is_keyword, starts_name, IsIdentifier, Spells, Next}
+use Rattle.pt_lexer.specs.Words.{chars_of, is_listed, is_operator, is_keyword, starts_name, continues_name, is_identifier, Spells, Next}
 use Rattle.pt_lexer.specs.Lines.{is_blank}
 
 -- what all listed texts pass
@@ -55,22 +55,10 @@ keywords_begin : (x : List ℕ) → is_keyword x ≡ true → begins_by begins_k
 unfolding is_keyword
 keywords_begin x h = listed_passes (begins_by begins_keyword) (map (λ k. k.now) KEYWORDS) x refl h
 
--- a text whose bytes begin in ASCII begins with that character
-pub first_char : (p : ℕ → Bool) (ss : List Spot) → begins_by (λ b. nat_lt b 128 && p b) (bytes_of ss) ≡ true → (s : Spot) × (us : List Spot) × (ss ≡ s ∷ us) × (s.char < 128) × (p s.char ≡ true)
-first_char p [] h = absurd (true≢false (sym h))
-first_char p (s ∷ us) h = let g = go (bytes_of (s ∷ us)) refl h in (s, us, refl, g.0, g.1)
-  where
-    go : (bs : List ℕ) → bs ≡ encode_utf8 s.char ++ bytes_of us → begins_by (λ b. nat_lt b 128 && p b) bs ≡ true → (s.char < 128) × (p s.char ≡ true)
-    go [] e k = absurd (true≢false (sym k))
-    go (b ∷ bs) e k =
-        let parts = and_parts (nat_lt b 128) (p b) k in
-        let same : s.char ≡ b = char_from_byte (b ∷ bs) (bytes_of us) s.char e (ltb-true b 128 parts.0) (omega arith) in
-        (subst (λ x. x < 128) (sym same) (ltb-true b 128 parts.0), subst (λ x. p x ≡ true) (sym same) parts.1)
-
 -- the first character of a text, and that it is apart from gaps
-abbrev pub BeginsApart : List Spot → Type 0
+abbrev pub BeginsApart : List ℕ → Type 0
 BeginsApart [] = ⊥
-BeginsApart (s ∷ ss) = parts_words s.char ≡ false
+BeginsApart (c ∷ cs) = parts_words c ≡ false
 
 -- one of a few numbers
 gap_char : (p : ℕ → Bool) (c : ℕ) → p 32 ≡ true → p 9 ≡ true → p 12 ≡ true → p 35 ≡ true → p 92 ≡ true → p 10 ≡ true → p 13 ≡ true → parts_words c ≡ true → p c ≡ true
@@ -100,61 +88,58 @@ name_apart c h = elim (cases_Bool (parts_words c)) [
     no : (k : ℕ) → (nat_lt k 128 && not (begins_ascii_name k)) ≡ true → not (starts_name k) ≡ true
     no k e = let parts = and_parts (nat_lt k 128) _ e in subst (λ b. not b ≡ true) (sym (starts_name-ascii k (ltb-true k 128 parts.0))) parts.1
 
-identifier_apart : (ss : List Spot) → IsIdentifier ss → BeginsApart ss
-identifier_apart [] h = h
-identifier_apart (s ∷ ss) h = name_apart s.char h.0
+begun_by : (p : ℕ → Bool) (c : ℕ) (cs : List ℕ) → begins_by (λ b. nat_lt b 128 && p b) (c ∷ cs) ≡ true → (c < 128) × (p c ≡ true)
+begun_by p c cs h = let parts = and_parts (nat_lt c 128) (p c) h in (ltb-true c 128 parts.0, parts.1)
 
-apart_at : (ss : List Spot) → (s : Spot) × (us : List Spot) × (ss ≡ s ∷ us) × (parts_words s.char ≡ false) → BeginsApart ss
-apart_at ss (s, us, e, h) = subst BeginsApart (sym e) h
+identifier_apart : (cs : List ℕ) → is_identifier cs ≡ true → BeginsApart cs
+identifier_apart [] h = true≢false (sym h)
+identifier_apart (c ∷ cs) h = name_apart c (and_parts (starts_name c) _ h).0
 
-operator_apart : (ss : List Spot) → is_operator (bytes_of ss) ≡ true → BeginsApart ss
-operator_apart ss h =
-    let f = first_char (λ b. not (begins_ascii_name b) && not (parts_words b)) ss (operators_begin (bytes_of ss) h) in
-    apart_at ss (f.0, f.1, f.2, not-true _ (and_parts _ _ f.4).1)
-
-keyword_apart : (ss : List Spot) → is_keyword (bytes_of ss) ≡ true → BeginsApart ss
-keyword_apart ss h =
-    let f = first_char (λ b. is_ascii_alphabetic b && not (parts_words b)) ss (keywords_begin (bytes_of ss) h) in
-    apart_at ss (f.0, f.1, f.2, not-true _ (and_parts _ _ f.4).1)
-
-sign_apart : (x : List ℕ) (ss : List Spot) → x ≡ bytes_of ss → (is_operator x || is_keyword x) ≡ true → BeginsApart ss
-sign_apart x ss e h = elim (or_cases (is_operator x) (is_keyword x) h) [
-  | inl k ↦ operator_apart ss (subst (λ y. is_operator y ≡ true) e k)
-  | inr k ↦ keyword_apart ss (subst (λ y. is_keyword y ≡ true) e k)
-]
+sign_apart : (cs : List ℕ) → (is_operator cs || is_keyword cs) ≡ true → BeginsApart cs
+sign_apart [] h = elim (or_cases (is_operator []) (is_keyword []) h) [
+      inl k ↦ true≢false (sym (operators_begin [] k))
+    | inr k ↦ true≢false (sym (keywords_begin [] k))
+    ]
+sign_apart (c ∷ cs) h = elim (or_cases (is_operator (c ∷ cs)) (is_keyword (c ∷ cs)) h) [
+      inl k ↦ not-true _ (and_parts _ _ (begun_by (λ b. not (begins_ascii_name b) && not (parts_words b)) c cs (operators_begin (c ∷ cs) k)).1).1
+    | inr k ↦ not-true _ (and_parts _ _ (begun_by (λ b. is_ascii_alphabetic b && not (parts_words b)) c cs (keywords_begin (c ∷ cs) k)).1).1
+    ]
 
 -- a word begins apart from gaps and the ends of lines
-pub word_apart : (w : TokenKind) (ss : List Spot) → Spells w ss → BeginsApart ss
-word_apart (kind.Name x) ss h = identifier_apart ss h.0
-word_apart (kind.Sign x) ss h = sign_apart x ss h.0 h.1
-word_apart _ ss h = absurd h
+pub word_apart : (w : TokenKind) (cs : List ℕ) → Spells w cs → BeginsApart cs
+word_apart (kind.Name x) cs h = identifier_apart cs h.0
+word_apart (kind.Sign x) cs h = sign_apart cs h.1
+word_apart _ cs h = absurd h
 
-front_apart : (ss us : List Spot) → BeginsApart ss → BeginsApart (ss ++ us)
+front_apart : (ss us : List Spot) → BeginsApart (chars_of ss) → BeginsApart (chars_of (ss ++ us))
 front_apart [] us h = absurd h
 front_apart (s ∷ ss) us h = h
 
-pub next_apart : {text rest : List Spot} {w : TokenKind} → Next text w rest → BeginsApart text
-next_apart {rest = rest} {w = w} n = subst BeginsApart (sym n.whole) (front_apart n.front rest (word_apart w n.front n.spelled))
+pub next_apart : {text rest : List Spot} {w : TokenKind} → Next text w rest → BeginsApart (chars_of text)
+next_apart {rest = rest} {w = w} n = subst (λ x. BeginsApart (chars_of x)) (sym n.whole) (front_apart n.front rest (word_apart w (chars_of n.front) n.spelled))
 
--- no operator is an identifier
-pub operator_no_name : (ss : List Spot) → is_operator (bytes_of ss) ≡ true → IsIdentifier ss → ⊥
-operator_no_name ss h i =
-    let f = first_char (λ b. not (begins_ascii_name b) && not (parts_words b)) ss (operators_begin (bytes_of ss) h) in
-    let begun : starts_name f.0.char ≡ true = (subst IsIdentifier f.2 i).0 in
-    both_ways (starts_name f.0.char) (starts_name-ascii f.0.char f.3 ∙ not-true _ (and_parts _ _ f.4).0) begun
+-- no operator begins as an identifier
+pub operator_starts : (c : ℕ) (cs : List ℕ) → is_operator (c ∷ cs) ≡ true → starts_name c ≡ false
+operator_starts c cs h =
+    let f = begun_by (λ b. not (begins_ascii_name b) && not (parts_words b)) c cs (operators_begin (c ∷ cs) h) in
+    starts_name-ascii c f.0 ∙ not-true _ (and_parts _ _ f.1).0
 
-sign_no_name : (x : List ℕ) (ss : List Spot) → x ≡ bytes_of ss → (is_operator x || is_keyword x) ≡ true → IsIdentifier ss → is_keyword (bytes_of ss) ≡ false → ⊥
-sign_no_name x ss e h i n = elim (or_cases (is_operator x) (is_keyword x) h) [
-  | inl k ↦ operator_no_name ss (subst (λ y. is_operator y ≡ true) e k) i
-  | inr k ↦ both_ways (is_keyword (bytes_of ss)) n (subst (λ y. is_keyword y ≡ true) e k)
-]
+operator_no_name : (cs : List ℕ) → is_operator cs ≡ true → is_identifier cs ≡ true → ⊥
+operator_no_name [] h i = true≢false (sym i)
+operator_no_name (c ∷ cs) h i = both_ways (starts_name c) (operator_starts c cs h) (and_parts (starts_name c) _ i).0
+
+sign_no_name : (cs : List ℕ) → (is_operator cs || is_keyword cs) ≡ true → is_identifier cs ≡ true → is_keyword cs ≡ false → ⊥
+sign_no_name cs h i n = elim (or_cases (is_operator cs) (is_keyword cs) h) [
+      inl k ↦ operator_no_name cs k i
+    | inr k ↦ both_ways (is_keyword cs) n k
+    ]
 
 -- what is spelled so is one word
-pub word_once : (v w : TokenKind) (ss : List Spot) → Spells v ss → Spells w ss → v ≡ w
-word_once (kind.Name x) (kind.Name y) ss h k = ap kind.Name (h.2 ∙ sym k.2)
-word_once (kind.Name x) (kind.Sign y) ss h k = absurd (sign_no_name y ss k.0 k.1 h.0 h.1)
-word_once (kind.Sign x) (kind.Name y) ss h k = absurd (sign_no_name x ss h.0 h.1 k.0 k.1)
-word_once (kind.Sign x) (kind.Sign y) ss h k = ap kind.Sign (h.0 ∙ sym k.0)
-word_once (kind.Name x) _ ss h k = absurd k
-word_once (kind.Sign x) _ ss h k = absurd k
-word_once _ w ss h k = absurd h
+pub word_once : (v w : TokenKind) (cs : List ℕ) → Spells v cs → Spells w cs → v ≡ w
+word_once (kind.Name x) (kind.Name y) cs h k = ap kind.Name (h.2 ∙ sym k.2)
+word_once (kind.Name x) (kind.Sign y) cs h k = absurd (sign_no_name cs k.1 h.0 h.1)
+word_once (kind.Sign x) (kind.Name y) cs h k = absurd (sign_no_name cs h.1 k.0 k.1)
+word_once (kind.Sign x) (kind.Sign y) cs h k = ap kind.Sign (h.0 ∙ sym k.0)
+word_once (kind.Name x) _ cs h k = absurd k
+word_once (kind.Sign x) _ cs h k = absurd k
+word_once _ w cs h k = absurd h

@@ -11,7 +11,7 @@ use Rattle.pt_lexer.specs.declared.token.Opening.{Opening}
 use Rattle.pt_lexer.specs.declared.token.Token.{Token}
 use Rattle.pt_lexer.specs.declared.token.TokenKind.{TokenKind}
 use Rattle.pt_lexer.specs.declared.token.TokenKind.TheVariants as kind
-use Rattle.pt_lexer.specs.Words.{Spells, Next}
+use Rattle.pt_lexer.specs.Words.{chars_of, Spells, Next, NoWord}
 use Rattle.pt_lexer.specs.Lines.{line_of, token, is_blank, LineEnd, feed, both, carriage, Stops, at_line_end, at_text_end, Comment, text_ends, line_ends, goes_on, Piece, blank, comment, backslash, inside, Gap, nothing, piece, NoPiece, turned, Body, finish, word, agrees, Back, there, further, Turn, deeper, level, marks, Lines, done, empty, full}
 use Rattle.pt_lexer.specs.Faults.{Fails, broken, unclosed, strange, wrong, later, Misplaced, off, mixed, too_deep, Faulty, in_words, in_column, below_empty, below_full}
 use Rattle.pt_lexer.proofs.Fronts.{parts_words, BeginsApart, next_apart, word_once}
@@ -81,7 +81,7 @@ piece_once (inside e) (comment k d) = absurd (told_apart (λ c. c == 10 || c == 
 piece_once (inside e) (backslash k d) = absurd (told_apart (λ c. c == 10 || c == 13) _ 92 (ends_at e) refl k)
 piece_once (inside e) (inside f) = line_end_once e f
 
-parts_at : (ss : List Spot) → EndsAt ss → BeginsApart ss → ⊥
+parts_at : (ss : List Spot) → EndsAt ss → BeginsApart (chars_of ss) → ⊥
 parts_at [] e b = b
 parts_at (s ∷ ss) e b = elim (or_cases (s.char == 10) (s.char == 13) e) [
   | inl k ↦ told_apart parts_words 10 s.char refl b (sym (eqb-true s.char 10 k))
@@ -89,13 +89,13 @@ parts_at (s ∷ ss) e b = elim (or_cases (s.char == 10) (s.char == 13) e) [
 ]
 
 -- no word begins with a piece of a gap, nor at the end of a line
-piece_apart : {end : TextEnd} {opened : List Opening} {ss rest : List Spot} → Piece end opened ss rest → BeginsApart ss → ⊥
+piece_apart : {end : TextEnd} {opened : List Opening} {ss rest : List Spot} → Piece end opened ss rest → BeginsApart (chars_of ss) → ⊥
 piece_apart (blank {s = s} h) b = both_ways (parts_words s.char) b (or_left (is_blank s.char) _ h)
 piece_apart (comment {s = s} h c) b = told_apart parts_words 35 s.char refl b (sym h)
 piece_apart (backslash {s = s} h c) b = told_apart parts_words 92 s.char refl b (sym h)
 piece_apart (inside e) b = parts_at _ (ends_at e) b
 
-stops_apart : {end : TextEnd} {ss rest : List Spot} → Stops end ss rest → BeginsApart ss → ⊥
+stops_apart : {end : TextEnd} {ss rest : List Spot} → Stops end ss rest → BeginsApart (chars_of ss) → ⊥
 stops_apart (at_line_end e) b = parts_at _ (ends_at e) b
 stops_apart (at_text_end w) b = b
 
@@ -133,7 +133,7 @@ next_once {ss} {a} {b} {v} {w} n m =
     let l = n.longest w m.front b m.whole m.spelled in
     let k = m.longest v n.front a n.whole n.spelled in
     let e = fronts_once n.front a m.front b (sym n.whole ∙ m.whole) (omega arith) in
-    (word_once v w m.front (subst (Spells v) e.0 n.spelled) m.spelled, e.1)
+    (word_once v w (chars_of m.front) (subst (λ x. Spells v (chars_of x)) e.0 n.spelled) m.spelled, e.1)
 
 next_at : {ss us a : List Spot} {w : TokenKind} → ss ≡ us → Next ss w a → Next us w a
 next_at {ss} {us} {a} {w} h n = subst (λ x. Next x w a) h n
@@ -275,7 +275,7 @@ words_or_fault {end = end} {opened = opened} (word g n t b) (later h m u f) =
     words_or_fault b (fails_at (sym (same_open opened k.words (ap (line_of end) k.place) t u)) (sym k.behind) f)
 
 -- where a line with words begins
-body_begins : {end : TextEnd} {opened : List Opening} {ss stop rest : List Spot} {w : Token} {ws : List Token} → Body end opened ss (w ∷ ws) stop rest → (mid : List Spot) × Gap end opened ss mid × BeginsApart mid
+body_begins : {end : TextEnd} {opened : List Opening} {ss stop rest : List Spot} {w : Token} {ws : List Token} → Body end opened ss (w ∷ ws) stop rest → (mid : List Spot) × Gap end opened ss mid × BeginsApart (chars_of mid)
 body_begins (word {mid = mid} g n t b) = (mid, g, next_apart n)
 
 empty_stops : {end : TextEnd} {ss stop rest mid : List Spot} → Body end [] ss [] stop rest → Gap end [] ss mid → NoPiece end [] mid → ((r : List Spot) → Stops end mid r → ⊥) → ⊥
