@@ -1,18 +1,17 @@
 -- What words begin with.
-use Rattle.std.proofs.Common.{◌≡◌, ℕ, ◌<◌, List, [], ◌∷◌, ◌++◌, Bool, true, false, refl, sym, ◌∙◌, ap, subst, arith, inl, inr, map, nat_lt}
-use Rattle.std.specs.Prelude.{not, ◌==◌, ◌&&◌, ◌||◌, encode_utf8}
+use Rattle.std.proofs.Common.{◌≡◌, ℕ, ◌<◌, List, [], ◌∷◌, ◌++◌, Bool, true, false, refl, sym, ◌∙◌, ap, subst, inl, inr, map, nat_lt}
+use Rattle.std.specs.Prelude.{not, ◌==◌, ◌&&◌, ◌||◌}
 use Rattle.std.specs.Char.{is_ascii_alphabetic}
 use Rattle.std.specs.List.{list_all}
 use Rattle.std.specs.Str.{bytes_eq}
 use Rattle.std.specs.Cmp.Lexicographic.{bytes_decides}
 use Rattle.std.proofs.lemmas.Bool.{and_parts, or_cases, both_ways, cases_Bool, eqb-true, ltb-true, true≢false, not-true}
-use Rattle.std.proofs.lemmas.Str.{char_from_byte}
 use Rattle.unicode_ident.proofs.IdentLemmas.{is_xid_start-ascii}
 use Rattle.pt_lexer.specs.declared.TheConstants.{OPERATORS, KEYWORDS}
 use Rattle.pt_lexer.specs.declared.source.Spot.{Spot}
 use Rattle.pt_lexer.specs.declared.token.TokenKind.{TokenKind}
 use Rattle.pt_lexer.specs.declared.token.TokenKind.TheVariants as kind
-use Rattle.pt_lexer.specs.Words.{chars_of, is_listed, is_operator, is_keyword, starts_name, continues_name, is_identifier, Spells, Next}
+use Rattle.pt_lexer.specs.Words.{chars_of, is_listed, is_operator, is_keyword, starts_name, is_identifier, Spells, Next}
 use Rattle.pt_lexer.specs.Lines.{is_blank}
 
 -- what all listed texts pass
@@ -97,13 +96,13 @@ identifier_apart (c ∷ cs) h = name_apart c (and_parts (starts_name c) _ h).0
 
 sign_apart : (cs : List ℕ) → (is_operator cs || is_keyword cs) ≡ true → BeginsApart cs
 sign_apart [] h = elim (or_cases (is_operator []) (is_keyword []) h) [
-      inl k ↦ true≢false (sym (operators_begin [] k))
-    | inr k ↦ true≢false (sym (keywords_begin [] k))
-    ]
+  | inl k ↦ true≢false (sym (operators_begin [] k))
+  | inr k ↦ true≢false (sym (keywords_begin [] k))
+]
 sign_apart (c ∷ cs) h = elim (or_cases (is_operator (c ∷ cs)) (is_keyword (c ∷ cs)) h) [
-      inl k ↦ not-true _ (and_parts _ _ (begun_by (λ b. not (begins_ascii_name b) && not (parts_words b)) c cs (operators_begin (c ∷ cs) k)).1).1
-    | inr k ↦ not-true _ (and_parts _ _ (begun_by (λ b. is_ascii_alphabetic b && not (parts_words b)) c cs (keywords_begin (c ∷ cs) k)).1).1
-    ]
+  | inl k ↦ not-true _ (and_parts _ _ (begun_by (λ b. not (begins_ascii_name b) && not (parts_words b)) c cs (operators_begin (c ∷ cs) k)).1).1
+  | inr k ↦ not-true _ (and_parts _ _ (begun_by (λ b. is_ascii_alphabetic b && not (parts_words b)) c cs (keywords_begin (c ∷ cs) k)).1).1
+]
 
 -- a word begins apart from gaps and the ends of lines
 pub word_apart : (w : TokenKind) (cs : List ℕ) → Spells w cs → BeginsApart cs
@@ -130,9 +129,9 @@ operator_no_name (c ∷ cs) h i = both_ways (starts_name c) (operator_starts c c
 
 sign_no_name : (cs : List ℕ) → (is_operator cs || is_keyword cs) ≡ true → is_identifier cs ≡ true → is_keyword cs ≡ false → ⊥
 sign_no_name cs h i n = elim (or_cases (is_operator cs) (is_keyword cs) h) [
-      inl k ↦ operator_no_name cs k i
-    | inr k ↦ both_ways (is_keyword cs) n k
-    ]
+  | inl k ↦ operator_no_name cs k i
+  | inr k ↦ both_ways (is_keyword cs) n k
+]
 
 -- what is spelled so is one word
 pub word_once : (v w : TokenKind) (cs : List ℕ) → Spells v cs → Spells w cs → v ≡ w

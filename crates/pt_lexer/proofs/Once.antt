@@ -11,7 +11,7 @@ use Rattle.pt_lexer.specs.declared.token.Opening.{Opening}
 use Rattle.pt_lexer.specs.declared.token.Token.{Token}
 use Rattle.pt_lexer.specs.declared.token.TokenKind.{TokenKind}
 use Rattle.pt_lexer.specs.declared.token.TokenKind.TheVariants as kind
-use Rattle.pt_lexer.specs.Words.{chars_of, Spells, Next, NoWord}
+use Rattle.pt_lexer.specs.Words.{chars_of, Spells, Next}
 use Rattle.pt_lexer.specs.Lines.{line_of, token, is_blank, LineEnd, feed, both, carriage, Stops, at_line_end, at_text_end, Comment, text_ends, line_ends, goes_on, Piece, blank, comment, backslash, inside, Gap, nothing, piece, NoPiece, turned, Body, finish, word, agrees, Back, there, further, Turn, deeper, level, marks, Lines, done, empty, full}
 use Rattle.pt_lexer.specs.Faults.{Fails, broken, unclosed, strange, wrong, later, Misplaced, off, mixed, too_deep, Faulty, in_words, in_column, below_empty, below_full}
 use Rattle.pt_lexer.proofs.Fronts.{parts_words, BeginsApart, next_apart, word_once}

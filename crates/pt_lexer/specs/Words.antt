@@ -1,5 +1,5 @@
 -- Words, each the longest at its place (Language Reference 2.3, 2.5, 2.6).
-use Rattle.std.specs.Prelude.{◌≡◌, ℕ, ◌≤◌, List, [], ◌∷◌, ◌++◌, length, map, Bool, true, false, ◌==◌, ◌&&◌, ◌||◌, chars, encode_utf8_all}
+use Rattle.std.specs.Prelude.{◌≡◌, ℕ, ◌≤◌, ◌<◌, List, [], ◌∷◌, ◌++◌, length, map, take, Bool, true, false, nat_le, ◌==◌, ◌&&◌, ◌||◌, chars, encode_utf8_all}
 use Rattle.std.specs.List.{list_any, list_all}
 use Rattle.std.specs.Str.{bytes_eq}
 use Rattle.unicode_ident.specs.Ident.{is_xid_start, is_xid_continue}
@@ -51,3 +51,12 @@ pub record Next (text : List Spot) (w : TokenKind) (rest : List Spot) : Type 0 w
 -- the text begins with no word
 abbrev pub NoWord : List Spot → Type 0
 NoWord text = (w : TokenKind) (front rest : List Spot) → text ≡ front ++ rest → Spells w (chars_of front) → ⊥
+
+-- So many characters at the front pass a test, and no more of them do; 0 where none do.
+pub record LongestFront (test : List ℕ → Bool) (text : List ℕ) (n : ℕ) : Type 0 where
+  pub within : n ≤ length text
+  pub passes : 0 < n → test (take n text) ≡ true
+  pub longest : (m : ℕ) → n < m → m ≤ length text → test (take m text) ≡ false
+
+abbrev pub has_operator : List ℕ → ℕ → Bool
+has_operator cs n = nat_le n (length cs) && is_operator (take n cs)

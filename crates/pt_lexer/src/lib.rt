@@ -4,6 +4,7 @@
 
 mod source;
 mod token;
+mod words;
 
 pub use source::{Spot, TextEnd};
 pub use token::{Bracket, Column, LexErr, Opening, Token, TokenKind};

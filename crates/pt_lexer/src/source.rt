@@ -1,3 +1,5 @@
+ghost use Rattle.std.specs.Prelude.{◌≡◌, [], ◌∷◌, MatchOption};
+
 use pt_base::Line;
 
 /// A character of a text, with the place of its first byte and its physical line.
@@ -15,4 +17,12 @@ pub struct TextEnd {
     pub at: u32,
     pub line: Line,
     pub is_whole: bool,
+}
+
+/// The character at the front, and the text behind it.
+pub(crate) fn first_spot(text: &[Spot]) -> Option<(Spot, &[Spot])>
+    ensures { MatchOption result (text.now ≡ []) (λ x. text.now ≡ x.0 ∷ x.1.now) }
+{
+    let (spot, rest) = text.split_first()?;
+    Some((*spot, rest))
 }
