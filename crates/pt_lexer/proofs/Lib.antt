@@ -1,3 +1,5 @@
 pub mod Fronts
+pub mod GapLemmas
+pub mod NextLemmas
 pub mod Once
 pub mod WordLemmas

@@ -14,15 +14,15 @@ use Rattle.pt_lexer.specs.Lines.{at_of, line_of, Stops, Gap, NoPiece, turned, Bo
 use Rattle.pt_lexer.specs.Source.{spots_of, end_of}
 
 -- the line of the outermost bracket that is open
-abbrev pub outermost : Opening → List Opening → Line
-outermost x [] = x.line
-outermost x (y ∷ opened) = outermost y opened
+abbrev pub outermost : Line → List Opening → Line
+outermost line [] = line
+outermost line (x ∷ opened) = outermost x.line opened
 
 -- What is at fault in the words of a line, and where.
 pub data Fails (end : TextEnd) : List Opening → List Spot → LexErr → ℕ → Type 0 where
   broken : {opened : List Opening} {text : List Spot} → Gap end opened text [] → end.is_whole ≡ false → Fails end opened text (fault.NotUtf8 end.at) end.at
   unclosed : {x : Opening} {opened : List Opening} {text : List Spot} → Gap end (x ∷ opened) text [] → end.is_whole ≡ true
-      → Fails end (x ∷ opened) text (fault.OpenBracket (outermost x opened)) end.at
+      → Fails end (x ∷ opened) text (fault.OpenBracket (outermost x.line opened)) end.at
   strange : {opened : List Opening} {s : Spot} {text ss : List Spot} → Gap end opened text (s ∷ ss) → NoPiece end opened (s ∷ ss) → NoWord (s ∷ ss)
       → ((rest : List Spot) → Stops end (s ∷ ss) rest → ⊥) → Fails end opened text (fault.BadChar s.at) s.at
   wrong : {opened : List Opening} {text mid after : List Spot} {w : TokenKind} {e : LexErr} → Gap end opened text mid → Next mid w after

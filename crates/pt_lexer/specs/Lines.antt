@@ -33,6 +33,9 @@ token end text k = record { kind = k; at = at_of end text; line = line_of end te
 abbrev pub is_blank : ℕ → Bool
 is_blank c = (c == 32) || ((c == 9) || (c == 12))
 
+abbrev pub ends_line : ℕ → Bool
+ends_line c = (c == 10) || (c == 13)
+
 abbrev pub NoFeed : List Spot → Type 0
 NoFeed [] = Unit {0}
 NoFeed (s ∷ ss) = s.char ≢ 10
@@ -51,8 +54,8 @@ pub data Stops (end : TextEnd) : List Spot → List Spot → Type 0 where
 -- Up to the end of the physical line.
 pub data Comment : List Spot → List Spot → Type 0 where
   text_ends : Comment [] []
-  line_ends : {s : Spot} {ss : List Spot} → (s.char == 10 || s.char == 13) ≡ true → Comment (s ∷ ss) (s ∷ ss)
-  goes_on : {s : Spot} {ss rest : List Spot} → (s.char == 10 || s.char == 13) ≡ false → Comment ss rest → Comment (s ∷ ss) rest
+  line_ends : {s : Spot} {ss : List Spot} → ends_line s.char ≡ true → Comment (s ∷ ss) (s ∷ ss)
+  goes_on : {s : Spot} {ss rest : List Spot} → ends_line s.char ≡ false → Comment ss rest → Comment (s ∷ ss) rest
 
 -- What may stand between words where these brackets are open: a blank, a comment, a join by a backslash or by a bracket.
 pub data Piece (end : TextEnd) : List Opening → List Spot → List Spot → Type 0 where

@@ -2,6 +2,7 @@
 //! keywords, operators and brackets, and where a text has none.
 #![tactic(auto)]
 
+mod gaps;
 mod source;
 mod token;
 mod words;

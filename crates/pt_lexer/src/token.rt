@@ -71,6 +71,6 @@ pub struct Opening {
 /// that are one wide (Language Reference 2.1.8).
 #[derive(Clone, Copy, Debug, PartialEq, Eq)]
 pub struct Column {
-    pub wide: u32,
-    pub narrow: u32,
+    pub wide: u64,
+    pub narrow: u64,
 }

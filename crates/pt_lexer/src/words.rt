@@ -141,3 +141,20 @@ fn operator(alloc: Global, front: &[Spot]) -> Result<Option<TokenKind>, Memory>
     };
     Ok(Some(TokenKind::Sign(Text::from_str(alloc, spelling)?)))
 }
+
+/// The longest word at the front, and the text behind it (Language Reference 2.1).
+pub(crate) fn word(alloc: Global, text: &[Spot]) -> Result<Option<(TokenKind, &[Spot])>, Memory>
+    ensures { IfOk result (λ found. MatchOption found (NoWord text.now) (λ x. Next text.now x.0 x.1.now)) }
+{
+    let n = identifier_len(text);
+    if n > 0 {
+        let (front, rest) = text.split_at(n);
+        let found = name(alloc, front)?;
+        return Ok(Some((found, rest)));
+    }
+    let (front, rest) = text.split_at(operator_len(text));
+    let Some(found) = operator(alloc, front)? else {
+        return Ok(None);
+    };
+    Ok(Some((found, rest)))
+}
