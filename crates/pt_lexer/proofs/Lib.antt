@@ -3,3 +3,4 @@ pub mod GapLemmas
 pub mod NextLemmas
 pub mod Once
 pub mod WordLemmas
+pub mod ReadLemmas

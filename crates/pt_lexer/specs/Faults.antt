@@ -1,5 +1,5 @@
 -- Where a text has no tokens: what is at fault, and the place at which that is found.
-use Rattle.std.specs.Prelude.{◌≡◌, ℕ, ◌≤◌, ◌<◌, List, [], ◌∷◌, length, true, false, ◌⊎◌, Ok, Err}
+use Rattle.std.specs.Prelude.{◌≡◌, ℕ, ◌≤◌, ◌<◌, List, [], ◌∷◌, ◌++◌, length, true, false, ◌⊎◌, Ok, Err}
 use Rattle.pt_base.specs.declared.numbers.Line.{Line}
 use Rattle.pt_lexer.specs.declared.source.Spot.{Spot}
 use Rattle.pt_lexer.specs.declared.source.TextEnd.{TextEnd}
@@ -12,6 +12,19 @@ use Rattle.pt_lexer.specs.declared.token.TokenKind.{TokenKind}
 use Rattle.pt_lexer.specs.Words.{Next, NoWord}
 use Rattle.pt_lexer.specs.Lines.{at_of, line_of, Stops, Gap, NoPiece, turned, Body, column_of, agrees, left_margin, Turn, Lines}
 use Rattle.pt_lexer.specs.Source.{spots_of, end_of}
+
+-- any call may run out of memory; other answers have a cause
+abbrev pub Caused : LexErr → Type 0 → Type 0
+Caused fault.Memory P = Unit {0}
+Caused (fault.NotUtf8 at) P = P
+Caused (fault.BadIndent line) P = P
+Caused (fault.MixedTabs line) P = P
+Caused (fault.BadChar at) P = P
+Caused (fault.OpenString line) P = P
+Caused (fault.BadNumber at) P = P
+Caused (fault.OpenBracket line) P = P
+Caused (fault.Excluded line) P = P
+Caused (fault.Limit line) P = P
 
 -- the line of the outermost bracket that is open
 abbrev pub outermost : Line → List Opening → Line
@@ -78,3 +91,20 @@ pub record IsRefused (bytes : List ℕ) (e : LexErr) : Type 0 where
   pub at : ℕ
   pub found : Faulty (end_of bytes) margin (spots_of bytes) e at
   pub first : (f : LexErr) (place : ℕ) → Faulty (end_of bytes) margin (spots_of bytes) f place → Precedes e at f place
+
+-- The text is refused for its words, from where these brackets are open.
+abbrev pub FailsWith : TextEnd → List Opening → List Spot → LexErr → Type 0
+FailsWith end opened text e = Caused e ((at : ℕ) × Fails end opened text e at)
+
+-- So many words of a line have been read: what follows them is what follows in the line.
+pub record Going (end : TextEnd) (text : List Spot) (old new : List Token) (opened : List Opening) (rest : List Spot) : Type 0 where
+  pub front : List Token
+  pub kept : new ≡ old ++ front
+  pub reads : (ws : List Token) (stop behind : List Spot) → Body end opened rest ws stop behind → Body end [] text (front ++ ws) stop behind
+  pub fails : (e : LexErr) (at : ℕ) → Fails end opened rest e at → Fails end [] text e at
+
+-- The words of a line were read.
+pub record WordsRead (end : TextEnd) (text : List Spot) (old new : List Token) (stop rest : List Spot) : Type 0 where
+  pub words : List Token
+  pub kept : new ≡ old ++ words
+  pub body : Body end [] text words stop rest

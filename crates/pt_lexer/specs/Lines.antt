@@ -72,6 +72,10 @@ pub data Gap (end : TextEnd) (opened : List Opening) : List Spot → List Spot �
 abbrev pub NoPiece : TextEnd → List Opening → List Spot → Type 0
 NoPiece end opened text = (rest : List Spot) → Piece end opened text rest → ⊥
 
+-- no logical line stops here
+abbrev pub NoLineStop : TextEnd → List Opening → List Spot → Type 0
+NoLineStop end opened text = (rest : List Spot) → Stops end text rest → opened ≡ [] → ⊥
+
 -- the bracket that a sign opens, and the one that it closes
 abbrev pub opens : List ℕ → Option Bracket
 opens x =

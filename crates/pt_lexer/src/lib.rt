@@ -2,7 +2,9 @@
 //! keywords, operators and brackets, and where a text has none.
 #![tactic(auto)]
 
+mod brackets;
 mod gaps;
+mod lexer;
 mod source;
 mod token;
 mod words;

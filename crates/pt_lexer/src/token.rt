@@ -1,4 +1,6 @@
-use pt_base::{Line, Text};
+ghost use Rattle.std.specs.Prelude.{◌≡◌};
+
+use pt_base::{Line, Memory, Text};
 
 /// A token and where it stands: the place of its first byte, and the number of its physical line
 /// (Language Reference 2.1).
@@ -50,6 +52,16 @@ pub enum LexErr {
     Limit { line: Line },
     /// Memory ran out.
     Memory,
+}
+
+impl From<Memory> for LexErr {
+    ghost use Rattle.pt_lexer.specs.declared.token.LexErr.TheVariants as fault;
+
+    ghost from_gives = { λ _ e. e ≡ fault.Memory };
+
+    fn from(_: Memory) -> Self {
+        LexErr::Memory
+    }
 }
 
 /// A kind of bracket.

@@ -1,0 +1,112 @@
+ghost use Rattle.std.specs.Prelude.{◌≡◌, ℕ, ◌<◌, ◌≤◌, ◌^◌, [], ◌∷◌, ◌++◌, List, length, MatchResult, MatchOption, OnOk, IfOk};
+ghost use Rattle.pt_lexer.specs.Lines.{at_of, line_of, token, Gap, NoPiece, NoLineStop, Stops, turned};
+ghost use Rattle.pt_lexer.specs.Words.{NoWord};
+ghost use Rattle.pt_lexer.specs.Faults.{Caused, Fails, FailsWith, WordsRead};
+
+use crate::brackets::{outermost, turn};
+use crate::gaps::{behind_gap, behind_stop};
+use crate::source::first_spot;
+use crate::words::word;
+use crate::{Column, LexErr, Opening, Spot, TextEnd, Token, TokenKind};
+use pt_base::{Line, Memory, Seq, Stack};
+use std::alloc::Global;
+
+/// The line on which a rest of the text stands.
+fn line_at(end: TextEnd, text: &[Spot]) -> Line
+    ensures { result ≡ line_of end text.now }
+{
+    match first_spot(text) {
+        Some((spot, _)) => spot.line,
+        None => end.line,
+    }
+}
+
+/// A token where a rest of the text stands.
+fn token_at(end: TextEnd, text: &[Spot], kind: TokenKind) -> Token
+    ensures { result ≡ token end text.now kind }
+{
+    match first_spot(text) {
+        Some((spot, _)) => Token {
+            kind,
+            at: spot.at,
+            line: spot.line,
+        },
+        None => Token {
+            kind,
+            at: end.at,
+            line: end.line,
+        },
+    }
+}
+
+/// What stands behind the logical line that stops here: none stops where a bracket is open.
+fn behind_line<'a>(end: TextEnd, opened: &Stack<Opening>, text: &'a [Spot]) -> Option<&'a [Spot]>
+    ensures { MatchOption result (NoLineStop end opened.now text.now) (λ rest. (opened.now ≡ []) × Stops end text.now rest.now) }
+{
+    if opened.is_empty() {
+        return behind_stop(end, text);
+    }
+    None
+}
+
+/// What is wrong where the text ends in a line.
+fn fault_at_end(end: TextEnd, opened: Stack<Opening>) -> LexErr
+    requires { NoLineStop end opened [] }
+    ensures { Fails end opened [] result end.at }
+{
+    if end.is_whole {
+        let line = outermost(opened, end.line);
+        return LexErr::OpenBracket { line };
+    }
+    LexErr::NotUtf8 { at: end.at }
+}
+
+/// What is wrong where no word of a line stands, and the line doesn't end either.
+fn fault_at(end: TextEnd, opened: Stack<Opening>, text: &[Spot]) -> LexErr
+    requires gap { NoPiece end opened text.now }
+    requires word { NoWord text.now }
+    requires stop { NoLineStop end opened text.now }
+    ensures { Fails end opened text.now result (at_of end text.now) }
+{
+    match first_spot(text) {
+        Some((spot, _)) => LexErr::BadChar { at: spot.at },
+        None => fault_at_end(end, opened),
+    }
+}
+
+/// The tokens of a text as far as they are read, and the columns that are open.
+#[derive(Drop)]
+struct Lexer {
+    alloc: Global,
+    end: TextEnd,
+    columns: Stack<Column>,
+    tokens: Seq<Token>,
+}
+
+impl Lexer {
+    /// Reads the words of a logical line. What is answered is where it stops, and what stands
+    /// behind it.
+    fn words<'a>(&mut self, text: &'a [Spot]) -> Result<(&'a [Spot], &'a [Spot]), LexErr>
+        ensures read { MatchResult result
+            (λ r. WordsRead self.old.end text.now self.old.tokens self.new.tokens r.0.now r.1.now)
+            (FailsWith self.old.end [] text.now) }
+        ensures columns { self.new.columns ≡ self.old.columns }
+        ensures end { self.new.end ≡ self.old.end }
+    {
+        let end = self.end;
+        let mut opened = Stack::new(self.alloc);
+        let mut rest = text;
+        loop {
+            let here = behind_gap(end, &opened, rest);
+            if let Some(behind) = behind_line(end, &opened, here) {
+                return Ok((here, behind));
+            }
+            let Some((found, behind)) = word(self.alloc, here)? else {
+                return Err(fault_at(end, opened, here));
+            };
+            turn(&mut opened, &found, line_at(end, here))?;
+            self.tokens.push(token_at(end, here, found))?;
+            rest = behind;
+        }
+    }
+}
