@@ -1,3 +1,4 @@
+pub mod ColumnLemmas
 pub mod Fronts
 pub mod GapLemmas
 pub mod NextLemmas

@@ -213,13 +213,13 @@ cons_words : {v w : Token} {vs ws : List Token} → v ∷ vs ≡ w ∷ ws → (v
 cons_words e = (cc, cc)
 
 all_once : (end : TextEnd) {v w : Token} {vs ws us xs : List Token} {ks ls : List TokenKind} {stop stop' : List Spot} → v ≡ w → vs ≡ ws → ks ≡ ls → stop ≡ stop' → us ≡ xs
-    → marks v ks ++ ((v ∷ vs) ++ (token end stop kind.Newline ∷ us)) ≡ marks w ls ++ ((w ∷ ws) ++ (token end stop' kind.Newline ∷ xs))
+    → marks v.at v.line ks ++ ((v ∷ vs) ++ (token end stop kind.Newline ∷ us)) ≡ marks w.at w.line ls ++ ((w ∷ ws) ++ (token end stop' kind.Newline ∷ xs))
 all_once end {v} {w} {vs} {ws} {us} {xs} {ks} {ls} {stop} {stop'} e f g h k =
-    ap (λ a. marks a ks ++ ((a ∷ vs) ++ (token end stop kind.Newline ∷ us))) e
-    ∙ (ap (λ a. marks w ks ++ ((w ∷ a) ++ (token end stop kind.Newline ∷ us))) f
-    ∙ (ap (λ a. marks w a ++ ((w ∷ ws) ++ (token end stop kind.Newline ∷ us))) g
-    ∙ (ap (λ a. marks w ls ++ ((w ∷ ws) ++ (token end a kind.Newline ∷ us))) h
-    ∙ ap (λ a. marks w ls ++ ((w ∷ ws) ++ (token end stop' kind.Newline ∷ a))) k)))
+    ap (λ a. marks a.at a.line ks ++ ((a ∷ vs) ++ (token end stop kind.Newline ∷ us))) e
+    ∙ (ap (λ a. marks w.at w.line ks ++ ((w ∷ a) ++ (token end stop kind.Newline ∷ us))) f
+    ∙ (ap (λ a. marks w.at w.line a ++ ((w ∷ ws) ++ (token end stop kind.Newline ∷ us))) g
+    ∙ (ap (λ a. marks w.at w.line ls ++ ((w ∷ ws) ++ (token end a kind.Newline ∷ us))) h
+    ∙ ap (λ a. marks w.at w.line ls ++ ((w ∷ ws) ++ (token end stop' kind.Newline ∷ a))) k)))
 
 -- A text has at most one list of tokens.
 pub lines_once : {end : TextEnd} {cols : List Column} {ss : List Spot} {all every : List Token} → Lines end cols ss all → Lines end cols ss every → all ≡ every

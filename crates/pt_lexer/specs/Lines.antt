@@ -157,9 +157,9 @@ pub data Turn : List Column → Column → List Column → List TokenKind → Ty
   deeper : {top k : Column} {cols : List Column} → top.wide < k.wide → Turn (top ∷ cols) k (k ∷ (top ∷ cols)) (kind.Indent ∷ [])
   level : {cols after : List Column} {k : Column} {ks : List TokenKind} → Back cols k after ks → Turn cols k after ks
 
--- these kinds, at a token's place
-abbrev pub marks : Token → List TokenKind → List Token
-marks w ks = map (λ k. record { kind = k; at = w.at; line = w.line }) ks
+-- tokens of these kinds at one place
+abbrev pub marks : ℕ → Line → List TokenKind → List Token
+marks at line ks = map (λ k. record { kind = k; at = at; line = line }) ks
 
 -- the end of a text closes what is open behind the left margin
 abbrev pub closing : TextEnd → List Column → List Token
@@ -174,4 +174,4 @@ pub data Lines (end : TextEnd) : List Column → List Spot → List Token → Ty
       → Lines end cols (s ∷ ss) all
   full : {cols after : List Column} {s : Spot} {ss stop rest : List Spot} {w : Token} {ws others all : List Token} {ks : List TokenKind}
       → Body end [] (s ∷ ss) (w ∷ ws) stop rest → Turn cols (column_of (s ∷ ss)) after ks → agrees (column_of (s ∷ ss)) cols ≡ true → length after ≤ 101
-      → Lines end after rest others → all ≡ marks w ks ++ ((w ∷ ws) ++ (token end stop kind.Newline ∷ others)) → Lines end cols (s ∷ ss) all
+      → Lines end after rest others → all ≡ marks w.at w.line ks ++ ((w ∷ ws) ++ (token end stop kind.Newline ∷ others)) → Lines end cols (s ∷ ss) all

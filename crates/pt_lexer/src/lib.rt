@@ -3,6 +3,7 @@
 #![tactic(auto)]
 
 mod brackets;
+mod columns;
 mod gaps;
 mod lexer;
 mod source;
