@@ -5,3 +5,4 @@ pub mod NextLemmas
 pub mod Once
 pub mod WordLemmas
 pub mod ReadLemmas
+pub mod FirstLemmas

@@ -23,7 +23,7 @@ told_apart p c d h k e = both_ways (p d) k (subst (λ x. p x ≡ true) e h)
 two_numbers : {c m n : ℕ} → c ≡ m → c ≡ n → (m == n) ≡ false → ⊥
 two_numbers {c} {m} {n} h k ne = both_ways (m == n) ne (eq-eqb m n (sym h ∙ k))
 
-line_end_once : {ss a b : List Spot} → LineEnd ss a → LineEnd ss b → a ≡ b
+pub line_end_once : {ss a b : List Spot} → LineEnd ss a → LineEnd ss b → a ≡ b
 line_end_once (feed h) (feed k) = refl
 line_end_once (feed h) (both k l) = absurd (two_numbers h k refl)
 line_end_once (feed h) (carriage k l) = absurd (two_numbers h k refl)
@@ -34,7 +34,7 @@ line_end_once (carriage h l) (feed k) = absurd (two_numbers k h refl)
 line_end_once (carriage h l) (both k m) = absurd (l m)
 line_end_once (carriage h l) (carriage k m) = refl
 
-stops_once : {end : TextEnd} {ss a b : List Spot} → Stops end ss a → Stops end ss b → a ≡ b
+pub stops_once : {end : TextEnd} {ss a b : List Spot} → Stops end ss a → Stops end ss b → a ≡ b
 stops_once (at_line_end h) (at_line_end k) = line_end_once h k
 stops_once (at_text_end h) (at_text_end k) = refl
 stops_once (at_line_end h) (at_text_end k) = elim h [ ]
@@ -99,16 +99,16 @@ stops_apart : {end : TextEnd} {ss rest : List Spot} → Stops end ss rest → Be
 stops_apart (at_line_end e) b = parts_at _ (ends_at e) b
 stops_apart (at_text_end w) b = b
 
-next_no_piece : {end : TextEnd} {opened : List Opening} {ss after : List Spot} {w : TokenKind} → Next ss w after → NoPiece end opened ss
+pub next_no_piece : {end : TextEnd} {opened : List Opening} {ss after : List Spot} {w : TokenKind} → Next ss w after → NoPiece end opened ss
 next_no_piece n rest p = piece_apart p (next_apart n)
 
-stops_no_piece : {end : TextEnd} {ss after : List Spot} → Stops end ss after → NoPiece end [] ss
+pub stops_no_piece : {end : TextEnd} {ss after : List Spot} → Stops end ss after → NoPiece end [] ss
 stops_no_piece (at_line_end e) rest (blank {s = s} h) = blank_ends s.char h (ends_at e)
 stops_no_piece (at_line_end e) rest (comment h c) = told_apart (λ c. c == 10 || c == 13) _ 35 (ends_at e) refl h
 stops_no_piece (at_line_end e) rest (backslash h c) = told_apart (λ c. c == 10 || c == 13) _ 92 (ends_at e) refl h
 stops_no_piece (at_text_end w) rest p = elim p [ ]
 
-gap_once : {end : TextEnd} {opened : List Opening} {ss a b : List Spot} → Gap end opened ss a → Gap end opened ss b → NoPiece end opened a → NoPiece end opened b → a ≡ b
+pub gap_once : {end : TextEnd} {opened : List Opening} {ss a b : List Spot} → Gap end opened ss a → Gap end opened ss b → NoPiece end opened a → NoPiece end opened b → a ≡ b
 gap_once nothing nothing h k = refl
 gap_once nothing (piece p g) h k = absurd (h _ p)
 gap_once (piece p g) nothing h k = absurd (k _ p)
@@ -128,45 +128,45 @@ fronts_once (x ∷ a) b (y ∷ c) d h k =
     heads : (x ∷ a) ++ b ≡ (y ∷ c) ++ d → a ≡ c → x ∷ a ≡ y ∷ c
     heads h e = cc
 
-next_once : {ss a b : List Spot} {v w : TokenKind} → Next ss v a → Next ss w b → (v ≡ w) × (a ≡ b)
+pub next_once : {ss a b : List Spot} {v w : TokenKind} → Next ss v a → Next ss w b → (v ≡ w) × (a ≡ b)
 next_once {ss} {a} {b} {v} {w} n m =
     let l = n.longest w m.front b m.whole m.spelled in
     let k = m.longest v n.front a n.whole n.spelled in
     let e = fronts_once n.front a m.front b (sym n.whole ∙ m.whole) (omega arith) in
     (word_once v w (chars_of m.front) (subst (λ x. Spells v (chars_of x)) e.0 n.spelled) m.spelled, e.1)
 
-next_at : {ss us a : List Spot} {w : TokenKind} → ss ≡ us → Next ss w a → Next us w a
+pub next_at : {ss us a : List Spot} {w : TokenKind} → ss ≡ us → Next ss w a → Next us w a
 next_at {ss} {us} {a} {w} h n = subst (λ x. Next x w a) h n
 
-stops_at : {end : TextEnd} {ss us a : List Spot} → ss ≡ us → Stops end ss a → Stops end us a
+pub stops_at : {end : TextEnd} {ss us a : List Spot} → ss ≡ us → Stops end ss a → Stops end us a
 stops_at {end} {ss} {us} {a} h n = subst (λ x. Stops end x a) h n
 
 body_at : {end : TextEnd} {o p : List Opening} {ss us stop rest : List Spot} {ws : List Token} → o ≡ p → ss ≡ us → Body end o ss ws stop rest → Body end p us ws stop rest
 body_at {end} {o} {p} {ss} {us} {stop} {rest} {ws} h k b = subst (λ x. Body end x us ws stop rest) h (subst (λ y. Body end o y ws stop rest) k b)
 
-turned_once : (opened : List Opening) {v w : TokenKind} {l m : Line} {r q : Result (List Opening) LexErr} → v ≡ w → l ≡ m → turned opened v l ≡ r → turned opened w m ≡ q → q ≡ r
+pub turned_once : (opened : List Opening) {v w : TokenKind} {l m : Line} {r q : Result (List Opening) LexErr} → v ≡ w → l ≡ m → turned opened v l ≡ r → turned opened w m ≡ q → q ≡ r
 turned_once opened {v} {w} {l} {m} e f h k = sym k ∙ (sym (ap (λ x. turned opened x m) e) ∙ (sym (ap (turned opened v) f) ∙ h))
 
 ok_once : {r : Result (List Opening) LexErr} {a b : List Opening} → r ≡ Ok a → r ≡ Ok b → a ≡ b
 ok_once e f = cc
 
-same_open : (opened : List Opening) {v w : TokenKind} {l m : Line} {a b : List Opening} → v ≡ w → l ≡ m → turned opened v l ≡ Ok a → turned opened w m ≡ Ok b → a ≡ b
+pub same_open : (opened : List Opening) {v w : TokenKind} {l m : Line} {a b : List Opening} → v ≡ w → l ≡ m → turned opened v l ≡ Ok a → turned opened w m ≡ Ok b → a ≡ b
 same_open opened e f h k = ok_once (turned_once opened e f h k) refl
 
 -- how the same line goes on
-record Same (end : TextEnd) (opened : List Opening) (mid mid' after after' : List Spot) (w w' : TokenKind) : Type 0 where
-  place : mid ≡ mid'
-  words : w ≡ w'
-  behind : after ≡ after'
+pub record Same (end : TextEnd) (opened : List Opening) (mid mid' after after' : List Spot) (w w' : TokenKind) : Type 0 where
+  pub place : mid ≡ mid'
+  pub words : w ≡ w'
+  pub behind : after ≡ after'
 
-same_next : {end : TextEnd} {opened : List Opening} {ss mid mid' after after' : List Spot} {w w' : TokenKind} → Gap end opened ss mid → Gap end opened ss mid' → Next mid w after → Next mid' w' after'
+pub same_next : {end : TextEnd} {opened : List Opening} {ss mid mid' after after' : List Spot} {w w' : TokenKind} → Gap end opened ss mid → Gap end opened ss mid' → Next mid w after → Next mid' w' after'
     → Same end opened mid mid' after after' w w'
 same_next g h n m =
     let e = gap_once g h (next_no_piece n) (next_no_piece m) in
     let k = next_once n (next_at (sym e) m) in
     record { place = e; words = k.0; behind = k.1 }
 
-stops_no_next : {end : TextEnd} {ss mid mid' rest after : List Spot} {w : TokenKind} → Gap end [] ss mid → Gap end [] ss mid' → Stops end mid rest → Next mid' w after → ⊥
+pub stops_no_next : {end : TextEnd} {ss mid mid' rest after : List Spot} {w : TokenKind} → Gap end [] ss mid → Gap end [] ss mid' → Stops end mid rest → Next mid' w after → ⊥
 stops_no_next g h e n = stops_apart e (next_apart (next_at (gap_once h g (next_no_piece n) (stops_no_piece e)) n))
 
 token_once : (end : TextEnd) {mid mid' : List Spot} {w w' : TokenKind} → mid ≡ mid' → w ≡ w' → token end mid w ≡ token end mid' w'
@@ -197,16 +197,16 @@ deeper_no_back : {top k : Column} {cols after : List Column} {ks : List TokenKin
 deeper_no_back h (there k) = omega arith
 deeper_no_back h (further k b) = omega arith
 
-turn_once : {cols a b : List Column} {k : Column} {ks ls : List TokenKind} → Turn cols k a ks → Turn cols k b ls → (a ≡ b) × (ks ≡ ls)
+pub turn_once : {cols a b : List Column} {k : Column} {ks ls : List TokenKind} → Turn cols k a ks → Turn cols k b ls → (a ≡ b) × (ks ≡ ls)
 turn_once (deeper h) (deeper k) = (refl, refl)
 turn_once (deeper h) (level b) = absurd (deeper_no_back h b)
 turn_once (level b) (deeper h) = absurd (deeper_no_back h b)
 turn_once (level b) (level c) = back_once b c
 
-lines_at : {end : TextEnd} {cols cols' : List Column} {ss us : List Spot} {all : List Token} → cols ≡ cols' → ss ≡ us → Lines end cols ss all → Lines end cols' us all
+pub lines_at : {end : TextEnd} {cols cols' : List Column} {ss us : List Spot} {all : List Token} → cols ≡ cols' → ss ≡ us → Lines end cols ss all → Lines end cols' us all
 lines_at {end} {cols} {cols'} {ss} {us} {all} h k l = subst (λ x. Lines end x us all) h (subst (λ y. Lines end cols y all) k l)
 
-empty_or_full : {w : Token} {ws : List Token} → [] ≡ w ∷ ws → ⊥
+pub empty_or_full : {w : Token} {ws : List Token} → [] ≡ w ∷ ws → ⊥
 empty_or_full e = cc
 
 cons_words : {v w : Token} {vs ws : List Token} → v ∷ vs ≡ w ∷ ws → (v ≡ w) × (vs ≡ ws)
@@ -234,19 +234,19 @@ lines_once {end = end} (full b t a d l e) (full c u z y m f) =
     let rest = lines_once l (lines_at (sym k.0) (sym r.2) m) in
     e ∙ (all_once end w.0 w.1 k.1 r.1 rest ∙ sym f)
 
-err_or_ok : {r : Result (List Opening) LexErr} {a : List Opening} {e : LexErr} → r ≡ Ok a → r ≡ Err e → ⊥
+pub err_or_ok : {r : Result (List Opening) LexErr} {a : List Opening} {e : LexErr} → r ≡ Ok a → r ≡ Err e → ⊥
 err_or_ok h k = cc
 
-err_here : (opened : List Opening) {v w : TokenKind} {l m : Line} {a : List Opening} {e : LexErr} → v ≡ w → l ≡ m → turned opened v l ≡ Ok a → turned opened w m ≡ Err e → ⊥
+pub err_here : (opened : List Opening) {v w : TokenKind} {l m : Line} {a : List Opening} {e : LexErr} → v ≡ w → l ≡ m → turned opened v l ≡ Ok a → turned opened w m ≡ Err e → ⊥
 err_here opened e f h k = err_or_ok h (h ∙ sym (turned_once opened e f h k))
 
-fails_at : {end : TextEnd} {o p : List Opening} {ss us : List Spot} {e : LexErr} {at : ℕ} → o ≡ p → ss ≡ us → Fails end o ss e at → Fails end p us e at
+pub fails_at : {end : TextEnd} {o p : List Opening} {ss us : List Spot} {e : LexErr} {at : ℕ} → o ≡ p → ss ≡ us → Fails end o ss e at → Fails end p us e at
 fails_at {end} {o} {p} {ss} {us} {e} {at} h k f = subst (λ x. Fails end x us e at) h (subst (λ y. Fails end o y e at) k f)
 
-next_some : {after : List Spot} {w : TokenKind} → Next [] w after → ⊥
+pub next_some : {after : List Spot} {w : TokenKind} → Next [] w after → ⊥
 next_some n = next_apart n
 
-no_piece_at_end : {end : TextEnd} {opened : List Opening} → NoPiece end opened []
+pub no_piece_at_end : {end : TextEnd} {opened : List Opening} → NoPiece end opened []
 no_piece_at_end rest p = piece_at_end p
   where
     piece_at_end : {end : TextEnd} {opened : List Opening} {rest : List Spot} → Piece end opened [] rest → ⊥
@@ -275,16 +275,16 @@ words_or_fault {end = end} {opened = opened} (word g n t b) (later h m u f) =
     words_or_fault b (fails_at (sym (same_open opened k.words (ap (line_of end) k.place) t u)) (sym k.behind) f)
 
 -- where a line with words begins
-body_begins : {end : TextEnd} {opened : List Opening} {ss stop rest : List Spot} {w : Token} {ws : List Token} → Body end opened ss (w ∷ ws) stop rest → (mid : List Spot) × Gap end opened ss mid × BeginsApart (chars_of mid)
+pub body_begins : {end : TextEnd} {opened : List Opening} {ss stop rest : List Spot} {w : Token} {ws : List Token} → Body end opened ss (w ∷ ws) stop rest → (mid : List Spot) × Gap end opened ss mid × BeginsApart (chars_of mid)
 body_begins (word {mid = mid} g n t b) = (mid, g, next_apart n)
 
-empty_stops : {end : TextEnd} {ss stop rest mid : List Spot} → Body end [] ss [] stop rest → Gap end [] ss mid → NoPiece end [] mid → ((r : List Spot) → Stops end mid r → ⊥) → ⊥
+pub empty_stops : {end : TextEnd} {ss stop rest mid : List Spot} → Body end [] ss [] stop rest → Gap end [] ss mid → NoPiece end [] mid → ((r : List Spot) → Stops end mid r → ⊥) → ⊥
 empty_stops (finish g e) h p n = n _ (stops_at (gap_once g h (stops_no_piece e) p) e)
 
-faulty_at : {end : TextEnd} {cols cols' : List Column} {ss us : List Spot} {e : LexErr} {at : ℕ} → cols ≡ cols' → ss ≡ us → Faulty end cols ss e at → Faulty end cols' us e at
+pub faulty_at : {end : TextEnd} {cols cols' : List Column} {ss us : List Spot} {e : LexErr} {at : ℕ} → cols ≡ cols' → ss ≡ us → Faulty end cols ss e at → Faulty end cols' us e at
 faulty_at {end} {cols} {cols'} {ss} {us} {e} {at} h k f = subst (λ x. Faulty end x us e at) h (subst (λ y. Faulty end cols y e at) k f)
 
-well_placed : {cols after : List Column} {k : Column} {line : Line} {ks : List TokenKind} {e : LexErr} → Turn cols k after ks → agrees k cols ≡ true → length after ≤ 101 → Misplaced cols k line e → ⊥
+pub well_placed : {cols after : List Column} {k : Column} {line : Line} {ks : List TokenKind} {e : LexErr} → Turn cols k after ks → agrees k cols ≡ true → length after ≤ 101 → Misplaced cols k line e → ⊥
 well_placed t a d (off n) = n _ _ t
 well_placed t a d (mixed m) = both_ways _ m a
 well_placed t a d (too_deep u m) = let e = ap length (turn_once t u).0 in omega arith

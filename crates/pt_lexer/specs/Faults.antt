@@ -86,11 +86,20 @@ margin = left_margin ∷ []
 abbrev pub IsTokens : (bytes : List ℕ) → List Token → Type 0
 IsTokens bytes all = Lines (end_of bytes) margin (spots_of bytes) all
 
--- The text is refused for this: nothing in it is found at fault earlier.
-pub record IsRefused (bytes : List ℕ) (e : LexErr) : Type 0 where
+-- A text where these columns are open is refused for this: nothing in it is found at fault before.
+pub record Refused (end : TextEnd) (cols : List Column) (text : List Spot) (e : LexErr) : Type 0 where
   pub at : ℕ
-  pub found : Faulty (end_of bytes) margin (spots_of bytes) e at
-  pub first : (f : LexErr) (place : ℕ) → Faulty (end_of bytes) margin (spots_of bytes) f place → Precedes e at f place
+  pub found : Faulty end cols text e at
+  pub first : (f : LexErr) (place : ℕ) → Faulty end cols text f place → Precedes e at f place
+
+-- The text is refused for this.
+abbrev pub IsRefused : (bytes : List ℕ) → LexErr → Type 0
+IsRefused bytes e = Refused (end_of bytes) margin (spots_of bytes) e
+
+-- Each character stands behind the one before it, and before the end.
+abbrev pub Rises : TextEnd → List Spot → Type 0
+Rises end [] = Unit {0}
+Rises end (s ∷ ss) = (s.at < at_of end ss) × Rises end ss
 
 -- The text is refused for its words, from where these brackets are open.
 abbrev pub FailsWith : TextEnd → List Opening → List Spot → LexErr → Type 0
