@@ -8,13 +8,14 @@ use Rattle.std.proofs.Math.Seq.{drop-cons}
 use Rattle.pt_base.specs.declared.numbers.Line.{Line}
 use Rattle.pt_lexer.specs.declared.source.Spot.{Spot}
 use Rattle.pt_lexer.specs.declared.token.Column.{Column}
+use Rattle.pt_lexer.specs.declared.token.LexErr.{LexErr}
 use Rattle.pt_lexer.specs.declared.token.LexErr.TheVariants as fault
 use Rattle.pt_lexer.specs.declared.token.Token.{Token}
 use Rattle.pt_lexer.specs.declared.token.TokenKind.{TokenKind}
 use Rattle.pt_lexer.specs.declared.token.TokenKind.TheVariants as kind
 use Rattle.pt_lexer.specs.Lines.{is_blank, behind_blank, column_from, compares_alike, agrees, Back, there, further, Turn, deeper, level, marks}
 use Rattle.pt_lexer.specs.Columns.{AreRising, Indented}
-use Rattle.pt_lexer.specs.Faults.{Misplaced, off, mixed}
+use Rattle.pt_lexer.specs.Faults.{Misplaced, off, mixed, too_deep, number_of, IsMisplaced}
 
 -- the column of a line
 column_step : (s : Spot) (ss : List Spot) (k : Column) → is_blank s.char ≡ true → column_from k (s ∷ ss) ≡ column_from (behind_blank k s.char) ss
@@ -75,8 +76,24 @@ opened_block f k cols now at line before after r h n is e = subst (λ x. Indente
   rising = (h, n, r);
 })
 
-pub mixed_deeper : (f k : Column) (cols : List Column) (line : Line) → f.wide < k.wide → k.narrow ≤ f.narrow → Misplaced (f ∷ cols) k line (fault.MixedTabs line)
-mixed_deeper f k cols line h n = mixed (and_left (compares_alike k f) _ (unlike_above k f h n))
+first_off : (cols : List Column) (k : Column) (line : Line) → ((after : List Column) (ks : List TokenKind) → Turn cols k after ks → ⊥) → IsMisplaced cols k line (fault.BadIndent line)
+first_off cols k line n = record { wrong = off n; small = omega arith; least = λ f m. other f m; }
+  where
+    other : (f : LexErr) → Misplaced cols k line f → (2 < number_of f) ⊎ (fault.BadIndent line ≡ f)
+    other f (off m) = inr refl
+    other f (mixed a) = inl (omega arith)
+    other f (too_deep t h) = inl (omega arith)
+
+first_mixed : (cols after : List Column) (k : Column) (line : Line) (ks : List TokenKind) → agrees k cols ≡ false → Turn cols k after ks → IsMisplaced cols k line (fault.MixedTabs line)
+first_mixed cols after k line ks a t = record { wrong = mixed a; small = omega arith; least = λ f m. other f m; }
+  where
+    other : (f : LexErr) → Misplaced cols k line f → (3 < number_of f) ⊎ (fault.MixedTabs line ≡ f)
+    other f (off n) = absurd (n after ks t)
+    other f (mixed b) = inr refl
+    other f (too_deep u h) = inl (omega arith)
+
+pub mixed_deeper : (f k : Column) (cols : List Column) (line : Line) → f.wide < k.wide → k.narrow ≤ f.narrow → IsMisplaced (f ∷ cols) k line (fault.MixedTabs line)
+mixed_deeper f k cols line h n = first_mixed (f ∷ cols) (k ∷ (f ∷ cols)) k line (kind.Indent ∷ []) (and_left (compares_alike k f) _ (unlike_above k f h n)) (deeper h)
 
 -- So many columns that lie further in have been left.
 pub data Left (k : Column) (cols : List Column) : List Column → List TokenKind → Type 0 where
@@ -150,12 +167,12 @@ no_back_at h (further e b) = omega arith
 
 -- a line stands at no open column: it is further out than all, or between two
 pub misplaced_out : (g f k : Column) (cols : List Column) (rest : List Column) (ks : List TokenKind) (line : Line) → k.wide ≤ g.wide → Left k (g ∷ cols) (f ∷ rest) ks → rest ≡ [] → k.wide < f.wide
-    → Misplaced (g ∷ cols) k line (fault.BadIndent line)
-misplaced_out g f k cols rest ks line w l e h = off (no_turn w (left_no_back l (λ after ks b. no_back_out h (subst (λ x. Back (f ∷ x) k after ks) e b))))
+    → IsMisplaced (g ∷ cols) k line (fault.BadIndent line)
+misplaced_out g f k cols rest ks line w l e h = first_off (g ∷ cols) k line (no_turn w (left_no_back l (λ after ks b. no_back_out h (subst (λ x. Back (f ∷ x) k after ks) e b))))
 
 pub misplaced_between : (g f k : Column) (cols rest : List Column) (ks : List TokenKind) (line : Line) → k.wide ≤ g.wide → Left k (g ∷ cols) (f ∷ rest) ks → f.wide ≤ k.wide → k.wide ≢ f.wide
-    → Misplaced (g ∷ cols) k line (fault.BadIndent line)
-misplaced_between g f k cols rest ks line w l h n = off (no_turn w (left_no_back l (λ after ks b. no_back_at (omega arith) b)))
+    → IsMisplaced (g ∷ cols) k line (fault.BadIndent line)
+misplaced_between g f k cols rest ks line w l h n = first_off (g ∷ cols) k line (no_turn w (left_no_back l (λ after ks b. no_back_at (omega arith) b)))
 
 differs_at : (k f : Column) → k.wide ≡ f.wide → k.narrow ≢ f.narrow → compares_alike k f ≡ false
 differs_at k f h n = go (lt_or_gt k.narrow f.narrow n)
@@ -169,8 +186,9 @@ differs_at k f h n = go (lt_or_gt k.narrow f.narrow n)
         and_right (beq (nat_lt k.wide f.wide) (nat_lt k.narrow f.narrow)) (beq (nat_lt f.wide k.wide) (nat_lt f.narrow k.narrow))
         (rw (le-ltb f.wide k.wide (omega arith), lt-ltb f.narrow k.narrow lt) refl)
 
-pub mixed_level : (f k : Column) (cols rest : List Column) (ks : List TokenKind) (line : Line) → Left k cols (f ∷ rest) ks → k.wide ≡ f.wide → k.narrow ≢ f.narrow → Misplaced cols k line (fault.MixedTabs line)
-mixed_level f k cols rest ks line l h n = mixed (left_disagrees l (and_left (compares_alike k f) _ (differs_at k f h n)))
+pub mixed_level : (f k : Column) (cols rest : List Column) (ks : List TokenKind) (line : Line) → Left k cols (f ∷ rest) ks → k.wide ≡ f.wide → k.narrow ≢ f.narrow → IsMisplaced cols k line (fault.MixedTabs line)
+mixed_level f k cols rest ks line l h n =
+    first_mixed cols (f ∷ rest) k line (ks ++ []) (left_disagrees l (and_left (compares_alike k f) _ (differs_at k f h n))) (level (left_back l (there h)))
 
 pub more_marks : (at : ℕ) (line : Line) (ks : List TokenKind) (before old new : List Token) → old ≡ before ++ marks at line ks → new ≡ old ++ record { kind = kind.Dedent; at = at; line = line } ∷ []
     → new ≡ before ++ marks at line (ks ++ kind.Dedent ∷ [])

@@ -9,8 +9,10 @@ use Rattle.pt_lexer.specs.declared.token.LexErr.TheVariants as fault
 use Rattle.pt_lexer.specs.declared.token.Opening.{Opening}
 use Rattle.pt_lexer.specs.declared.token.Token.{Token}
 use Rattle.pt_lexer.specs.declared.token.TokenKind.{TokenKind}
+use Rattle.pt_lexer.specs.declared.token.TokenKind.TheVariants as kind
 use Rattle.pt_lexer.specs.Words.{Next, NoWord}
-use Rattle.pt_lexer.specs.Lines.{at_of, line_of, Stops, Gap, NoPiece, turned, Body, column_of, agrees, left_margin, Turn, Lines}
+use Rattle.pt_lexer.specs.Lines.{at_of, line_of, token, marks, Stops, Gap, NoPiece, turned, Body, column_of, agrees, left_margin, Turn, Lines}
+use Rattle.pt_lexer.specs.Columns.{AreRising}
 use Rattle.pt_lexer.specs.Source.{spots_of, end_of}
 
 -- any call may run out of memory; other answers have a cause
@@ -51,17 +53,6 @@ pub data Misplaced : List Column → Column → Line → LexErr → Type 0 where
   too_deep : {cols after : List Column} {k : Column} {line : Line} {ks : List TokenKind} → Turn cols k after ks → 101 < length after
       → Misplaced cols k line (fault.Limit line)
 
--- What is at fault in a text where these columns are open, and where. All lines before it have their tokens.
-pub data Faulty (end : TextEnd) : List Column → List Spot → LexErr → ℕ → Type 0 where
-  in_words : {cols : List Column} {text : List Spot} {e : LexErr} {at : ℕ} → Fails end [] text e at → Faulty end cols text e at
-  in_column : {cols : List Column} {s : Spot} {text ss : List Spot} {e : LexErr} → Gap end [] text (s ∷ ss) → NoPiece end [] (s ∷ ss)
-      → ((rest : List Spot) → Stops end (s ∷ ss) rest → ⊥) → Misplaced cols (column_of text) s.line e → Faulty end cols text e s.at
-  below_empty : {cols : List Column} {s : Spot} {ss stop rest : List Spot} {e : LexErr} {at : ℕ} → Body end [] (s ∷ ss) [] stop rest
-      → Faulty end cols rest e at → Faulty end cols (s ∷ ss) e at
-  below_full : {cols after : List Column} {s : Spot} {ss stop rest : List Spot} {w : Token} {ws : List Token} {ks : List TokenKind} {e : LexErr} {at : ℕ}
-      → Body end [] (s ∷ ss) (w ∷ ws) stop rest → Turn cols (column_of (s ∷ ss)) after ks → agrees (column_of (s ∷ ss)) cols ≡ true → length after ≤ 101
-      → Faulty end after rest e at → Faulty end cols (s ∷ ss) e at
-
 -- the refusals in the order of their numbers
 abbrev pub number_of : LexErr → ℕ
 number_of (fault.NotUtf8 at) = 1
@@ -74,6 +65,23 @@ number_of (fault.OpenBracket line) = 7
 number_of (fault.Excluded line) = 8
 number_of (fault.Limit line) = 9
 number_of fault.Memory = 10
+
+-- This is wrong with the column of a line, before all else that is.
+pub record IsMisplaced (cols : List Column) (k : Column) (line : Line) (e : LexErr) : Type 0 where
+  pub wrong : Misplaced cols k line e
+  pub small : number_of e ≤ 3
+  pub least : (f : LexErr) → Misplaced cols k line f → (number_of e < number_of f) ⊎ (e ≡ f)
+
+-- What is at fault in a text where these columns are open, and where. All lines before it have their tokens.
+pub data Faulty (end : TextEnd) : List Column → List Spot → LexErr → ℕ → Type 0 where
+  in_words : {cols : List Column} {text : List Spot} {e : LexErr} {at : ℕ} → Fails end [] text e at → Faulty end cols text e at
+  in_column : {cols : List Column} {s : Spot} {text ss : List Spot} {e : LexErr} → Gap end [] text (s ∷ ss) → NoPiece end [] (s ∷ ss)
+      → ((rest : List Spot) → Stops end (s ∷ ss) rest → ⊥) → Misplaced cols (column_of text) s.line e → Faulty end cols text e s.at
+  below_empty : {cols : List Column} {s : Spot} {ss stop rest : List Spot} {e : LexErr} {at : ℕ} → Body end [] (s ∷ ss) [] stop rest
+      → Faulty end cols rest e at → Faulty end cols (s ∷ ss) e at
+  below_full : {cols after : List Column} {s : Spot} {ss stop rest : List Spot} {w : Token} {ws : List Token} {ks : List TokenKind} {e : LexErr} {at : ℕ}
+      → Body end [] (s ∷ ss) (w ∷ ws) stop rest → Turn cols (column_of (s ∷ ss)) after ks → agrees (column_of (s ∷ ss)) cols ≡ true → length after ≤ 101
+      → Faulty end after rest e at → Faulty end cols (s ∷ ss) e at
 
 -- found earlier, or at the same place with a smaller number, or the very same
 abbrev pub Precedes : LexErr → ℕ → LexErr → ℕ → Type 0
@@ -117,3 +125,16 @@ pub record WordsRead (end : TextEnd) (text : List Spot) (old new : List Token) (
   pub words : List Token
   pub kept : new ≡ old ++ words
   pub body : Body end [] text words stop rest
+
+-- A logical line has been read: an empty one, or one with words.
+pub data LineRead (end : TextEnd) (cols : List Column) (text : List Spot) : List Column → List Spot → List Token → Type 0 where
+  empty_line : {stop rest : List Spot} → Body end [] text [] stop rest → LineRead end cols text cols rest []
+  full_line : {after : List Column} {stop rest : List Spot} {w : Token} {ws : List Token} {ks : List TokenKind} {all : List Token} → Body end [] text (w ∷ ws) stop rest → Turn cols (column_of text) after ks
+      → agrees (column_of text) cols ≡ true → length after ≤ 101 → all ≡ marks w.at w.line ks ++ ((w ∷ ws) ++ token end stop kind.Newline ∷ []) → LineRead end cols text after rest all
+
+-- A line was read, and its tokens were put behind these.
+pub record ReadsLine (end : TextEnd) (cols after : List Column) (text rest : List Spot) (before behind : List Token) : Type 0 where
+  pub front : List Token
+  pub kept : behind ≡ before ++ front
+  pub line : LineRead end cols text after rest front
+  pub rising : AreRising after

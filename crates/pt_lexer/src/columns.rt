@@ -1,7 +1,7 @@
 ghost use Rattle.std.specs.Prelude.{◌≡◌, ℕ, ◌<◌, ◌≤◌, ◌^◌, [], ◌∷◌, length, MatchResult};
 ghost use Rattle.pt_lexer.specs.Lines.{behind_blank, column_of as column_at};
 ghost use Rattle.pt_lexer.specs.Columns.{AreRising, Indented};
-ghost use Rattle.pt_lexer.specs.Faults.{Caused, Misplaced};
+ghost use Rattle.pt_lexer.specs.Faults.{Caused, IsMisplaced};
 
 use crate::gaps::is_blank_char;
 use crate::{Column, LexErr, Spot, Token, TokenKind};
@@ -69,7 +69,7 @@ impl Columns {
         requires rising { AreRising (self.old.inner ∷ self.old.outer) }
         ensures { MatchResult result
             (λ _. Indented (self.old.inner ∷ self.old.outer) (self.new.inner ∷ self.new.outer) column spot.at spot.line tokens.old tokens.new)
-            (λ e. Caused e (Misplaced (self.old.inner ∷ self.old.outer) column spot.line e)) }
+            (λ e. Caused e (IsMisplaced (self.old.inner ∷ self.old.outer) column spot.line e)) }
     {
         let line = spot.line;
         if column.narrow <= self.inner.narrow {
@@ -91,7 +91,7 @@ impl Columns {
         requires rising { AreRising (self.old.inner ∷ self.old.outer) }
         ensures { MatchResult result
             (λ _. Indented (self.old.inner ∷ self.old.outer) (self.new.inner ∷ self.new.outer) column spot.at spot.line tokens.old tokens.new)
-            (λ e. Caused e (Misplaced (self.old.inner ∷ self.old.outer) column spot.line e)) }
+            (λ e. Caused e (IsMisplaced (self.old.inner ∷ self.old.outer) column spot.line e)) }
     {
         let line = spot.line;
         while column.wide < self.inner.wide {
@@ -124,7 +124,7 @@ impl Columns {
         requires { AreRising (self.old.inner ∷ self.old.outer) }
         ensures { MatchResult result
             (λ _. Indented (self.old.inner ∷ self.old.outer) (self.new.inner ∷ self.new.outer) column spot.at spot.line tokens.old tokens.new)
-            (λ e. Caused e (Misplaced (self.old.inner ∷ self.old.outer) column spot.line e)) }
+            (λ e. Caused e (IsMisplaced (self.old.inner ∷ self.old.outer) column spot.line e)) }
     {
         if self.inner.wide < column.wide {
             return self.open(column, spot, tokens);
