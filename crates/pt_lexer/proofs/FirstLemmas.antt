@@ -1,7 +1,7 @@
 -- Which fault of a text is found first.
-use Rattle.std.proofs.Common.{◌≡◌, ◌≢◌, ℕ, zero, suc, ◌+◌, ◌≤◌, ◌<◌, List, [], ◌∷◌, ◌++◌, Bool, true, false, Option, Some, None, Result, Ok, Err, refl, sym, ◌∙◌, ap, subst, arith, inl, inr, ◌⊎◌, length}
+use Rattle.std.proofs.Common.{◌≡◌, ◌≢◌, ℕ, zero, suc, ◌+◌, ◌≤◌, ◌<◌, List, [], ◌∷◌, ◌++◌, Bool, true, false, Option, Some, None, Result, Ok, Err, refl, sym, ◌∙◌, ap, subst, arith, inl, inr, ◌⊎◌, length, append_assoc, append-nil}
 use Rattle.std.specs.Prelude.{nat_lt, if◌then◌else◌}
-use Rattle.std.proofs.lemmas.Bool.{both_ways, cases_eq}
+use Rattle.std.proofs.lemmas.Bool.{both_ways, cases_eq, cases_Bool}
 use Rattle.pt_base.specs.declared.numbers.Line.{Line}
 use Rattle.pt_lexer.specs.declared.source.Spot.{Spot}
 use Rattle.pt_lexer.specs.declared.source.TextEnd.{TextEnd}
@@ -14,8 +14,10 @@ use Rattle.pt_lexer.specs.declared.token.Token.{Token}
 use Rattle.pt_lexer.specs.declared.token.TokenKind.{TokenKind}
 use Rattle.pt_lexer.specs.declared.token.TokenKind.TheVariants as kind
 use Rattle.pt_lexer.specs.Words.{Next, NoWord}
-use Rattle.pt_lexer.specs.Lines.{at_of, line_of, LineEnd, feed, both, carriage, Stops, at_line_end, at_text_end, Comment, text_ends, line_ends, goes_on, Piece, blank, comment, backslash, inside, Gap, nothing, piece, NoPiece, opens, closes, is_excluded, same_bracket, shut, turned_by, turned, Body, column_of, agrees, Turn}
-use Rattle.pt_lexer.specs.Faults.{outermost, Fails, broken, unclosed, strange, wrong, later, Misplaced, off, mixed, too_deep, Faulty, in_words, in_column, below_empty, below_full, number_of, Precedes, Refused, Rises}
+use Rattle.pt_lexer.specs.Lines.{at_of, line_of, LineEnd, feed, both, carriage, Stops, at_line_end, at_text_end, Comment, text_ends, line_ends, goes_on, Piece, blank, comment, backslash, inside, Gap, nothing, piece, NoPiece, opens, closes, is_excluded, same_bracket, shut, turned_by, turned, token, marks, Body, finish, word, column_of, agrees, Turn}
+use Rattle.pt_lexer.specs.Faults.{outermost, Fails, broken, unclosed, strange, wrong, later, Misplaced, off, mixed, too_deep, Faulty, in_words, in_column, below_empty, below_full, number_of, Precedes, Refused, Rises, Begins, IsMisplaced, FirstFault, Caused, FailsWith, WordsRead, LineRead, empty_line, full_line, ReadsLine}
+use Rattle.pt_lexer.specs.Columns.{AreRising, Indented}
+use Rattle.pt_lexer.proofs.ReadLemmas.{caused_map, gap_fails, gap_both}
 use Rattle.pt_lexer.proofs.NextLemmas.{next_shorter}
 use Rattle.pt_lexer.proofs.Once.{gap_once, next_once, next_no_piece, stops_no_piece, next_some, no_piece_at_end, same_next, turned_once, next_at, empty_stops, well_placed, turn_once, err_here, err_or_ok, same_open, fails_at, words_or_fault}
 
@@ -185,28 +187,20 @@ fails_from {end = end} {opened = opened} (strange {s = s} {ss = ss} h q n t) g p
 fails_from {end = end} {opened = opened} (wrong {mid = mid} h n t) g p = wrong (subst (λ x. Gap end opened x mid) (gap_once h g (next_no_piece n) p) nothing) n t
 fails_from {end = end} {opened = opened} (later {mid = mid} h n t f) g p = later (subst (λ x. Gap end opened x mid) (gap_once h g (next_no_piece n) p) nothing) n t f
 
--- What is known of a line that begins with a word's place, or with something strange.
-pub record Begins (end : TextEnd) (text first more : List Spot) (s : Spot) : Type 0 where
-  pub rises : Rises end text
-  pub gap : Gap end [] text first
-  pub is : first ≡ s ∷ more
-  pub full : NoPiece end [] first
-  pub stands : (rest : List Spot) → Stops end first rest → ⊥
-
-begins_at : {end : TextEnd} {text first more : List Spot} {s : Spot} {e : LexErr} {place : ℕ} → Begins end text first more s → Fails end [] text e place → (s.at < place) ⊎ ((s.at ≡ place) × (s.at < end.at))
-begins_at {end} {text} {first} {more} {s} {e} {place} b f =
+begins_at : {end : TextEnd} {text first : List Spot} {s : Spot} {e : LexErr} {place : ℕ} → Begins end text first s → Fails end [] text e place → (s.at < place) ⊎ ((s.at ≡ place) × (s.at < end.at))
+begins_at {end} {text} {first} {s} {e} {place} b f =
     let r = gap_rises b.gap b.rises in
     let low = fails_behind (fails_from f b.gap b.full) r.1 in
-    let here : Rises end (s ∷ more) = subst (Rises end) b.is r.1 in
+    let here : Rises end (s ∷ b.more) = subst (Rises end) b.is r.1 in
     let at : at_of end first ≡ s.at = ap (at_of end) b.is in
-    let top = rises_end end more here.1 in
+    let top = rises_end end b.more here.1 in
     elim (cases_eq s.at place) [ inl same ↦ inr (same, omega (arith, here.0)) | inr other ↦ inl (omega arith) ]
 
 -- other columns that are at fault stand at the same place
-column_at : {end : TextEnd} {text first more ss : List Spot} {s t : Spot} → Begins end text first more s → Gap end [] text (t ∷ ss) → NoPiece end [] (t ∷ ss) → t ≡ s
+column_at : {end : TextEnd} {text first ss : List Spot} {s t : Spot} → Begins end text first s → Gap end [] text (t ∷ ss) → NoPiece end [] (t ∷ ss) → t ≡ s
 column_at b g p = same_spot (gap_once g b.gap p b.full ∙ b.is)
 
-not_empty_line : {end : TextEnd} {text first more stop rest : List Spot} {s : Spot} → Begins end text first more s → Body end [] text [] stop rest → ⊥
+not_empty_line : {end : TextEnd} {text first stop rest : List Spot} {s : Spot} → Begins end text first s → Body end [] text [] stop rest → ⊥
 not_empty_line b body = empty_stops body b.gap b.full b.stands
 
 -- the cases of a fault
@@ -221,14 +215,14 @@ by_fault P (in_column {s = t} {ss = ss} g p n m) a b c d = b t ss g p refl m
 by_fault P (below_empty {stop = stop} {rest = rest} body f) a b c d = c stop rest body f
 by_fault P (below_full {after = after} {stop = stop} {rest = rest} {w = w} {ws = ws} {ks = ks} body t g l f) a b c d = d w ws stop rest after ks body t g l f
 
-found_column : {end : TextEnd} {text first more : List Spot} {s : Spot} {cols : List Column} {e : LexErr} → Begins end text first more s → Misplaced cols (column_of text) s.line e → Faulty end cols text e s.at
+found_column : {end : TextEnd} {text first : List Spot} {s : Spot} {cols : List Column} {e : LexErr} → Begins end text first s → Misplaced cols (column_of text) s.line e → Faulty end cols text e s.at
 found_column {end = end} {text = text} b m =
     in_column (subst (Gap end [] text) b.is b.gap) (subst (NoPiece end []) b.is b.full) (subst (λ x. (rest : List Spot) → Stops end x rest → ⊥) b.is b.stands) m
 
 -- A line is refused for its column.
-pub column_refused : {end : TextEnd} {text first more : List Spot} {s : Spot} (cols : List Column) (e : LexErr) → Begins end text first more s → Misplaced cols (column_of text) s.line e → number_of e ≤ 3
+pub column_refused : {end : TextEnd} {text first : List Spot} {s : Spot} (cols : List Column) (e : LexErr) → Begins end text first s → Misplaced cols (column_of text) s.line e → number_of e ≤ 3
     → ((f : LexErr) → Misplaced cols (column_of text) s.line f → (number_of e < number_of f) ⊎ (e ≡ f)) → Refused end cols text e
-column_refused {end} {text} {first} {more} {s} cols e b m small least = record {
+column_refused {end} {text} {first} {s} cols e b m small least = record {
     at = s.at;
     found = found_column b m;
     first = λ f place h. by_fault (Precedes e s.at f place) h
@@ -263,9 +257,9 @@ too_many : {cols after after' : List Column} {k : Column} {ks ls : List TokenKin
 too_many t h u l = let e = ap length (turn_once t u).0 in omega arith
 
 -- A line is refused for one block too many, unless its first word is at fault.
-pub depth_refused : {end : TextEnd} {text first more : List Spot} {s : Spot} (cols after : List Column) (ks : List TokenKind) → Begins end text first more s → Turn cols (column_of text) after ks → agrees (column_of text) cols ≡ true
+pub depth_refused : {end : TextEnd} {text first : List Spot} {s : Spot} (cols after : List Column) (ks : List TokenKind) → Begins end text first s → Turn cols (column_of text) after ks → agrees (column_of text) cols ≡ true
     → 101 < length after → ((f : LexErr) (place : ℕ) → Fails end [] first f place → s.at < place) → Refused end cols text (fault.Limit s.line)
-depth_refused {end} {text} {first} {more} {s} cols after ks b t a h behind = record {
+depth_refused {end} {text} {first} {s} cols after ks b t a h behind = record {
     at = s.at;
     found = found_column b (too_deep t h);
     first = λ f place q. by_fault (Precedes (fault.Limit s.line) s.at f place) q
@@ -275,9 +269,9 @@ depth_refused {end} {text} {first} {more} {s} cols after ks b t a h behind = rec
       (λ w ws stop rest after' ls body u y l k. absurd (too_many t h u l));
   }
 
-pub first_word_refused : {end : TextEnd} {text first more : List Spot} {s : Spot} (cols after : List Column) (ks : List TokenKind) (e : LexErr) → Begins end text first more s → Turn cols (column_of text) after ks
+pub first_word_refused : {end : TextEnd} {text first : List Spot} {s : Spot} (cols after : List Column) (ks : List TokenKind) (e : LexErr) → Begins end text first s → Turn cols (column_of text) after ks
     → agrees (column_of text) cols ≡ true → Fails end [] text e s.at → IsNoLimit e → Refused end cols text e
-first_word_refused {end} {text} {first} {more} {s} cols after ks e b t a fails n = record {
+first_word_refused {end} {text} {first} {s} cols after ks e b t a fails n = record {
     at = s.at;
     found = in_words fails;
     first = λ f place q. by_fault (Precedes e s.at f place) q
@@ -287,3 +281,103 @@ first_word_refused {end} {text} {first} {more} {s} cols after ks e b t a fails n
       (λ stop rest body k. absurd (words_or_fault body fails))
       (λ w ws stop rest after' ls body u y l k. absurd (words_or_fault body fails));
   }
+
+-- Behind a first word that is in order, a fault stands further on.
+pub fault_behind : {end : TextEnd} {first after : List Spot} {more : List Opening} {w : TokenKind} {f : LexErr} {place : ℕ} → Rises end first → Next first w after → turned [] w (line_of end first) ≡ Ok more → Fails end [] first f place → at_of end first < place
+fault_behind r n t (broken g v) = absurd (end_no_next g nothing n)
+fault_behind r n t (strange g p m s) = absurd (word_there g p m nothing n)
+fault_behind {end = end} r n t (wrong h m u) = let k = same_next nothing h n m in absurd (err_here [] k.words (ap (line_of end) k.place) t u)
+fault_behind {end = end} r n t (later h m u f) =
+    let q = same_next nothing h n m in
+    let k = next_rises end n r in
+    let l = fails_behind (fails_at (sym (same_open [] q.words (ap (line_of end) q.place) t u)) (sym q.behind) f) k.1 in
+    omega (arith, k.0, l)
+
+body_behind_gap : {end : TextEnd} {text first stop rest : List Spot} {ws : List Token} → Gap end [] text first → Body end [] first ws stop rest → Body end [] text ws stop rest
+body_behind_gap g (finish h e) = finish (gap_both g h) e
+body_behind_gap g (word h n t b) = word (gap_both g h) n t b
+
+word_place : {end : TextEnd} {text first stop rest : List Spot} {s : Spot} {w : Token} {ws : List Token} → Begins end text first s → Body end [] first (w ∷ ws) stop rest → (w.at ≡ s.at) × (w.line ≡ s.line)
+word_place {end = end} b (word h n t body) =
+    let e = gap_once h nothing (next_no_piece n) b.full ∙ b.is in
+    (ap (at_of end) e, ap (line_of end) e)
+
+-- A line with words has been read.
+pub words_line : {end : TextEnd} {text first stop rest : List Spot} {s : Spot} {old new : List Column} {t0 t1 t2 t3 : List Token} {newline : Token} → Begins end text first s → Indented old new (column_of text) s.at s.line t0 t1
+    → length new ≤ 101 → WordsRead end first t1 t2 stop rest → newline ≡ token end stop kind.Newline → t3 ≡ t2 ++ newline ∷ [] → ReadsLine end old new text rest t0 t3
+words_line {end} {text} {first} {stop} {rest} {s} {old} {new} {t0} {t1} {t2} {t3} {newline} b i l r n e = go r.words r.kept r.body
+  where
+    go : (ws : List Token) → t2 ≡ t1 ++ ws → Body end [] first ws stop rest → ReadsLine end old new text rest t0 t3
+    go [] k body = absurd (not_empty_line b (body_behind_gap b.gap body))
+    go (w ∷ ws) k body =
+        let at = word_place b body in
+        record {
+          front = marks w.at w.line i.kinds ++ ((w ∷ ws) ++ token end stop kind.Newline ∷ []);
+          kept = rw (e, k, i.kept, n, at.0, at.1, append_assoc, append_assoc) refl;
+          line = full_line (body_behind_gap b.gap body) i.turns i.agreed l refl;
+          rising = i.rising;
+        }
+
+-- the refusals of a line with words, as the code has them
+pub refused_column : {end : TextEnd} {text first : List Spot} {s : Spot} (cols : List Column) (e : LexErr) → Begins end text first s → Caused e (IsMisplaced cols (column_of text) s.line e) → Caused e (Refused end cols text e)
+refused_column cols e b c = caused_map e (λ m. column_refused cols e b m.wrong m.small m.least) c
+
+pub refused_depth : {end : TextEnd} {text first : List Spot} {s : Spot} {old new : List Column} {t0 t1 : List Token} (e : LexErr) → Begins end text first s → Indented old new (column_of text) s.at s.line t0 t1 → 101 < length new
+    → Caused e (FirstFault end first s e) → Caused e (Refused end old text e)
+refused_depth {end} {text} {first} {s} {old} {new} e b i l c = caused_map e go c
+  where
+    go : FirstFault end first s e → Refused end old text e
+    go (inl f) = first_word_refused old new i.kinds e b i.turns i.agreed (gap_fails b.gap f.0) f.1
+    go (inr f) = subst (Refused end old text) (sym f.0) (depth_refused old new i.kinds b i.turns i.agreed l f.1)
+
+pub refused_words : {end : TextEnd} {text first : List Spot} {s : Spot} {old new : List Column} {t0 t1 : List Token} (e : LexErr) → Begins end text first s → Indented old new (column_of text) s.at s.line t0 t1 → length new ≤ 101
+    → FailsWith end [] first e → Caused e (Refused end old text e)
+refused_words {end} {text} {first} {s} {old} {new} e b i l c = caused_map e (λ f. words_refused old e f.0 (gap_fails b.gap f.1) (λ g t ss h p m. well_placed i.turns i.agreed l m)) c
+
+-- the refusal of a text that breaks off before a word
+pub refused_broken : {end : TextEnd} {text first : List Spot} (cols : List Column) → Gap end [] text first → NoPiece end [] first → first ≡ [] → ((rest : List Spot) → Stops end first rest → ⊥) → Refused end cols text (fault.NotUtf8 end.at)
+refused_broken {end} {text} {first} cols g p e n =
+    words_refused cols (fault.NotUtf8 end.at) end.at (broken (subst (Gap end [] text) e g) (whole_not end (λ w. n [] (subst (λ x. Stops end x []) (sym e) (at_text_end w)))))
+    (λ f t ss h q m. no_spots (sym e ∙ gap_once g h p q))
+  where
+    whole_not : (end : TextEnd) → (end.is_whole ≡ true → ⊥) → end.is_whole ≡ false
+    whole_not end h = elim (cases_Bool end.is_whole) [ inl w ↦ absurd (h w) | inr w ↦ w ]
+
+-- the first word of a line
+pub begin_again : {end : TextEnd} {text first : List Spot} {s : Spot} → Begins end text first s → Begins end first first s
+begin_again b = record { more = b.more; rises = (gap_rises b.gap b.rises).1; gap = nothing; is = b.is; full = b.full; stands = b.stands; }
+
+at_first : {end : TextEnd} {first : List Spot} {s : Spot} → Begins end first first s → (at_of end first ≡ s.at) × (line_of end first ≡ s.line)
+at_first {end} b = (ap (at_of end) b.is, ap (line_of end) b.is)
+
+pub strange_first : {end : TextEnd} {first : List Spot} {s : Spot} → Begins end first first s → NoWord first → FirstFault end first s (fault.BadChar s.at)
+strange_first {end} {first} {s} b n = inl (
+    subst (λ x. Fails end [] x (fault.BadChar s.at) s.at) (sym b.is)
+    (strange nothing (subst (NoPiece end []) b.is b.full) (subst NoWord b.is n) (subst (λ x. (rest : List Spot) → Stops end x rest → ⊥) b.is b.stands)),
+    omega arith)
+
+pub wrong_first : {end : TextEnd} {first after : List Spot} {s : Spot} {w : TokenKind} {opened : List Opening} (e : LexErr) → Begins end first first s → Next first w after → opened ≡ [] → Caused e (turned opened w s.line ≡ Err e)
+    → Caused e (FirstFault end first s e)
+wrong_first {end} {first} {after} {s} {w} e b n o c = caused_map e go (subst (λ x. Caused e (turned x w s.line ≡ Err e)) o c)
+  where
+    go : turned [] w s.line ≡ Err e → FirstFault end first s e
+    go t =
+        let at = at_first b in
+        inl (subst (Fails end [] first e) at.0 (wrong nothing n (subst (λ l. turned [] w l ≡ Err e) (sym at.1) t)), first_no_limit w s.line e t)
+
+pub limit_first : {end : TextEnd} {first after : List Spot} {s : Spot} {w : TokenKind} {opened more : List Opening} → Begins end first first s → Next first w after → opened ≡ [] → turned opened w s.line ≡ Ok more
+    → FirstFault end first s (fault.Limit s.line)
+limit_first {end} {first} {after} {s} {w} {opened} {more} b n o t =
+    let at = at_first b in
+    let u : turned [] w s.line ≡ Ok more = subst (λ x. turned x w s.line ≡ Ok more) o t in
+    inr (refl, λ f place h. subst (λ x. x < place) at.0 (fault_behind b.rises n (subst (λ l. turned [] w l ≡ Ok more) (sym at.1) u) h))
+
+pub indented_at : {old new : List Column} {k l : Column} {at : ℕ} {line : Line} {t0 t1 : List Token} → k ≡ l → Indented old new k at line t0 t1 → Indented old new l at line t0 t1
+indented_at {old} {new} {k} {l} {at} {line} {t0} {t1} e i = subst (λ x. Indented old new x at line t0 t1) e i
+
+pub misplaced_at : (cols : List Column) (k l : Column) (line : Line) (e : LexErr) → k ≡ l → Caused e (IsMisplaced cols k line e) → Caused e (IsMisplaced cols l line e)
+misplaced_at cols k l line e h m = subst (λ x. Caused e (IsMisplaced cols x line e)) h m
+
+-- an empty line
+pub no_words : {end : TextEnd} {text first rest : List Spot} (cols : List Column) (before : List Token) → Gap end [] text first → Stops end first rest → AreRising cols → ReadsLine end cols cols text rest before before
+no_words cols before g h r = record { front = []; kept = sym (append-nil before); line = empty_line (finish g h); rising = r; }

@@ -14,7 +14,7 @@ use Rattle.pt_lexer.specs.Lines.{at_of, line_of, token, Stops, at_line_end, at_t
 use Rattle.pt_lexer.specs.Faults.{Caused, outermost, Fails, broken, unclosed, strange, wrong, later, FailsWith, Going, WordsRead}
 
 -- no line ends where a gap goes on behind its end
-no_stop_inside : {end : TextEnd} {opened : List Opening} {s : Spot} {ss : List Spot} → NoPiece end opened (s ∷ ss) → NoLineStop end opened (s ∷ ss) → (rest : List Spot) → Stops end (s ∷ ss) rest → ⊥
+pub no_stop_inside : {end : TextEnd} {opened : List Opening} {s : Spot} {ss : List Spot} → NoPiece end opened (s ∷ ss) → NoLineStop end opened (s ∷ ss) → (rest : List Spot) → Stops end (s ∷ ss) rest → ⊥
 no_stop_inside {opened = []} p n rest h = n rest h refl
 no_stop_inside {opened = x ∷ opened} p n rest (at_line_end l) = p rest (inside l)
 
@@ -55,7 +55,7 @@ all_read {end} {text} {rest} {stop} {behind} {old} {new} {opened} g e gap s = re
   body = rw append-nil at (g.reads [] stop behind (subst (λ x. Body end x rest [] stop behind) (sym e) (finish (subst (λ x. Gap end x rest stop) e gap) s)));
 }
 
-gap_both : {end : TextEnd} {opened : List Opening} {text mid rest : List Spot} → Gap end opened text mid → Gap end opened mid rest → Gap end opened text rest
+pub gap_both : {end : TextEnd} {opened : List Opening} {text mid rest : List Spot} → Gap end opened text mid → Gap end opened mid rest → Gap end opened text rest
 gap_both nothing h = h
 gap_both (piece p g) h = piece p (gap_both g h)
 
@@ -85,7 +85,7 @@ caused_map (fault.Excluded line) f c = f c
 caused_map (fault.Limit line) f c = f c
 
 -- a fault behind a gap
-gap_fails : {end : TextEnd} {opened : List Opening} {text mid : List Spot} {e : LexErr} {at : ℕ} → Gap end opened text mid → Fails end opened mid e at → Fails end opened text e at
+pub gap_fails : {end : TextEnd} {opened : List Opening} {text mid : List Spot} {e : LexErr} {at : ℕ} → Gap end opened text mid → Fails end opened mid e at → Fails end opened text e at
 gap_fails g (broken h w) = broken (gap_both g h) w
 gap_fails g (unclosed h w) = unclosed (gap_both g h) w
 gap_fails g (strange h p n s) = strange (gap_both g h) p n s

@@ -138,3 +138,17 @@ pub record ReadsLine (end : TextEnd) (cols after : List Column) (text rest : Lis
   pub kept : behind ≡ before ++ front
   pub line : LineRead end cols text after rest front
   pub rising : AreRising after
+
+-- The first token of a line stands here, or something strange.
+pub record Begins (end : TextEnd) (text first : List Spot) (s : Spot) : Type 0 where
+  pub more : List Spot
+  pub rises : Rises end text
+  pub gap : Gap end [] text first
+  pub is : first ≡ s ∷ more
+  pub full : NoPiece end [] first
+  pub stands : (rest : List Spot) → Stops end first rest → ⊥
+
+-- The fault of a line's first word, or else one block too many.
+abbrev pub FirstFault : TextEnd → List Spot → Spot → LexErr → Type 0
+FirstFault end first s e =
+    (Fails end [] first e s.at × (number_of e < 9)) ⊎ ((e ≡ fault.Limit s.line) × ((f : LexErr) (place : ℕ) → Fails end [] first f place → s.at < place))

@@ -1,13 +1,15 @@
 ghost use Rattle.std.specs.Prelude.{◌≡◌, ℕ, ◌<◌, ◌≤◌, ◌^◌, [], ◌∷◌, ◌++◌, List, length, MatchResult, MatchOption, OnOk, IfOk};
 ghost use Rattle.pt_lexer.specs.Lines.{at_of, line_of, token, Gap, NoPiece, NoLineStop, Stops, turned};
 ghost use Rattle.pt_lexer.specs.Words.{NoWord};
-ghost use Rattle.pt_lexer.specs.Faults.{Caused, Fails, FailsWith, WordsRead};
+ghost use Rattle.pt_lexer.specs.Columns.{AreRising};
+ghost use Rattle.pt_lexer.specs.Faults.{Caused, Fails, FailsWith, WordsRead, Begins, FirstFault, Refused, ReadsLine, Rises};
 
 use crate::brackets::{outermost, turn};
 use crate::gaps::{behind_gap, behind_stop};
 use crate::source::first_spot;
 use crate::words::word;
-use crate::{Column, LexErr, Opening, Spot, TextEnd, Token, TokenKind};
+use crate::columns::{Columns, column_of};
+use crate::{LexErr, Opening, Spot, TextEnd, Token, TokenKind};
 use pt_base::{Line, Memory, Seq, Stack};
 use std::alloc::Global;
 
@@ -74,12 +76,42 @@ fn fault_at(end: TextEnd, opened: Stack<Opening>, text: &[Spot]) -> LexErr
     }
 }
 
+/// The place of a line's first word, or of what is strange or ends there.
+fn begin<'a>(alloc: Global, end: TextEnd, text: &'a [Spot]) -> &'a [Spot]
+    ensures gap { Gap end [] text.now result.now }
+    ensures full { NoPiece end [] result.now }
+{
+    let opened = Stack::new(alloc);
+    behind_gap(end, &opened, text)
+}
+
+/// What is wrong with a line that opens one block too many: its first word may be at fault too.
+fn too_deep(alloc: Global, end: TextEnd, first: &[Spot], spot: Spot) -> LexErr
+    requires begins { Begins end first.now first.now spot }
+    ensures { Caused result (FirstFault end first.now spot result) }
+{
+    let Ok(found) = word(alloc, first) else {
+        return LexErr::Memory;
+    };
+    let Some((found, _)) = found else {
+        return LexErr::BadChar { at: spot.at };
+    };
+    let mut opened = Stack::new(alloc);
+    match turn(&mut opened, &found, spot.line) {
+        Err(error) => error,
+        Ok(()) => LexErr::Limit { line: spot.line },
+    }
+}
+
+/// How many blocks may be open.
+const MAX_BLOCKS: usize = 100;
+
 /// The tokens of a text as far as they are read, and the columns that are open.
 #[derive(Drop)]
 struct Lexer {
     alloc: Global,
     end: TextEnd,
-    columns: Stack<Column>,
+    columns: Columns,
     tokens: Seq<Token>,
 }
 
@@ -108,5 +140,50 @@ impl Lexer {
             self.tokens.push(token_at(end, here, found))?;
             rest = behind;
         }
+    }
+
+    /// Reads a line whose first word stands at a spot.
+    fn full_line<'a>(&mut self, text: &'a [Spot], first: &'a [Spot], spot: Spot) -> Result<&'a [Spot], LexErr>
+        requires begins { Begins self.old.end text.now first.now spot }
+        requires rising { AreRising (self.old.columns.inner ∷ self.old.columns.outer) }
+        requires short { length text.now < 2 ^ 32 }
+        ensures read { MatchResult result
+            (λ rest. ReadsLine self.old.end (self.old.columns.inner ∷ self.old.columns.outer) (self.new.columns.inner ∷ self.new.columns.outer)
+                text.now rest.now self.old.tokens self.new.tokens)
+            (λ e. Caused e (Refused self.old.end (self.old.columns.inner ∷ self.old.columns.outer) text.now e)) }
+        ensures end { self.new.end ≡ self.old.end }
+    {
+        let end = self.end;
+        self.columns
+            .turn(column_of(text), spot, &mut self.tokens)?;
+        if self.columns.outer.len() > MAX_BLOCKS {
+            return Err(too_deep(self.alloc, end, first, spot));
+        }
+        let (stop, rest) = self.words(first)?;
+        self.tokens
+            .push(token_at(end, stop, TokenKind::Newline))?;
+        Ok(rest)
+    }
+
+    /// Reads a logical line (Language Reference 2.1.1). What is answered stands behind it.
+    fn line<'a>(&mut self, text: &'a [Spot]) -> Result<&'a [Spot], LexErr>
+        requires rises { Rises self.old.end text.now }
+        requires rising { AreRising (self.old.columns.inner ∷ self.old.columns.outer) }
+        requires short { length text.now < 2 ^ 32 }
+        ensures read { MatchResult result
+            (λ rest. ReadsLine self.old.end (self.old.columns.inner ∷ self.old.columns.outer) (self.new.columns.inner ∷ self.new.columns.outer)
+                text.now rest.now self.old.tokens self.new.tokens)
+            (λ e. Caused e (Refused self.old.end (self.old.columns.inner ∷ self.old.columns.outer) text.now e)) }
+        ensures end { self.new.end ≡ self.old.end }
+    {
+        let end = self.end;
+        let first = begin(self.alloc, end, text);
+        if let Some(rest) = behind_stop(end, first) {
+            return Ok(rest);
+        }
+        let Some((spot, _)) = first_spot(first) else {
+            return Err(LexErr::NotUtf8 { at: end.at });
+        };
+        self.full_line(text, first, spot)
     }
 }
