@@ -31,7 +31,7 @@ line_end_rises end (feed h) r = (omega (arith, r.0), r.1)
 line_end_rises end (both h k) r = (omega (arith, r.0, r.1.0), r.1.1)
 line_end_rises end (carriage h k) r = (omega (arith, r.0), r.1)
 
-stops_rises : {end : TextEnd} {ss rest : List Spot} → Stops end ss rest → Rises end ss → (at_of end ss ≤ at_of end rest) × Rises end rest
+pub stops_rises : {end : TextEnd} {ss rest : List Spot} → Stops end ss rest → Rises end ss → (at_of end ss ≤ at_of end rest) × Rises end rest
 stops_rises {end = end} (at_line_end l) r = line_end_rises end l r
 stops_rises (at_text_end w) r = (omega arith, r)
 
@@ -50,7 +50,7 @@ pub gap_rises : {end : TextEnd} {opened : List Opening} {ss rest : List Spot} �
 gap_rises nothing r = (omega arith, r)
 gap_rises (piece p g) r = let h = piece_rises p r in let k = gap_rises g h.1 in (omega (arith, h.0, k.0), k.1)
 
-next_rises : (end : TextEnd) {ss after : List Spot} {w : TokenKind} → Next ss w after → Rises end ss → (at_of end ss < at_of end after) × Rises end after
+pub next_rises : (end : TextEnd) {ss after : List Spot} {w : TokenKind} → Next ss w after → Rises end ss → (at_of end ss < at_of end after) × Rises end after
 next_rises end {ss = ss} {after = after} n r = go n.front n.whole
   where
     go : (front : List Spot) → ss ≡ front ++ after → (at_of end ss < at_of end after) × Rises end after
@@ -204,14 +204,14 @@ not_empty_line : {end : TextEnd} {text first stop rest : List Spot} {s : Spot} �
 not_empty_line b body = empty_stops body b.gap b.full b.stands
 
 -- the cases of a fault
-by_fault : {end : TextEnd} {cols : List Column} {text : List Spot} {f : LexErr} {place : ℕ} (P : Type 0) → Faulty end cols text f place → (Fails end [] text f place → P)
-    → ((t : Spot) (ss : List Spot) → Gap end [] text (t ∷ ss) → NoPiece end [] (t ∷ ss) → t.at ≡ place → Misplaced cols (column_of text) t.line f → P)
+pub by_fault : {end : TextEnd} {cols : List Column} {text : List Spot} {f : LexErr} {place : ℕ} (P : Type 0) → Faulty end cols text f place → (Fails end [] text f place → P)
+    → ((t : Spot) (ss : List Spot) → Gap end [] text (t ∷ ss) → NoPiece end [] (t ∷ ss) → ((rest : List Spot) → Stops end (t ∷ ss) rest → ⊥) → t.at ≡ place → Misplaced cols (column_of text) t.line f → P)
     → ((stop rest : List Spot) → Body end [] text [] stop rest → Faulty end cols rest f place → P)
     → ((w : Token) (ws : List Token) (stop rest : List Spot) (after : List Column) (ks : List TokenKind) → Body end [] text (w ∷ ws) stop rest → Turn cols (column_of text) after ks → agrees (column_of text) cols ≡ true
       → length after ≤ 101 → Faulty end after rest f place → P)
     → P
 by_fault P (in_words f) a b c d = a f
-by_fault P (in_column {s = t} {ss = ss} g p n m) a b c d = b t ss g p refl m
+by_fault P (in_column {s = t} {ss = ss} g p n m) a b c d = b t ss g p n refl m
 by_fault P (below_empty {stop = stop} {rest = rest} body f) a b c d = c stop rest body f
 by_fault P (below_full {after = after} {stop = stop} {rest = rest} {w = w} {ws = ws} {ks = ks} body t g l f) a b c d = d w ws stop rest after ks body t g l f
 
@@ -230,7 +230,7 @@ column_refused {end} {text} {first} {s} cols e b m small least = record {
         inl lt ↦ inl lt
       | inr same ↦ elim (words_number k) [ inl late ↦ inr (same.0, inl (omega arith)) | inr out ↦ absurd (omega (arith, same.0, same.1, out)) ]
       ])
-      (λ t ss g p q k. let is = column_at b g p in inr (sym (ap (λ x. x.at) is) ∙ q, least f (subst (λ x. Misplaced cols (column_of text) x.line f) is k)))
+      (λ t ss g p n q k. let is = column_at b g p in inr (sym (ap (λ x. x.at) is) ∙ q, least f (subst (λ x. Misplaced cols (column_of text) x.line f) is k)))
       (λ stop rest body k. absurd (not_empty_line b body))
       (λ w ws stop rest after ks body t a l k. absurd (well_placed t a l m));
   }
@@ -243,7 +243,7 @@ words_refused {end} {text} cols e at fails placed = record {
     found = in_words fails;
     first = λ f place h. by_fault (Precedes e at f place) h
       (λ k. let q = fails_once fails k in inr (q.1, inr q.0))
-      (λ t ss g p q k. absurd (placed f t ss g p k))
+      (λ t ss g p n q k. absurd (placed f t ss g p k))
       (λ stop rest body k. absurd (words_or_fault body fails))
       (λ w ws stop rest after ks body t a l k. absurd (words_or_fault body fails));
   }
@@ -264,7 +264,7 @@ depth_refused {end} {text} {first} {s} cols after ks b t a h behind = record {
     found = found_column b (too_deep t h);
     first = λ f place q. by_fault (Precedes (fault.Limit s.line) s.at f place) q
       (λ k. inl (behind f place (fails_from k b.gap b.full)))
-      (λ u ss g p q k. let is = column_at b g p in inr (sym (ap (λ x. x.at) is) ∙ q, inr (sym (no_deeper t a (subst (λ x. Misplaced cols (column_of text) x.line f) is k)))))
+      (λ u ss g p v q k. let is = column_at b g p in inr (sym (ap (λ x. x.at) is) ∙ q, inr (sym (no_deeper t a (subst (λ x. Misplaced cols (column_of text) x.line f) is k)))))
       (λ stop rest body k. absurd (not_empty_line b body))
       (λ w ws stop rest after' ls body u y l k. absurd (too_many t h u l));
   }
@@ -276,7 +276,7 @@ first_word_refused {end} {text} {first} {s} cols after ks e b t a fails n = reco
     found = in_words fails;
     first = λ f place q. by_fault (Precedes e s.at f place) q
       (λ k. let q = fails_once fails k in inr (q.1, inr q.0))
-      (λ u ss g p q k. let is = column_at b g p in
+      (λ u ss g p v q k. let is = column_at b g p in
         inr (sym (ap (λ x. x.at) is) ∙ q, inl (subst (λ x. number_of e < number_of x) (sym (no_deeper t a (subst (λ x. Misplaced cols (column_of text) x.line f) is k))) n)))
       (λ stop rest body k. absurd (words_or_fault body fails))
       (λ w ws stop rest after' ls body u y l k. absurd (words_or_fault body fails));

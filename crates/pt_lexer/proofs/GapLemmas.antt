@@ -50,7 +50,7 @@ stop_of (Some r) end text n h = at_line_end h
 pub stop_at_end : (end : TextEnd) (text : List Spot) → text ≡ [] → end.is_whole ≡ true → Stops end text text
 stop_at_end end text e w = subst (λ x. Stops end x x) (sym e) (at_text_end w)
 
-broken_stop : {end : TextEnd} {rest : List Spot} → end.is_whole ≡ false → Stops end [] rest → ⊥
+pub broken_stop : {end : TextEnd} {rest : List Spot} → end.is_whole ≡ false → Stops end [] rest → ⊥
 broken_stop w (at_line_end l) = none_at_end l
 broken_stop w (at_text_end v) = both_ways _ w v
 
@@ -119,7 +119,7 @@ pub gap_more : {end : TextEnd} {opened : List Opening} {text mid rest : List Spo
 gap_more nothing p = piece p nothing
 gap_more (piece q g) p = piece q (gap_more g p)
 
-line_end_shorter : {ss rest : List Spot} → LineEnd ss rest → length rest < length ss
+pub line_end_shorter : {ss rest : List Spot} → LineEnd ss rest → length rest < length ss
 line_end_shorter (feed h) = omega arith
 line_end_shorter (both h k) = omega arith
 line_end_shorter (carriage h k) = omega arith

@@ -6,3 +6,5 @@ pub mod Once
 pub mod WordLemmas
 pub mod ReadLemmas
 pub mod FirstLemmas
+pub mod SourceLemmas
+pub mod LineLemmas

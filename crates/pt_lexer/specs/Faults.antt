@@ -152,3 +152,19 @@ pub record Begins (end : TextEnd) (text first : List Spot) (s : Spot) : Type 0 w
 abbrev pub FirstFault : TextEnd → List Spot → Spot → LexErr → Type 0
 FirstFault end first s e =
     (Fails end [] first e s.at × (number_of e < 9)) ⊎ ((e ≡ fault.Limit s.line) × ((f : LexErr) (place : ℕ) → Fails end [] first f place → s.at < place))
+
+-- So many lines of a text have been read: what follows them is what follows in the text.
+pub record GoesOn (end : TextEnd) (cols now : List Column) (text rest : List Spot) (old new : List Token) : Type 0 where
+  pub front : List Token
+  pub kept : new ≡ old ++ front
+  pub reads : (all : List Token) → Lines end now rest all → Lines end cols text (front ++ all)
+  pub refuses : (e : LexErr) → Refused end now rest e → Refused end cols text e
+  pub rising : AreRising now
+  pub rises : Rises end rest
+  pub shorter : length rest ≤ length text
+
+-- A whole text was read.
+pub record TextRead (end : TextEnd) (cols : List Column) (text : List Spot) (old new : List Token) : Type 0 where
+  pub front : List Token
+  pub kept : new ≡ old ++ front
+  pub lines : Lines end cols text front

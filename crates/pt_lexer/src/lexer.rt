@@ -1,12 +1,12 @@
 ghost use Rattle.std.specs.Prelude.{◌≡◌, ℕ, ◌<◌, ◌≤◌, ◌^◌, [], ◌∷◌, ◌++◌, List, length, MatchResult, MatchOption, OnOk, IfOk};
-ghost use Rattle.pt_lexer.specs.Lines.{at_of, line_of, token, Gap, NoPiece, NoLineStop, Stops, turned};
+ghost use Rattle.pt_lexer.specs.Lines.{at_of, line_of, token, Gap, NoPiece, NoLineStop, Stops, turned, closing};
 ghost use Rattle.pt_lexer.specs.Words.{NoWord};
 ghost use Rattle.pt_lexer.specs.Columns.{AreRising};
-ghost use Rattle.pt_lexer.specs.Faults.{Caused, Fails, FailsWith, WordsRead, Begins, FirstFault, Refused, ReadsLine, Rises};
+ghost use Rattle.pt_lexer.specs.Faults.{Caused, Fails, FailsWith, WordsRead, Begins, FirstFault, Refused, ReadsLine, Rises, TextRead, IsTokens, IsRefused};
 
 use crate::brackets::{outermost, turn};
 use crate::gaps::{behind_gap, behind_stop};
-use crate::source::first_spot;
+use crate::source::{behind_byte_order_mark, first_spot, read};
 use crate::words::word;
 use crate::columns::{Columns, column_of};
 use crate::{LexErr, Opening, Spot, TextEnd, Token, TokenKind};
@@ -186,4 +186,61 @@ impl Lexer {
         };
         self.full_line(text, first, spot)
     }
+
+    fn into_tokens(self) -> Seq<Token>
+        ensures { result ≡ self.tokens }
+    {
+        self.tokens
+    }
+
+    /// Closes the blocks that are open, and ends the tokens (Language Reference 2.1.8).
+    fn close(&mut self) -> Result<(), Memory>
+        ensures { OnOk result (self.new.tokens ≡ self.old.tokens ++ closing self.old.end (self.old.columns.inner ∷ self.old.columns.outer)) }
+    {
+        let end = self.end;
+        while self.columns.outer.pop().is_some() {
+            self.tokens.push(token_at(end, &[], TokenKind::Dedent))?;
+        }
+        self.tokens.push(token_at(end, &[], TokenKind::End))
+    }
+
+    /// Reads the lines of a text.
+    fn lines(&mut self, text: &[Spot]) -> Result<(), LexErr>
+        requires rises { Rises self.old.end text.now }
+        requires rising { AreRising (self.old.columns.inner ∷ self.old.columns.outer) }
+        requires short { length text.now < 2 ^ 32 }
+        ensures { MatchResult result
+            (λ _. TextRead self.old.end (self.old.columns.inner ∷ self.old.columns.outer) text.now self.old.tokens self.new.tokens)
+            (λ e. Caused e (Refused self.old.end (self.old.columns.inner ∷ self.old.columns.outer) text.now e)) }
+    {
+        let end = self.end;
+        let mut rest = text;
+        while !rest.is_empty() {
+            rest = self.line(rest)?;
+        }
+        if !end.is_whole {
+            return Err(LexErr::NotUtf8 { at: end.at });
+        }
+        self.close()?;
+        Ok(())
+    }
+}
+
+/// The tokens of a script's text (Language Reference 2).
+///
+/// A text has at most one list of tokens, and none where it is refused: the refusal is the fault
+/// that is found first, and of two at one place the one with the smaller number.
+pub fn tokens(alloc: Global, bytes: &[u8]) -> Result<Seq<Token>, LexErr>
+    requires { length bytes.now < 2 ^ 31 }
+    ensures { MatchResult result (IsTokens bytes.now) (λ e. Caused e (IsRefused bytes.now e)) }
+{
+    let source = read(alloc, bytes)?;
+    let mut lexer = Lexer {
+        alloc,
+        end: source.end,
+        columns: Columns::new(alloc),
+        tokens: Seq::new(alloc),
+    };
+    lexer.lines(behind_byte_order_mark(source.spots.as_slice()))?;
+    Ok(lexer.into_tokens())
 }

@@ -10,6 +10,7 @@ mod source;
 mod token;
 mod words;
 
+pub use lexer::tokens;
 pub use source::{Spot, TextEnd};
 pub use token::{Bracket, Column, LexErr, Opening, Token, TokenKind};
 
