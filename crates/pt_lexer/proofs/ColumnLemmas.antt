@@ -77,7 +77,7 @@ opened_block f k cols now at line before after r h n is e = subst (λ x. Indente
 })
 
 first_off : (cols : List Column) (k : Column) (line : Line) → ((after : List Column) (ks : List TokenKind) → Turn cols k after ks → ⊥) → IsMisplaced cols k line (fault.BadIndent line)
-first_off cols k line n = record { wrong = off n; small = omega arith; least = λ f m. other f m; }
+first_off cols k line n = record { wrong = off n; small = omega arith; least = λ f m. other f m }
   where
     other : (f : LexErr) → Misplaced cols k line f → (2 < number_of f) ⊎ (fault.BadIndent line ≡ f)
     other f (off m) = inr refl
@@ -85,7 +85,7 @@ first_off cols k line n = record { wrong = off n; small = omega arith; least = �
     other f (too_deep t h) = inl (omega arith)
 
 first_mixed : (cols after : List Column) (k : Column) (line : Line) (ks : List TokenKind) → agrees k cols ≡ false → Turn cols k after ks → IsMisplaced cols k line (fault.MixedTabs line)
-first_mixed cols after k line ks a t = record { wrong = mixed a; small = omega arith; least = λ f m. other f m; }
+first_mixed cols after k line ks a t = record { wrong = mixed a; small = omega arith; least = λ f m. other f m }
   where
     other : (f : LexErr) → Misplaced cols k line f → (3 < number_of f) ⊎ (fault.MixedTabs line ≡ f)
     other f (off n) = absurd (n after ks t)

@@ -1,5 +1,5 @@
 -- Which fault of a text is found first.
-use Rattle.std.proofs.Common.{◌≡◌, ◌≢◌, ℕ, zero, suc, ◌+◌, ◌≤◌, ◌<◌, List, [], ◌∷◌, ◌++◌, Bool, true, false, Option, Some, None, Result, Ok, Err, refl, sym, ◌∙◌, ap, subst, arith, inl, inr, ◌⊎◌, length, append_assoc, append-nil}
+use Rattle.std.proofs.Common.{◌≡◌, ℕ, ◌≤◌, ◌<◌, List, [], ◌∷◌, ◌++◌, Bool, true, false, Option, Some, None, Result, Ok, Err, refl, sym, ◌∙◌, ap, subst, arith, inl, inr, ◌⊎◌, length, append_assoc, append-nil}
 use Rattle.std.specs.Prelude.{nat_lt, if◌then◌else◌}
 use Rattle.std.proofs.lemmas.Bool.{both_ways, cases_eq, cases_Bool}
 use Rattle.pt_base.specs.declared.numbers.Line.{Line}
@@ -14,12 +14,12 @@ use Rattle.pt_lexer.specs.declared.token.Token.{Token}
 use Rattle.pt_lexer.specs.declared.token.TokenKind.{TokenKind}
 use Rattle.pt_lexer.specs.declared.token.TokenKind.TheVariants as kind
 use Rattle.pt_lexer.specs.Words.{Next, NoWord}
-use Rattle.pt_lexer.specs.Lines.{at_of, line_of, LineEnd, feed, both, carriage, Stops, at_line_end, at_text_end, Comment, text_ends, line_ends, goes_on, Piece, blank, comment, backslash, inside, Gap, nothing, piece, NoPiece, opens, closes, is_excluded, same_bracket, shut, turned_by, turned, token, marks, Body, finish, word, column_of, agrees, Turn}
-use Rattle.pt_lexer.specs.Faults.{outermost, Fails, broken, unclosed, strange, wrong, later, Misplaced, off, mixed, too_deep, Faulty, in_words, in_column, below_empty, below_full, number_of, Precedes, Refused, Rises, Begins, IsMisplaced, FirstFault, Caused, FailsWith, WordsRead, LineRead, empty_line, full_line, ReadsLine}
+use Rattle.pt_lexer.specs.Lines.{at_of, line_of, LineEnd, feed, both, carriage, Stops, at_line_end, at_text_end, Comment, text_ends, line_ends, goes_on, Piece, blank, comment, backslash, inside, Gap, nothing, piece, NoPiece, opens, closes, is_excluded, same_bracket, turned_by, turned, token, marks, Body, finish, word, column_of, agrees, Turn}
+use Rattle.pt_lexer.specs.Faults.{Fails, broken, unclosed, strange, wrong, later, Misplaced, off, mixed, too_deep, Faulty, in_words, in_column, below_empty, below_full, number_of, Precedes, Refused, Rises, Begins, IsMisplaced, FirstFault, Caused, FailsWith, WordsRead, empty_line, full_line, ReadsLine}
 use Rattle.pt_lexer.specs.Columns.{AreRising, Indented}
 use Rattle.pt_lexer.proofs.ReadLemmas.{caused_map, gap_fails, gap_both}
 use Rattle.pt_lexer.proofs.NextLemmas.{next_shorter}
-use Rattle.pt_lexer.proofs.Once.{gap_once, next_once, next_no_piece, stops_no_piece, next_some, no_piece_at_end, same_next, turned_once, next_at, empty_stops, well_placed, turn_once, err_here, err_or_ok, same_open, fails_at, words_or_fault}
+use Rattle.pt_lexer.proofs.Once.{gap_once, next_no_piece, next_some, no_piece_at_end, same_next, turned_once, next_at, empty_stops, well_placed, turn_once, err_here, err_or_ok, same_open, fails_at, words_or_fault}
 
 -- places rise
 behind_front : (end : TextEnd) (front rest : List Spot) → Rises end (front ++ rest) → (at_of end (front ++ rest) ≤ at_of end rest) × Rises end rest
@@ -208,7 +208,7 @@ pub by_fault : {end : TextEnd} {cols : List Column} {text : List Spot} {f : LexE
     → ((t : Spot) (ss : List Spot) → Gap end [] text (t ∷ ss) → NoPiece end [] (t ∷ ss) → ((rest : List Spot) → Stops end (t ∷ ss) rest → ⊥) → t.at ≡ place → Misplaced cols (column_of text) t.line f → P)
     → ((stop rest : List Spot) → Body end [] text [] stop rest → Faulty end cols rest f place → P)
     → ((w : Token) (ws : List Token) (stop rest : List Spot) (after : List Column) (ks : List TokenKind) → Body end [] text (w ∷ ws) stop rest → Turn cols (column_of text) after ks → agrees (column_of text) cols ≡ true
-      → length after ≤ 101 → Faulty end after rest f place → P)
+    → length after ≤ 101 → Faulty end after rest f place → P)
     → P
 by_fault P (in_words f) a b c d = a f
 by_fault P (in_column {s = t} {ss = ss} g p n m) a b c d = b t ss g p n refl m
@@ -223,30 +223,30 @@ found_column {end = end} {text = text} b m =
 pub column_refused : {end : TextEnd} {text first : List Spot} {s : Spot} (cols : List Column) (e : LexErr) → Begins end text first s → Misplaced cols (column_of text) s.line e → number_of e ≤ 3
     → ((f : LexErr) → Misplaced cols (column_of text) s.line f → (number_of e < number_of f) ⊎ (e ≡ f)) → Refused end cols text e
 column_refused {end} {text} {first} {s} cols e b m small least = record {
-    at = s.at;
-    found = found_column b m;
-    first = λ f place h. by_fault (Precedes e s.at f place) h
+  at = s.at;
+  found = found_column b m;
+  first = λ f place h. by_fault (Precedes e s.at f place) h
       (λ k. elim (begins_at b k) [
-        inl lt ↦ inl lt
-      | inr same ↦ elim (words_number k) [ inl late ↦ inr (same.0, inl (omega arith)) | inr out ↦ absurd (omega (arith, same.0, same.1, out)) ]
+        | inl lt ↦ inl lt
+        | inr same ↦ elim (words_number k) [ inl late ↦ inr (same.0, inl (omega arith)) | inr out ↦ absurd (omega (arith, same.0, same.1, out)) ]
       ])
       (λ t ss g p n q k. let is = column_at b g p in inr (sym (ap (λ x. x.at) is) ∙ q, least f (subst (λ x. Misplaced cols (column_of text) x.line f) is k)))
       (λ stop rest body k. absurd (not_empty_line b body))
       (λ w ws stop rest after ks body t a l k. absurd (well_placed t a l m));
-  }
+}
 
 -- A line is refused for its words: its column is in order, as far as it has one.
 pub words_refused : {end : TextEnd} {text : List Spot} (cols : List Column) (e : LexErr) (at : ℕ) → Fails end [] text e at
     → ((f : LexErr) (t : Spot) (ss : List Spot) → Gap end [] text (t ∷ ss) → NoPiece end [] (t ∷ ss) → Misplaced cols (column_of text) t.line f → ⊥) → Refused end cols text e
 words_refused {end} {text} cols e at fails placed = record {
-    at = at;
-    found = in_words fails;
-    first = λ f place h. by_fault (Precedes e at f place) h
+  at = at;
+  found = in_words fails;
+  first = λ f place h. by_fault (Precedes e at f place) h
       (λ k. let q = fails_once fails k in inr (q.1, inr q.0))
       (λ t ss g p n q k. absurd (placed f t ss g p k))
       (λ stop rest body k. absurd (words_or_fault body fails))
       (λ w ws stop rest after ks body t a l k. absurd (words_or_fault body fails));
-  }
+}
 
 no_deeper : {cols after : List Column} {k : Column} {line : Line} {ks : List TokenKind} {f : LexErr} → Turn cols k after ks → agrees k cols ≡ true → Misplaced cols k line f → f ≡ fault.Limit line
 no_deeper t a (off n) = absurd (n _ _ t)
@@ -260,27 +260,27 @@ too_many t h u l = let e = ap length (turn_once t u).0 in omega arith
 pub depth_refused : {end : TextEnd} {text first : List Spot} {s : Spot} (cols after : List Column) (ks : List TokenKind) → Begins end text first s → Turn cols (column_of text) after ks → agrees (column_of text) cols ≡ true
     → 101 < length after → ((f : LexErr) (place : ℕ) → Fails end [] first f place → s.at < place) → Refused end cols text (fault.Limit s.line)
 depth_refused {end} {text} {first} {s} cols after ks b t a h behind = record {
-    at = s.at;
-    found = found_column b (too_deep t h);
-    first = λ f place q. by_fault (Precedes (fault.Limit s.line) s.at f place) q
+  at = s.at;
+  found = found_column b (too_deep t h);
+  first = λ f place q. by_fault (Precedes (fault.Limit s.line) s.at f place) q
       (λ k. inl (behind f place (fails_from k b.gap b.full)))
       (λ u ss g p v q k. let is = column_at b g p in inr (sym (ap (λ x. x.at) is) ∙ q, inr (sym (no_deeper t a (subst (λ x. Misplaced cols (column_of text) x.line f) is k)))))
       (λ stop rest body k. absurd (not_empty_line b body))
       (λ w ws stop rest after' ls body u y l k. absurd (too_many t h u l));
-  }
+}
 
 pub first_word_refused : {end : TextEnd} {text first : List Spot} {s : Spot} (cols after : List Column) (ks : List TokenKind) (e : LexErr) → Begins end text first s → Turn cols (column_of text) after ks
     → agrees (column_of text) cols ≡ true → Fails end [] text e s.at → IsNoLimit e → Refused end cols text e
 first_word_refused {end} {text} {first} {s} cols after ks e b t a fails n = record {
-    at = s.at;
-    found = in_words fails;
-    first = λ f place q. by_fault (Precedes e s.at f place) q
+  at = s.at;
+  found = in_words fails;
+  first = λ f place q. by_fault (Precedes e s.at f place) q
       (λ k. let q = fails_once fails k in inr (q.1, inr q.0))
       (λ u ss g p v q k. let is = column_at b g p in
-        inr (sym (ap (λ x. x.at) is) ∙ q, inl (subst (λ x. number_of e < number_of x) (sym (no_deeper t a (subst (λ x. Misplaced cols (column_of text) x.line f) is k))) n)))
+      inr (sym (ap (λ x. x.at) is) ∙ q, inl (subst (λ x. number_of e < number_of x) (sym (no_deeper t a (subst (λ x. Misplaced cols (column_of text) x.line f) is k))) n)))
       (λ stop rest body k. absurd (words_or_fault body fails))
       (λ w ws stop rest after' ls body u y l k. absurd (words_or_fault body fails));
-  }
+}
 
 -- Behind a first word that is in order, a fault stands further on.
 pub fault_behind : {end : TextEnd} {first after : List Spot} {more : List Opening} {w : TokenKind} {f : LexErr} {place : ℕ} → Rises end first → Next first w after → turned [] w (line_of end first) ≡ Ok more → Fails end [] first f place → at_of end first < place
@@ -345,16 +345,17 @@ refused_broken {end} {text} {first} cols g p e n =
 
 -- the first word of a line
 pub begin_again : {end : TextEnd} {text first : List Spot} {s : Spot} → Begins end text first s → Begins end first first s
-begin_again b = record { more = b.more; rises = (gap_rises b.gap b.rises).1; gap = nothing; is = b.is; full = b.full; stands = b.stands; }
+begin_again b = record { more = b.more; rises = (gap_rises b.gap b.rises).1; gap = nothing; is = b.is; full = b.full; stands = b.stands }
 
 at_first : {end : TextEnd} {first : List Spot} {s : Spot} → Begins end first first s → (at_of end first ≡ s.at) × (line_of end first ≡ s.line)
 at_first {end} b = (ap (at_of end) b.is, ap (line_of end) b.is)
 
 pub strange_first : {end : TextEnd} {first : List Spot} {s : Spot} → Begins end first first s → NoWord first → FirstFault end first s (fault.BadChar s.at)
 strange_first {end} {first} {s} b n = inl (
-    subst (λ x. Fails end [] x (fault.BadChar s.at) s.at) (sym b.is)
-    (strange nothing (subst (NoPiece end []) b.is b.full) (subst NoWord b.is n) (subst (λ x. (rest : List Spot) → Stops end x rest → ⊥) b.is b.stands)),
-    omega arith)
+  subst (λ x. Fails end [] x (fault.BadChar s.at) s.at) (sym b.is)
+      (strange nothing (subst (NoPiece end []) b.is b.full) (subst NoWord b.is n) (subst (λ x. (rest : List Spot) → Stops end x rest → ⊥) b.is b.stands)),
+  omega arith,
+)
 
 pub wrong_first : {end : TextEnd} {first after : List Spot} {s : Spot} {w : TokenKind} {opened : List Opening} (e : LexErr) → Begins end first first s → Next first w after → opened ≡ [] → Caused e (turned opened w s.line ≡ Err e)
     → Caused e (FirstFault end first s e)
@@ -380,4 +381,4 @@ misplaced_at cols k l line e h m = subst (λ x. Caused e (IsMisplaced cols x lin
 
 -- an empty line
 pub no_words : {end : TextEnd} {text first rest : List Spot} (cols : List Column) (before : List Token) → Gap end [] text first → Stops end first rest → AreRising cols → ReadsLine end cols cols text rest before before
-no_words cols before g h r = record { front = []; kept = sym (append-nil before); line = empty_line (finish g h); rising = r; }
+no_words cols before g h r = record { front = []; kept = sym (append-nil before); line = empty_line (finish g h); rising = r }

@@ -1,5 +1,5 @@
 -- The places of a text's characters, one after another.
-use Rattle.std.proofs.Common.{◌≡◌, ℕ, suc, ◌+◌, ◌≤◌, ◌<◌, List, [], ◌∷◌, ◌++◌, Bool, true, false, refl, sym, ◌∙◌, ap, subst, arith, length, drop, get_or, append_assoc, append-nil, length-append, add-one, encode_utf8, encode_utf8_all}
+use Rattle.std.proofs.Common.{◌≡◌, ℕ, suc, ◌+◌, ◌≤◌, ◌<◌, List, [], ◌∷◌, ◌++◌, Bool, true, false, refl, sym, ◌∙◌, ap, arith, length, drop, get_or, append_assoc, append-nil, length-append, add-one, encode_utf8, encode_utf8_all}
 use Rattle.std.specs.Prelude.{if◌then◌else◌}
 use Rattle.std.specs.Char.{len_utf8}
 use Rattle.std.proofs.Math.Seq.{drop-cons}
@@ -25,7 +25,7 @@ end_more cs n m c at to line below before all e l t h whole = rw (t, l) (sym (ap
 pub at_more : (cs : List ℕ) (n m c at to total : ℕ) → drop n cs ≡ c ∷ drop m cs → to ≡ at + len_utf8 c → at + length (encode_utf8_all (drop n cs)) ≡ total → to + length (encode_utf8_all (drop m cs)) ≡ total
 at_more cs n m c at to total e t h =
     let l : length (encode_utf8_all (drop n cs)) ≡ len_utf8 c + length (encode_utf8_all (drop m cs)) =
-      ap (λ x. length (encode_utf8_all x)) e ∙ (length-append (encode_utf8 c) (encode_utf8_all (drop m cs)) ∙ ap (λ x. x + length (encode_utf8_all (drop m cs))) (length-encode c)) in
+    ap (λ x. length (encode_utf8_all x)) e ∙ (length-append (encode_utf8 c) (encode_utf8_all (drop m cs)) ∙ ap (λ x. x + length (encode_utf8_all (drop m cs))) (length-encode c)) in
     omega arith
 
 one_at_most : (b : Bool) (line : ℕ) → (if b then line + 1 else line) ≤ line + 1
@@ -45,3 +45,7 @@ pub end_placed : (cs : List ℕ) (n at line below before : ℕ) (whole : Bool) (
     → record { at = at; line = record { 0 = below }; is_whole = whole } ≡ all
 end_placed cs n at line below before whole all e l h =
     ap (λ x. record { at = at; line = record { 0 = x }; is_whole = whole }) l ∙ (sym (ap (λ x. end_behind at line before x whole) (drop_all n cs (omega arith))) ∙ h)
+
+pub length-placed : (at line before : ℕ) (cs : List ℕ) → length (placed at line before cs) ≡ length cs
+length-placed at line before [] = refl
+length-placed at line before (c ∷ cs) = ap suc (length-placed (at + len_utf8 c) (line_at line before c) c cs)

@@ -1,7 +1,7 @@
 ghost use Rattle.std.specs.Prelude.{◌≡◌, ℕ, ◌<◌, ◌≤◌, ◌^◌, [], ◌∷◌, length, MatchResult};
 ghost use Rattle.pt_lexer.specs.Lines.{behind_blank, column_of as column_at};
 ghost use Rattle.pt_lexer.specs.Columns.{AreRising, Indented};
-ghost use Rattle.pt_lexer.specs.Faults.{Caused, IsMisplaced};
+ghost use Rattle.pt_lexer.specs.Faults.{Caused, IsMisplaced, margin};
 
 use crate::gaps::is_blank_char;
 use crate::{Column, LexErr, Spot, Token, TokenKind};
@@ -53,9 +53,7 @@ pub(crate) struct Columns {
 impl Columns {
     /// The left margin alone.
     pub(crate) fn new(alloc: Global) -> Columns
-        ensures margin { result.inner.wide ≡ 0 }
-        ensures narrow { result.inner.narrow ≡ 0 }
-        ensures outer { result.outer ≡ [] }
+        ensures { (result.inner ∷ result.outer) ≡ margin }
     {
         Columns {
             inner: Column { wide: 0, narrow: 0 },

@@ -5,10 +5,10 @@ ghost use Rattle.pt_lexer.specs.Columns.{AreRising};
 ghost use Rattle.pt_lexer.specs.Faults.{Caused, Fails, FailsWith, WordsRead, Begins, FirstFault, Refused, ReadsLine, Rises, TextRead, IsTokens, IsRefused};
 
 use crate::brackets::{outermost, turn};
+use crate::columns::{Columns, column_of};
 use crate::gaps::{behind_gap, behind_stop};
 use crate::source::{behind_byte_order_mark, first_spot, read};
 use crate::words::word;
-use crate::columns::{Columns, column_of};
 use crate::{LexErr, Opening, Spot, TextEnd, Token, TokenKind};
 use pt_base::{Line, Memory, Seq, Stack};
 use std::alloc::Global;
@@ -143,25 +143,28 @@ impl Lexer {
     }
 
     /// Reads a line whose first word stands at a spot.
-    fn full_line<'a>(&mut self, text: &'a [Spot], first: &'a [Spot], spot: Spot) -> Result<&'a [Spot], LexErr>
+    fn full_line<'a>(
+        &mut self,
+        text: &'a [Spot],
+        first: &'a [Spot],
+        spot: Spot,
+    ) -> Result<&'a [Spot], LexErr>
         requires begins { Begins self.old.end text.now first.now spot }
         requires rising { AreRising (self.old.columns.inner ∷ self.old.columns.outer) }
         requires short { length text.now < 2 ^ 32 }
         ensures read { MatchResult result
             (λ rest. ReadsLine self.old.end (self.old.columns.inner ∷ self.old.columns.outer) (self.new.columns.inner ∷ self.new.columns.outer)
-                text.now rest.now self.old.tokens self.new.tokens)
+            text.now rest.now self.old.tokens self.new.tokens)
             (λ e. Caused e (Refused self.old.end (self.old.columns.inner ∷ self.old.columns.outer) text.now e)) }
         ensures end { self.new.end ≡ self.old.end }
     {
         let end = self.end;
-        self.columns
-            .turn(column_of(text), spot, &mut self.tokens)?;
+        self.columns.turn(column_of(text), spot, &mut self.tokens)?;
         if self.columns.outer.len() > MAX_BLOCKS {
             return Err(too_deep(self.alloc, end, first, spot));
         }
         let (stop, rest) = self.words(first)?;
-        self.tokens
-            .push(token_at(end, stop, TokenKind::Newline))?;
+        self.tokens.push(token_at(end, stop, TokenKind::Newline))?;
         Ok(rest)
     }
 
@@ -172,7 +175,7 @@ impl Lexer {
         requires short { length text.now < 2 ^ 32 }
         ensures read { MatchResult result
             (λ rest. ReadsLine self.old.end (self.old.columns.inner ∷ self.old.columns.outer) (self.new.columns.inner ∷ self.new.columns.outer)
-                text.now rest.now self.old.tokens self.new.tokens)
+            text.now rest.now self.old.tokens self.new.tokens)
             (λ e. Caused e (Refused self.old.end (self.old.columns.inner ∷ self.old.columns.outer) text.now e)) }
         ensures end { self.new.end ≡ self.old.end }
     {
@@ -198,7 +201,7 @@ impl Lexer {
         ensures { OnOk result (self.new.tokens ≡ self.old.tokens ++ closing self.old.end (self.old.columns.inner ∷ self.old.columns.outer)) }
     {
         let end = self.end;
-        while self.columns.outer.pop().is_some() {
+        while let Some(_) = self.columns.outer.pop() {
             self.tokens.push(token_at(end, &[], TokenKind::Dedent))?;
         }
         self.tokens.push(token_at(end, &[], TokenKind::End))

@@ -75,7 +75,7 @@ fn line_behind(line: u32, before: char, c: char) -> u32
 /// The characters of a text with their places.
 fn place(alloc: Global, text: &str, is_whole: bool) -> Result<Source, Memory>
     requires { length text.now < 2 ^ 31 }
-    ensures { IfOk result (λ s. (s.spots ≡ placed 0 1 0 (chars text.now)) × (s.end ≡ end_behind 0 1 0 (chars text.now) is_whole)) }
+    ensures { IfOk result (λ s. (s.spots ≡ placed 0 1 0 (chars text.now)) × (s.end ≡ end_behind 0 1 0 (chars text.now) is_whole) × (length s.spots ≤ length text.now)) }
 {
     let mut spots = Seq::new(alloc);
     let mut at = 0;
@@ -99,7 +99,7 @@ fn place(alloc: Global, text: &str, is_whole: bool) -> Result<Source, Memory>
 /// The characters of bytes, as far as they are UTF-8.
 pub(crate) fn read(alloc: Global, bytes: &[u8]) -> Result<Source, Memory>
     requires { length bytes.now < 2 ^ 31 }
-    ensures { IfOk result (λ s. (s.spots ≡ placed 0 1 0 (read_chars bytes.now)) × (s.end ≡ end_of bytes.now)) }
+    ensures { IfOk result (λ s. (s.spots ≡ placed 0 1 0 (read_chars bytes.now)) × (s.end ≡ end_of bytes.now) × (length s.spots ≤ length bytes.now)) }
 {
     let (text, is_whole) = as_text(bytes);
     place(alloc, text, is_whole)

@@ -1,20 +1,20 @@
-use Rattle.std.proofs.Common.{◌≡◌, ◌≤◌, ◌<◌, ◌+◌, ◌++◌, ◌∷◌, [], ℕ, sym, ◌∙◌, ap, arith, length, refl, drop, encode_utf8_all}
+use Rattle.std.proofs.Common.{◌+◌, ◌++◌, ◌∷◌, [], ap, arith, length, refl}
 use Rattle.std.proofs.lemmas.Iterator.{YieldsList-from_chars}
 use Rattle.std.proofs.lemmas.Iterator.Consumers.{YieldsList-turn, YieldsList-end}
 use Rattle.std.proofs.lemmas.List.{length_push}
 use Rattle.std.proofs.lemmas.Str.{encodes-chars}
 use Rattle.std.specs.Str.{chars}
-use Rattle.pt_lexer.specs.Source.{placed, end_behind}
-use Rattle.pt_lexer.proofs.SourceLemmas.{next_char, placed_more, end_more, at_more, line_near, few_chars, all_placed, end_placed}
+use Rattle.pt_lexer.specs.Source.{placed}
+use Rattle.pt_lexer.proofs.SourceLemmas.{next_char, placed_more, end_more, at_more, line_near, few_chars, all_placed, end_placed, length-placed}
 use Rattle.pt_lexer.proofs.source.place.Goals as goal
 
 pub loop-c-init : goal.loop-c-init
 loop-c-init c = record {
-    spots = ap (λ x. x ++ placed 0 1 0 (chars c.args.text.now)) c.new-spots.ensures;
-    end = λ whole. refl;
-    at = let e = ap length (encodes-chars c.args.text.now c.utf8.text) in omega (arith, e);
-    line = omega arith;
-  }
+  spots = ap (λ x. x ++ placed 0 1 0 (chars c.args.text.now)) c.new-spots.ensures;
+  end = λ whole. refl;
+  at = let e = ap length (encodes-chars c.args.text.now c.utf8.text) in omega (arith, e);
+  line = omega arith;
+}
 
 pub overflow_add-at : goal.overflow_add-at
 overflow_add-at c =
@@ -46,7 +46,10 @@ line_behind-requires c =
 
 pub returns : goal.returns
 returns c =
-    let t = YieldsList-end (YieldsList-from_chars c.args.text.now c.utf8.text cc) c.loop-c.yielded _ c.loop-c.yielded_by _ _ c.in-None.is c.next.ensures.steps in (
+    let t = YieldsList-end (YieldsList-from_chars c.args.text.now c.utf8.text cc) c.loop-c.yielded _ c.loop-c.yielded_by _ _ c.in-None.is c.next.ensures.steps in
+    let all = all_placed (chars c.args.text.now) _ c.loop-c.at c.loop-c.line c.loop-c.before c.loop-c.spots _ t.1 c.loop-c.invariant.spots in
+    let few = few_chars (chars c.args.text.now) c.args.text.now (encodes-chars c.args.text.now c.utf8.text) in (
       all_placed (chars c.args.text.now) _ c.loop-c.at c.loop-c.line c.loop-c.before c.loop-c.spots _ t.1 c.loop-c.invariant.spots,
-      end_placed (chars c.args.text.now) _ c.loop-c.at c.loop-c.line _ c.loop-c.before c.args.is_whole _ t.1 c.line_behind.ensures (c.loop-c.invariant.end c.args.is_whole)
+      end_placed (chars c.args.text.now) _ c.loop-c.at c.loop-c.line _ c.loop-c.before c.args.is_whole _ t.1 c.line_behind.ensures (c.loop-c.invariant.end c.args.is_whole),
+      omega (arith, few, ap length all, length-placed 0 1 0 (chars c.args.text.now)),
     )

@@ -1,4 +1,4 @@
-use Rattle.std.proofs.Common.{◌≡◌, ◌≤◌, ◌<◌, ◌∷◌, length, arith, sym, subst}
+use Rattle.std.proofs.Common.{◌≤◌, ◌<◌, ◌∷◌, length, arith, sym, subst}
 use Rattle.std.proofs.lemmas.Result.{err_from_is_err_and}
 use Rattle.pt_lexer.specs.Faults.{ReadsLine}
 use Rattle.pt_lexer.proofs.FirstLemmas.{begin_again, refused_column, refused_depth, refused_words, words_line, indented_at, misplaced_at}
@@ -10,7 +10,7 @@ returns-in_err-turn-clause-read c =
     rw (p.1, p.2) (refused_column _ c.in_err-turn.field-0.0 c.requires.begins (misplaced_at (c.args.self.now.columns.inner ∷ c.args.self.now.columns.outer) _ _ c.args.spot.line c.in_err-turn.field-0.0 c.column_of.ensures c.in_err-turn.ensures))
 
 pub too_deep-requires : goal.too_deep-requires
-too_deep-requires c = record { begins = begin_again c.requires.begins; }
+too_deep-requires c = record { begins = begin_again c.requires.begins }
 
 pub returns-then-len-gt-MAX_BLOCKS-clause-read : goal.returns-then-len-gt-MAX_BLOCKS-clause-read
 returns-then-len-gt-MAX_BLOCKS-clause-read c =
