@@ -1,5 +1,5 @@
 -- Lines of a text, one after another.
-use Rattle.std.proofs.Common.{◌≡◌, ◌≢◌, ℕ, suc, ◌+◌, ◌≤◌, ◌<◌, List, [], ◌∷◌, ◌++◌, Bool, true, false, refl, sym, ◌∙◌, ap, subst, arith, length, append_assoc, append-nil}
+use Rattle.std.proofs.Common.{◌≡◌, ◌≢◌, ℕ, suc, ◌+◌, ◌≤◌, ◌<◌, List, [], ◌∷◌, ◌++◌, Bool, true, false, Result, Ok, Err, MatchResult, ◌⊎◌, refl, sym, ◌∙◌, ap, subst, arith, length, append_assoc, append-nil, inl, inr}
 use Rattle.std.specs.Prelude.{◌==◌, if◌then◌else◌}
 use Rattle.std.specs.Str.Lossy.{utf8_valid_len}
 use Rattle.std.specs.Char.{len_utf8}
@@ -14,11 +14,11 @@ use Rattle.pt_lexer.specs.declared.token.TokenKind.TheVariants as kind
 use Rattle.pt_lexer.specs.Columns.{AreRising}
 use Rattle.pt_lexer.specs.Source.{line_at, placed, end_behind, behind_mark, read_chars, end_of, spots_of}
 use Rattle.pt_lexer.specs.Lines.{at_of, token, Stops, at_line_end, at_text_end, nothing, NoPiece, Body, finish, word, closing, Lines, done, empty, full}
-use Rattle.pt_lexer.specs.Faults.{below_empty, below_full, Precedes, Refused, Rises, LineRead, empty_line, full_line, ReadsLine, GoesOn, TextRead, margin, IsTokens, IsRefused, Caused}
+use Rattle.pt_lexer.specs.Faults.{below_empty, below_full, number_of, Precedes, Refused, Rises, LineRead, empty_line, full_line, ReadsLine, GoesOn, TextRead, margin, IsTokens, IsRefused, Caused}
 use Rattle.pt_lexer.proofs.NextLemmas.{next_shorter}
 use Rattle.pt_lexer.proofs.GapLemmas.{stops_within, broken_stop, line_end_shorter}
 use Rattle.pt_lexer.proofs.ReadLemmas.{gap_within, caused_map}
-use Rattle.pt_lexer.proofs.Once.{body_once, words_or_fault, empty_stops, well_placed, turn_once, empty_or_full, faulty_at, no_piece_at_end}
+use Rattle.pt_lexer.proofs.Once.{lines_once, lines_or_fault, body_once, words_or_fault, empty_stops, well_placed, turn_once, empty_or_full, faulty_at, no_piece_at_end}
 use Rattle.pt_lexer.proofs.FirstLemmas.{by_fault, gap_rises, stops_rises, next_rises, refused_broken}
 
 -- a line takes some of the text, and places still rise behind it
@@ -180,3 +180,54 @@ pub is_refused : (bytes : List ℕ) (end : TextEnd) (cols : List Column) (spots 
     → Caused e (Refused end cols text e) → Caused e (IsRefused bytes e)
 is_refused bytes end cols spots text f s e t m c =
     caused_map f (λ r. subst (λ x. Refused x margin (spots_of bytes) f) e (subst (λ x. Refused end x (spots_of bytes) f) m (subst (λ x. Refused end cols x f) (t ∙ ap behind_mark s) r))) c
+
+-- What the answer is where the text has tokens, and where it is refused.
+memory_or : (e : LexErr) {P : Type 0} → Caused e P → (P → ⊥) → e ≡ fault.Memory
+memory_or fault.Memory c n = refl
+memory_or (fault.NotUtf8 at) c n = absurd (n c)
+memory_or (fault.BadIndent line) c n = absurd (n c)
+memory_or (fault.MixedTabs line) c n = absurd (n c)
+memory_or (fault.BadChar at) c n = absurd (n c)
+memory_or (fault.OpenString line) c n = absurd (n c)
+memory_or (fault.BadNumber at) c n = absurd (n c)
+memory_or (fault.OpenBracket line) c n = absurd (n c)
+memory_or (fault.Excluded line) c n = absurd (n c)
+memory_or (fault.Limit line) c n = absurd (n c)
+
+or_memory : (e : LexErr) {P Q : Type 0} → Caused e P → (P → Q) → Q ⊎ (e ≡ fault.Memory)
+or_memory fault.Memory c f = inr refl
+or_memory (fault.NotUtf8 at) c f = inl (f c)
+or_memory (fault.BadIndent line) c f = inl (f c)
+or_memory (fault.MixedTabs line) c f = inl (f c)
+or_memory (fault.BadChar at) c f = inl (f c)
+or_memory (fault.OpenString line) c f = inl (f c)
+or_memory (fault.BadNumber at) c f = inl (f c)
+or_memory (fault.OpenBracket line) c f = inl (f c)
+or_memory (fault.Excluded line) c f = inl (f c)
+or_memory (fault.Limit line) c f = inl (f c)
+
+same_number : (e f : LexErr) → (number_of e < number_of f) ⊎ (e ≡ f) → (number_of f < number_of e) ⊎ (f ≡ e) → e ≡ f
+same_number e f (inr a) b = a
+same_number e f (inl a) (inr b) = sym b
+same_number e f (inl a) (inl b) = absurd (omega arith)
+
+precede_once : (e f : LexErr) (m n : ℕ) → Precedes e m f n → Precedes f n e m → e ≡ f
+precede_once e f m n (inl a) (inl b) = absurd (omega arith)
+precede_once e f m n (inl a) (inr b) = absurd (omega (arith, b.0))
+precede_once e f m n (inr a) (inl b) = absurd (omega (arith, a.0))
+precede_once e f m n (inr a) (inr b) = same_number e f a.1 b.1
+
+-- A text is refused for one thing.
+pub refused_once : (bytes : List ℕ) (e f : LexErr) → IsRefused bytes e → IsRefused bytes f → e ≡ f
+refused_once bytes e f r q = precede_once e f r.at q.at (r.first f q.at q.found) (q.first e r.at r.found)
+
+abbrev pub Exact : List ℕ → Result (List Token) LexErr → Type 0
+Exact bytes r = MatchResult r (IsTokens bytes) (λ e. Caused e (IsRefused bytes e))
+
+pub one_list : (bytes : List ℕ) (r : Result (List Token) LexErr) → Exact bytes r → (all : List Token) → IsTokens bytes all → MatchResult r (λ found. found ≡ all) (λ e. e ≡ fault.Memory)
+one_list bytes (Ok found) x all h = lines_once x h
+one_list bytes (Err e) x all h = memory_or e x (λ r. lines_or_fault h r.found)
+
+pub one_refusal : (bytes : List ℕ) (r : Result (List Token) LexErr) → Exact bytes r → (f : LexErr) → IsRefused bytes f → MatchResult r (λ _. ⊥) (λ e. (e ≡ f) ⊎ (e ≡ fault.Memory))
+one_refusal bytes (Ok found) x f h = lines_or_fault x h.found
+one_refusal bytes (Err e) x f h = or_memory e x (λ r. refused_once bytes e f r h)

@@ -1,4 +1,7 @@
-ghost use Rattle.std.specs.Prelude.{◌≡◌, ℕ, ◌<◌, ◌≤◌, ◌^◌, [], ◌∷◌, ◌++◌, List, length, MatchResult, MatchOption, OnOk, IfOk};
+ghost use Rattle.std.specs.Prelude.{◌≡◌, ℕ, ◌<◌, ◌≤◌, ◌^◌, [], ◌∷◌, ◌++◌, List, length, MatchResult, MatchOption, OnOk, IfOk, ◌⊎◌};
+ghost use Rattle.pt_lexer.specs.declared.token.LexErr.{LexErr as Refusal};
+ghost use Rattle.pt_lexer.specs.declared.token.LexErr.TheVariants as fault;
+ghost use Rattle.pt_lexer.specs.declared.token.Token.{Token as Lexed};
 ghost use Rattle.pt_lexer.specs.Lines.{at_of, line_of, token, Gap, NoPiece, NoLineStop, Stops, turned, closing};
 ghost use Rattle.pt_lexer.specs.Words.{NoWord};
 ghost use Rattle.pt_lexer.specs.Columns.{AreRising};
@@ -229,11 +232,8 @@ impl Lexer {
     }
 }
 
-/// The tokens of a script's text (Language Reference 2).
-///
-/// A text has at most one list of tokens, and none where it is refused: the refusal is the fault
-/// that is found first, and of two at one place the one with the smaller number.
-pub fn tokens(alloc: Global, bytes: &[u8]) -> Result<Seq<Token>, LexErr>
+/// Reads a whole text.
+fn lex(alloc: Global, bytes: &[u8]) -> Result<Seq<Token>, LexErr>
     requires { length bytes.now < 2 ^ 31 }
     ensures { MatchResult result (IsTokens bytes.now) (λ e. Caused e (IsRefused bytes.now e)) }
 {
@@ -246,4 +246,19 @@ pub fn tokens(alloc: Global, bytes: &[u8]) -> Result<Seq<Token>, LexErr>
     };
     lexer.lines(behind_byte_order_mark(source.spots.as_slice()))?;
     Ok(lexer.into_tokens())
+}
+
+/// The tokens of a script's text (Language Reference 2).
+///
+/// The refusal is the fault that is found first, and of two at one place the one with the smaller
+/// number. An answer that is not `Memory` depends on the text alone.
+pub fn tokens(alloc: Global, bytes: &[u8]) -> Result<Seq<Token>, LexErr>
+    requires { length bytes.now < 2 ^ 31 }
+    ensures exact { MatchResult result (IsTokens bytes.now) (λ e. Caused e (IsRefused bytes.now e)) }
+
+    // A text has at most one list of tokens, none where it is refused, and one refusal.
+    ensures one_list { (all : List Lexed) → IsTokens bytes.now all → MatchResult result (λ found. found ≡ all) (λ e. e ≡ fault.Memory) }
+    ensures one_refusal { (f : Refusal) → IsRefused bytes.now f → MatchResult result (λ _. ⊥) (λ e. (e ≡ f) ⊎ (e ≡ fault.Memory)) }
+{
+    lex(alloc, bytes)
 }
