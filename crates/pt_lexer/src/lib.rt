@@ -7,6 +7,8 @@ mod columns;
 mod gaps;
 mod lexer;
 mod source;
+#[cfg(test)]
+mod tests;
 mod token;
 mod words;
 
