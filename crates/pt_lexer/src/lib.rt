@@ -13,18 +13,20 @@ mod token;
 mod words;
 
 pub use lexer::tokens;
-pub use source::{Spot, TextEnd};
-pub use token::{Bracket, Column, LexErr, Opening, Token, TokenKind};
+pub use token::{LexErr, Token, TokenKind};
+
+use source::{Spot, TextEnd};
+use token::{Bracket, Column, Opening};
 
 /// The operators and delimiters (Language Reference 2.5, 2.6), the longer ones first.
-pub const OPERATORS: [&str; 47] = [
+const OPERATORS: [&str; 47] = [
     "**=", "//=", "<<=", ">>=", "...", "**", "//", "<<", ">>", "<=", ">=", "==", "!=", "->", "+=",
     "-=", "*=", "/=", "%=", "@=", "&=", "|=", "^=", ":=", "+", "-", "*", "/", "%", "@", "&", "|",
     "^", "~", "<", ">", "(", ")", "[", "]", "{", "}", ",", ":", ".", ";", "=",
 ];
 
 /// The keywords (Language Reference 2.3.1).
-pub const KEYWORDS: [&str; 35] = [
+const KEYWORDS: [&str; 35] = [
     "False", "None", "True", "and", "as", "assert", "async", "await", "break", "class", "continue",
     "def", "del", "elif", "else", "except", "finally", "for", "from", "global", "if", "import",
     "in", "is", "lambda", "nonlocal", "not", "or", "pass", "raise", "return", "try", "while",
@@ -32,4 +34,4 @@ pub const KEYWORDS: [&str; 35] = [
 ];
 
 /// What is left out of the language on purpose: asynchronous code, and two operators.
-pub const EXCLUDED: [&str; 4] = ["async", "await", ":=", "@="];
+const EXCLUDED: [&str; 4] = ["async", "await", ":=", "@="];

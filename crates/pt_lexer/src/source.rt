@@ -8,19 +8,19 @@ use std::alloc::Global;
 
 /// A character of a text, with the place of its first byte and its physical line.
 #[derive(Clone, Copy, Debug, PartialEq, Eq)]
-pub struct Spot {
-    pub at: u32,
-    pub line: Line,
-    pub char: char,
+pub(crate) struct Spot {
+    pub(crate) at: u32,
+    pub(crate) line: Line,
+    pub(crate) char: char,
 }
 
 /// Where the characters of a text end, and whether that is all of it: behind bytes that are no
 /// UTF-8 nothing is read.
 #[derive(Clone, Copy, Debug, PartialEq, Eq)]
-pub struct TextEnd {
-    pub at: u32,
-    pub line: Line,
-    pub is_whole: bool,
+pub(crate) struct TextEnd {
+    pub(crate) at: u32,
+    pub(crate) line: Line,
+    pub(crate) is_whole: bool,
 }
 
 /// The character at the front, and the text behind it.

@@ -66,7 +66,7 @@ impl From<Memory> for LexErr {
 
 /// A kind of bracket.
 #[derive(Clone, Copy, Debug, PartialEq, Eq)]
-pub enum Bracket {
+pub(crate) enum Bracket {
     Round,
     Square,
     Curly,
@@ -74,15 +74,15 @@ pub enum Bracket {
 
 /// A bracket that is open, and the line on which it stands.
 #[derive(Clone, Copy, Debug, PartialEq, Eq)]
-pub struct Opening {
-    pub bracket: Bracket,
-    pub line: Line,
+pub(crate) struct Opening {
+    pub(crate) bracket: Bracket,
+    pub(crate) line: Line,
 }
 
 /// How far in a line stands: with tabs that go on to the next multiple of eight, and with tabs
 /// that are one wide (Language Reference 2.1.8).
 #[derive(Clone, Copy, Debug, PartialEq, Eq)]
-pub struct Column {
-    pub wide: u64,
-    pub narrow: u64,
+pub(crate) struct Column {
+    pub(crate) wide: u64,
+    pub(crate) narrow: u64,
 }
