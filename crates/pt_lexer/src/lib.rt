@@ -13,9 +13,8 @@ mod token;
 mod words;
 
 pub use lexer::tokens;
-pub use token::{LexErr, Token, TokenKind};
-
 use source::{Spot, TextEnd};
+pub use token::{LexErr, Token, TokenKind};
 use token::{Bracket, Column, Opening};
 
 /// The operators and delimiters (Language Reference 2.5, 2.6), the longer ones first.
