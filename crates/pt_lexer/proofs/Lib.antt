@@ -1,0 +1,10 @@
+pub mod ColumnLemmas
+pub mod Fronts
+pub mod GapLemmas
+pub mod NextLemmas
+pub mod Once
+pub mod WordLemmas
+pub mod ReadLemmas
+pub mod FirstLemmas
+pub mod SourceLemmas
+pub mod LineLemmas

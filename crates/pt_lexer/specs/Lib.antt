@@ -1,0 +1,5 @@
+pub mod Columns
+pub mod Faults
+pub mod Lines
+pub mod Source
+pub mod Words
