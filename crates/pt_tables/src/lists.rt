@@ -83,6 +83,67 @@ mod tests {
     }
 
     #[test]
+    fn every_listed_name_is_found(rt: HostRuntime) {
+        for (name, place) in &KEYWORDS {
+            assert_eq!(rt; keywords().get(name), Some(*place), "keyword {name}");
+        }
+        for (name, place) in &BUILTINS {
+            assert_eq!(rt; builtins().get(name), Some(*place), "builtin {name}");
+        }
+        for (name, place) in &METHODS {
+            assert_eq!(rt; methods().get(name), Some(*place), "method {name}");
+        }
+        for (name, place) in &SPECIALS {
+            assert_eq!(rt; specials().get(name), Some(*place), "special method {name}");
+        }
+        for (name, bit) in &EVENTS {
+            assert_eq!(rt; events().get(name), Some(*bit), "event {name}");
+        }
+        for (name, place) in &COMMANDS {
+            assert_eq!(rt; commands().get(name), Some(*place), "command {name}");
+        }
+    }
+
+    #[test]
+    fn near_misses_are_not_found(rt: HostRuntime) {
+        let names = [
+            "",
+            " ",
+            "false",
+            "Fals",
+            "Falsee",
+            "prin",
+            "print ",
+            "Len",
+            "value_error",
+            "ValueErro",
+            "appendd",
+            "__init_",
+            "_init__",
+            "__hash___",
+            "LINe",
+            "PY_START ",
+            "PY_STAR",
+            "BREAK",
+            "contt",
+            "qu",
+            "match",
+            "case",
+            "sys",
+            "exec_",
+            "caf\u{e9}",
+        ];
+        for name in names {
+            assert_eq!(rt; keywords().get(name), None, "keyword {name}");
+            assert_eq!(rt; builtins().get(name), None, "builtin {name}");
+            assert_eq!(rt; methods().get(name), None, "method {name}");
+            assert_eq!(rt; specials().get(name), None, "special method {name}");
+            assert_eq!(rt; events().get(name), None, "event {name}");
+            assert_eq!(rt; commands().get(name), None, "command {name}");
+        }
+    }
+
+    #[test]
     fn tables_have_other_values(rt: HostRuntime) -> Result<(), Fail> {
         let rows = [("up", true), ("down", false)];
         let table: Table<'_, bool, 2> = Table::new(&rows);
