@@ -1,13 +1,13 @@
 //! Code files: the code of a script as bytes, both ways.
 #![tactic(auto)]
 
+mod reading;
 mod writing;
-
-pub use writing::write;
 
 use pt_base::{Line, Pc, Seq, Text};
 use pt_instr::TextNo;
 use pt_ranges::{ActMark, Handler};
+pub use writing::write;
 
 /// A constant of the code.
 #[derive(Clone, Copy, Debug, PartialEq, Eq)]
