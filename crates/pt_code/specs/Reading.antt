@@ -79,3 +79,7 @@ items_at item (suc count) bytes = item bytes >>= λ first. items_at item count f
 
 abbrev pub list_at : {A : Type 0} → (List ℕ → Read A) → List ℕ → Read (List A)
 list_at item bytes = number_at bytes >>= λ count. items_at item count.0 count.1
+
+-- what is read in front of the rest
+abbrev pub with_front : {A : Type 0} → List A → Read (List A) → Read (List A)
+with_front front read = read >>= λ more. Ok (front ++ more.0, more.1)

@@ -1,9 +1,10 @@
-ghost use Rattle.std.specs.Prelude.{◌≡◌, ℕ, List};
-ghost use Rattle.pt_code.specs.Reading.{Gives, number_at, byte_at, below_at, flag_at, start_at, mark_at, handler_at};
+ghost use Rattle.std.specs.Prelude.{◌≡◌, ◌++◌, [], ◌∷◌, ℕ, List, OnOk, IfErr};
+ghost use Rattle.pt_code.specs.Reading.{Read, Gives, items_at, number_at, byte_at, below_at, flag_at, start_at, mark_at, handler_at};
 
 use crate::Start;
-use pt_base::{ActNo, Line, Pc};
+use pt_base::{ActNo, Line, Pc, Seq};
 use pt_ranges::{ActMark, Handler};
+use std::alloc::Global;
 
 /// Why nothing is read at the front of bytes.
 #[derive(Clone, Copy, Debug, PartialEq, Eq)]
@@ -109,4 +110,42 @@ fn handler_at(bytes: &[u8]) -> Result<(Handler, &[u8]), Bad>
         },
         rest,
     ))
+}
+
+/// A value that is read from a code file, where some numbers have to be below a bound.
+trait Readable: Drop {
+    ghost reading: { ℕ → List ℕ → Read Self };
+
+    fn read(bound: usize, bytes: &[u8]) -> Result<(Self, &[u8]), Bad>
+    where
+        Self: Sized,
+        ensures { Gives (λ x. (x.0, x.1.now)) result (reading bound bytes.now) };
+}
+
+fn items_of<T: Readable>(
+    alloc: Global,
+    count: u32,
+    bound: usize,
+    bytes: &[u8],
+) -> Result<(Seq<T>, &[u8]), Bad>
+    ensures { Gives (λ x. (x.0, x.1.now)) result (items_at (T.reading bound) count bytes.now) }
+{
+    let mut items = Seq::new(alloc);
+    let mut rest = bytes;
+    for counter in 0..count {
+        let (item, behind) = T::read(bound, rest)?;
+        push(&mut items, item)?;
+        rest = behind;
+    }
+    Ok((items, rest))
+}
+
+fn push<T: Drop>(items: &mut Seq<T>, item: T) -> Result<(), Bad>
+    ensures ok { OnOk result (items.new ≡ items.old ++ item ∷ []) }
+    ensures err { IfErr result (λ e. e ≡ Bad.Memory) }
+{
+    match items.push(item) {
+        Ok(()) => Ok(()),
+        Err(_) => Err(Bad::Memory),
+    }
 }
