@@ -1,0 +1,129 @@
+-- Instructions in a row are read as they are spelled.
+use Rattle.std.proofs.Common.{◌≡◌, ℕ, zero, suc, ◌+◌, ◌-◌, ◌*◌, ◌^◌, ◌<◌, ◌≤◌, Bool, true, false, cond, List, [], ◌∷◌, ◌++◌, length, take, drop, Option, Some, None, Result, Ok, Err, refl, sym, ap, subst, ◌∙◌, append_assoc, append-nil, arith}
+use Rattle.std.specs.Prelude.{nat_lt, nat_eq}
+use Rattle.std.specs.List.{flat_map, AllByRecursion}
+use Rattle.std.proofs.lemmas.Bool.{ltb-false, le-ltb, eqb-true}
+use Rattle.std.proofs.lemmas.Bool.Decides.{nat_tests}
+use Rattle.std.proofs.lemmas.List.{take_at, drop_at, length-append}
+use Rattle.std.proofs.lemmas.List.Concat.{flat_map-cons}
+use Rattle.pt_instr.specs.declared.Instr.{Instr}
+use Rattle.pt_instr.specs.Encoding.{code_of, encoding, spelled}
+use Rattle.pt_instr.proofs.Codec.{length-spelled}
+use Rattle.pt_code.specs.declared.reading.Bad.{Bad}
+use Rattle.pt_code.specs.declared.reading.Bad.TheVariants as bad
+use Rattle.pt_code.specs.declared.reading.Within.{Within}
+use Rattle.pt_code.specs.declared.reading.Operand.{Operand}
+use Rattle.pt_code.specs.File.{number, text, operands, bound, IsNumber, AreBelow, NamesAll, AreInstructions}
+use Rattle.pt_code.specs.Reading.{◌>>=◌, kept, number_at, below_at, taken_at, operands_of, operands_at, behind_operation, instr_at, pass, instructions_at}
+use Rattle.pt_code.proofs.Codecs.{AreBytes, rest_are, Takes, takes_then, bind_ok, guard_not, ok_is, IsCodec, kept_codec, number_codec, below_codec, taken_codec}
+use Rattle.pt_code.proofs.Operations.{IsInstr, operation_is, operands_again}
+
+as_many : (within : Within) (os : List Operand) (xs : List ℕ) → AreBelow within os xs → length os ≡ length xs
+as_many within [] [] below = refl
+as_many within [] (x ∷ xs) below = absurd below
+as_many within (o ∷ os) [] below = absurd below
+as_many within (o ∷ os) (x ∷ xs) below = ap suc (as_many within os xs below.1)
+
+-- operands that are read
+record ReadOperands (within : Within) (os : List Operand) (bytes rest : List ℕ) : Type 0 where
+  pub xs : List ℕ
+  pub takes : Takes bytes (spelled xs) rest
+  pub below : AreBelow within os xs
+
+done_is : (x y : List ℕ) → done_at x ≡ done_at y → x ≡ y
+done_is x y e = cc
+
+abbrev done_at : List ℕ → Result (List ℕ) Bad
+done_at x = Ok x
+
+operands_take : (within : Within) (os : List Operand) (bytes rest : List ℕ) → AreBytes bytes → operands_at within os bytes ≡ Ok rest → ReadOperands within os bytes rest
+unfolding number
+operands_take within [] bytes rest fits e = record { xs = []; takes = record { parts = done_is bytes rest e; rest_fits = subst AreBytes (done_is bytes rest e) fits }; below = tt }
+operands_take within (o ∷ os) bytes rest fits e =
+    let a = bind_ok (below_at (bound within o) bytes) (λ n. operands_at within os n.1) rest e in
+    let one = (below_codec (bound within o)).takes bytes a.0.0 a.0.1 fits a.1 in
+    let more = operands_take within os a.0.1 rest one.0.rest_fits a.2 in
+    record { xs = a.0.0 ∷ more.xs; takes = takes_then bytes (number a.0.0) a.0.1 (spelled more.xs) rest one.0 more.takes; below = (one.1, more.below) }
+
+operands_read : (within : Within) (os : List Operand) (xs rest : List ℕ) → AreBelow within os xs → operands_at within os (spelled xs ++ rest) ≡ Ok rest
+unfolding number
+operands_read within [] [] rest below = refl
+operands_read within [] (x ∷ xs) rest below = absurd below
+operands_read within (o ∷ os) [] rest below = absurd below
+operands_read within (o ∷ os) (x ∷ xs) rest below =
+    ap (operands_at within (o ∷ os)) (append_assoc (number x) (spelled xs) rest) ∙ rw ((below_codec (bound within o)).again x (spelled xs ++ rest) below.0) (operands_read within os xs rest below.1)
+
+record ReadInstr (within : Within) (left : ℕ) (bytes behind : List ℕ) (less : ℕ) : Type 0 where
+  pub instr : Instr
+  pub takes : Takes bytes (encoding instr) behind
+  pub named : NamesAll within instr
+  pub width : left ≡ length (encoding instr) + less
+
+width_of : (within : Within) (i : Instr) → NamesAll within i → 1 + 4 * length (operands i) ≡ length (encoding i)
+width_of within i named =
+    let same : length (operands i) ≡ length (code_of i).operands = as_many within (operands i) (code_of i).operands named in
+    omega (arith, same, length-spelled (code_of i).operands)
+
+operation_takes : (within : Within) (left n : ℕ) (rest : List ℕ) (os : Option (List Operand)) (behind : List ℕ) (less : ℕ) → AreBytes (n ∷ rest) → operands_of n ≡ os → behind_operation within left (n ∷ rest) rest os ≡ Ok (behind, less)
+    → ReadInstr within left (n ∷ rest) behind less
+operation_takes within left n rest None behind less fits is e = absurd cc
+operation_takes within left n rest (Some os) behind less fits is e =
+    let g = guard_bind (nat_lt left (1 + 4 * length os)) (bad.Field (length (n ∷ rest))) (operands_at within os rest >>= λ end. Ok (end, left - (1 + 4 * length os))) (behind, less) e in
+    let a = bind_ok (operands_at within os rest) (λ end. Ok (end, left - (1 + 4 * length os))) (behind, less) g.1 in
+    let read = operands_take within os rest a.0 (rest_are n rest fits) a.1 in
+    let is_one = operation_is within n os read.xs is read.below in
+    let fields = ok_is (a.0, left - (1 + 4 * length os)) (behind, less) a.2 in
+    let end_is : a.0 ≡ behind = ap (λ (p : List ℕ × ℕ). p.0) fields in
+    let less_is : left - (1 + 4 * length os) ≡ less = ap (λ (p : List ℕ × ℕ). p.1) fields in
+    let long : 1 + 4 * length os ≤ left = ltb-false _ _ g.0 in
+    let named : NamesAll within is_one.instr = subst (λ (k : List Operand). AreBelow within k (code_of is_one.instr).operands) (sym is_one.kinds) (subst (AreBelow within os) (sym is_one.has) read.below) in
+    let wide = width_of within is_one.instr named in
+    let kinds : length (operands is_one.instr) ≡ length os = ap length is_one.kinds in
+    let spelling : n ∷ spelled read.xs ≡ encoding is_one.instr = λ k. is_one.numbered (flip k) ∷ spelled (is_one.has (flip k)) in
+    record {
+      instr = is_one.instr;
+      takes = record { parts = ap (λ (l : List ℕ). n ∷ l) read.takes.parts ∙ ap (λ (l : List ℕ). l ++ a.0) spelling ∙ ap (λ (l : List ℕ). encoding is_one.instr ++ l) end_is; rest_fits = subst AreBytes end_is read.takes.rest_fits };
+      named = named;
+      width = omega (arith, wide, kinds, less_is);
+    }
+
+guard_bind : {A : Type 0} (b : Bool) (d : Bad) (r : Result A Bad) (y : A) → cond b (Err d) r ≡ Ok y → (b ≡ false) × (r ≡ Ok y)
+guard_bind true d r y e = absurd cc
+guard_bind false d r y e = (refl, e)
+
+instr_takes : (within : Within) (left : ℕ) (bytes behind : List ℕ) (less : ℕ) → AreBytes bytes → instr_at within left bytes ≡ Ok (behind, less) → ReadInstr within left bytes behind less
+unfolding instr_at
+instr_takes within left [] behind less fits e = absurd cc
+instr_takes within left (n ∷ rest) behind less fits e = operation_takes within left n rest (operands_of n) behind less fits refl e
+
+instr_read : (within : Within) (left : ℕ) (i : Instr) (rest : List ℕ) → NamesAll within i → length (encoding i) ≤ left → instr_at within left (encoding i ++ rest) ≡ Ok (rest, left - length (encoding i))
+unfolding instr_at
+instr_read within left i rest named fits =
+    let wide = width_of within i named in
+    let long : nat_lt left (1 + 4 * length (operands i)) ≡ false = le-ltb _ _ (omega (arith, wide)) in
+    rw (operands_again i, long, operands_read within (operands i) (code_of i).operands rest named) (λ k. Ok (rest, left - wide k))
+
+record ReadInstrs (within : Within) (left : ℕ) (bytes behind : List ℕ) : Type 0 where
+  pub instrs : List Instr
+  pub takes : Takes bytes (flat_map encoding instrs) behind
+  pub named : AllByRecursion (NamesAll within) instrs
+  pub width : left ≡ length (flat_map encoding instrs)
+
+none_left : (within : Within) (left : ℕ) (bytes behind : List ℕ) → AreBytes bytes → left ≡ 0 → done_at bytes ≡ done_at behind → ReadInstrs within left bytes behind
+none_left within left bytes behind fits none e = record { instrs = []; takes = record { parts = done_is bytes behind e; rest_fits = subst AreBytes (done_is bytes behind e) fits }; named = tt; width = none }
+
+pass_takes : (within : Within) (most left : ℕ) (bytes behind : List ℕ) → AreBytes bytes → left ≤ most → pass within most left bytes ≡ Ok behind → ReadInstrs within left bytes behind
+pass_takes within zero left bytes behind fits few e = none_left within left bytes behind fits (omega arith) e
+pass_takes within (suc most) zero bytes behind fits few e = none_left within zero bytes behind fits refl e
+pass_takes within (suc most) (suc left) bytes behind fits few e =
+    let a = bind_ok (instr_at within (suc left) bytes) (λ i. pass within most i.1 i.0) behind e in
+    let one = instr_takes within (suc left) bytes a.0.0 a.0.1 fits a.1 in
+    let wide : length (encoding one.instr) ≡ suc (length (spelled (code_of one.instr).operands)) = refl in
+    let more = pass_takes within most a.0.1 a.0.0 behind one.takes.rest_fits (omega (arith, one.width, wide)) a.2 in
+    let cons = flat_map-cons encoding one.instr more.instrs in
+    record {
+      instrs = one.instr ∷ more.instrs;
+      takes = rw cons (takes_then bytes (encoding one.instr) a.0.0 (flat_map encoding more.instrs) behind one.takes more.takes);
+      named = (one.named, more.named);
+      width = rw (cons, length-append (encoding one.instr) (flat_map encoding more.instrs)) (one.width ∙ ap (λ (k : ℕ). length (encoding one.instr) + k) more.width);
+    }
