@@ -1,5 +1,9 @@
+pub mod Blocks
 pub mod Codecs
 pub mod Fields
+pub mod Instructions
 pub mod Integers
+pub mod Operations
 pub mod Rows
 pub mod Spelled
+pub mod Whole

@@ -18,7 +18,7 @@ use Rattle.pt_code.specs.declared.reading.Operand.TheVariants as operand
 use Rattle.pt_code.specs.File.{operands, bound, AreBelow}
 use Rattle.pt_code.specs.Reading.{operations, operands_of}
 
-unary_at : ℕ → UnOp
+abbrev unary_at : ℕ → UnOp
 unary_at zero = unary.Plus
 unary_at (suc zero) = unary.Minus
 unary_at x = unary.Invert
@@ -29,7 +29,7 @@ unary_is (suc zero) h = refl
 unary_is (suc (suc zero)) h = refl
 unary_is (suc (suc (suc x))) h = absurd (omega arith)
 
-binary_at : ℕ → BinOp
+abbrev binary_at : ℕ → BinOp
 binary_at zero = binary.Add
 binary_at (suc zero) = binary.Sub
 binary_at (suc (suc zero)) = binary.Mul
@@ -58,7 +58,7 @@ binary_is (suc (suc (suc (suc (suc (suc (suc (suc (suc (suc zero)))))))))) h = r
 binary_is (suc (suc (suc (suc (suc (suc (suc (suc (suc (suc (suc zero))))))))))) h = refl
 binary_is (suc (suc (suc (suc (suc (suc (suc (suc (suc (suc (suc (suc x)))))))))))) h = absurd (omega arith)
 
-comparison_at : ℕ → CompareOp
+abbrev comparison_at : ℕ → CompareOp
 comparison_at zero = comparison.Less
 comparison_at (suc zero) = comparison.LessEqual
 comparison_at (suc (suc zero)) = comparison.Greater
@@ -83,7 +83,7 @@ comparison_is (suc (suc (suc (suc (suc (suc (suc (suc zero)))))))) h = refl
 comparison_is (suc (suc (suc (suc (suc (suc (suc (suc (suc zero))))))))) h = refl
 comparison_is (suc (suc (suc (suc (suc (suc (suc (suc (suc (suc x)))))))))) h = absurd (omega arith)
 
-conversion_at : ℕ → Conversion
+abbrev conversion_at : ℕ → Conversion
 conversion_at zero = conversion.Plain
 conversion_at (suc zero) = conversion.Str
 conversion_at x = conversion.Repr
@@ -94,7 +94,7 @@ conversion_is (suc zero) h = refl
 conversion_is (suc (suc zero)) h = refl
 conversion_is (suc (suc (suc x))) h = absurd (omega arith)
 
-flag_at : ℕ → Bool
+abbrev flag_at : ℕ → Bool
 flag_at zero = false
 flag_at x = true
 

@@ -2,6 +2,7 @@
 #![tactic(auto)]
 
 mod reading;
+mod refusing;
 #[cfg(test)]
 mod tests;
 mod writing;
@@ -9,6 +10,7 @@ mod writing;
 use pt_base::{Line, Pc, Seq, Text};
 use pt_instr::TextNo;
 use pt_ranges::{ActMark, Handler};
+pub use refusing::{CodeErr, one_code, read};
 pub use writing::write;
 
 /// A constant of the code.

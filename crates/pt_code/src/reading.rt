@@ -874,7 +874,7 @@ fn behind_magic(bytes: &[u8]) -> Result<&[u8], Bad>
 }
 
 #[tactic(auto, unfolding(crate::specs::Reading::code_of))]
-fn code_of(alloc: Global, bytes: &[u8]) -> Result<Code, Bad>
+pub fn code_of(alloc: Global, bytes: &[u8]) -> Result<Code, Bad>
     ensures { Gives (λ c. c) result (code_of bytes.now) }
 {
     let rest = behind_magic(bytes)?;
