@@ -160,8 +160,12 @@ blocks_again texts constants lists (b ∷ bs) rest w =
     let regrouped : listed block (b ∷ bs) ++ rest ≡ number count ++ (block b ++ (flat_map block bs ++ rest)) =
     append_assoc (number count) (flat_map block (b ∷ bs)) rest ∙ ap (λ (l : List ℕ). number count ++ (l ++ rest)) (flat_map-cons block b bs) ∙ ap (λ (l : List ℕ). number count ++ l) (append_assoc (block b) (flat_map block bs) rest) in
     ap (blocks_at texts constants lists) regrouped
-    ∙ rw (size_codec.again count (block b ++ (flat_map block bs ++ rest)) (w.0, is_above (length bs)), (block_codec (inside texts constants lists count true)).again b (flat_map block bs ++ rest) w.1, one_less (length bs),
-    (items_codec (IsBlock (inside texts constants lists count false)) block (block_at (inside texts constants lists count false)) (block_codec (inside texts constants lists count false)) (length bs)).again bs rest (refl, w.2)) refl
+    ∙ rw (
+      size_codec.again count (block b ++ (flat_map block bs ++ rest)) (w.0, is_above (length bs)),
+      (block_codec (inside texts constants lists count true)).again b (flat_map block bs ++ rest) w.1,
+      one_less (length bs),
+      (items_codec (IsBlock (inside texts constants lists count false)) block (block_at (inside texts constants lists count false)) (block_codec (inside texts constants lists count false)) (length bs)).again bs rest (refl, w.2),
+    ) refl
 
 blocks_codec : (texts constants lists : ℕ) → IsCodec (AreBlocks texts constants lists) (listed block) (blocks_at texts constants lists)
 blocks_codec texts constants lists = record { takes = blocks_take texts constants lists; again = blocks_again texts constants lists }

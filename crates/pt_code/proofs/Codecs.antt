@@ -64,13 +64,13 @@ pub both_codec : {A B : Type 0} (V : A → Type 0) (W : A → B → Type 0) (s :
     → IsCodec V s r → ((a : A) → V a → IsCodec (W a) t (q a)) → IsCodec {A = A × B} (λ p. V p.0 × W p.0 p.1) (λ p. s p.0 ++ t p.1) (both r q)
 both_codec {A} {B} V W s t r q first second = record {
   takes = λ bytes x rest fits e.
-    let a = bind_ok (r bytes) (λ a. q a.0 a.1 >>= λ b. Ok ((a.0, b.0), b.1)) (x, rest) e in
-    let b = bind_ok (q a.0.0 a.0.1) (λ b. Ok ((a.0.0, b.0), b.1)) (x, rest) a.2 in
-    let one = first.takes bytes a.0.0 a.0.1 fits a.1 in
-    let two = (second a.0.0 one.1).takes a.0.1 b.0.0 b.0.1 one.0.rest_fits b.1 in
-    let together = takes_then bytes (s a.0.0) a.0.1 (t b.0.0) b.0.1 one.0 two.0 in
-    let found : (A × B) × List ℕ = ((a.0.0, b.0.0), b.0.1) in
-    subst (λ (y : (A × B) × List ℕ). Takes bytes (s y.0.0 ++ t y.0.1) y.1 × (V y.0.0 × W y.0.0 y.0.1)) (ok_is found (x, rest) b.2) (together, (one.1, two.1));
+      let a = bind_ok (r bytes) (λ a. q a.0 a.1 >>= λ b. Ok ((a.0, b.0), b.1)) (x, rest) e in
+      let b = bind_ok (q a.0.0 a.0.1) (λ b. Ok ((a.0.0, b.0), b.1)) (x, rest) a.2 in
+      let one = first.takes bytes a.0.0 a.0.1 fits a.1 in
+      let two = (second a.0.0 one.1).takes a.0.1 b.0.0 b.0.1 one.0.rest_fits b.1 in
+      let together = takes_then bytes (s a.0.0) a.0.1 (t b.0.0) b.0.1 one.0 two.0 in
+      let found : (A × B) × List ℕ = ((a.0.0, b.0.0), b.0.1) in
+      subst (λ (y : (A × B) × List ℕ). Takes bytes (s y.0.0 ++ t y.0.1) y.1 × (V y.0.0 × W y.0.0 y.0.1)) (ok_is found (x, rest) b.2) (together, (one.1, two.1));
   again = λ x rest w. ap (both r q) (append_assoc (s x.0) (t x.1) rest) ∙ rw (first.again x.0 (t x.1 ++ rest) w.0, (second x.0 w.0).again x.1 rest w.1) refl;
 }
 
@@ -78,21 +78,21 @@ pub made_codec : {A B : Type 0} (W : A → Type 0) (s : A → List ℕ) (make : 
     → ((b : B) → make (view b) ≡ b) → ((a : A) → view (make a) ≡ a) → IsCodec W s r → IsCodec {A = B} (λ b. W (view b)) (λ b. s (view b)) (made make r)
 made_codec {A} {B} W s make view r there back c = record {
   takes = λ bytes x rest fits e.
-    let a = bind_ok (r bytes) (λ a. Ok (make a.0, a.1)) (x, rest) e in
-    let one = c.takes bytes a.0.0 a.0.1 fits a.1 in
-    let found : B × List ℕ = (make a.0.0, a.0.1) in
-    let seen = subst (λ (z : A). Takes bytes (s z) a.0.1 × W z) (sym (back a.0.0)) one in
-    subst (λ (y : B × List ℕ). Takes bytes (s (view y.0)) y.1 × W (view y.0)) (ok_is found (x, rest) a.2) seen;
+      let a = bind_ok (r bytes) (λ a. Ok (make a.0, a.1)) (x, rest) e in
+      let one = c.takes bytes a.0.0 a.0.1 fits a.1 in
+      let found : B × List ℕ = (make a.0.0, a.0.1) in
+      let seen = subst (λ (z : A). Takes bytes (s z) a.0.1 × W z) (sym (back a.0.0)) one in
+      subst (λ (y : B × List ℕ). Takes bytes (s (view y.0)) y.1 × W (view y.0)) (ok_is found (x, rest) a.2) seen;
   again = λ x rest w. rw (c.again (view x) rest w) (λ k. Ok (there x k, rest));
 }
 
 pub kept_codec : {A : Type 0} (W : A → Type 0) (s : A → List ℕ) (test : A → Bool) (r : List ℕ → Read A) → IsCodec W s r → IsCodec {A = A} (λ a. W a × (test a ≡ true)) s (kept test r)
 kept_codec {A} W s test r c = record {
   takes = λ bytes x rest fits e.
-    let a = bind_ok (r bytes) (λ a. cond (test a.0) (Ok a) (Err (bad.Field (length bytes)))) (x, rest) e in
-    let g = guard_ok (test a.0.0) (bad.Field (length bytes)) a.0 (x, rest) a.2 in
-    let one = c.takes bytes a.0.0 a.0.1 fits a.1 in
-    subst (λ (y : A × List ℕ). Takes bytes (s y.0) y.1 × (W y.0 × (test y.0 ≡ true))) g.1 (one.0, (one.1, g.0));
+      let a = bind_ok (r bytes) (λ a. cond (test a.0) (Ok a) (Err (bad.Field (length bytes)))) (x, rest) e in
+      let g = guard_ok (test a.0.0) (bad.Field (length bytes)) a.0 (x, rest) a.2 in
+      let one = c.takes bytes a.0.0 a.0.1 fits a.1 in
+      subst (λ (y : A × List ℕ). Takes bytes (s y.0) y.1 × (W y.0 × (test y.0 ≡ true))) g.1 (one.0, (one.1, g.0));
   again = λ x rest w. rw (c.again x rest w.0, w.1) refl;
 }
 
@@ -154,11 +154,11 @@ number_codec = record { takes = number_takes; again = number_again }
 pub list_codec : {A : Type 0} (W : A → Type 0) (s : A → List ℕ) (r : List ℕ → Read A) → IsCodec W s r → IsCodec {A = List A} (AreListed W) (listed s) (list_at r)
 list_codec {A} W s r c = record {
   takes = λ bytes x rest fits e.
-    let a = bind_ok (number_at bytes) (λ count. items_at r count.0 count.1) (x, rest) e in
-    let one = number_codec.takes bytes a.0.0 a.0.1 fits a.1 in
-    let two = items_take W s r c a.0.0 a.0.1 (x, rest) one.0.rest_fits a.2 in
-    let together = takes_then bytes (number a.0.0) a.0.1 (flat_map s x) rest one.0 two.0 in
-    (subst (λ (k : ℕ). Takes bytes (number k ++ flat_map s x) rest) (sym two.1) together, (subst IsNumber (sym two.1) one.1, two.2));
+      let a = bind_ok (number_at bytes) (λ count. items_at r count.0 count.1) (x, rest) e in
+      let one = number_codec.takes bytes a.0.0 a.0.1 fits a.1 in
+      let two = items_take W s r c a.0.0 a.0.1 (x, rest) one.0.rest_fits a.2 in
+      let together = takes_then bytes (number a.0.0) a.0.1 (flat_map s x) rest one.0 two.0 in
+      (subst (λ (k : ℕ). Takes bytes (number k ++ flat_map s x) rest) (sym two.1) together, (subst IsNumber (sym two.1) one.1, two.2));
   again = λ x rest w. ap (list_at r) (append_assoc (number (length x)) (flat_map s x) rest) ∙ rw (number_codec.again (length x) (flat_map s x ++ rest) w.0) (items_again W s r c x rest w.1);
 }
 
@@ -184,22 +184,22 @@ pub taken_codec : (n : ℕ) → IsCodec {A = List ℕ} (λ x. length x ≡ n) (�
 unfolding taken_at
 taken_codec n = record {
   takes = λ bytes x rest fits e.
-    let g = guard_not (nat_lt (length bytes) n) bad.Short (take n bytes, drop n bytes) (x, rest) e in
-    let long : n ≤ length bytes = ltb-false _ _ g.0 in
-    subst (λ (y : List ℕ × List ℕ). Takes bytes y.0 y.1 × (length y.0 ≡ n)) g.1 (record { parts = sym (take-append-drop n bytes); rest_fits = bytes_behind n bytes fits }, omega (arith, length-take n bytes));
+      let g = guard_not (nat_lt (length bytes) n) bad.Short (take n bytes, drop n bytes) (x, rest) e in
+      let long : n ≤ length bytes = ltb-false _ _ g.0 in
+      subst (λ (y : List ℕ × List ℕ). Takes bytes y.0 y.1 × (length y.0 ≡ n)) g.1 (record { parts = sym (take-append-drop n bytes); rest_fits = bytes_behind n bytes fits }, omega (arith, length-take n bytes));
   again = λ x rest len.
-    let long : nat_lt (length (x ++ rest)) n ≡ false = le-ltb _ _ (omega (arith, length-append x rest)) in
-    rw (long, take_at x rest n len, drop_at x rest n len) refl;
+      let long : nat_lt (length (x ++ rest)) n ≡ false = le-ltb _ _ (omega (arith, length-append x rest)) in
+      rw (long, take_at x rest n len, drop_at x rest n len) refl;
 }
 
 string_codec : IsCodec {A = List ℕ} (λ x. IsNumber (length x)) text string_at
 string_codec = record {
   takes = λ bytes x rest fits e.
-    let a = bind_ok (number_at bytes) (λ count. taken_at count.0 count.1) (x, rest) e in
-    let one = number_codec.takes bytes a.0.0 a.0.1 fits a.1 in
-    let two = (taken_codec a.0.0).takes a.0.1 x rest one.0.rest_fits a.2 in
-    let together = takes_then bytes (number a.0.0) a.0.1 x rest one.0 two.0 in
-    (subst (λ (k : ℕ). Takes bytes (number k ++ x) rest) (sym two.1) together, subst IsNumber (sym two.1) one.1);
+      let a = bind_ok (number_at bytes) (λ count. taken_at count.0 count.1) (x, rest) e in
+      let one = number_codec.takes bytes a.0.0 a.0.1 fits a.1 in
+      let two = (taken_codec a.0.0).takes a.0.1 x rest one.0.rest_fits a.2 in
+      let together = takes_then bytes (number a.0.0) a.0.1 x rest one.0 two.0 in
+      (subst (λ (k : ℕ). Takes bytes (number k ++ x) rest) (sym two.1) together, subst IsNumber (sym two.1) one.1);
   again = λ x rest w. ap string_at (append_assoc (number (length x)) x rest) ∙ rw (number_codec.again (length x) (x ++ rest) w) ((taken_codec (length x)).again x rest refl);
 }
 

@@ -171,9 +171,10 @@ instructions_take within bytes x rest fits e =
     let instrs = pass_takes within a.0.0 a.0.0 a.0.1 b.0 one.0.rest_fits (omega arith) b.1 in
     let two = (taken_codec a.0.0).takes a.0.1 x rest one.0.rest_fits b.2 in
     let taken : x ≡ flat_map encoding instrs.instrs = sym (take_at x rest a.0.0 two.1) ∙ ap (take a.0.0) (sym two.0.parts ∙ instrs.takes.parts) ∙ take_at (flat_map encoding instrs.instrs) b.0 a.0.0 (sym instrs.width) in
-    let together = takes_then bytes (number a.0.0) a.0.1 x rest one.0 two.0 in
-    (subst (λ (k : ℕ). Takes bytes (number k ++ x) rest) (sym two.1) together,
-    record { some = nat_lt_zero (length x) (subst (λ (k : ℕ). nat_lt 0 k ≡ true) (sym two.1) one.1.1); counted = subst IsNumber (sym two.1) one.1.0; instrs = instrs.instrs; spelled = taken; named = instrs.named })
+    let together = takes_then bytes (number a.0.0) a.0.1 x rest one.0 two.0 in (
+      subst (λ (k : ℕ). Takes bytes (number k ++ x) rest) (sym two.1) together,
+      record { some = nat_lt_zero (length x) (subst (λ (k : ℕ). nat_lt 0 k ≡ true) (sym two.1) one.1.1); counted = subst IsNumber (sym two.1) one.1.0; instrs = instrs.instrs; spelled = taken; named = instrs.named },
+    )
 
 instructions_again : (within : Within) (x rest : List ℕ) → AreInstructions within x → instructions_at within (text x ++ rest) ≡ Ok (x, rest)
 unfolding instructions_at

@@ -142,89 +142,250 @@ three_row within o p q number make numbered has kinds (x ∷ y ∷ z ∷ u ∷ x
 
 all_rows : (within : Within) → Rows within 0 operations
 unfolding code_of
-all_rows within =
-    (none_row within instr.Nop refl refl,
-    (one_row within operand.Constant 1 (λ x. instr.Const (record { 0 = x })) (λ x. refl) (λ x h. refl) (λ x. refl),
-    (one_row within operand.Local 2 (λ x. instr.Local (record { 0 = x })) (λ x. refl) (λ x h. refl) (λ x. refl),
-    (one_row within operand.Local 3 (λ x. instr.SetLocal (record { 0 = x })) (λ x. refl) (λ x h. refl) (λ x. refl),
-    (one_row within operand.Local 4 (λ x. instr.DelLocal (record { 0 = x })) (λ x. refl) (λ x h. refl) (λ x. refl),
-    (one_row within operand.Cell 5 (λ x. instr.Cell (record { 0 = x })) (λ x. refl) (λ x h. refl) (λ x. refl),
-    (one_row within operand.Cell 6 (λ x. instr.SetCell (record { 0 = x })) (λ x. refl) (λ x h. refl) (λ x. refl),
-    (one_row within operand.Cell 7 (λ x. instr.DelCell (record { 0 = x })) (λ x. refl) (λ x h. refl) (λ x. refl),
-    (one_row within operand.Text 8 (λ x. instr.Global (record { 0 = x })) (λ x. refl) (λ x h. refl) (λ x. refl),
-    (one_row within operand.Text 9 (λ x. instr.SetGlobal (record { 0 = x })) (λ x. refl) (λ x h. refl) (λ x. refl),
-    (one_row within operand.Text 10 (λ x. instr.DelGlobal (record { 0 = x })) (λ x. refl) (λ x h. refl) (λ x. refl),
-    (one_row within operand.Text 11 (λ x. instr.Name (record { 0 = x })) (λ x. refl) (λ x h. refl) (λ x. refl),
-    (one_row within operand.Text 12 (λ x. instr.SetName (record { 0 = x })) (λ x. refl) (λ x h. refl) (λ x. refl),
-    (one_row within operand.Text 13 (λ x. instr.DelName (record { 0 = x })) (λ x. refl) (λ x h. refl) (λ x. refl),
-    (one_row within operand.Cell 14 (λ x. instr.PushCell (record { 0 = x })) (λ x. refl) (λ x h. refl) (λ x. refl),
-    (none_row within instr.Pop refl refl,
-    (none_row within instr.Copy refl refl,
-    (none_row within instr.Copy2 refl refl,
-    (none_row within instr.Swap refl refl,
-    (none_row within instr.Rot3 refl refl,
-    (one_row within operand.Text 20 (λ x. instr.Attr (record { 0 = x })) (λ x. refl) (λ x h. refl) (λ x. refl),
-    (one_row within operand.Text 21 (λ x. instr.SetAttr (record { 0 = x })) (λ x. refl) (λ x h. refl) (λ x. refl),
-    (one_row within operand.Text 22 (λ x. instr.DelAttr (record { 0 = x })) (λ x. refl) (λ x h. refl) (λ x. refl),
-    (none_row within instr.Item refl refl,
-    (none_row within instr.SetItem refl refl,
-    (none_row within instr.DelItem refl refl,
-    (none_row within instr.Slice refl refl,
-    (one_row within operand.Unary 27 (λ x. instr.Unary (unary_at x)) (λ x. refl) (λ x h. ap (λ n. n ∷ []) (unary_is x h)) (λ x. refl),
-    (none_row within instr.Not refl refl,
-    (one_row within operand.Binary 29 (λ x. instr.Binary (binary_at x)) (λ x. refl) (λ x h. ap (λ n. n ∷ []) (binary_is x h)) (λ x. refl),
-    (one_row within operand.Binary 30 (λ x. instr.InPlace (binary_at x)) (λ x. refl) (λ x h. ap (λ n. n ∷ []) (binary_is x h)) (λ x. refl),
-    (one_row within operand.Comparison 31 (λ x. instr.Compare (comparison_at x)) (λ x. refl) (λ x h. ap (λ n. n ∷ []) (comparison_is x h)) (λ x. refl),
-    (one_row within operand.Number 32 (λ x. instr.Tuple x) (λ x. refl) (λ x h. refl) (λ x. refl),
-    (one_row within operand.Number 33 (λ x. instr.List x) (λ x. refl) (λ x h. refl) (λ x. refl),
-    (one_row within operand.Number 34 (λ x. instr.Set x) (λ x. refl) (λ x h. refl) (λ x. refl),
-    (one_row within operand.Number 35 (λ x. instr.Dict x) (λ x. refl) (λ x h. refl) (λ x. refl),
-    (one_row within operand.Number 36 (λ x. instr.ListAdd x) (λ x. refl) (λ x h. refl) (λ x. refl),
-    (one_row within operand.Number 37 (λ x. instr.SetAdd x) (λ x. refl) (λ x h. refl) (λ x. refl),
-    (one_row within operand.Number 38 (λ x. instr.DictAdd x) (λ x. refl) (λ x h. refl) (λ x. refl),
-    (one_row within operand.Conversion 39 (λ x. instr.Format (conversion_at x)) (λ x. refl) (λ x h. ap (λ n. n ∷ []) (conversion_is x h)) (λ x. refl),
-    (one_row within operand.Number 40 (λ x. instr.Join x) (λ x. refl) (λ x h. refl) (λ x. refl),
-    (one_row within operand.Number 41 (λ x. instr.Unpack x) (λ x. refl) (λ x h. refl) (λ x. refl),
-    (two_row within operand.Number operand.Number 42 (λ x y. instr.UnpackStar x y) (λ x y. refl) (λ x y. refl) (λ x y. refl),
-    (none_row within instr.Spread refl refl,
-    (none_row within instr.SpreadMap refl refl,
-    (one_row within operand.Number 45 (λ x. instr.Call x) (λ x. refl) (λ x h. refl) (λ x. refl),
-    (two_row within operand.Number operand.List 46 (λ x y. instr.CallKw x (record { 0 = y })) (λ x y. refl) (λ x y. refl) (λ x y. refl),
-    (two_row within operand.Number operand.List 47 (λ x y. instr.CallSpread x (record { 0 = y })) (λ x y. refl) (λ x y. refl) (λ x y. refl),
-    (three_row within operand.Block operand.Number operand.List 48 (λ x y z. instr.MakeFunction (record { 0 = x }) y (record { 0 = z })) (λ x y z. refl) (λ x y z. refl) (λ x y z. refl),
-    (one_row within operand.Block 49 (λ x. instr.MakeClass (record { 0 = x })) (λ x. refl) (λ x h. refl) (λ x. refl),
-    (one_row within operand.Block 50 (λ x. instr.MakeGenerator (record { 0 = x })) (λ x. refl) (λ x h. refl) (λ x. refl),
-    (none_row within instr.Iter refl refl,
-    (one_row within operand.Number 52 (λ x. instr.Next (record { 0 = x })) (λ x. refl) (λ x h. refl) (λ x. refl),
-    (one_row within operand.Number 53 (λ x. instr.Jump (record { 0 = x })) (λ x. refl) (λ x h. refl) (λ x. refl),
-    (one_row within operand.Number 54 (λ x. instr.JumpIf (record { 0 = x })) (λ x. refl) (λ x h. refl) (λ x. refl),
-    (one_row within operand.Number 55 (λ x. instr.JumpUnless (record { 0 = x })) (λ x. refl) (λ x h. refl) (λ x. refl),
-    (one_row within operand.Number 56 (λ x. instr.JumpIfKeep (record { 0 = x })) (λ x. refl) (λ x h. refl) (λ x. refl),
-    (one_row within operand.Number 57 (λ x. instr.JumpUnlessKeep (record { 0 = x })) (λ x. refl) (λ x h. refl) (λ x. refl),
-    (none_row within instr.Return refl refl,
-    (none_row within instr.Yield refl refl,
-    (none_row within instr.Delegate refl refl,
-    (none_row within instr.Raise refl refl,
-    (none_row within instr.RaiseFrom refl refl,
-    (none_row within instr.RaiseAgain refl refl,
-    (none_row within instr.Match refl refl,
-    (none_row within instr.Caught refl refl,
-    (none_row within instr.EndHandler refl refl,
-    (none_row within instr.Rethrow refl refl,
-    (none_row within instr.Enter refl refl,
-    (none_row within instr.Normal refl refl,
-    (none_row within instr.Exit refl refl,
-    (none_row within instr.EndFinally refl refl,
-    (one_row within operand.Number 72 (λ x. instr.Leave (record { 0 = x })) (λ x. refl) (λ x h. refl) (λ x. refl),
-    (one_row within operand.Text 73 (λ x. instr.Import (record { 0 = x })) (λ x. refl) (λ x h. refl) (λ x. refl),
-    (one_row within operand.Text 74 (λ x. instr.ImportName (record { 0 = x })) (λ x. refl) (λ x h. refl) (λ x. refl),
-    (one_row within operand.Flag 75 (λ x. instr.AssertFail (flag_at x)) (λ x. refl) (λ x h. ap (λ n. n ∷ []) (flag_is x h)) (λ x. refl),
-    (none_row within instr.TupleJoin refl refl,
-    (none_row within instr.DictMerge refl refl,
-    (none_row within instr.Super refl refl,
-    (one_row within operand.Local 79 (λ x. instr.FreshLocal (record { 0 = x })) (λ x. refl) (λ x h. refl) (λ x. refl),
-    (one_row within operand.Cell 80 (λ x. instr.FreshCell (record { 0 = x })) (λ x. refl) (λ x h. refl) (λ x. refl),
-    tt)))))))))))))))))))))))))))))))))))))))))))))))))))))))))))))))))))))))))))))))))
+all_rows within = (
+  none_row within instr.Nop refl refl,
+  (
+    one_row within operand.Constant 1 (λ x. instr.Const (record { 0 = x })) (λ x. refl) (λ x h. refl) (λ x. refl),
+    (
+      one_row within operand.Local 2 (λ x. instr.Local (record { 0 = x })) (λ x. refl) (λ x h. refl) (λ x. refl),
+      (
+        one_row within operand.Local 3 (λ x. instr.SetLocal (record { 0 = x })) (λ x. refl) (λ x h. refl) (λ x. refl),
+        (
+          one_row within operand.Local 4 (λ x. instr.DelLocal (record { 0 = x })) (λ x. refl) (λ x h. refl) (λ x. refl),
+          (
+            one_row within operand.Cell 5 (λ x. instr.Cell (record { 0 = x })) (λ x. refl) (λ x h. refl) (λ x. refl),
+            (
+              one_row within operand.Cell 6 (λ x. instr.SetCell (record { 0 = x })) (λ x. refl) (λ x h. refl) (λ x. refl),
+              (
+                one_row within operand.Cell 7 (λ x. instr.DelCell (record { 0 = x })) (λ x. refl) (λ x h. refl) (λ x. refl),
+                (
+                  one_row within operand.Text 8 (λ x. instr.Global (record { 0 = x })) (λ x. refl) (λ x h. refl) (λ x. refl),
+                  (
+                    one_row within operand.Text 9 (λ x. instr.SetGlobal (record { 0 = x })) (λ x. refl) (λ x h. refl) (λ x. refl),
+                    (
+                      one_row within operand.Text 10 (λ x. instr.DelGlobal (record { 0 = x })) (λ x. refl) (λ x h. refl) (λ x. refl),
+                      (
+                        one_row within operand.Text 11 (λ x. instr.Name (record { 0 = x })) (λ x. refl) (λ x h. refl) (λ x. refl),
+                        (
+                          one_row within operand.Text 12 (λ x. instr.SetName (record { 0 = x })) (λ x. refl) (λ x h. refl) (λ x. refl),
+                          (
+                            one_row within operand.Text 13 (λ x. instr.DelName (record { 0 = x })) (λ x. refl) (λ x h. refl) (λ x. refl),
+                            (
+                              one_row within operand.Cell 14 (λ x. instr.PushCell (record { 0 = x })) (λ x. refl) (λ x h. refl) (λ x. refl),
+                              (
+                                none_row within instr.Pop refl refl,
+                                (
+                                  none_row within instr.Copy refl refl,
+                                  (
+                                    none_row within instr.Copy2 refl refl,
+                                    (
+                                      none_row within instr.Swap refl refl,
+                                      (
+                                        none_row within instr.Rot3 refl refl,
+                                        (
+                                          one_row within operand.Text 20 (λ x. instr.Attr (record { 0 = x })) (λ x. refl) (λ x h. refl) (λ x. refl),
+                                          (
+                                            one_row within operand.Text 21 (λ x. instr.SetAttr (record { 0 = x })) (λ x. refl) (λ x h. refl) (λ x. refl),
+                                            (
+                                              one_row within operand.Text 22 (λ x. instr.DelAttr (record { 0 = x })) (λ x. refl) (λ x h. refl) (λ x. refl),
+                                              (
+                                                none_row within instr.Item refl refl,
+                                                (
+                                                  none_row within instr.SetItem refl refl,
+                                                  (
+                                                    none_row within instr.DelItem refl refl,
+                                                    (
+                                                      none_row within instr.Slice refl refl,
+                                                      (
+                                                        one_row within operand.Unary 27 (λ x. instr.Unary (unary_at x)) (λ x. refl) (λ x h. ap (λ n. n ∷ []) (unary_is x h)) (λ x. refl),
+                                                        (
+                                                          none_row within instr.Not refl refl,
+                                                          (
+                                                            one_row within operand.Binary 29 (λ x. instr.Binary (binary_at x)) (λ x. refl) (λ x h. ap (λ n. n ∷ []) (binary_is x h)) (λ x. refl),
+                                                            (
+                                                              one_row within operand.Binary 30 (λ x. instr.InPlace (binary_at x)) (λ x. refl) (λ x h. ap (λ n. n ∷ []) (binary_is x h)) (λ x. refl),
+                                                              (
+                                                                one_row within operand.Comparison 31 (λ x. instr.Compare (comparison_at x)) (λ x. refl) (λ x h. ap (λ n. n ∷ []) (comparison_is x h)) (λ x. refl),
+                                                                (
+                                                                  one_row within operand.Number 32 (λ x. instr.Tuple x) (λ x. refl) (λ x h. refl) (λ x. refl),
+                                                                  (
+                                                                    one_row within operand.Number 33 (λ x. instr.List x) (λ x. refl) (λ x h. refl) (λ x. refl),
+                                                                    (
+                                                                      one_row within operand.Number 34 (λ x. instr.Set x) (λ x. refl) (λ x h. refl) (λ x. refl),
+                                                                      (
+                                                                        one_row within operand.Number 35 (λ x. instr.Dict x) (λ x. refl) (λ x h. refl) (λ x. refl),
+                                                                        (
+                                                                          one_row within operand.Number 36 (λ x. instr.ListAdd x) (λ x. refl) (λ x h. refl) (λ x. refl),
+                                                                          (
+                                                                            one_row within operand.Number 37 (λ x. instr.SetAdd x) (λ x. refl) (λ x h. refl) (λ x. refl),
+                                                                            (
+                                                                              one_row within operand.Number 38 (λ x. instr.DictAdd x) (λ x. refl) (λ x h. refl) (λ x. refl),
+                                                                              (
+                                                                                one_row within operand.Conversion 39 (λ x. instr.Format (conversion_at x)) (λ x. refl) (λ x h. ap (λ n. n ∷ []) (conversion_is x h)) (λ x. refl),
+                                                                                (
+                                                                                  one_row within operand.Number 40 (λ x. instr.Join x) (λ x. refl) (λ x h. refl) (λ x. refl),
+                                                                                  (
+                                                                                    one_row within operand.Number 41 (λ x. instr.Unpack x) (λ x. refl) (λ x h. refl) (λ x. refl),
+                                                                                    (
+                                                                                      two_row within operand.Number operand.Number 42 (λ x y. instr.UnpackStar x y) (λ x y. refl) (λ x y. refl) (λ x y. refl),
+                                                                                      (
+                                                                                        none_row within instr.Spread refl refl,
+                                                                                        (
+                                                                                          none_row within instr.SpreadMap refl refl,
+                                                                                          (
+                                                                                            one_row within operand.Number 45 (λ x. instr.Call x) (λ x. refl) (λ x h. refl) (λ x. refl),
+                                                                                            (
+                                                                                              two_row within operand.Number operand.List 46 (λ x y. instr.CallKw x (record { 0 = y })) (λ x y. refl) (λ x y. refl) (λ x y. refl),
+                                                                                              (
+                                                                                                two_row within operand.Number operand.List 47 (λ x y. instr.CallSpread x (record { 0 = y })) (λ x y. refl) (λ x y. refl) (λ x y. refl),
+                                                                                                (
+                                                                                                  three_row within operand.Block operand.Number operand.List 48 (λ x y z. instr.MakeFunction (record { 0 = x }) y (record { 0 = z })) (λ x y z. refl) (λ x y z. refl) (λ x y z. refl),
+                                                                                                  (
+                                                                                                    one_row within operand.Block 49 (λ x. instr.MakeClass (record { 0 = x })) (λ x. refl) (λ x h. refl) (λ x. refl),
+                                                                                                    (
+                                                                                                      one_row within operand.Block 50 (λ x. instr.MakeGenerator (record { 0 = x })) (λ x. refl) (λ x h. refl) (λ x. refl),
+                                                                                                      (
+                                                                                                        none_row within instr.Iter refl refl,
+                                                                                                        (
+                                                                                                          one_row within operand.Number 52 (λ x. instr.Next (record { 0 = x })) (λ x. refl) (λ x h. refl) (λ x. refl),
+                                                                                                          (
+                                                                                                            one_row within operand.Number 53 (λ x. instr.Jump (record { 0 = x })) (λ x. refl) (λ x h. refl) (λ x. refl),
+                                                                                                            (
+                                                                                                              one_row within operand.Number 54 (λ x. instr.JumpIf (record { 0 = x })) (λ x. refl) (λ x h. refl) (λ x. refl),
+                                                                                                              (
+                                                                                                                one_row within operand.Number 55 (λ x. instr.JumpUnless (record { 0 = x })) (λ x. refl) (λ x h. refl) (λ x. refl),
+                                                                                                                (
+                                                                                                                  one_row within operand.Number 56 (λ x. instr.JumpIfKeep (record { 0 = x })) (λ x. refl) (λ x h. refl) (λ x. refl),
+                                                                                                                  (
+                                                                                                                    one_row within operand.Number 57 (λ x. instr.JumpUnlessKeep (record { 0 = x })) (λ x. refl) (λ x h. refl) (λ x. refl),
+                                                                                                                    (
+                                                                                                                      none_row within instr.Return refl refl,
+                                                                                                                      (
+                                                                                                                        none_row within instr.Yield refl refl,
+                                                                                                                        (
+                                                                                                                          none_row within instr.Delegate refl refl,
+                                                                                                                          (
+                                                                                                                            none_row within instr.Raise refl refl,
+                                                                                                                            (
+                                                                                                                              none_row within instr.RaiseFrom refl refl,
+                                                                                                                              (
+                                                                                                                                none_row within instr.RaiseAgain refl refl,
+                                                                                                                                (
+                                                                                                                                  none_row within instr.Match refl refl,
+                                                                                                                                  (
+                                                                                                                                    none_row within instr.Caught refl refl,
+                                                                                                                                    (
+                                                                                                                                      none_row within instr.EndHandler refl refl,
+                                                                                                                                      (
+                                                                                                                                        none_row within instr.Rethrow refl refl,
+                                                                                                                                        (
+                                                                                                                                          none_row within instr.Enter refl refl,
+                                                                                                                                          (
+                                                                                                                                            none_row within instr.Normal refl refl,
+                                                                                                                                            (
+                                                                                                                                              none_row within instr.Exit refl refl,
+                                                                                                                                              (
+                                                                                                                                                none_row within instr.EndFinally refl refl,
+                                                                                                                                                (
+                                                                                                                                                  one_row within operand.Number 72 (λ x. instr.Leave (record { 0 = x })) (λ x. refl) (λ x h. refl) (λ x. refl),
+                                                                                                                                                  (
+                                                                                                                                                    one_row within operand.Text 73 (λ x. instr.Import (record { 0 = x })) (λ x. refl) (λ x h. refl) (λ x. refl),
+                                                                                                                                                    (
+                                                                                                                                                      one_row within operand.Text 74 (λ x. instr.ImportName (record { 0 = x })) (λ x. refl) (λ x h. refl) (λ x. refl),
+                                                                                                                                                      (
+                                                                                                                                                        one_row within operand.Flag 75 (λ x. instr.AssertFail (flag_at x)) (λ x. refl) (λ x h. ap (λ n. n ∷ []) (flag_is x h)) (λ x. refl),
+                                                                                                                                                        (
+                                                                                                                                                          none_row within instr.TupleJoin refl refl,
+                                                                                                                                                          (
+                                                                                                                                                            none_row within instr.DictMerge refl refl,
+                                                                                                                                                            (
+                                                                                                                                                              none_row within instr.Super refl refl,
+                                                                                                                                                              (
+                                                                                                                                                                one_row within operand.Local 79 (λ x. instr.FreshLocal (record { 0 = x })) (λ x. refl) (λ x h. refl) (λ x. refl),
+                                                                                                                                                                (
+                                                                                                                                                                  one_row within operand.Cell 80 (λ x. instr.FreshCell (record { 0 = x })) (λ x. refl) (λ x h. refl) (λ x. refl),
+                                                                                                                                                                  tt,
+                                                                                                                                                                ),
+                                                                                                                                                              ),
+                                                                                                                                                            ),
+                                                                                                                                                          ),
+                                                                                                                                                        ),
+                                                                                                                                                      ),
+                                                                                                                                                    ),
+                                                                                                                                                  ),
+                                                                                                                                                ),
+                                                                                                                                              ),
+                                                                                                                                            ),
+                                                                                                                                          ),
+                                                                                                                                        ),
+                                                                                                                                      ),
+                                                                                                                                    ),
+                                                                                                                                  ),
+                                                                                                                                ),
+                                                                                                                              ),
+                                                                                                                            ),
+                                                                                                                          ),
+                                                                                                                        ),
+                                                                                                                      ),
+                                                                                                                    ),
+                                                                                                                  ),
+                                                                                                                ),
+                                                                                                              ),
+                                                                                                            ),
+                                                                                                          ),
+                                                                                                        ),
+                                                                                                      ),
+                                                                                                    ),
+                                                                                                  ),
+                                                                                                ),
+                                                                                              ),
+                                                                                            ),
+                                                                                          ),
+                                                                                        ),
+                                                                                      ),
+                                                                                    ),
+                                                                                  ),
+                                                                                ),
+                                                                              ),
+                                                                            ),
+                                                                          ),
+                                                                        ),
+                                                                      ),
+                                                                    ),
+                                                                  ),
+                                                                ),
+                                                              ),
+                                                            ),
+                                                          ),
+                                                        ),
+                                                      ),
+                                                    ),
+                                                  ),
+                                                ),
+                                              ),
+                                            ),
+                                          ),
+                                        ),
+                                      ),
+                                    ),
+                                  ),
+                                ),
+                              ),
+                            ),
+                          ),
+                        ),
+                      ),
+                    ),
+                  ),
+                ),
+              ),
+            ),
+          ),
+        ),
+      ),
+    ),
+  ),
+)
 
 row_at : (within : Within) (rows : List (Option (List Operand))) (from k number : ℕ) (os : List Operand) → Rows within from rows → number ≡ from + k → slice_index_or rows k None ≡ Some os → Row within number (Some os)
 row_at within [] from k number os all at e = absurd cc

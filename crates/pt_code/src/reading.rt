@@ -255,7 +255,11 @@ impl Readable for u32 {
 impl Readable for Seq<u32> {
     ghost reading = { λ within. list_at (below_at within.texts) };
 
-    fn read<'a>(alloc: Global, within: Within, bytes: &'a [u8]) -> Result<(Seq<u32>, &'a [u8]), Bad> {
+    fn read<'a>(
+        alloc: Global,
+        within: Within,
+        bytes: &'a [u8],
+    ) -> Result<(Seq<u32>, &'a [u8]), Bad> {
         list_of(alloc, within, bytes)
     }
 }
@@ -263,7 +267,11 @@ impl Readable for Seq<u32> {
 impl Readable for TextNo {
     ghost reading = { λ within. name_at within.texts };
 
-    fn read<'a>(_alloc: Global, within: Within, bytes: &'a [u8]) -> Result<(TextNo, &'a [u8]), Bad> {
+    fn read<'a>(
+        _alloc: Global,
+        within: Within,
+        bytes: &'a [u8],
+    ) -> Result<(TextNo, &'a [u8]), Bad> {
         name_at(within.texts, bytes)
     }
 }
@@ -287,7 +295,11 @@ impl Readable for Const {
 impl Readable for ActMark {
     ghost reading = { λ _. mark_at };
 
-    fn read<'a>(_alloc: Global, _within: Within, bytes: &'a [u8]) -> Result<(ActMark, &'a [u8]), Bad> {
+    fn read<'a>(
+        _alloc: Global,
+        _within: Within,
+        bytes: &'a [u8],
+    ) -> Result<(ActMark, &'a [u8]), Bad> {
         mark_at(bytes)
     }
 }
@@ -295,7 +307,11 @@ impl Readable for ActMark {
 impl Readable for Handler {
     ghost reading = { λ _. handler_at };
 
-    fn read<'a>(_alloc: Global, _within: Within, bytes: &'a [u8]) -> Result<(Handler, &'a [u8]), Bad> {
+    fn read<'a>(
+        _alloc: Global,
+        _within: Within,
+        bytes: &'a [u8],
+    ) -> Result<(Handler, &'a [u8]), Bad> {
         handler_at(bytes)
     }
 }
@@ -303,7 +319,11 @@ impl Readable for Handler {
 impl Readable for Start {
     ghost reading = { λ _. start_at };
 
-    fn read<'a>(_alloc: Global, _within: Within, bytes: &'a [u8]) -> Result<(Start, &'a [u8]), Bad> {
+    fn read<'a>(
+        _alloc: Global,
+        _within: Within,
+        bytes: &'a [u8],
+    ) -> Result<(Start, &'a [u8]), Bad> {
         start_at(bytes)
     }
 }
@@ -449,7 +469,11 @@ fn takes_arguments(kind: BlockKind) -> bool
 fn stands_first(first: bool, kind: BlockKind) -> bool
     ensures { result ≡ stands_first first kind }
 {
-    if first { is_module(kind) } else { !is_module(kind) }
+    if first {
+        is_module(kind)
+    } else {
+        !is_module(kind)
+    }
 }
 
 #[tactic(auto)]
@@ -637,11 +661,7 @@ fn bound(within: Within, operand: Operand) -> usize
 }
 
 /// The bytes behind the operands.
-fn operands_at<'a>(
-    within: Within,
-    operands: &[Operand],
-    bytes: &'a [u8],
-) -> Result<&'a [u8], Bad>
+fn operands_at<'a>(within: Within, operands: &[Operand], bytes: &'a [u8]) -> Result<&'a [u8], Bad>
     ensures { Gives (λ rest. rest.now) result (operands_at within operands.now bytes.now) }
 {
     let mut rest = bytes;
@@ -670,7 +690,6 @@ fn instr_at(within: Within, left: usize, bytes: &[u8]) -> Result<(&[u8], usize),
     let behind = operands_at(within, operands, rest)?;
     Ok((behind, left - width))
 }
-
 
 /// Goes through the instructions of so many bytes, each of which takes one at least.
 fn pass<'a>(within: Within, count: u32, bytes: &'a [u8]) -> Result<&'a [u8], Bad>

@@ -44,8 +44,7 @@ pub fn read(alloc: Global, bytes: &[u8]) -> Result<Code, CodeErr>
 /// No two codes have one file.
 pub fn one_code()
     ensures { (c d : Code) → HasFile c → HasFile d → file c ≡ file d → c ≡ d }
-{
-}
+{}
 
 #[tactic(auto, unfolding(crate::specs::Refusals::answer))]
 fn answer(alloc: Global, bytes: &[u8]) -> Result<Code, CodeErr>

@@ -131,3 +131,141 @@ fn a_function_with_tables(rt: HostRuntime) -> Result<(), Fail> {
     assert_eq!(rt; bytes.as_slice(), expected.as_slice());
     Ok(())
 }
+
+#[test]
+fn the_file_reads_and_writes_back(rt: HostRuntime) -> Result<(), Fail> {
+    let code = read(rt.alloc(), &RETURNS_NONE)?;
+    assert_eq!(rt; code.constants.as_slice(), [Const::None].as_slice());
+    let bytes = write(rt.alloc(), &code)?;
+    assert_eq!(rt; bytes.as_slice(), RETURNS_NONE.as_slice());
+    Ok(())
+}
+
+#[test]
+fn a_file_that_is_cut(rt: HostRuntime) {
+    for at in 0..79usize {
+        let cut = RETURNS_NONE.get(..at).unwrap_or_default();
+        assert_eq!(rt; refusal(rt.alloc(), cut), Some(CodeErr::Truncated { at }));
+    }
+}
+
+fn refusal(alloc: Global, bytes: &[u8]) -> Option<CodeErr> {
+    read(alloc, bytes).err()
+}
+
+/// The file with another byte at a place.
+fn changed(at: usize, byte: u8) -> [u8; 79] {
+    let mut bytes = RETURNS_NONE;
+    if let Some(place) = bytes.get_mut(at) {
+        *place = byte;
+    }
+    bytes
+}
+
+#[test]
+fn the_head_of_a_file(rt: HostRuntime) {
+    for at in 0..4usize {
+        assert_eq!(rt;
+            refusal(rt.alloc(), &changed(at, 0x51)),
+            Some(CodeErr::Magic)
+        );
+    }
+    let version = refusal(rt.alloc(), &changed(4, 2));
+    assert_eq!(rt; version, Some(CodeErr::Version { got: 2 }));
+}
+
+#[test]
+fn a_byte_that_makes_a_field_none(rt: HostRuntime) {
+    // The place of a byte, what it becomes, and the place of the field.
+    let rows = [
+        // a text that is not UTF-8
+        (13, 0xff, 9),
+        // no constant
+        (18, 6, 18),
+        // no block
+        (23, 0, 23),
+        // a name that is no text
+        (27, 1, 27),
+        // no kind, and a first block that is no module
+        (31, 5, 31),
+        (31, 1, 31),
+        // parameters of a module
+        (36, 1, 36),
+        (40, 1, 40),
+        (41, 1, 41),
+        // no flags
+        (40, 4, 40),
+        // no instructions
+        (57, 0, 57),
+        // no operation
+        (61, 81, 61),
+        // an instruction that passes the end
+        (57, 4, 61),
+        // an operand that is no constant
+        (62, 1, 62),
+    ];
+    for (at, byte, field) in rows {
+        let found = refusal(rt.alloc(), &changed(at, byte));
+        assert_eq!(rt; found, Some(CodeErr::Field { at: field }), "{byte} at {at}");
+    }
+}
+
+/// Bytes one behind the other.
+fn joined(alloc: Global, parts: &[&[u8]]) -> Result<Vec<u8>, Memory> {
+    let mut bytes = Vec::new(alloc);
+    for part in parts {
+        bytes.extend_from_slice(part)?;
+    }
+    Ok(bytes)
+}
+
+#[test]
+fn more_bytes_than_the_file(rt: HostRuntime) -> Result<(), Fail> {
+    let (head, tail) = RETURNS_NONE.split_at(27);
+    let two = changed(23, 2);
+    let (two, _) = two.split_at(27);
+    let function = {
+        let mut block = changed(31, 1);
+        block[36] = 1;
+        block
+    };
+    let (_, function) = function.split_at(27);
+    let (names, instructions) = RETURNS_NONE.split_at(57);
+    let (names, _) = names.split_at(53);
+    let (marks, tables) = RETURNS_NONE.split_at(71);
+    let (marks, _) = marks.split_at(67);
+    let mark: [u8; 17] = [1, 0, 0, 0, 0, 0, 0, 0, 0, 0, 0, 0, 0, 0, 0, 0, 2];
+    let rows: [(&[&[u8]], CodeErr); 5] = [
+        // a byte behind the last field
+        (&[head, tail, &[0]], CodeErr::Trailing { at: 79 }),
+        // a second module
+        (&[two, tail, tail], CodeErr::Field { at: 83 }),
+        // fewer locals than parameters
+        (&[two, tail, function], CodeErr::Field { at: 97 }),
+        // a free name in the module
+        (
+            &[names, &[1, 0, 0, 0, 0, 0, 0, 0], instructions],
+            CodeErr::Field { at: 53 },
+        ),
+        // a flag that is neither 0 nor 1
+        (&[marks, &mark, tables], CodeErr::Field { at: 83 }),
+    ];
+    for (parts, expected) in rows {
+        let bytes = joined(rt.alloc(), parts)?;
+        assert_eq!(rt; refusal(rt.alloc(), &bytes), Some(expected));
+    }
+    Ok(())
+}
+
+#[test]
+fn an_operand_past_its_table(rt: HostRuntime) {
+    // The number of an operation, and of how many its operand is one.
+    for (operation, count) in [(27, 3), (29, 12), (30, 12), (31, 10), (39, 3), (75, 2)] {
+        let mut bytes = changed(61, operation);
+        bytes[62] = count;
+        let found = refusal(rt.alloc(), &bytes);
+        assert_eq!(rt; found, Some(CodeErr::Field { at: 62 }), "{operation}");
+        bytes[62] = 0;
+        assert_eq!(rt; refusal(rt.alloc(), &bytes), None, "{operation}");
+    }
+}
