@@ -10,8 +10,8 @@ use Rattle.std.proofs.lemmas.Bool.Decides.{nat_tests}
 use Rattle.std.proofs.lemmas.List.{take_at, drop_at, take-append-drop, length-append, length-take, get_or-drop}
 use Rattle.std.proofs.lemmas.List.Concat.{flat_map-cons}
 use Rattle.std.proofs.lemmas.Str.{IsUtf8-from_is_utf8, is_utf8-from_IsUtf8}
-use Rattle.pt_code.specs.declared.reading.Bad.{Bad}
-use Rattle.pt_code.specs.declared.reading.Bad.TheVariants as bad
+use Rattle.pt_code.specs.declared.parts.Bad.{Bad}
+use Rattle.pt_code.specs.declared.parts.Bad.TheVariants as bad
 use Rattle.pt_code.specs.File.{number, listed, text, IsNumber, IsBelow, IsText, AreListed}
 use Rattle.pt_code.specs.Reading.{Read, ◌>>=◌, both, made, kept, number_at, below_at, items_at, list_at, taken_at, string_at, text_at}
 

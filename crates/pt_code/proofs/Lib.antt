@@ -1,7 +1,7 @@
-pub mod Blocks
+pub mod BlockLaws
 pub mod Codecs
-pub mod Fields
-pub mod Instructions
+pub mod FieldLaws
+pub mod InstructionLaws
 pub mod Integers
 pub mod Operations
 pub mod Rows

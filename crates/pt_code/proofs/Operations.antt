@@ -12,9 +12,9 @@ use Rattle.pt_instr.specs.declared.Conversion.TheVariants as conversion
 use Rattle.pt_instr.specs.declared.Instr.{Instr}
 use Rattle.pt_instr.specs.declared.Instr.TheVariants as instr
 use Rattle.pt_instr.specs.Encoding.{code_of, unary_number, binary_number, comparison_number, conversion_number}
-use Rattle.pt_code.specs.declared.reading.Within.{Within}
-use Rattle.pt_code.specs.declared.reading.Operand.{Operand}
-use Rattle.pt_code.specs.declared.reading.Operand.TheVariants as operand
+use Rattle.pt_code.specs.declared.parts.Within.{Within}
+use Rattle.pt_code.specs.declared.parts.Operand.{Operand}
+use Rattle.pt_code.specs.declared.parts.Operand.TheVariants as operand
 use Rattle.pt_code.specs.File.{operands, bound, AreBelow}
 use Rattle.pt_code.specs.Reading.{operations, operands_of}
 

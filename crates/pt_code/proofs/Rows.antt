@@ -2,9 +2,9 @@
 use Rattle.std.proofs.Common.{◌≡◌, ◌+◌, ◌-◌, ◌<◌, ℕ, suc, List, [], ◌∷◌, ◌++◌, refl, ap, ◌∙◌, arith, append_assoc}
 use Rattle.std.specs.Prelude.{Result, Ok, Err, Bool, false, nat_eq}
 use Rattle.std.proofs.lemmas.Bool.Decides.{nat_tests}
-use Rattle.pt_code.specs.declared.reading.Bad.{Bad}
-use Rattle.pt_code.specs.declared.reading.Bad.TheVariants as bad
-use Rattle.pt_code.specs.declared.reading.Within.{Within}
+use Rattle.pt_code.specs.declared.parts.Bad.{Bad}
+use Rattle.pt_code.specs.declared.parts.Bad.TheVariants as bad
+use Rattle.pt_code.specs.declared.parts.Within.{Within}
 use Rattle.pt_code.specs.Reading.{Read, Fails, items_at, with_front, instr_at, pass, ◌>>=◌}
 
 pub fails_on : {A B : Type 0} (e : Bad) (read : Result A Bad) (f : A → Result B Bad) → Fails e read → Fails e (read >>= f)

@@ -2,13 +2,13 @@
 use Rattle.std.proofs.Common.{◌≡◌, ℕ, List, Result, Ok, Err, refl, sym, ap, subst, ◌∙◌}
 use Rattle.std.specs.Prelude.{IfOk}
 use Rattle.pt_code.specs.declared.Code.{Code}
-use Rattle.pt_code.specs.declared.reading.Bad.{Bad}
+use Rattle.pt_code.specs.declared.parts.Bad.{Bad}
 use Rattle.pt_code.specs.declared.refusing.CodeErr.{CodeErr}
 use Rattle.pt_code.specs.File.{file, HasFile}
 use Rattle.pt_code.specs.Reading.{code_of}
 use Rattle.pt_code.specs.Refusals.{told, answer, Answers}
 use Rattle.pt_code.proofs.Codecs.{AreBytes, ok_is}
-use Rattle.pt_code.proofs.Blocks.{code_is, code_again}
+use Rattle.pt_code.proofs.BlockLaws.{code_is, code_again}
 
 abbrev given : Code → Result Code CodeErr
 given c = Ok c

@@ -18,12 +18,12 @@ use Rattle.pt_code.specs.declared.Rest.{Rest}
 use Rattle.pt_code.specs.declared.Start.{Start}
 use Rattle.pt_code.specs.declared.CodeBlock.{CodeBlock}
 use Rattle.pt_code.specs.declared.Code.{Code}
-use Rattle.pt_code.specs.declared.reading.Within.{Within}
-use Rattle.pt_code.specs.declared.reading.Signature.{Signature}
-use Rattle.pt_code.specs.declared.reading.Names.{Names}
-use Rattle.pt_code.specs.declared.reading.Tables.{Tables}
-use Rattle.pt_code.specs.declared.reading.Operand.{Operand}
-use Rattle.pt_code.specs.declared.reading.Operand.TheVariants as operand
+use Rattle.pt_code.specs.declared.parts.Within.{Within}
+use Rattle.pt_code.specs.declared.parts.Signature.{Signature}
+use Rattle.pt_code.specs.declared.parts.Names.{Names}
+use Rattle.pt_code.specs.declared.parts.Tables.{Tables}
+use Rattle.pt_code.specs.declared.parts.Operand.{Operand}
+use Rattle.pt_code.specs.declared.parts.Operand.TheVariants as operand
 
 unfoldable pub number : ℕ → List ℕ
 number n = to_le_bytes w32 n

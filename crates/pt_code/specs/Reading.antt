@@ -16,14 +16,14 @@ use Rattle.pt_code.specs.declared.Rest.{Rest}
 use Rattle.pt_code.specs.declared.Start.{Start}
 use Rattle.pt_code.specs.declared.CodeBlock.{CodeBlock}
 use Rattle.pt_code.specs.declared.Code.{Code}
-use Rattle.pt_code.specs.declared.reading.Bad.{Bad}
-use Rattle.pt_code.specs.declared.reading.Bad.TheVariants as bad
-use Rattle.pt_code.specs.declared.reading.Within.{Within}
-use Rattle.pt_code.specs.declared.reading.Signature.{Signature}
-use Rattle.pt_code.specs.declared.reading.Names.{Names}
-use Rattle.pt_code.specs.declared.reading.Tables.{Tables}
-use Rattle.pt_code.specs.declared.reading.Operand.{Operand}
-use Rattle.pt_code.specs.declared.reading.Operand.TheVariants as operand
+use Rattle.pt_code.specs.declared.parts.Bad.{Bad}
+use Rattle.pt_code.specs.declared.parts.Bad.TheVariants as bad
+use Rattle.pt_code.specs.declared.parts.Within.{Within}
+use Rattle.pt_code.specs.declared.parts.Signature.{Signature}
+use Rattle.pt_code.specs.declared.parts.Names.{Names}
+use Rattle.pt_code.specs.declared.parts.Tables.{Tables}
+use Rattle.pt_code.specs.declared.parts.Operand.{Operand}
+use Rattle.pt_code.specs.declared.parts.Operand.TheVariants as operand
 use Rattle.pt_code.specs.File.{bound, flags, stands_first, may_count, parameter_count, may_be_free, naming, inside}
 
 abbrev pub Read : Type 0 → Type 0

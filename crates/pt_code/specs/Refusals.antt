@@ -1,8 +1,8 @@
 -- What reading answers: the code of the file, or the first place at which the format fails.
 use Rattle.std.specs.Prelude.{◌≡◌, ◌-◌, ℕ, List, length, Result, Ok, Err}
 use Rattle.pt_code.specs.declared.Code.{Code}
-use Rattle.pt_code.specs.declared.reading.Bad.{Bad}
-use Rattle.pt_code.specs.declared.reading.Bad.TheVariants as bad
+use Rattle.pt_code.specs.declared.parts.Bad.{Bad}
+use Rattle.pt_code.specs.declared.parts.Bad.TheVariants as bad
 use Rattle.pt_code.specs.declared.refusing.CodeErr.{CodeErr}
 use Rattle.pt_code.specs.declared.refusing.CodeErr.TheVariants as err
 use Rattle.pt_code.specs.Reading.{code_of}

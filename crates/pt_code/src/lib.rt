@@ -1,6 +1,11 @@
 //! Code files: the code of a script as bytes, both ways.
 #![tactic(auto)]
 
+mod blocks;
+mod fields;
+mod instructions;
+mod lists;
+mod parts;
 mod reading;
 mod refusing;
 #[cfg(test)]

@@ -4,7 +4,8 @@ ghost use Rattle.pt_code.specs.File.{file, HasFile};
 ghost use Rattle.pt_code.specs.Refusals.{refusal, answer, Answers};
 
 use crate::Code;
-use crate::reading::{Bad, code_of};
+use crate::parts::Bad;
+use crate::reading::code_of;
 use std::alloc::Global;
 use thiserror::Error;
 

@@ -1,6 +1,6 @@
 use Rattle.std.proofs.Common.{◌≡◌, drop}
 use Rattle.pt_code.specs.Reading.{operands_at}
-use Rattle.pt_code.proofs.reading.operands_at.Given as goal
+use Rattle.pt_code.proofs.instructions.operands_at.Given as goal
 
 -- what the operands that are left give is what all give
 abbrev pub invariant-loop-operand : goal.invariant-loop-operand

@@ -2,7 +2,7 @@ use Rattle.std.proofs.Common.{◌≡◌, ◌-◌, ◌+◌, ap, subst, ◌∙◌}
 use Rattle.std.proofs.lemmas.Result.{err_from_is_err_and}
 use Rattle.pt_code.specs.Reading.{Fails, items_at, with_front}
 use Rattle.pt_code.proofs.Rows.{one_more, row_fails}
-use Rattle.pt_code.proofs.reading.items_behind.Goals as goal
+use Rattle.pt_code.proofs.lists.items_behind.Goals as goal
 
 pub loop-counter-preserved : goal.loop-counter-preserved
 loop-counter-preserved g c =

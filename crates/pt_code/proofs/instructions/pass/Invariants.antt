@@ -1,6 +1,6 @@
 use Rattle.std.proofs.Common.{◌≡◌, ◌-◌}
 use Rattle.pt_code.specs.Reading.{pass}
-use Rattle.pt_code.proofs.reading.pass.Given as goal
+use Rattle.pt_code.proofs.instructions.pass.Given as goal
 
 -- what passing the rest gives is what passing all gives
 abbrev pub invariant-loop-counter : goal.invariant-loop-counter

@@ -9,10 +9,10 @@ use Rattle.std.proofs.lemmas.List.Concat.{flat_map-cons}
 use Rattle.pt_instr.specs.declared.Instr.{Instr}
 use Rattle.pt_instr.specs.Encoding.{code_of, encoding, spelled}
 use Rattle.pt_instr.proofs.Codec.{length-spelled}
-use Rattle.pt_code.specs.declared.reading.Bad.{Bad}
-use Rattle.pt_code.specs.declared.reading.Bad.TheVariants as bad
-use Rattle.pt_code.specs.declared.reading.Within.{Within}
-use Rattle.pt_code.specs.declared.reading.Operand.{Operand}
+use Rattle.pt_code.specs.declared.parts.Bad.{Bad}
+use Rattle.pt_code.specs.declared.parts.Bad.TheVariants as bad
+use Rattle.pt_code.specs.declared.parts.Within.{Within}
+use Rattle.pt_code.specs.declared.parts.Operand.{Operand}
 use Rattle.pt_code.specs.File.{number, text, operands, bound, IsNumber, AreBelow, NamesAll, AreInstructions}
 use Rattle.pt_code.specs.Reading.{◌>>=◌, kept, number_at, below_at, taken_at, operands_of, operands_at, behind_operation, instr_at, pass, instructions_at}
 use Rattle.pt_code.proofs.Codecs.{AreBytes, rest_are, Takes, takes_then, bind_ok, ok_is, IsCodec, kept_codec, number_codec, below_codec, taken_codec}

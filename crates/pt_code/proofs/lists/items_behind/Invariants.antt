@@ -1,6 +1,6 @@
 use Rattle.std.proofs.Common.{◌≡◌, ◌-◌}
 use Rattle.pt_code.specs.Reading.{items_at, with_front}
-use Rattle.pt_code.proofs.reading.items_behind.Given as goal
+use Rattle.pt_code.proofs.lists.items_behind.Given as goal
 
 -- what is read in front of what reading the rest gives is what reading all gives
 abbrev pub invariant-loop-counter : goal.invariant-loop-counter
