@@ -22,8 +22,8 @@ use Rattle.pt_code.specs.declared.parts.Signature.{Signature}
 use Rattle.pt_code.specs.declared.parts.Names.{Names}
 use Rattle.pt_code.specs.declared.parts.Tables.{Tables}
 use Rattle.pt_code.specs.File.{number, listed, text, constant, kind_byte, flags, named, mark, handler, start, signature_of, names_of, tables_of, signature, names, tables, block, magic, file, IsNumber, IsBelow, AreListed, IsText, NamesText, IsConstant, IsMark, IsHandler, IsStart, stands_first, may_count, parameter_count, may_be_free, IsSignature, AreNames, AreInstructions, AreTables, naming, IsBlock, inside, AreBlocks, HasFile}
-use Rattle.pt_code.specs.Reading.{Read, ◌>>=◌, both, made, kept, number_at, below_at, byte_at, list_at, items_at, text_at, name_at, const_at, kind_at, rest_at, mark_at, handler_at, start_at, signature_at, names_at, tables_at, instructions_at, block_at, blocks_at, fields_at, behind_byte, behind_version, behind_magic, code_of}
-use Rattle.pt_code.proofs.Codecs.{AreBytes, rest_are, Takes, takes_then, bind_ok, guard_ok, ok_is, IsCodec, both_codec, made_codec, kept_codec, list_codec, items_codec, number_codec, below_codec, text_codec}
+use Rattle.pt_code.specs.Reading.{Read, ◌>>=◌, both, made, kept, number_at, below_at, byte_at, list_at, counted_at, items_at, text_at, name_at, const_at, kind_at, rest_at, mark_at, handler_at, start_at, signature_at, names_at, tables_at, instructions_at, block_at, blocks_at, fields_at, behind_byte, behind_version, behind_magic, code_of}
+use Rattle.pt_code.proofs.Codecs.{AreBytes, rest_are, Takes, takes_then, bind_ok, guard_ok, ok_is, IsCodec, both_codec, made_codec, kept_codec, list_codec, counted_codec as counted_list_codec, items_codec, number_codec, below_codec, text_codec}
 use Rattle.pt_code.proofs.FieldLaws.{number_then, name_codec, constant_codec, kind_codec, rest_codec, mark_codec, handler_codec, start_codec}
 use Rattle.pt_code.proofs.InstructionLaws.{instructions_codec, size_codec}
 
@@ -89,15 +89,15 @@ names_codec : (within : Within) (s : Signature) → IsCodec (AreNames within s) 
 unfolding names_at
 names_codec within s =
     made_codec {A = List TextNo × (List TextNo × List TextNo)} {B = Names}
-    (λ p. (AreListed (NamesText within.texts) p.0 × (nat_le (parameter_count s) (length p.0) ≡ true)) × (AreListed (NamesText within.texts) p.1.0 × (AreListed (NamesText within.texts) p.1.1 × (may_be_free s.kind p.1.1 ≡ true))))
+    (λ p. (AreListed (NamesText within.texts) p.0 × (nat_le (parameter_count s) (length p.0) ≡ true)) × (AreListed (NamesText within.texts) p.1.0 × (AreListed (NamesText within.texts) p.1.1 × (may_be_free s.kind (length p.1.1) ≡ true))))
     (λ p. listed named p.0 ++ (listed named p.1.0 ++ listed named p.1.1))
     (λ n. record { locals = n.0; cells = n.1.0; free = n.1.1 }) (λ n. (n.locals, (n.cells, n.free)))
-    (both (kept (λ l. nat_le (parameter_count s) (length l)) (list_at (name_at within.texts))) λ _. both (list_at (name_at within.texts)) λ _. kept (may_be_free s.kind) (list_at (name_at within.texts))) (λ n. refl) (λ p. refl)
-    (both_codec (λ l. AreListed (NamesText within.texts) l × (nat_le (parameter_count s) (length l) ≡ true)) (λ _ p. AreListed (NamesText within.texts) p.0 × (AreListed (NamesText within.texts) p.1 × (may_be_free s.kind p.1 ≡ true)))
-    (listed named) (λ p. listed named p.0 ++ listed named p.1) (kept (λ l. nat_le (parameter_count s) (length l)) (list_at (name_at within.texts))) (λ _. both (list_at (name_at within.texts)) λ _. kept (may_be_free s.kind) (list_at (name_at within.texts)))
-    (kept_codec (AreListed (NamesText within.texts)) (listed named) (λ l. nat_le (parameter_count s) (length l)) (list_at (name_at within.texts)) (texts_codec within.texts))
-    (λ _ _. both_codec (AreListed (NamesText within.texts)) (λ _ l. AreListed (NamesText within.texts) l × (may_be_free s.kind l ≡ true)) (listed named) (listed named) (list_at (name_at within.texts)) (λ _. kept (may_be_free s.kind) (list_at (name_at within.texts)))
-    (texts_codec within.texts) (λ _ _. kept_codec (AreListed (NamesText within.texts)) (listed named) (may_be_free s.kind) (list_at (name_at within.texts)) (texts_codec within.texts))))
+    (both (counted_at (nat_le (parameter_count s)) (name_at within.texts)) λ _. both (list_at (name_at within.texts)) λ _. counted_at (may_be_free s.kind) (name_at within.texts)) (λ n. refl) (λ p. refl)
+    (both_codec (λ l. AreListed (NamesText within.texts) l × (nat_le (parameter_count s) (length l) ≡ true)) (λ _ p. AreListed (NamesText within.texts) p.0 × (AreListed (NamesText within.texts) p.1 × (may_be_free s.kind (length p.1) ≡ true)))
+    (listed named) (λ p. listed named p.0 ++ listed named p.1) (counted_at (nat_le (parameter_count s)) (name_at within.texts)) (λ _. both (list_at (name_at within.texts)) λ _. counted_at (may_be_free s.kind) (name_at within.texts))
+    (counted_list_codec (NamesText within.texts) named (name_at within.texts) (nat_le (parameter_count s)) (name_codec within.texts))
+    (λ _ _. both_codec (AreListed (NamesText within.texts)) (λ _ l. AreListed (NamesText within.texts) l × (may_be_free s.kind (length l) ≡ true)) (listed named) (listed named) (list_at (name_at within.texts)) (λ _. counted_at (may_be_free s.kind) (name_at within.texts))
+    (texts_codec within.texts) (λ _ _. counted_list_codec (NamesText within.texts) named (name_at within.texts) (may_be_free s.kind) (name_codec within.texts))))
 
 abbrev spell_tables : Tables → List ℕ
 spell_tables t = listed mark t.marks ++ (listed handler t.handlers ++ listed start t.starts)

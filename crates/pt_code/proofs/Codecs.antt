@@ -13,7 +13,7 @@ use Rattle.std.proofs.lemmas.Str.{IsUtf8-from_is_utf8, is_utf8-from_IsUtf8}
 use Rattle.pt_code.specs.declared.parts.Bad.{Bad}
 use Rattle.pt_code.specs.declared.parts.Bad.TheVariants as bad
 use Rattle.pt_code.specs.File.{number, listed, text, IsNumber, IsBelow, IsText, AreListed}
-use Rattle.pt_code.specs.Reading.{Read, ◌>>=◌, both, made, kept, number_at, below_at, items_at, list_at, taken_at, string_at, text_at}
+use Rattle.pt_code.specs.Reading.{Read, ◌>>=◌, both, made, kept, number_at, below_at, items_at, list_at, counted_at, taken_at, string_at, text_at}
 
 abbrev pub AreBytes : List ℕ → Type 0
 AreBytes bytes = (i : ℕ) → get_or bytes i 0 < 256
@@ -160,6 +160,18 @@ list_codec {A} W s r c = record {
       let together = takes_then bytes (number a.0.0) a.0.1 (flat_map s x) rest one.0 two.0 in
       (subst (λ (k : ℕ). Takes bytes (number k ++ flat_map s x) rest) (sym two.1) together, (subst IsNumber (sym two.1) one.1, two.2));
   again = λ x rest w. ap (list_at r) (append_assoc (number (length x)) (flat_map s x) rest) ∙ rw (number_codec.again (length x) (flat_map s x ++ rest) w.0) (items_again W s r c x rest w.1);
+}
+
+-- a list whose count passes a test
+pub counted_codec : {A : Type 0} (W : A → Type 0) (s : A → List ℕ) (r : List ℕ → Read A) (test : ℕ → Bool) → IsCodec W s r → IsCodec {A = List A} (λ xs. AreListed W xs × (test (length xs) ≡ true)) (listed s) (counted_at test r)
+counted_codec {A} W s r test c = record {
+  takes = λ bytes x rest fits e.
+      let a = bind_ok (kept test number_at bytes) (λ count. items_at r count.0 count.1) (x, rest) e in
+      let one = (kept_codec IsNumber number test number_at number_codec).takes bytes a.0.0 a.0.1 fits a.1 in
+      let two = items_take W s r c a.0.0 a.0.1 (x, rest) one.0.rest_fits a.2 in
+      let together = takes_then bytes (number a.0.0) a.0.1 (flat_map s x) rest one.0 two.0 in
+      (subst (λ (k : ℕ). Takes bytes (number k ++ flat_map s x) rest) (sym two.1) together, ((subst IsNumber (sym two.1) one.1.0, two.2), subst (λ (k : ℕ). test k ≡ true) (sym two.1) one.1.1));
+  again = λ x rest w. ap (counted_at test r) (append_assoc (number (length x)) (flat_map s x) rest) ∙ rw ((kept_codec IsNumber number test number_at number_codec).again (length x) (flat_map s x ++ rest) (w.0.0, w.1)) (items_again W s r c x rest w.0.1);
 }
 
 below_from : (a b : ℕ) → nat_lt a b ≡ true → a < b

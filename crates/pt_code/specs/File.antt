@@ -241,8 +241,8 @@ abbrev pub parameter_count : Signature → ℕ
 parameter_count s = s.parameters + s.keyword_only + one_if s.rest.positional + one_if s.rest.named
 
 -- a module has no free names
-abbrev pub may_be_free : BlockKind → List TextNo → Bool
-may_be_free kind free = if is_module kind then nat_eq (length free) 0 else true
+abbrev pub may_be_free : BlockKind → (count : ℕ) → Bool
+may_be_free kind count = if is_module kind then nat_eq count 0 else true
 
 abbrev pub IsSignature : Within → Signature → Type 0
 IsSignature within s =
@@ -253,7 +253,7 @@ IsSignature within s =
 abbrev pub AreNames : Within → Signature → Names → Type 0
 AreNames within s n =
     (AreListed (NamesText within.texts) n.locals × (nat_le (parameter_count s) (length n.locals) ≡ true))
-    × (AreListed (NamesText within.texts) n.cells × (AreListed (NamesText within.texts) n.free × (may_be_free s.kind n.free ≡ true)))
+    × (AreListed (NamesText within.texts) n.cells × (AreListed (NamesText within.texts) n.free × (may_be_free s.kind (length n.free) ≡ true)))
 
 abbrev pub AreTables : Tables → Type 0
 AreTables t = AreListed IsMark t.marks × (AreListed IsHandler t.handlers × AreListed IsStart t.starts)

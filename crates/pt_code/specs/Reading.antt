@@ -95,6 +95,10 @@ items_at item (suc count) bytes = item bytes >>= λ first. items_at item count f
 abbrev pub list_at : {A : Type 0} → (List ℕ → Read A) → List ℕ → Read (List A)
 list_at item bytes = number_at bytes >>= λ count. items_at item count.0 count.1
 
+-- the same, where the count passes a test
+abbrev pub counted_at : {A : Type 0} → (ℕ → Bool) → (List ℕ → Read A) → List ℕ → Read (List A)
+counted_at test item bytes = kept test number_at bytes >>= λ count. items_at item count.0 count.1
+
 -- what is read in front of the rest
 abbrev pub with_front : {A : Type 0} → List A → Read (List A) → Read (List A)
 with_front front read = read >>= λ more. Ok (front ++ more.0, more.1)
@@ -151,7 +155,7 @@ signature_at within =
 unfoldable pub names_at : Within → Signature → List ℕ → Read Names
 names_at within s =
     made (λ n. record { locals = n.0; cells = n.1.0; free = n.1.1 })
-    (both (kept (λ l. nat_le (parameter_count s) (length l)) (list_at (name_at within.texts))) λ _. both (list_at (name_at within.texts)) λ _. kept (may_be_free s.kind) (list_at (name_at within.texts)))
+    (both (counted_at (nat_le (parameter_count s)) (name_at within.texts)) λ _. both (list_at (name_at within.texts)) λ _. counted_at (may_be_free s.kind) (name_at within.texts))
 
 unfoldable pub tables_at : List ℕ → Read Tables
 tables_at = made (λ t. record { marks = t.0; handlers = t.1.0; starts = t.1.1 }) (both (list_at mark_at) λ _. both (list_at handler_at) λ _. list_at start_at)

@@ -1,10 +1,10 @@
-ghost use Rattle.std.specs.Prelude.{◌≡◌, length, nat_le, IfOk, IfErr};
+ghost use Rattle.std.specs.Prelude.{◌≡◌, nat_le, IfOk, IfErr};
 ghost use Rattle.pt_code.specs.File.{flags, is_module, stands_first, takes_arguments, may_count, parameter_count, may_be_free, naming, inside};
-ghost use Rattle.pt_code.specs.Reading.{Gives, kept, list_at, number_at, name_at, kind_at, rest_at, signature_at, names_at, tables_at, block_at, blocks_at};
+ghost use Rattle.pt_code.specs.Reading.{Gives, kept, counted_at, list_at, number_at, name_at, kind_at, rest_at, signature_at, names_at, tables_at, block_at, blocks_at};
 
 use crate::fields::{kind_at, name_at, number_at, rest_at, size_at};
 use crate::instructions::instructions_at;
-use crate::lists::{Readable, items_behind, list_of, push};
+use crate::lists::{Readable, items_behind, items_of, list_of, push};
 use crate::parts::{Bad, Names, Signature, Tables, Within};
 use crate::{BlockKind, CodeBlock, Rest, Start};
 use pt_base::{Line, Seq};
@@ -107,35 +107,37 @@ fn parameter_count(s: &Signature) -> usize
         + usize::from(s.rest.named)
 }
 
+/// The names of the locals, as many as there are parameters at least.
 fn locals_at<'a>(
     alloc: Global,
     within: Within,
     parameters: usize,
     bytes: &'a [u8],
 ) -> Result<(Seq<TextNo>, &'a [u8]), Bad>
-    ensures { Gives (λ x. (x.0, x.1.now)) result (kept (λ l. nat_le parameters (length l)) (list_at (name_at within.texts)) bytes.now) }
+    ensures { Gives (λ x. (x.0, x.1.now)) result (counted_at (nat_le parameters) (name_at within.texts) bytes.now) }
 {
-    let (locals, rest) = list_of::<TextNo>(alloc, within, bytes)?;
-    if parameters <= locals.len() {
-        Ok((locals, rest))
+    let (count, rest) = number_at(bytes)?;
+    if parameters <= count as usize {
+        items_of(alloc, count, within, rest)
     } else {
         Err(Bad::Field(bytes.len()))
     }
 }
 
+/// The free names, of which a module has none.
 fn free_at<'a>(
     alloc: Global,
     within: Within,
     kind: BlockKind,
     bytes: &'a [u8],
 ) -> Result<(Seq<TextNo>, &'a [u8]), Bad>
-    ensures { Gives (λ x. (x.0, x.1.now)) result (kept (may_be_free kind) (list_at (name_at within.texts)) bytes.now) }
+    ensures { Gives (λ x. (x.0, x.1.now)) result (counted_at (may_be_free kind) (name_at within.texts) bytes.now) }
 {
-    let (free, rest) = list_of::<TextNo>(alloc, within, bytes)?;
-    if is_module(kind) && free.len() != 0 {
+    let (count, rest) = number_at(bytes)?;
+    if is_module(kind) && count != 0 {
         Err(Bad::Field(bytes.len()))
     } else {
-        Ok((free, rest))
+        items_of(alloc, count, within, rest)
     }
 }
 

@@ -34,7 +34,7 @@ pub fn list_of<'a, T: Readable>(
     items_of(alloc, count, within, rest)
 }
 
-fn items_of<'a, T: Readable>(
+pub fn items_of<'a, T: Readable>(
     alloc: Global,
     count: u32,
     within: Within,

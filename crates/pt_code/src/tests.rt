@@ -195,6 +195,8 @@ fn a_byte_that_makes_a_field_none(rt: HostRuntime) {
         (41, 1, 41),
         // no flags
         (40, 4, 40),
+        // a free name in the module, which is no text either
+        (53, 1, 53),
         // no instructions
         (57, 0, 57),
         // no operation
