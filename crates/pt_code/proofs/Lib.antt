@@ -1,0 +1,9 @@
+pub mod BlockLaws
+pub mod Codecs
+pub mod FieldLaws
+pub mod InstructionLaws
+pub mod Integers
+pub mod Operations
+pub mod Rows
+pub mod Spelled
+pub mod Whole
