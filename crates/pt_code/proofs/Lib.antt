@@ -7,3 +7,4 @@ pub mod Operations
 pub mod Rows
 pub mod Spelled
 pub mod Whole
+pub mod OneView

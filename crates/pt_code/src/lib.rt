@@ -10,12 +10,14 @@ mod reading;
 mod refusing;
 #[cfg(test)]
 mod tests;
+mod view;
 mod writing;
 
 use pt_base::{Line, Pc, Seq, Text};
 use pt_instr::TextNo;
 use pt_ranges::{ActMark, Handler};
 pub use refusing::{CodeErr, one_code, read};
+pub use view::one_view;
 pub use writing::write;
 
 /// A constant of the code.
