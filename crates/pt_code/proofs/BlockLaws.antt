@@ -1,5 +1,5 @@
 -- Blocks and whole codes are read as they are spelled.
-use Rattle.std.proofs.Common.{◌≡◌, ℕ, zero, suc, ◌+◌, ◌-◌, ◌<◌, ◌^◌, Bool, true, false, cond, List, [], ◌∷◌, ◌++◌, length, Result, Ok, Err, refl, sym, ap, subst, ◌∙◌, append_assoc, append-nil, arith}
+use Rattle.std.proofs.Common.{◌≡◌, ℕ, suc, ◌-◌, ◌<◌, true, false, cond, List, [], ◌∷◌, ◌++◌, length, Ok, Err, refl, sym, ap, subst, ◌∙◌, append_assoc, append-nil, arith}
 use Rattle.std.specs.Prelude.{nat_lt, nat_le, nat_eq}
 use Rattle.std.specs.List.{flat_map, AllByRecursion}
 use Rattle.std.proofs.lemmas.Bool.{eqb-true}
@@ -15,15 +15,14 @@ use Rattle.pt_code.specs.declared.Rest.{Rest}
 use Rattle.pt_code.specs.declared.Start.{Start}
 use Rattle.pt_code.specs.declared.CodeBlock.{CodeBlock}
 use Rattle.pt_code.specs.declared.Code.{Code}
-use Rattle.pt_code.specs.declared.parts.Bad.{Bad}
 use Rattle.pt_code.specs.declared.parts.Bad.TheVariants as bad
 use Rattle.pt_code.specs.declared.parts.Within.{Within}
 use Rattle.pt_code.specs.declared.parts.Signature.{Signature}
 use Rattle.pt_code.specs.declared.parts.Names.{Names}
 use Rattle.pt_code.specs.declared.parts.Tables.{Tables}
 use Rattle.pt_code.specs.File.{number, listed, text, constant, kind_byte, flags, named, mark, handler, start, signature_of, names_of, tables_of, signature, names, tables, block, magic, file, IsNumber, IsBelow, AreListed, IsText, NamesText, IsConstant, IsMark, IsHandler, IsStart, stands_first, may_count, parameter_count, may_be_free, IsSignature, AreNames, AreInstructions, AreTables, naming, IsBlock, inside, AreBlocks, HasFile}
-use Rattle.pt_code.specs.Reading.{Read, ◌>>=◌, both, made, kept, number_at, below_at, byte_at, list_at, counted_at, items_at, text_at, name_at, const_at, kind_at, rest_at, mark_at, handler_at, start_at, signature_at, names_at, tables_at, instructions_at, block_at, blocks_at, fields_at, behind_byte, behind_version, behind_magic, code_of}
-use Rattle.pt_code.proofs.Codecs.{AreBytes, rest_are, Takes, takes_then, bind_ok, guard_ok, ok_is, IsCodec, both_codec, made_codec, kept_codec, list_codec, counted_codec as counted_list_codec, items_codec, number_codec, below_codec, text_codec}
+use Rattle.pt_code.specs.Reading.{Read, ◌>>=◌, both, kept, number_at, below_at, byte_at, list_at, counted_at, items_at, text_at, name_at, const_at, kind_at, rest_at, mark_at, handler_at, start_at, signature_at, names_at, tables_at, instructions_at, block_at, blocks_at, fields_at, behind_byte, behind_version, behind_magic, code_of}
+use Rattle.pt_code.proofs.Codecs.{AreBytes, Takes, takes_then, bind_ok, guard_ok, ok_is, IsCodec, both_codec, made_codec, kept_codec, list_codec, counted_codec as counted_list_codec, items_codec, number_codec, below_codec, text_codec}
 use Rattle.pt_code.proofs.FieldLaws.{number_then, name_codec, constant_codec, kind_codec, rest_codec, mark_codec, handler_codec, start_codec}
 use Rattle.pt_code.proofs.InstructionLaws.{instructions_codec, size_codec}
 

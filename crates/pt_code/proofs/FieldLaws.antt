@@ -1,5 +1,5 @@
 -- The fields of a code file that are no lists: each is read as it is spelled.
-use Rattle.std.proofs.Common.{◌≡◌, ℕ, zero, suc, ℤ, ◌<◌, ◌^◌, Bool, true, false, List, [], ◌∷◌, ◌++◌, length, Result, Ok, Err, refl, sym, ap, subst, ◌∙◌, arith, FitsSigned}
+use Rattle.std.proofs.Common.{◌≡◌, ℕ, zero, suc, ℤ, Bool, true, false, List, [], ◌∷◌, ◌++◌, Ok, refl, sym, ap, subst, ◌∙◌, arith, FitsSigned}
 use Rattle.std.specs.Int.{w128, from_le_bytes, to_le_bytes, cast_signed, cast_unsigned}
 use Rattle.std.proofs.lemmas.Int.{to_z-of_z, of_z-to_z}
 use Rattle.std.proofs.Math.Facts.{sfits_to_z, Fits-of_lt, Fits-of_z}
@@ -13,8 +13,8 @@ use Rattle.pt_code.specs.declared.BlockKind.TheVariants as kind
 use Rattle.pt_code.specs.declared.Rest.{Rest}
 use Rattle.pt_code.specs.declared.Start.{Start}
 use Rattle.pt_code.specs.File.{number, integer, one_if, constant, kind_byte, flags, named, mark, handler, start, IsNumber, IsBelow, NamesText, IsConstant, IsMark, IsHandler, IsStart}
-use Rattle.pt_code.specs.Reading.{Read, both, made, number_at, below_at, flag_at, start_at, mark_at, handler_at, name_at, taken_at, integer_at, const_at, kind_at, rest_at}
-use Rattle.pt_code.proofs.Codecs.{AreBytes, rest_are, Takes, takes_then, bind_ok, ok_is, IsCodec, same_codec, both_codec, made_codec, number_codec, below_codec, taken_codec}
+use Rattle.pt_code.specs.Reading.{Read, both, number_at, below_at, flag_at, start_at, mark_at, handler_at, name_at, taken_at, integer_at, const_at, kind_at, rest_at}
+use Rattle.pt_code.proofs.Codecs.{AreBytes, rest_are, Takes, bind_ok, ok_is, IsCodec, both_codec, made_codec, number_codec, below_codec, taken_codec}
 use Rattle.pt_code.proofs.Integers.{le_bytes_16, from_le_bytes_small, from_le_bytes-to_le_bytes_16}
 
 -- a number in front

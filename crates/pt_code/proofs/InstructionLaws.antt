@@ -1,10 +1,10 @@
 -- Instructions in a row are read as they are spelled.
-use Rattle.std.proofs.Common.{◌≡◌, ℕ, zero, suc, ◌+◌, ◌-◌, ◌*◌, ◌^◌, ◌<◌, ◌≤◌, Bool, true, false, cond, List, [], ◌∷◌, ◌++◌, length, take, drop, Option, Some, None, Result, Ok, Err, refl, sym, ap, subst, ◌∙◌, append_assoc, append-nil, arith}
+use Rattle.std.proofs.Common.{◌≡◌, ℕ, zero, suc, ◌+◌, ◌-◌, ◌*◌, ◌<◌, ◌≤◌, Bool, true, false, cond, List, [], ◌∷◌, ◌++◌, length, take, Option, Some, None, Result, Ok, Err, refl, sym, ap, subst, ◌∙◌, append_assoc, arith}
 use Rattle.std.specs.Prelude.{nat_lt, nat_eq}
 use Rattle.std.specs.List.{flat_map, AllByRecursion}
-use Rattle.std.proofs.lemmas.Bool.{ltb-false, le-ltb, eqb-true}
+use Rattle.std.proofs.lemmas.Bool.{ltb-false, le-ltb}
 use Rattle.std.proofs.lemmas.Bool.Decides.{nat_tests}
-use Rattle.std.proofs.lemmas.List.{take_at, drop_at, length-append}
+use Rattle.std.proofs.lemmas.List.{take_at, length-append}
 use Rattle.std.proofs.lemmas.List.Concat.{flat_map-cons}
 use Rattle.pt_instr.specs.declared.Instr.{Instr}
 use Rattle.pt_instr.specs.Encoding.{code_of, encoding, spelled}
@@ -16,7 +16,7 @@ use Rattle.pt_code.specs.declared.parts.Operand.{Operand}
 use Rattle.pt_code.specs.File.{number, text, operands, bound, IsNumber, AreBelow, NamesAll, AreInstructions}
 use Rattle.pt_code.specs.Reading.{◌>>=◌, kept, number_at, below_at, taken_at, operands_of, operands_at, behind_operation, instr_at, pass, instructions_at}
 use Rattle.pt_code.proofs.Codecs.{AreBytes, rest_are, Takes, takes_then, bind_ok, ok_is, IsCodec, kept_codec, number_codec, below_codec, taken_codec}
-use Rattle.pt_code.proofs.Operations.{IsInstr, operation_is, operands_again}
+use Rattle.pt_code.proofs.Operations.{operation_is, operands_again}
 
 as_many : (within : Within) (os : List Operand) (xs : List ℕ) → AreBelow within os xs → length os ≡ length xs
 as_many within [] [] below = refl

@@ -1,5 +1,5 @@
 -- Each operation with operands that are below their bounds is an instruction, and each instruction is one.
-use Rattle.std.proofs.Common.{◌≡◌, ℕ, zero, suc, ◌+◌, ◌<◌, Bool, true, false, cond, List, [], ◌∷◌, length, Option, Some, None, refl, sym, ap, subst, ◌∙◌, arith}
+use Rattle.std.proofs.Common.{◌≡◌, ℕ, zero, suc, ◌+◌, ◌<◌, Bool, true, false, cond, List, [], ◌∷◌, Option, Some, None, refl, sym, ap, subst, arith}
 use Rattle.std.specs.Prelude.{slice_index_or}
 use Rattle.pt_base.specs.declared.operators.UnOp.{UnOp}
 use Rattle.pt_base.specs.declared.operators.UnOp.TheVariants as unary

@@ -1,6 +1,6 @@
 -- A code file: the bytes of a code. Numbers have four bytes, the least first. A list is its count
 -- and its items, a text the count of its bytes and they.
-use Rattle.std.specs.Prelude.{◌≡◌, ◌<◌, ◌+◌, ◌*◌, ◌^◌, ℕ, ℤ, Bool, true, false, nat_lt, nat_le, nat_eq, List, [], ◌∷◌, ◌++◌, length, if◌then◌else◌, FitsSigned}
+use Rattle.std.specs.Prelude.{◌≡◌, ◌<◌, ◌+◌, ◌*◌, ◌^◌, ℕ, ℤ, Bool, true, false, nat_le, nat_eq, List, [], ◌∷◌, ◌++◌, length, if◌then◌else◌, FitsSigned}
 use Rattle.std.specs.List.{flat_map, AllByRecursion}
 use Rattle.std.specs.Int.{w32, w128, to_le_bytes, cast_unsigned}
 use Rattle.std.specs.Str.{IsUtf8}

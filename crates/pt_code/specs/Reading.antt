@@ -2,9 +2,6 @@
 use Rattle.std.specs.Prelude.{◌≡◌, ◌+◌, ◌*◌, ◌-◌, ℕ, zero, suc, Bool, true, false, nat_lt, nat_le, nat_eq, ℤ, List, [], ◌∷◌, ◌++◌, length, take, drop, if◌then◌else◌, Result, Ok, Err, Option, Some, None, slice_index_or}
 use Rattle.std.specs.Int.{w32, w128, from_le_bytes, cast_signed}
 use Rattle.std.specs.Str.{is_utf8}
-use Rattle.pt_base.specs.declared.numbers.Pc.{Pc}
-use Rattle.pt_base.specs.declared.numbers.Line.{Line}
-use Rattle.pt_base.specs.declared.numbers.ActNo.{ActNo}
 use Rattle.pt_ranges.specs.declared.lines.ActMark.{ActMark}
 use Rattle.pt_ranges.specs.declared.handlers.Handler.{Handler}
 use Rattle.pt_instr.specs.declared.TextNo.{TextNo}

@@ -212,50 +212,50 @@ fn a_byte_that_makes_a_field_none(rt: HostRuntime) {
     }
 }
 
-/// Bytes one behind the other.
-fn joined(alloc: Global, parts: &[&[u8]]) -> Result<Vec<u8>, Memory> {
+/// What reading bytes one behind the other answers.
+fn refusal_of(
+    alloc: Global,
+    front: &[u8],
+    middle: &[u8],
+    back: &[u8],
+) -> Result<Option<CodeErr>, Memory> {
     let mut bytes = Vec::new(alloc);
-    for part in parts {
-        bytes.extend_from_slice(part)?;
-    }
-    Ok(bytes)
+    bytes.extend_from_slice(front)?;
+    bytes.extend_from_slice(middle)?;
+    bytes.extend_from_slice(back)?;
+    Ok(refusal(alloc, &bytes))
 }
 
 #[test]
-fn more_bytes_than_the_file(rt: HostRuntime) -> Result<(), Fail> {
-    let (head, tail) = RETURNS_NONE.split_at(27);
-    let two = changed(23, 2);
-    let (two, _) = two.split_at(27);
-    let function = {
-        let mut block = changed(31, 1);
-        block[36] = 1;
-        block
-    };
-    let (_, function) = function.split_at(27);
-    let (names, instructions) = RETURNS_NONE.split_at(57);
-    let (names, _) = names.split_at(53);
-    let (marks, tables) = RETURNS_NONE.split_at(71);
-    let (marks, _) = marks.split_at(67);
-    let mark: [u8; 17] = [1, 0, 0, 0, 0, 0, 0, 0, 0, 0, 0, 0, 0, 0, 0, 0, 2];
-    let rows: [(&[&[u8]], CodeErr); 5] = [
-        // a byte behind the last field
-        (&[head, tail, &[0]], CodeErr::Trailing { at: 79 }),
-        // a second module
-        (&[two, tail, tail], CodeErr::Field { at: 83 }),
-        // fewer locals than parameters
-        (&[two, tail, function], CodeErr::Field { at: 97 }),
-        // a free name in the module
-        (
-            &[names, &[1, 0, 0, 0, 0, 0, 0, 0], instructions],
-            CodeErr::Field { at: 53 },
-        ),
-        // a flag that is neither 0 nor 1
-        (&[marks, &mark, tables], CodeErr::Field { at: 83 }),
-    ];
-    for (parts, expected) in rows {
-        let bytes = joined(rt.alloc(), parts)?;
-        assert_eq!(rt; refusal(rt.alloc(), &bytes), Some(expected));
-    }
+fn a_byte_behind_the_file(rt: HostRuntime) -> Result<(), Fail> {
+    let found = refusal_of(rt.alloc(), &RETURNS_NONE, &[0], &[])?;
+    assert_eq!(rt; found, Some(CodeErr::Trailing { at: 79 }));
+    Ok(())
+}
+
+#[test]
+fn a_second_block(rt: HostRuntime) -> Result<(), Fail> {
+    let module = changed(23, 2);
+    let mut function = changed(31, 1);
+    let again = refusal_of(rt.alloc(), &module, &[], &RETURNS_NONE[27..])?;
+    assert_eq!(rt; again, Some(CodeErr::Field { at: 83 }));
+    let two = refusal_of(rt.alloc(), &module, &[], &function[27..])?;
+    assert_eq!(rt; two, None);
+    // A parameter, of which no local has the name.
+    function[36] = 1;
+    let nameless = refusal_of(rt.alloc(), &module, &[], &function[27..])?;
+    assert_eq!(rt; nameless, Some(CodeErr::Field { at: 97 }));
+    Ok(())
+}
+
+#[test]
+fn a_mark_with_another_flag(rt: HostRuntime) -> Result<(), Fail> {
+    let (front, back) = (&RETURNS_NONE[..67], &RETURNS_NONE[71..]);
+    let mut mark = [1, 0, 0, 0, 0, 0, 0, 0, 0, 0, 0, 0, 0, 0, 0, 0, 1];
+    assert_eq!(rt; refusal_of(rt.alloc(), front, &mark, back)?, None);
+    mark[16] = 2;
+    let found = refusal_of(rt.alloc(), front, &mark, back)?;
+    assert_eq!(rt; found, Some(CodeErr::Field { at: 83 }));
     Ok(())
 }
 

@@ -1,6 +1,6 @@
-use Rattle.std.proofs.Common.{sym, subst, ◌∙◌, ◌-◌}
+use Rattle.std.proofs.Common.{sym, subst, ◌∙◌}
 use Rattle.std.proofs.lemmas.Result.{err_from_is_err_and}
-use Rattle.pt_code.specs.Reading.{Fails, pass}
+use Rattle.pt_code.specs.Reading.{Fails}
 use Rattle.pt_code.proofs.Rows.{passed, pass_fails}
 use Rattle.pt_code.proofs.instructions.pass.Goals as goal
 

@@ -1,4 +1,4 @@
-use Rattle.std.proofs.Common.{◌≡◌, ◌-◌, ◌+◌, ap, subst, ◌∙◌}
+use Rattle.std.proofs.Common.{◌-◌, ◌+◌, ap, subst, ◌∙◌}
 use Rattle.std.proofs.lemmas.Result.{err_from_is_err_and}
 use Rattle.pt_code.specs.Reading.{Fails, items_at, with_front}
 use Rattle.pt_code.proofs.Rows.{one_more, row_fails}
