@@ -1,6 +1,6 @@
 -- Code as a view, for what runs it: what stands at each place of a block, the act that begins there and the handler
 -- rows that cover it. Bytes and tables are left behind (Library Reference, "dis").
-use Rattle.std.specs.Prelude.{◌≡◌, ◌+◌, ℕ, List, [], ◌∷◌, Bool, nat_eq, find, length, if◌then◌else◌, Option, None, Some}
+use Rattle.std.specs.Prelude.{◌≡◌, ◌+◌, ℕ, List, [], ◌∷◌, nat_eq, find, length, if◌then◌else◌, Option, None, Some}
 use Rattle.std.specs.List.{flat_map, filter, AllByRecursion}
 use Rattle.pt_instr.specs.declared.Instr.{Instr}
 use Rattle.pt_instr.specs.Encoding.{encoding, Fits}
