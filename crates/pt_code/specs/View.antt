@@ -21,7 +21,7 @@ ins_at b pc i = record {
   instr = i;
   mark = find (λ m. nat_eq m.pc.0 pc) b.marks;
   next = pc + length (encoding i);
-  rows = filter (λ row. covers row (record { 0 = pc })) b.handlers
+  rows = filter (λ row. covers row (record { 0 = pc })) b.handlers;
 }
 
 -- what stands at a place of instructions, of which the first stands at `at`
