@@ -10,9 +10,9 @@ use Rattle.pt_base.specs.declared.what.What.TheVariants.{Integer, Length, Featur
 use Rattle.pt_meaning.specs.declared.value.Value.{Value}
 use Rattle.pt_meaning.specs.declared.value.Value.TheVariants as value
 use Rattle.pt_meaning.specs.declared.value.ExceptionClass.TheVariants.{NameError, TypeError}
-use Rattle.pt_tree.specs.Syntax as S
-use Rattle.pt_tree.specs.Syntax.{Constant}
-use Rattle.pt_tree.specs.Turn.{Ask, Answer, Seek, const, load, binary, call, Deed, store, discard, seek, deed, got, raised}
+use Rattle.pt_straight.specs.Syntax as S
+use Rattle.pt_straight.specs.Syntax.{Constant}
+use Rattle.pt_straight.specs.Turn.{Ask, Answer, Seek, const, load, binary, call, Deed, store, discard, seek, deed, got, raised}
 use Rattle.pt_meaning.specs.Run.{Outcome, goes, leaves, Host}
 
 -- the value of each bound name (Language Reference 4.2)

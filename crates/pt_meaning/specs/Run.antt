@@ -1,10 +1,10 @@
 -- The run of a script, under a bound on acts (Language Reference 4; bounded evaluation).
 use Rattle.std.specs.Prelude.{ℕ, suc}
 use Rattle.pt_base.specs.declared.what.What.{What}
-use Rattle.pt_tree.specs.Syntax.{Stms}
-use Rattle.pt_tree.specs.Turn.{Ask, Answer, Reply, End, Turn, act, over}
-use Rattle.pt_tree.specs.Nest as N
-use Rattle.pt_tree.specs.Nest.{Control}
+use Rattle.pt_straight.specs.Syntax.{Stms}
+use Rattle.pt_straight.specs.Turn.{Ask, Answer, Reply, End, Turn, act, over}
+use Rattle.pt_straight.specs.Nest as N
+use Rattle.pt_straight.specs.Nest.{Control}
 
 -- what comes of an ask: a reply and the world after it, or the run leaves the profile of the language
 pub data Outcome (V A W : Type 0) : Type 0 where

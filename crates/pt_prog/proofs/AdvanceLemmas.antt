@@ -5,7 +5,7 @@ use Rattle.pt_base.specs.declared.what.What.{What}
 use Rattle.pt_base.specs.declared.numbers.Line.{Line}
 use Rattle.pt_base.specs.Taken.{Pieces, Takes, TakesFront}
 use Rattle.pt_base.proofs.TakenLemmas.{takes_nothing, front_of_more, front_of_none}
-use Rattle.pt_tree.specs.Turn.{left_by, Turn}
+use Rattle.pt_straight.specs.Turn.{left_by, Turn}
 use Rattle.pt_meaning.specs.declared.value.Value.{Value}
 use Rattle.pt_meaning.specs.declared.value.Value.TheVariants.{Exception}
 use Rattle.pt_meaning.specs.declared.value.ExceptionClass.{ExceptionClass}

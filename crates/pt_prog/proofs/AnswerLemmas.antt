@@ -2,8 +2,8 @@
 use Rattle.std.proofs.Common.{◌≡◌, ◌≤◌, ℕ, List, Option, Some, None, Result, Ok, Err, length, refl, sym, ap, ◌∙◌, subst, arith}
 use Rattle.std.specs.Prelude.{IfOk, OnErr}
 use Rattle.pt_base.specs.Taken.{Pieces}
-use Rattle.pt_tree.specs.Syntax.{Stms, all_size}
-use Rattle.pt_tree.specs.Turn.{done, left_by}
+use Rattle.pt_straight.specs.Syntax.{Stms, all_size}
+use Rattle.pt_straight.specs.Turn.{done, left_by}
 use Rattle.pt_meaning.specs.declared.value.Value.{Value}
 use Rattle.pt_meaning.specs.Run.{Ending, ended, outside, spent}
 use Rattle.pt_meaning.specs.Host.{World, host, start_world}

@@ -1,8 +1,8 @@
 -- Statements that are compiled one after another.
 use Rattle.std.proofs.Common.{◌≡◌, ◌<◌, ℕ, ◌+◌, List, length, get_or, drop, refl, add-one}
 use Rattle.std.proofs.Math.Seq.{drop-cons}
-use Rattle.pt_tree.specs.declared.tree.Stmt.{Stmt}
-use Rattle.pt_tree.specs.Fold.{stm_of, stms_of}
+use Rattle.pt_straight.specs.declared.tree.Stmt.{Stmt}
+use Rattle.pt_straight.specs.Fold.{stm_of, stms_of}
 use Rattle.pt_prog.specs.declared.code.Code.{Code}
 use Rattle.pt_prog.specs.Layout.{lay_stm, lay_all}
 

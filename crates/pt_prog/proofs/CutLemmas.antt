@@ -8,8 +8,8 @@ use Rattle.std.specs.Str.Parse.{AllDigits}
 use Rattle.std.proofs.lemmas.Bool.Decides.{nat_tests}
 use Rattle.std.proofs.lemmas.List.Sums.{prefix_len-le-length}
 use Rattle.std.proofs.lemmas.Fmt.{decimal_is_IsNumeral_wide}
-use Rattle.pt_tree.specs.Syntax as S
-use Rattle.pt_tree.specs.Syntax.{Exp}
+use Rattle.pt_straight.specs.Syntax as S
+use Rattle.pt_straight.specs.Syntax.{Exp}
 use Rattle.pt_prog.specs.Spelling.{is_reserved, is_name, is_name_byte, is_text_byte, quoted, IsItem, spelled, continued}
 use Rattle.pt_prog.specs.Reading.{item_len}
 use Rattle.pt_prog.proofs.NumberLemmas.{small}

@@ -1,11 +1,11 @@
 -- One step of the code for one of control by the syntax.
 use Rattle.std.proofs.Common.{◌≡◌, ℕ, ◌+◌, List, [], ◌∷◌, None, rules, sym, subst, cond, true}
 use Rattle.std.specs.Prelude.{◌==◌}
-use Rattle.pt_tree.specs.Syntax as S
-use Rattle.pt_tree.specs.Syntax.{Exp, Stm, Stms, none, more, size, stm_size}
-use Rattle.pt_tree.specs.Turn.{Mark, Reply, got, raised, done, left_by, Turn, over, stuck}
-use Rattle.pt_tree.specs.Nest as N
-use Rattle.pt_tree.specs.Nest.{Completion, normal, raise, Nest, outside, rest, Wait, left, right, callee, argument, dropped, stored, Control, begin_exp, deliver, begin_stm, begin_all, complete, around, after_value, closed}
+use Rattle.pt_straight.specs.Syntax as S
+use Rattle.pt_straight.specs.Syntax.{Exp, Stm, Stms, none, more, size, stm_size}
+use Rattle.pt_straight.specs.Turn.{Mark, Reply, got, raised, done, left_by, Turn, over, stuck}
+use Rattle.pt_straight.specs.Nest as N
+use Rattle.pt_straight.specs.Nest.{Completion, normal, raise, Nest, outside, rest, Wait, left, right, callee, argument, dropped, stored, Control, begin_exp, deliver, begin_stm, begin_all, complete, around, after_value, closed}
 use Rattle.pt_prog.specs.View as view
 use Rattle.pt_prog.specs.View.{Op, Laid}
 use Rattle.pt_prog.specs.CodeRun as C

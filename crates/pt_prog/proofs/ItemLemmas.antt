@@ -6,12 +6,12 @@ use Rattle.std.specs.List.{list_all}
 use Rattle.std.specs.Option.{is_some}
 use Rattle.std.specs.Str.{bytes_eq}
 use Rattle.std.proofs.lemmas.Bool.{cases_Bool}
-use Rattle.pt_tree.specs.declared.tree.Expr.{Expr}
-use Rattle.pt_tree.specs.declared.tree.ExprNode.{Int, Str, Name, Call}
-use Rattle.pt_tree.specs.Syntax as S
-use Rattle.pt_tree.specs.Syntax.{Exp}
-use Rattle.pt_tree.specs.Fold.{exp_of}
-use Rattle.pt_tree.proofs.Folds.{exp_of-Int, exp_of-Str, exp_of-Name, exp_of-Call}
+use Rattle.pt_straight.specs.declared.tree.Expr.{Expr}
+use Rattle.pt_straight.specs.declared.tree.ExprNode.{Int, Str, Name, Call}
+use Rattle.pt_straight.specs.Syntax as S
+use Rattle.pt_straight.specs.Syntax.{Exp}
+use Rattle.pt_straight.specs.Fold.{exp_of}
+use Rattle.pt_straight.proofs.Folds.{exp_of-Int, exp_of-Str, exp_of-Name, exp_of-Call}
 use Rattle.pt_tables.specs.Names.{keyword_names, builtin_names}
 use Rattle.pt_tables.specs.Rows.{value_of, numbered}
 use Rattle.pt_prog.specs.Spelling.{is_listed, is_reserved, is_name, is_text_byte, quoted, IsItem, spelled}

@@ -1,9 +1,9 @@
 -- When a state of the code stands for control by the syntax.
 use Rattle.std.proofs.Common.{ℕ, ◌+◌, List, [], ◌∷◌}
 use Rattle.pt_base.specs.declared.operators.BinOp.{BinOp}
-use Rattle.pt_tree.specs.Syntax.{Exp, Stms, size}
-use Rattle.pt_tree.specs.Turn.{Mark, mark, const, load, binary, call, store, discard, Ask, Answer, Reply, End, done, Turn, act, over}
-use Rattle.pt_tree.specs.Nest.{Nest, outside, rest, Wait, left, right, callee, argument, dropped, stored, Control, for_value, for_deed, closed}
+use Rattle.pt_straight.specs.Syntax.{Exp, Stms, size}
+use Rattle.pt_straight.specs.Turn.{Mark, mark, const, load, binary, call, store, discard, Ask, Answer, Reply, End, done, Turn, act, over}
+use Rattle.pt_straight.specs.Nest.{Nest, outside, rest, Wait, left, right, callee, argument, dropped, stored, Control, for_value, for_deed, closed}
 use Rattle.pt_prog.specs.View as view
 use Rattle.pt_prog.specs.View.{Op, Laid}
 use Rattle.pt_prog.specs.CodeRun.{State, on, off}

@@ -5,9 +5,9 @@ use Rattle.std.specs.List.{position_or_len}
 use Rattle.std.proofs.lemmas.Bool.Decides.{nat_tests}
 use Rattle.std.proofs.lemmas.List.Splits.{slice_split_first, slice_split_none}
 use Rattle.std.proofs.lemmas.List.Sums.{fails_before_first}
-use Rattle.pt_tree.specs.declared.tree.Stmt.{Stmt}
-use Rattle.pt_tree.specs.Syntax.{Stm, Stms, none, more, behind}
-use Rattle.pt_tree.specs.Fold.{stm_of, stms_of}
+use Rattle.pt_straight.specs.declared.tree.Stmt.{Stmt}
+use Rattle.pt_straight.specs.Syntax.{Stm, Stms, none, more, behind}
+use Rattle.pt_straight.specs.Fold.{stm_of, stms_of}
 use Rattle.pt_prog.specs.declared.reader.ReadErr.{ReadErr}
 use Rattle.pt_prog.specs.declared.reader.ReadErr.TheVariants.{Unbuilt, Memory}
 use Rattle.pt_prog.specs.Spelling.{is_line_feed, lines_of, IsStatement, AreStatements, IsFirstUnbuilt, Spells}

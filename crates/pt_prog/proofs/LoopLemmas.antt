@@ -3,7 +3,7 @@ use Rattle.std.proofs.Common.{◌≡◌, ℕ, ◌+◌, ◌-◌, ◌<◌, ◌≤�
 use Rattle.std.proofs.lemmas.List.{get_or_default}
 use Rattle.pt_base.specs.Taken.{Pieces, Takes, TakesFront}
 use Rattle.pt_base.proofs.TakenLemmas.{takes_nothing, takes_then, takes_then_front}
-use Rattle.pt_tree.specs.Turn.{done, over}
+use Rattle.pt_straight.specs.Turn.{done, over}
 use Rattle.pt_meaning.specs.Host.{host, start_world}
 use Rattle.pt_prog.specs.declared.code.Code.{Code}
 use Rattle.pt_prog.specs.declared.code.Placed.{Placed}

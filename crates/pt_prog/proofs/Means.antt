@@ -1,9 +1,9 @@
 -- Code that stands for a script means it, for every bound.
 use Rattle.std.proofs.Common.{◌≡◌, ℕ, zero, suc, [], None, refl}
-use Rattle.pt_tree.specs.Syntax.{Stms}
-use Rattle.pt_tree.specs.Turn.{Ask, Answer, Reply, Mark, Turn, act}
-use Rattle.pt_tree.specs.Nest as N
-use Rattle.pt_tree.specs.Nest.{Control}
+use Rattle.pt_straight.specs.Syntax.{Stms}
+use Rattle.pt_straight.specs.Turn.{Ask, Answer, Reply, Mark, Turn, act}
+use Rattle.pt_straight.specs.Nest as N
+use Rattle.pt_straight.specs.Nest.{Control}
 use Rattle.pt_meaning.specs.Run.{Outcome, goes, leaves, Host, outside, on_outcome, meaning_from}
 use Rattle.pt_prog.specs.View.{Laid}
 use Rattle.pt_prog.specs.CodeRun as C

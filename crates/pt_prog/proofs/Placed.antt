@@ -4,9 +4,9 @@ use Rattle.std.specs.Prelude.{slice_get, option_map}
 use Rattle.std.proofs.lemmas.Option.{slice_get_past}
 use Rattle.pt_instr.specs.declared.Instr.{Instr}
 use Rattle.pt_instr.specs.declared.Instr.TheVariants as instr
-use Rattle.pt_tree.specs.Syntax as S
-use Rattle.pt_tree.specs.Syntax.{Exp, Stm, Stms, none, more, size, stm_size, all_size}
-use Rattle.pt_tree.specs.Turn.{mark}
+use Rattle.pt_straight.specs.Syntax as S
+use Rattle.pt_straight.specs.Syntax.{Exp, Stm, Stms, none, more, size, stm_size, all_size}
+use Rattle.pt_straight.specs.Turn.{mark}
 use Rattle.pt_prog.specs.declared.code.Code.{Code}
 use Rattle.pt_prog.specs.declared.code.Constant.{Constant}
 use Rattle.pt_prog.specs.declared.code.Placed.{Placed}

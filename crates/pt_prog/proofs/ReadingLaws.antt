@@ -2,8 +2,8 @@
 use Rattle.std.proofs.Common.{◌≡◌, ◌+◌, ℕ, List, [], ◌∷◌, ◌++◌, length, drop, take, refl, sym, ap, ◌∙◌, subst, inl, inr, arith}
 use Rattle.std.specs.Prelude.{codes}
 use Rattle.std.proofs.Math.Seq.{take-append_seam, drop-append_seam}
-use Rattle.pt_tree.specs.Syntax as S
-use Rattle.pt_tree.specs.Syntax.{Exp, Stm, Stms, none, more}
+use Rattle.pt_straight.specs.Syntax as S
+use Rattle.pt_straight.specs.Syntax.{Exp, Stm, Stms, none, more}
 use Rattle.pt_prog.specs.Spelling.{IsItem, AreItems, spelled, continued, sum_of, IsSum, IsPrint, IsAssignment, IsStatement, AreStatements, IsFirstUnbuilt, lines_of, Spells, IsUnbuilt}
 use Rattle.pt_prog.specs.Reading.{item_len}
 use Rattle.pt_prog.proofs.CutLemmas.{cut, cut_target}

@@ -5,7 +5,7 @@ use Rattle.std.proofs.lemmas.Option.{slice_get_read, slice_get_past}
 use Rattle.std.proofs.lemmas.Bool.Decides.{nat_tests}
 use Rattle.pt_base.specs.Taken.{Pieces}
 use Rattle.pt_base.specs.declared.what.What.{What}
-use Rattle.pt_tree.specs.Turn.{Ask, seek, deed, Answer, Reply, End, done, Turn, over, const, load, binary, call, store, discard}
+use Rattle.pt_straight.specs.Turn.{Ask, seek, deed, Answer, Reply, End, done, Turn, over, const, load, binary, call, store, discard}
 use Rattle.pt_meaning.specs.declared.value.Value.{Value}
 use Rattle.pt_meaning.specs.declared.value.Value.TheVariants as value
 use Rattle.pt_meaning.specs.Run.{Outcome, goes, leaves, Ending, ended, outside, on_outcome}

@@ -4,8 +4,8 @@ use Rattle.std.specs.Prelude.{codes}
 use Rattle.std.specs.List.{slice_split, onto_first}
 use Rattle.std.proofs.lemmas.Fmt.{decimal_is_IsNumeral_wide}
 use Rattle.pt_base.specs.declared.operators.BinOp.TheVariants.{Add}
-use Rattle.pt_tree.specs.Syntax as S
-use Rattle.pt_tree.specs.Syntax.{Exp, Stm, Stms, none, more, size, stm_size, all_size}
+use Rattle.pt_straight.specs.Syntax as S
+use Rattle.pt_straight.specs.Syntax.{Exp, Stm, Stms, none, more, size, stm_size, all_size}
 use Rattle.pt_prog.specs.Spelling.{is_name, IsItem, AreItems, spelled, continued, sum_of, IsSum, IsStatement, AreStatements, is_line_feed, lines_of, Spells}
 use Rattle.pt_prog.proofs.NumberLemmas.{small}
 use Rattle.pt_prog.proofs.CutLemmas.{name_parts}

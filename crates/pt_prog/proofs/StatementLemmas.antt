@@ -4,9 +4,9 @@ use Rattle.std.specs.Prelude.{codes, IfOk, slice_index, ◌&&◌}
 use Rattle.std.specs.List.{list_all}
 use Rattle.std.proofs.Math.Seq.{take-append_seam, drop-append_seam}
 use Rattle.pt_base.specs.declared.memory.Memory.{Memory}
-use Rattle.pt_tree.specs.Syntax.{Exp, Stm}
-use Rattle.pt_tree.specs.declared.tree.Stmt.{Stmt}
-use Rattle.pt_tree.specs.Fold.{stm_of}
+use Rattle.pt_straight.specs.Syntax.{Exp, Stm}
+use Rattle.pt_straight.specs.declared.tree.Stmt.{Stmt}
+use Rattle.pt_straight.specs.Fold.{stm_of}
 use Rattle.pt_prog.specs.Spelling.{is_name, is_name_byte, IsSum, IsPrint, IsAssignment}
 use Rattle.pt_prog.specs.Reading.{item_len, IsPrintRead, IsAssignmentRead, IsStatementRead}
 use Rattle.pt_prog.proofs.CutLemmas.{cut_target, name_parts}

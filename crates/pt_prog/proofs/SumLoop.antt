@@ -3,8 +3,8 @@ use Rattle.std.proofs.Common.{◌≡◌, ◌≢◌, ◌<◌, ◌≤◌, ◌+◌,
 use Rattle.std.specs.Prelude.{codes, ◌==◌}
 use Rattle.std.proofs.lemmas.List.{take-append-drop}
 use Rattle.pt_base.specs.declared.operators.BinOp.TheVariants.{Add}
-use Rattle.pt_tree.specs.Syntax as S
-use Rattle.pt_tree.specs.Syntax.{Exp}
+use Rattle.pt_straight.specs.Syntax as S
+use Rattle.pt_straight.specs.Syntax.{Exp}
 use Rattle.pt_prog.specs.Spelling.{IsItem, AreItems, spelled, continued, sum_of, item_limit, IsSum}
 use Rattle.pt_prog.specs.Reading.{item_len}
 use Rattle.pt_prog.proofs.SumLemmas.{same_item, first_word, rest_continues}

@@ -5,8 +5,8 @@ use Rattle.std.specs.declared.string.String.{String}
 use Rattle.std.specs.declared.alloc.Global.{Global}
 use Rattle.pt_base.specs.Told.{Told, IsWhole}
 use Rattle.pt_base.specs.Taken.{Pieces, Takes, TakesFront}
-use Rattle.pt_tree.specs.Syntax.{Stms}
-use Rattle.pt_tree.specs.Turn.{done, left_by}
+use Rattle.pt_straight.specs.Syntax.{Stms}
+use Rattle.pt_straight.specs.Turn.{done, left_by}
 use Rattle.pt_meaning.specs.Run.{Ending, ended, outside, spent, meaning}
 use Rattle.pt_meaning.specs.Host.{host, start_world}
 use Rattle.pt_meaning.specs.declared.value.Value.{Value}

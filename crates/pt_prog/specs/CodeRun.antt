@@ -1,8 +1,8 @@
 -- The run of straight code on slots.
 use Rattle.std.specs.Prelude.{◌≡◌, ℕ, zero, suc, ◌==◌, List, [], ◌∷◌, Bool, Option, Some, None, if◌then◌else◌}
 use Rattle.pt_base.specs.declared.what.What.{What}
-use Rattle.pt_tree.specs.Syntax.{Stms}
-use Rattle.pt_tree.specs.Turn.{Mark, const, load, binary, call, store, discard, Ask, Answer, seek, deed, Reply, got, raised, End, done, left_by, Turn, act, over, stuck}
+use Rattle.pt_straight.specs.Syntax.{Stms}
+use Rattle.pt_straight.specs.Turn.{Mark, const, load, binary, call, store, discard, Ask, Answer, seek, deed, Reply, got, raised, End, done, left_by, Turn, act, over, stuck}
 use Rattle.pt_meaning.specs.Run.{goes, leaves, Host, Ending, ended, outside, spent, meaning}
 use Rattle.pt_prog.specs.View as view
 use Rattle.pt_prog.specs.View.{Op, Ins, Laid}

@@ -1,9 +1,9 @@
 -- What the reader answers of lines and of a whole text.
 use Rattle.std.specs.Prelude.{◌≡◌, ℕ, List, [], ◌∷◌, ◌++◌, Option, Some, None}
 use Rattle.std.specs.Borrow.{Bor}
-use Rattle.pt_tree.specs.Syntax.{Stm}
-use Rattle.pt_tree.specs.declared.tree.Stmt.{Stmt}
-use Rattle.pt_tree.specs.Fold.{stm_of}
+use Rattle.pt_straight.specs.Syntax.{Stm}
+use Rattle.pt_straight.specs.declared.tree.Stmt.{Stmt}
+use Rattle.pt_straight.specs.Fold.{stm_of}
 use Rattle.pt_prog.specs.declared.reader.ReadErr.{ReadErr}
 use Rattle.pt_prog.specs.declared.reader.ReadErr.TheVariants.{Unbuilt, Memory}
 use Rattle.pt_prog.specs.Spelling.{IsStatement, lines_of, IsUnbuilt}

@@ -3,7 +3,7 @@ use Rattle.std.specs.Prelude.{◌≡◌, ℕ, ◌+◌, [], ◌∷◌, ◌++◌, 
 use Rattle.std.specs.HashMap.{get_by_text}
 use Rattle.pt_base.specs.declared.what.What.{What}
 use Rattle.pt_base.specs.Taken.{Pieces}
-use Rattle.pt_tree.specs.Turn.{End, left_by, Turn, act, over, stuck}
+use Rattle.pt_straight.specs.Turn.{End, left_by, Turn, act, over, stuck}
 use Rattle.pt_meaning.specs.Run.{on_outcome}
 use Rattle.pt_meaning.specs.declared.value.Value.{Value}
 use Rattle.pt_meaning.specs.declared.value.Value.TheVariants.{Exception}

@@ -1,8 +1,8 @@
 -- Where the code of a node stands.
 use Rattle.std.specs.Prelude.{◌≡◌, ℕ, ◌+◌, Some}
-use Rattle.pt_tree.specs.Syntax as S
-use Rattle.pt_tree.specs.Syntax.{Exp, Stm, Stms, none, more, size, stm_size}
-use Rattle.pt_tree.specs.Turn.{Mark, mark}
+use Rattle.pt_straight.specs.Syntax as S
+use Rattle.pt_straight.specs.Syntax.{Exp, Stm, Stms, none, more, size, stm_size}
+use Rattle.pt_straight.specs.Turn.{Mark, mark}
 use Rattle.pt_prog.specs.View.{Op, const, load, store, pop, binary, call, Laid}
 
 -- one stretch of code behind another

@@ -1,10 +1,10 @@
 -- What the reader's helpers answer.
 use Rattle.std.specs.Prelude.{◌≡◌, ℕ, ◌+◌, List, ◌++◌, codes, length, min, drop, slice_index, Option, Some, None, ◌==◌, if◌then◌else◌}
 use Rattle.std.specs.List.{position_or_len}
-use Rattle.pt_tree.specs.declared.tree.Expr.{Expr}
-use Rattle.pt_tree.specs.declared.tree.Stmt.{Stmt}
-use Rattle.pt_tree.specs.Fold.{exp_of, stm_of}
-use Rattle.pt_tree.specs.Syntax.{Exp, Stm}
+use Rattle.pt_straight.specs.declared.tree.Expr.{Expr}
+use Rattle.pt_straight.specs.declared.tree.Stmt.{Stmt}
+use Rattle.pt_straight.specs.Fold.{exp_of, stm_of}
+use Rattle.pt_straight.specs.Syntax.{Exp, Stm}
 use Rattle.pt_prog.specs.Spelling.{IsItem, spelled, IsSum, IsPrint, IsAssignment, IsStatement}
 
 -- how far an item reaches at most: a text to its second quote, anything else to before the first blank

@@ -1,7 +1,7 @@
 -- A run of code on its way to the end.
 use Rattle.std.specs.Prelude.{◌≡◌, ℕ, ◌+◌, [], ◌++◌, Option, Some, None, false}
 use Rattle.pt_base.specs.Taken.{Pieces, Takes, TakesFront}
-use Rattle.pt_tree.specs.Turn.{done, left_by}
+use Rattle.pt_straight.specs.Turn.{done, left_by}
 use Rattle.pt_meaning.specs.Run.{Ending, ended, outside}
 use Rattle.pt_meaning.specs.declared.value.Value.{Value}
 use Rattle.pt_meaning.specs.Host.{World, host, start_world}

@@ -6,8 +6,8 @@ use Rattle.std.specs.Fmt.{decimal}
 use Rattle.std.specs.List.{slice_split, list_all, list_any}
 use Rattle.std.specs.Str.{bytes_eq}
 use Rattle.pt_base.specs.declared.operators.BinOp.TheVariants.{Add}
-use Rattle.pt_tree.specs.Syntax as S
-use Rattle.pt_tree.specs.Syntax.{Exp, Stm, Stms, none, more}
+use Rattle.pt_straight.specs.Syntax as S
+use Rattle.pt_straight.specs.Syntax.{Exp, Stm, Stms, none, more}
 use Rattle.pt_tables.specs.Names.{keyword_names, builtin_names}
 
 -- names (Language Reference 2.3): a letter, and then letters, digits and underscores, that is no keyword and no

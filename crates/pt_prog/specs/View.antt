@@ -3,8 +3,8 @@ use Rattle.std.specs.Prelude.{ℕ, ◌+◌, List, length, Option, Some, None, sl
 use Rattle.pt_base.specs.declared.operators.BinOp.{BinOp}
 use Rattle.pt_instr.specs.declared.Instr.{Instr}
 use Rattle.pt_instr.specs.declared.Instr.TheVariants as instr
-use Rattle.pt_tree.specs.Syntax as S
-use Rattle.pt_tree.specs.Turn.{Mark, mark}
+use Rattle.pt_straight.specs.Syntax as S
+use Rattle.pt_straight.specs.Turn.{Mark, mark}
 use Rattle.pt_prog.specs.declared.code.Code.{Code}
 use Rattle.pt_prog.specs.declared.code.Constant.{Constant}
 use Rattle.pt_prog.specs.declared.code.Constant.TheVariants.{Int, Str}

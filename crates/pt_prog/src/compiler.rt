@@ -1,11 +1,11 @@
 ghost use Rattle.std.specs.Prelude.{◌≡◌, IfOk, OnOk};
-ghost use Rattle.pt_tree.specs.Fold.{exp_of, stm_of, stms_of};
+ghost use Rattle.pt_straight.specs.Fold.{exp_of, stm_of, stms_of};
 ghost use Rattle.pt_prog.specs.Layout.{with_instr, with_constant, with_load, with_store, lay_exp, lay_stm, lay_all, no_code};
 
 use crate::code::{Code, Constant, Placed};
 use pt_base::{Dup, Line, Memory, Seq, Shared, Text};
 use pt_instr::{ConstNo, Instr, TextNo};
-use pt_tree::{Expr, ExprNode, Script, Stmt, StmtNode};
+use pt_straight::{Expr, ExprNode, Script, Stmt, StmtNode};
 use std::alloc::Global;
 
 /// A length as the number of what comes behind.
@@ -49,7 +49,7 @@ fn emit_store(code: &mut Code, line: Line, name: Text) -> Result<(), Memory>
 }
 
 #[cycle(expr)]
-#[tactic(auto, using(pt_tree::proofs::Folds::trees))]
+#[tactic(auto, using(pt_straight::proofs::Folds::trees))]
 fn expr(alloc: Global, e: &Expr, code: &mut Code) -> Result<(), Memory>
     ensures { OnOk result (code.new ≡ lay_exp (exp_of e.now) code.old) }
 {

@@ -1,7 +1,7 @@
 //! Laws of the definitions, each the contract of a function that does nothing.
 
 ghost use Rattle.std.specs.Prelude.{◌≡◌, ℕ, List};
-ghost use Rattle.pt_tree.specs.Syntax.{Stms};
+ghost use Rattle.pt_straight.specs.Syntax.{Stms};
 ghost use Rattle.pt_prog.specs.CodeRun.{Means};
 ghost use Rattle.pt_prog.specs.Layout.{lay_all, no_code};
 ghost use Rattle.pt_prog.specs.Spelling.{Spells, IsUnbuilt};

@@ -4,8 +4,8 @@ ghost use Rattle.pt_base.specs.Faults.{Rose};
 ghost use Rattle.pt_base.specs.Taken.{Takes, TakesFront};
 ghost use Rattle.pt_base.specs.Told.{IsLacked, IsLonger};
 ghost use Rattle.pt_base.specs.Told.Told.{Holds};
-ghost use Rattle.pt_tree.specs.Fold.{stms_of};
-ghost use Rattle.pt_tree.specs.Syntax.{all_size};
+ghost use Rattle.pt_straight.specs.Fold.{stms_of};
+ghost use Rattle.pt_straight.specs.Syntax.{all_size};
 ghost use Rattle.pt_prog.specs.Answer.{script_named, OfNamed, meaning_of, IsEndFor, IsAnsweredFor, IsAnswered};
 ghost use Rattle.pt_prog.specs.Limits.{act_limit, script_limit};
 ghost use Rattle.pt_prog.specs.Running.{Finished};
@@ -16,7 +16,7 @@ use crate::reader::ReadErr;
 use crate::run::{RunErr, Stop};
 use crate::{compiler, reader, run};
 use pt_base::{Shelf, ShelfErr, Sink};
-use pt_tree::Script;
+use pt_straight::Script;
 use std::alloc::Global;
 
 /// How many bytes a script may have.

@@ -7,13 +7,13 @@ ghost use Rattle.pt_prog.specs.Spelling.{is_name_byte, is_listed, is_reserved, i
 ghost use Rattle.pt_prog.specs.Lines.{lines_left, TakesLine, RefusesLine, IsRefused};
 ghost use Rattle.pt_prog.specs.Reading.{item_len, IsItemRead, IsSumRead, IsPrintRead, IsAssignmentRead, IsStatementRead};
 ghost use Rattle.pt_tables.specs.Names.{keyword_names, builtin_names};
-ghost use Rattle.pt_tree.specs.Fold.{exp_of, stm_of, stms_of};
-ghost use Rattle.pt_tree.specs.Syntax as S;
+ghost use Rattle.pt_straight.specs.Fold.{exp_of, stm_of, stms_of};
+ghost use Rattle.pt_straight.specs.Syntax as S;
 
 use itoa::Buffer;
 use pt_base::{BinOp, Boxed, Line, Memory, Seq, Text};
+use pt_straight::{Expr, ExprNode, Script, Stmt, StmtNode};
 use pt_tables::{builtins, keywords};
-use pt_tree::{Expr, ExprNode, Script, Stmt, StmtNode};
 use std::alloc::Global;
 
 /// Why a text was not read.
@@ -237,7 +237,7 @@ fn item_end(text: &[u8]) -> usize
 /// The greatest number of items of a sum.
 const ITEM_LIMIT: usize = 499;
 
-#[tactic(auto, using(pt_tree::proofs::Folds::trees))]
+#[tactic(auto, using(pt_straight::proofs::Folds::trees))]
 fn add(alloc: Global, line: Line, left: Expr, right: Expr) -> Result<Expr, Memory>
     ensures { IfOk result (λ e. exp_of e ≡ S.binary line.0 BinOp.Add (exp_of left) (exp_of right)) }
 {

@@ -1,5 +1,5 @@
 use Rattle.std.proofs.Common.{◌≡◌, drop}
-use Rattle.pt_tree.specs.Fold.{stms_of}
+use Rattle.pt_straight.specs.Fold.{stms_of}
 use Rattle.pt_prog.specs.Layout.{lay_all, no_code}
 use Rattle.pt_prog.proofs.compiler.compile.Given as goal
 

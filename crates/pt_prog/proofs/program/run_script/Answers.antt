@@ -1,4 +1,4 @@
-use Rattle.pt_tree.specs.Fold.{stms_of}
+use Rattle.pt_straight.specs.Fold.{stms_of}
 use Rattle.pt_base.proofs.TakenLemmas.{front_of_none}
 use Rattle.pt_prog.specs.Limits.{act_limit}
 use Rattle.pt_prog.specs.Answer.{meaning_of}

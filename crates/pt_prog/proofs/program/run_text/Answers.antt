@@ -1,5 +1,5 @@
 use Rattle.std.proofs.Common.{arith, inr}
-use Rattle.pt_tree.specs.Fold.{stms_of}
+use Rattle.pt_straight.specs.Fold.{stms_of}
 use Rattle.pt_prog.proofs.SizeLemmas.{script_size}
 use Rattle.pt_prog.proofs.AnswerLemmas.{answered}
 use Rattle.pt_prog.proofs.program.run_text.Goals as goal

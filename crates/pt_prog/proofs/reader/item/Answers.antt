@@ -2,7 +2,7 @@ use Rattle.std.proofs.Common.{refl, sym, ap, ◌∙◌}
 use Rattle.std.specs.List.{list_all}
 use Rattle.std.proofs.lemmas.Int.{to_z_pos}
 use Rattle.std.specs.Int.{w128}
-use Rattle.pt_tree.specs.declared.tree.ExprNode.{Int, Name}
+use Rattle.pt_straight.specs.declared.tree.ExprNode.{Int, Name}
 use Rattle.pt_prog.specs.Spelling.{is_text_byte, quoted}
 use Rattle.pt_prog.proofs.ItemLemmas.{name_read, str_read, int_read}
 use Rattle.pt_prog.proofs.reader.item.Goals as goal

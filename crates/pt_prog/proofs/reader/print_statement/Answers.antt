@@ -1,5 +1,5 @@
 use Rattle.std.proofs.Common.{refl, ap}
-use Rattle.pt_tree.specs.Syntax as S
+use Rattle.pt_straight.specs.Syntax as S
 use Rattle.pt_prog.proofs.ItemLemmas.{print_call_is}
 use Rattle.pt_prog.proofs.reader.print_statement.Goals as goal
 

@@ -1,5 +1,5 @@
 use Rattle.std.proofs.Common.{ap, ◌∙◌, subst, take, drop, arith}
-use Rattle.pt_tree.specs.Fold.{exp_of}
+use Rattle.pt_straight.specs.Fold.{exp_of}
 use Rattle.pt_prog.specs.Reading.{IsItemRead}
 use Rattle.pt_prog.proofs.SumLoop.{some_left, started, no_first, no_operator, too_many, no_next, grown}
 use Rattle.pt_prog.proofs.reader.sum.Goals as goal

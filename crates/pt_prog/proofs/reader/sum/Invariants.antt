@@ -1,5 +1,5 @@
 use Rattle.std.proofs.Common.{length}
-use Rattle.pt_tree.specs.Fold.{exp_of}
+use Rattle.pt_straight.specs.Fold.{exp_of}
 use Rattle.pt_prog.proofs.SumLoop.{SumSoFar}
 use Rattle.pt_prog.proofs.reader.sum.Given as goal
 

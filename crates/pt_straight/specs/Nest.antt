@@ -2,9 +2,9 @@
 -- on (Language Reference 4.1, 6.16, 7.1, 7.2, 8). There is no bytecode here and no program counter.
 use Rattle.std.specs.Prelude.{ℕ, ◌+◌, List, [], ◌∷◌}
 use Rattle.pt_base.specs.declared.operators.BinOp.{BinOp}
-use Rattle.pt_tree.specs.Syntax as S
-use Rattle.pt_tree.specs.Syntax.{Exp, Stm, Stms, none, more, size, stm_size}
-use Rattle.pt_tree.specs.Turn.{Mark, mark, Seek, const, load, binary, call, Deed, store, discard, seek, deed, Reply, got, raised, End, done, left_by, Turn, act, over}
+use Rattle.pt_straight.specs.Syntax as S
+use Rattle.pt_straight.specs.Syntax.{Exp, Stm, Stms, none, more, size, stm_size}
+use Rattle.pt_straight.specs.Turn.{Mark, mark, Seek, const, load, binary, call, Deed, store, discard, seek, deed, Reply, got, raised, End, done, left_by, Turn, act, over}
 
 -- how a statement ends
 pub data Completion (V : Type 0) : Type 0 where

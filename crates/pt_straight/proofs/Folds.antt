@@ -1,12 +1,12 @@
 -- The plain data of each kind of node, given that of its parts.
 use Rattle.std.proofs.Common.{◌≡◌, ℕ, List, ℤ, ap, ◌∙◌}
 use Rattle.pt_base.specs.declared.operators.BinOp.{BinOp}
-use Rattle.pt_tree.specs.declared.tree.Expr.{Expr, fold_out-Expr}
-use Rattle.pt_tree.specs.declared.tree.ExprNode.{ExprNode, Int, Str, Name, Binary, Call, fold-ExprNode, fold_out-ExprNode, map-ExprNode, out-ExprNode}
-use Rattle.pt_tree.specs.declared.tree.ExprNode.TheVariants.{outs-Int, outs-Str, outs-Name, outs-Binary, outs-Call}
-use Rattle.pt_tree.specs.Syntax as S
-use Rattle.pt_tree.specs.Syntax.{Exp}
-use Rattle.pt_tree.specs.Fold.{exp_of, plain, plain_at}
+use Rattle.pt_straight.specs.declared.tree.Expr.{Expr, fold_out-Expr}
+use Rattle.pt_straight.specs.declared.tree.ExprNode.{ExprNode, Int, Str, Name, Binary, Call, fold-ExprNode, fold_out-ExprNode, map-ExprNode, out-ExprNode}
+use Rattle.pt_straight.specs.declared.tree.ExprNode.TheVariants.{outs-Int, outs-Str, outs-Name, outs-Binary, outs-Call}
+use Rattle.pt_straight.specs.Syntax as S
+use Rattle.pt_straight.specs.Syntax.{Exp}
+use Rattle.pt_straight.specs.Fold.{exp_of, plain, plain_at}
 
 by_node : (e : Expr) → exp_of e ≡ plain (map-ExprNode ExprNode Expr (ℕ → Exp) Exp (fold-ExprNode (ℕ → Exp) Exp plain plain_at) exp_of (out-ExprNode e.node)) e.line.0
 unfolding exp_of

@@ -1,13 +1,13 @@
 -- The tree that code builds, as plain data.
 use Rattle.std.specs.Prelude.{ℕ, List, [], ◌∷◌}
-use Rattle.pt_tree.specs.declared.tree.Expr.{Expr, Expr-F, fold-Expr}
-use Rattle.pt_tree.specs.declared.tree.ExprNode.{ExprNode-F}
-use Rattle.pt_tree.specs.declared.tree.ExprNode.TheOpen as node
-use Rattle.pt_tree.specs.declared.tree.Stmt.{Stmt}
-use Rattle.pt_tree.specs.declared.tree.StmtNode.{StmtNode}
-use Rattle.pt_tree.specs.declared.tree.StmtNode.TheVariants as stmt
-use Rattle.pt_tree.specs.Syntax as S
-use Rattle.pt_tree.specs.Syntax.{Exp, Stm, Stms}
+use Rattle.pt_straight.specs.declared.tree.Expr.{Expr, Expr-F, fold-Expr}
+use Rattle.pt_straight.specs.declared.tree.ExprNode.{ExprNode-F}
+use Rattle.pt_straight.specs.declared.tree.ExprNode.TheOpen as node
+use Rattle.pt_straight.specs.declared.tree.Stmt.{Stmt}
+use Rattle.pt_straight.specs.declared.tree.StmtNode.{StmtNode}
+use Rattle.pt_straight.specs.declared.tree.StmtNode.TheVariants as stmt
+use Rattle.pt_straight.specs.Syntax as S
+use Rattle.pt_straight.specs.Syntax.{Exp, Stm, Stms}
 
 -- a node of an expression on a line, given its parts
 abbrev pub plain : ExprNode-F (ℕ → Exp) Exp → ℕ → Exp

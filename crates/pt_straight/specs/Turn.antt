@@ -3,7 +3,7 @@
 -- Names, objects and what is written stand in a host outside.
 use Rattle.std.specs.Prelude.{ℕ, List}
 use Rattle.pt_base.specs.declared.operators.BinOp.{BinOp}
-use Rattle.pt_tree.specs.Syntax.{Constant}
+use Rattle.pt_straight.specs.Syntax.{Constant}
 
 -- an act's number in its block, and its line
 pub record Mark : Type 0 where
