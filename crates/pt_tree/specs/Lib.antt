@@ -1,0 +1,7 @@
+pub mod Syntax
+pub mod Fold
+pub mod StatementFold
+pub mod Sizes
+pub mod Acts
+pub mod Blocks
+pub mod Measure
