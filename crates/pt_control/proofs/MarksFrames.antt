@@ -1,0 +1,173 @@
+-- When the acts of what is left in a frame stand at the numbers that the frame has.
+use Rattle.std.specs.Prelude.{ℕ, ◌+◌, List, [], ◌∷◌, Option, true, ◌≡◌}
+use Rattle.pt_tree.specs.declared.act.ActKind.{ActKind}
+use Rattle.pt_tree.specs.declared.act.ActKind.TheVariants as K
+use Rattle.pt_tree.specs.Syntax.{Exp, Clauses, Tgt, Items, Stms}
+use Rattle.pt_tree.specs.Sizes.{joins, size, pieces_size, target_size, items_size, stms_size, handlers_size}
+use Rattle.pt_control.specs.Turn.{Mark, Reply}
+use Rattle.pt_control.specs.Frames as F
+use Rattle.pt_control.specs.Frames.{Nest, Way, Wait, Over, Rounds, Control, Operand, Stores, Changed, Definition, Decorating}
+use Rattle.pt_control.specs.Bases.{rounds_line}
+use Rattle.pt_control.specs.Reached.{operation_kind, seek_kind, deed_kind, leave_kind, test_kind}
+use Rattle.pt_control.proofs.MarksTree.{Numbering, Spec_end, Exp_in, Decisions_in, Opt_in, Pieces_in, Links_in, Made_in, Clauses_in, Target_in, Targets_in, Option_in, Deletes_in, Change_in, Imports_in, Decorators_in, Calls_in, Function_in, Class_in, Items_in, Stms_in, Branches_in, Handlers_in}
+
+-- the act that stores what an operator changed
+abbrev pub store_kind : {V : Type 0} → Changed V → ActKind
+store_kind (F.a_name x) = K.Store
+store_kind (F.an_attribute a x) = K.SetAttr
+store_kind (F.an_item a i) = K.SetItem
+
+-- the lines of decorators
+abbrev pub lines : {V : Type 0} → List (Decorating V) → List ℕ
+lines [] = []
+lines (c ∷ cs) = c.line ∷ lines cs
+
+module _ (R : Numbering) where
+  abbrev pub Operands_in : List Operand → ℕ → (ℕ → Type 0) → Type 0
+  Operands_in [] n End = End n
+  Operands_in (F.missing ∷ os) n End = Operands_in os n End
+  Operands_in (F.plain e ∷ os) n End = Exp_in R e n × Operands_in os (n + size e) End
+  Operands_in (F.spread_of k e ∷ os) n End = Exp_in R e n × R.is K.Spread k (n + size e) × Operands_in os (n + size e + 1) End
+  Operands_in (F.spread_named_of k e ∷ os) n End = Exp_in R e n × R.is K.Spread k (n + size e) × Operands_in os (n + size e + 1) End
+  Operands_in (F.literal_of k t ∷ os) n End = R.is K.Const k n × Operands_in os (n + 1) End
+  Operands_in (F.field_of k e c sp ∷ os) n End =
+      Exp_in R e n × Pieces_in R sp (n + size e) (λ m. Spec_end R sp k (n + size e) m) × Operands_in os (n + size e + pieces_size sp + joins sp + 1) End
+
+  abbrev pub Stores_in : {V : Type 0} → Stores V → ℕ → Type 0
+  Stores_in F.no_more n = Unit {0}
+  Stores_in (F.and_store t v st) n = Target_in R t n × Stores_in st (n + target_size t)
+
+  abbrev pub Definition_in : (l : ℕ) → Definition → ℕ → (ks : List ℕ) → Type 0
+  Definition_in l (F.a_function b ps) n ks = Function_in R l ps n ks
+  Definition_in l (F.a_class b base) n ks = Class_in R l base n ks
+
+  -- from the test of a `while`, from the next item of a `for`, from the target of a `with` item
+  abbrev pub While_in : (l n : ℕ) → Exp → (body els : Stms) → Type 0
+  While_in l n c body els =
+      Exp_in R c n × R.again n × R.is K.Branch l (n + size c) × Stms_in R body (n + size c + 1) × Stms_in R els (n + size c + 1 + stms_size body)
+
+  abbrev pub For_in : (l n : ℕ) → Tgt → (body els : Stms) → Type 0
+  For_in l n t body els =
+      R.is K.Next l n × R.again n × Target_in R t (n + 1) × Stms_in R body (n + 1 + target_size t) × Stms_in R els (n + 1 + target_size t + stms_size body)
+
+  abbrev pub Entry_in : (l n : ℕ) → Option Tgt → Items → (body : Stms) → Type 0
+  Entry_in l n t is body = Option_in R t n (λ m. Items_in R is (stms_size body) (λ o. Stms_in R body o) m × R.is K.Exit l (m + items_size is (stms_size body)))
+
+  abbrev pub Nest_in : {V : Type 0} → Nest V → Type 0
+  Nest_in F.outside = Unit {0}
+  Nest_in (F.rest n ss s) = Stms_in R ss n × Nest_in s
+  Nest_in (F.looping l n c body els s) = While_in l n c body els × Nest_in s
+  Nest_in (F.iterating l n i t body els s) = For_in l n t body els × Nest_in s
+  Nest_in (F.guarded n hs els s) = Handlers_in R hs n × Stms_in R els (n + handlers_size hs) × Nest_in s
+  Nest_in (F.testing n e s) = Nest_in s
+  Nest_in (F.handling n e s) = Nest_in s
+  Nest_in (F.naming x s) = Nest_in s
+  Nest_in (F.ensuring n fin s) = Stms_in R fin n × Nest_in s
+  Nest_in (F.ending n held s) = Nest_in s
+  Nest_in (F.withing l n w s) = R.is K.Exit l n × Nest_in s
+  Nest_in (F.exiting n w held s) = Nest_in s
+
+  -- from the next item of a comprehension's clause
+  abbrev pub Round_in : (l for_line n : ℕ) → Tgt → Clauses → (ℕ → Type 0) → Type 0
+  Round_in l k n t cs End = R.is K.Next k n × Target_in R t (n + 1) × Clauses_in R l cs (n + 1 + target_size t) End
+
+  -- what is made of an item
+  abbrev pub Last_in : {V : Type 0} → Rounds V → ℕ → Type 0
+  Last_in (F.collecting l k m v w) n = Made_in R l m n
+  Last_in (F.generating l e s) n = Exp_in R e n × R.is K.Yield l (n + size e) × R.is K.Discard l (n + size e + 1)
+  Last_in (F.round_of l k i t cs q) n = Last_in q n
+
+  abbrev mutual
+    pub Way_in : {V : Type 0} → Way V → Type 0
+    Way_in (F.finished s) = Nest_in s
+    Way_in (F.stms n ss s) = Stms_in R ss n × Nest_in s
+    Way_in (F.branches n bs els s) = Branches_in R bs n (λ m. Stms_in R els m) × Nest_in s
+    Way_in (F.value n e w) = Exp_in R e n × Wait_in w
+    Way_in (F.given v w) = Wait_in w
+    Way_in (F.linked_on l n v o b r w) = Exp_in R b n × R.is K.Compare l (n + size b) × Links_in R l r (n + size b + 1) × Wait_in w
+    Way_in (F.lets_go c s) = Nest_in s
+    Way_in (F.tests k n hs e s) = Handlers_in R hs n × Nest_in s
+    Way_in (F.binding l n x v k s) = R.is K.Store l n × Way_in k × Nest_in s
+    Way_in (F.stores n st k) = Stores_in st n × Way_in k
+    Way_in (F.deletes n ps s) = Deletes_in R ps n × Nest_in s
+    Way_in (F.imports l n xs s) = Imports_in R K.Import l xs n × Nest_in s
+    Way_in (F.imports_from l n xs m s) = Imports_in R K.ImportName l xs n × Nest_in s
+    Way_in (F.within_items n is body s) = Items_in R is (stms_size body) (λ m. Stms_in R body m) n × Nest_in s
+    Way_in (F.failed l n m s) = Opt_in R m n (λ o. R.is K.Raise l o) × Nest_in s
+    Way_in (F.round r) = Rounds_in r
+    Way_in (F.clauses n cs r) = Clauses_in R (rounds_line r) cs n (λ m. Last_in r m) × Rounds_in r
+
+    pub Wait_in : {V : Type 0} → Wait V → Type 0
+    Wait_in (F.operands l n op before behind w) = Operands_in behind n (λ m. R.is (operation_kind op) l m) × Wait_in w
+    Wait_in (F.yielded l n w) = R.is K.Yield l n × Wait_in w
+    Wait_in (F.formatted l n c sp w) = Pieces_in R sp n (λ m. Spec_end R sp l n m) × Wait_in w
+    Wait_in (F.comparing l n o b r w) = Exp_in R b n × R.is K.Compare l (n + size b) × Links_in R l r (n + size b + 1) × Wait_in w
+    Wait_in (F.compared l n v o r w) = R.is K.Compare l n × Links_in R l r (n + 1) × Wait_in w
+    Wait_in (F.linked l n v o b r w) =
+        R.is K.Branch l n × Exp_in R b (n + 1) × R.is K.Compare l (n + 1 + size b) × Links_in R l r (n + 1 + size b + 1) × Wait_in w
+    Wait_in (F.anded l n es w) = Decisions_in R l es n × Wait_in w
+    Wait_in (F.ored l n es w) = Decisions_in R l es n × Wait_in w
+    Wait_in (F.asked l n t f) = R.is K.Branch l n × Way_in t × Way_in f
+    Wait_in (F.iterated l n o) = R.is K.Iter l n × Over_in o
+    Wait_in (F.built_in l n k i t cs m w) = Round_in l k n t cs (λ o. Made_in R l m o) × Wait_in w
+    Wait_in (F.added_to_list l n v r) = R.is K.Add l n × Rounds_in r
+    Wait_in (F.added_to_set l n v r) = R.is K.Add l n × Rounds_in r
+    Wait_in (F.keyed l n e v r) = Exp_in R e n × R.is K.Add l (n + size e) × Rounds_in r
+    Wait_in (F.added_to_dict l n k v r) = R.is K.Add l n × Rounds_in r
+    Wait_in (F.item_yielded l n r) = R.is K.Yield l n × R.is K.Discard l (n + 1) × Rounds_in r
+    Wait_in (F.item_sent l n r) = R.is K.Discard l n × Rounds_in r
+    Wait_in (F.dropped l n s) = R.is K.Discard l n × Nest_in s
+    Wait_in (F.assigned n ts s) = Targets_in R ts n × Nest_in s
+    Wait_in (F.set_attribute_of l n x v k) = R.is K.SetAttr l n × Way_in k
+    Wait_in (F.set_item_of l n i v k) = Exp_in R i n × R.is K.SetItem l (n + size i) × Way_in k
+    Wait_in (F.set_item_at l n a v k) = R.is K.SetItem l n × Way_in k
+    Wait_in (F.delete_attribute_of l n x k) = R.is K.DelAttr l n × Way_in k
+    Wait_in (F.delete_item_of l n i k) = Exp_in R i n × R.is K.DelItem l (n + size i) × Way_in k
+    Wait_in (F.delete_item_at l n a k) = R.is K.DelItem l n × Way_in k
+    Wait_in (F.change_attribute_of l n k x o e s) = R.is K.Attr k n × Change_in R K.SetAttr l k e (n + 1) × Nest_in s
+    Wait_in (F.change_item_of l n k i o e s) = Exp_in R i n × R.is K.Item k (n + size i) × Change_in R K.SetItem l k e (n + size i + 1) × Nest_in s
+    Wait_in (F.change_item_at l n k a o e s) = R.is K.Item k n × Change_in R K.SetItem l k e (n + 1) × Nest_in s
+    Wait_in (F.changing l n k to o e s) = Change_in R (store_kind to) l k e n × Nest_in s
+    Wait_in (F.changed_by l n k to v o s) = R.is K.InPlace l n × R.is (store_kind to) k (n + 1) × Nest_in s
+    Wait_in (F.change_stored n k to s) = R.is (store_kind to) k n × Nest_in s
+    Wait_in (F.returned_by l n s) = R.is K.Return l n × Nest_in s
+    Wait_in (F.thrown l n c s) = Opt_in R c n (λ m. R.is K.Raise l m) × Nest_in s
+    Wait_in (F.caused l n e s) = R.is K.Raise l n × Nest_in s
+    Wait_in (F.message_of l n s) = R.is K.Raise l n × Nest_in s
+    Wait_in (F.imported l n x xs s) = R.is K.Store l n × Imports_in R K.Import l xs (n + 1) × Nest_in s
+    Wait_in (F.imported_origin l n xs s) = Imports_in R K.ImportName l xs n × Nest_in s
+    Wait_in (F.imported_name l n x xs m s) = R.is K.Store l n × Imports_in R K.ImportName l xs (n + 1) × Nest_in s
+    Wait_in (F.matched l k n e t f) = R.is K.Match l n × Way_in t × Way_in f
+    Wait_in (F.entered l n t is body s) = R.is K.Enter l n × Entry_in l (n + 1) t is body × Nest_in s
+    Wait_in (F.decorated k n before behind l x what s) = Decorators_in R behind n (k ∷ lines before) (λ m ks. Definition_in l what m ks) × Nest_in s
+    Wait_in (F.defined l n x calls s) = Calls_in R l (lines calls) n × Nest_in s
+
+    pub Over_in : {V : Type 0} → Over V → Type 0
+    Over_in (F.for_over l n t body els s) = For_in l n t body els × Nest_in s
+    Over_in (F.comprehension_over l n k t cs m w) = R.is K.Build l n × Round_in l k (n + 1) t cs (λ o. Made_in R l m o) × Wait_in w
+    Over_in (F.generator_over l n b w) = R.is K.Generator l n × Wait_in w
+    Over_in (F.clause_over l n t cs r) = Round_in (rounds_line r) l n t cs (λ m. Last_in r m) × Rounds_in r
+    Over_in (F.delegated_over l n w) = R.is K.Delegate l n × Wait_in w
+
+    pub Rounds_in : {V : Type 0} → Rounds V → Type 0
+    Rounds_in (F.collecting l n m v w) = Wait_in w
+    Rounds_in (F.generating l e s) = Nest_in s
+    Rounds_in (F.round_of l n i t cs r) = Round_in (rounds_line r) l n t cs (λ m. Last_in r m) × Rounds_in r
+
+  -- the act with a mark is of a kind, and where a re-test begins with it, the numbering says so
+  abbrev pub Marked : Mark → ActKind → Type 0
+  Marked m k = R.is k m.line m.act × (m.again ≡ true → R.again m.act)
+
+  abbrev pub Control_in : {V : Type 0} → Control V → Type 0
+  Control_in (F.for_value m a w) = Marked m (seek_kind a) × Wait_in w
+  Control_in (F.for_deed m a k s) = Marked m (deed_kind a) × Way_in k × Nest_in s
+  Control_in (F.for_leave m a s) = Marked m (leave_kind a) × Nest_in s
+  Control_in (F.for_throw m a s) = Marked m K.Raise × Nest_in s
+  Control_in (F.for_truth m a t f s) = Marked m (test_kind a) × Way_in t × Way_in f × Nest_in s
+  Control_in (F.for_iter m v o) = Marked m K.Iter × Over_in o
+  Control_in (F.for_item m i n t k f) = Marked m K.Next × Target_in R t n × Way_in k × Way_in f
+  Control_in (F.for_entry m v l n t is body s) = Marked m K.Enter × Entry_in l n t is body × Nest_in s
+  Control_in (F.for_unpack m v n ts k s) = Marked m K.Unpack × Targets_in R ts n × Way_in k × Nest_in s
+  Control_in (F.for_delegate m i r w) = Marked m K.Delegate × Wait_in w
+  Control_in {V = V} (F.noting a next) = (r : Reply V (Unit {0})) → Control_in (next r)
+  Control_in (F.closed e) = Unit {0}

@@ -1,0 +1,134 @@
+-- Where what goes on stands: in which nest, and in which comprehensions.
+use Rattle.std.specs.Prelude.{ℕ, List, [], ◌∷◌}
+use Rattle.pt_control.specs.Frames as F
+use Rattle.pt_control.specs.Frames.{Nest, Way, Wait, Over, Rounds}
+
+-- the nest to which a raise goes
+abbrev mutual
+  pub way_base : {V : Type 0} → Way V → Nest V
+  way_base (F.finished s) = s
+  way_base (F.stms n ss s) = s
+  way_base (F.branches n bs els s) = s
+  way_base (F.value n e w) = base w
+  way_base (F.given v w) = base w
+  way_base (F.linked_on l n v o b r w) = base w
+  way_base (F.lets_go c s) = s
+  way_base (F.tests k n hs e s) = s
+  way_base (F.binding l n x v k s) = s
+  way_base (F.stores n st k) = way_base k
+  way_base (F.deletes n ps s) = s
+  way_base (F.imports l n xs s) = s
+  way_base (F.imports_from l n xs m s) = s
+  way_base (F.within_items n is body s) = s
+  way_base (F.failed l n m s) = s
+  way_base (F.round r) = rounds_base r
+  way_base (F.clauses n cs r) = rounds_base r
+
+  pub base : {V : Type 0} → Wait V → Nest V
+  base (F.operands l n op before behind w) = base w
+  base (F.yielded l n w) = base w
+  base (F.formatted l n c sp w) = base w
+  base (F.comparing l n o b r w) = base w
+  base (F.compared l n a o r w) = base w
+  base (F.linked l n v o b r w) = base w
+  base (F.anded l n es w) = base w
+  base (F.ored l n es w) = base w
+  base (F.asked l n t f) = way_base f
+  base (F.iterated l n o) = over_base o
+  base (F.built_in l n fl i t cs m w) = base w
+  base (F.added_to_list l n v r) = rounds_base r
+  base (F.added_to_set l n v r) = rounds_base r
+  base (F.keyed l n e v r) = rounds_base r
+  base (F.added_to_dict l n k v r) = rounds_base r
+  base (F.item_yielded l n r) = rounds_base r
+  base (F.item_sent l n r) = rounds_base r
+  base (F.dropped l n s) = s
+  base (F.assigned n ts s) = s
+  base (F.set_attribute_of l n x v k) = way_base k
+  base (F.set_item_of l n i v k) = way_base k
+  base (F.set_item_at l n a v k) = way_base k
+  base (F.delete_attribute_of l n x k) = way_base k
+  base (F.delete_item_of l n i k) = way_base k
+  base (F.delete_item_at l n a k) = way_base k
+  base (F.change_attribute_of l n tl x o e s) = s
+  base (F.change_item_of l n tl i o e s) = s
+  base (F.change_item_at l n tl a o e s) = s
+  base (F.changing l n tl to o e s) = s
+  base (F.changed_by l n tl to v o s) = s
+  base (F.change_stored n tl to s) = s
+  base (F.returned_by l n s) = s
+  base (F.thrown l n c s) = s
+  base (F.caused l n e s) = s
+  base (F.message_of l n s) = s
+  base (F.imported l n x xs s) = s
+  base (F.imported_origin l n xs s) = s
+  base (F.imported_name l n x xs m s) = s
+  -- a handler's class lies in the tests
+  base (F.matched l k n e t f) = F.testing k e (way_base f)
+  base (F.entered l n t is body s) = s
+  base (F.decorated dl n before behind l x what s) = s
+  base (F.defined l n x calls s) = s
+
+  pub over_base : {V : Type 0} → Over V → Nest V
+  over_base (F.for_over l n t body els s) = s
+  over_base (F.comprehension_over l n fl t cs m w) = base w
+  over_base (F.generator_over l n b w) = base w
+  over_base (F.clause_over l n t cs r) = rounds_base r
+  over_base (F.delegated_over l n w) = base w
+
+  pub rounds_base : {V : Type 0} → Rounds V → Nest V
+  rounds_base (F.collecting l n m v w) = base w
+  rounds_base (F.generating l e s) = s
+  rounds_base (F.round_of l n i t cs r) = rounds_base r
+
+-- the comprehensions around, the innermost first (Language Reference 6.2.4: a first iterable is evaluated outside)
+abbrev mutual
+  pub around_way : {V : Type 0} → Way V → List ℕ
+  around_way (F.value n e w) = around w
+  around_way (F.given v w) = around w
+  around_way (F.linked_on l n v o b r w) = around w
+  around_way (F.stores n st k) = around_way k
+  around_way (F.round r) = around_rounds r
+  around_way (F.clauses n cs r) = around_rounds r
+  around_way k = []
+
+  pub around : {V : Type 0} → Wait V → List ℕ
+  around (F.operands l n op before behind w) = around w
+  around (F.yielded l n w) = around w
+  around (F.formatted l n c sp w) = around w
+  around (F.comparing l n o b r w) = around w
+  around (F.compared l n a o r w) = around w
+  around (F.linked l n v o b r w) = around w
+  around (F.anded l n es w) = around w
+  around (F.ored l n es w) = around w
+  around (F.asked l n t f) = around_way f
+  around (F.iterated l n o) = around_over o
+  around (F.built_in l n fl i t cs m w) = around w
+  around (F.added_to_list l n v r) = around_rounds r
+  around (F.added_to_set l n v r) = around_rounds r
+  around (F.keyed l n e v r) = around_rounds r
+  around (F.added_to_dict l n k v r) = around_rounds r
+  around (F.item_yielded l n r) = around_rounds r
+  around (F.item_sent l n r) = around_rounds r
+  around (F.set_attribute_of l n x v k) = around_way k
+  around (F.set_item_of l n i v k) = around_way k
+  around (F.set_item_at l n a v k) = around_way k
+  around w = []
+
+  pub around_over : {V : Type 0} → Over V → List ℕ
+  around_over (F.comprehension_over l n fl t cs m w) = around w
+  around_over (F.generator_over l n b w) = around w
+  around_over (F.clause_over l n t cs r) = around_rounds r
+  around_over (F.delegated_over l n w) = around w
+  around_over (F.for_over l n t body els s) = []
+
+  pub around_rounds : {V : Type 0} → Rounds V → List ℕ
+  around_rounds (F.collecting l n m v w) = n ∷ around w
+  around_rounds (F.generating l e s) = []
+  around_rounds (F.round_of l n i t cs r) = around_rounds r
+
+-- the line on which a comprehension or generator expression starts
+abbrev pub rounds_line : {V : Type 0} → Rounds V → ℕ
+rounds_line (F.collecting l n m v w) = l
+rounds_line (F.generating l e s) = l
+rounds_line (F.round_of l n i t cs r) = rounds_line r

@@ -1,0 +1,14 @@
+pub mod Turn
+pub mod Frames
+pub mod Bases
+pub mod Expressions
+pub mod Statements
+pub mod Completions
+pub mod Control
+pub mod Events
+pub mod Lines
+pub mod Samples
+pub mod CompletionTable
+pub mod Jump
+pub mod Reached
+pub mod Endings

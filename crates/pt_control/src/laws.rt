@@ -1,0 +1,68 @@
+//! Laws of control, each the contract of a function that does nothing.
+
+ghost use Rattle.std.specs.Prelude.{◌≡◌, ◌<◌, ℕ, List, None, Option, Some, length};
+ghost use Rattle.pt_tree.specs.Acts.{acts_stms};
+ghost use Rattle.pt_tree.specs.Blocks.{Code, acts_of_code};
+ghost use Rattle.pt_tree.specs.Syntax.{Name, Stms, absent, global, handler, more, no_handlers, none, pass, return, try};
+ghost use Rattle.pt_control.specs.Completions.{complete};
+ghost use Rattle.pt_control.specs.CompletionTable.{Passes};
+ghost use Rattle.pt_control.specs.Control.{turn};
+ghost use Rattle.pt_control.specs.Endings.{All_reached, Code_reached};
+ghost use Rattle.pt_control.specs.Frames.{Completion, Control, Nest, outside};
+ghost use Rattle.pt_control.specs.Jump.{Target, Landing, find, jump, lands, parts, verdict, permitted};
+ghost use Rattle.pt_control.specs.Reached.{IsRow, Meets, Reaches, start_code};
+ghost use Rattle.pt_control.specs.Samples.{counting, generating, jumping, nested_body};
+ghost use Rattle.pt_control.specs.Turn.{move, stuck};
+
+/// Control always knows what is next: an act, a note, or the end of the block.
+pub fn turns_are_never_stuck<V>()
+    ensures never_stuck { (null : V) (c : Control V) → turn null c ≡ stuck → ⊥ }
+    ensures never_moves { (null : V) (c d : Control V) → turn null c ≡ move d → ⊥ }
+{}
+
+/// Whatever the replies, each act that control comes to in a block has the kind and the line of the
+/// block's row with its number, and a re-test begins with it only where the row says so.
+#[tactic(auto, using(crate::proofs::MarksLaw::marks_are_rows))]
+pub fn each_mark_is_its_row<V>()
+    ensures { (null : V) (code : Code) (first : V) (c : Control V) → Reaches null (start_code null code first) c → IsRow (acts_of_code code) (turn null c) }
+{}
+
+/// From where a jump lands too, whatever the replies, each act has the kind and the line of the
+/// block's row with its number.
+#[tactic(auto, using(crate::proofs::MarksJumps::marks_behind_jumps))]
+pub fn each_mark_behind_a_jump_is_its_row<V>()
+    ensures { (null : V) (block : Stms) (place : Control V) (line : ℕ) (c d : Control V) → jump null block place line ≡ lands c → Reaches null c d → IsRow (acts_stms block) (turn null d) }
+{}
+
+/// In a block where each statement can be reached, as far as the forms of statements tell, each row
+/// is the mark of an act that control comes to with some replies; of a lambda and of a generator
+/// expression each row always is.
+#[tactic(auto, using(crate::proofs::MarksMetLaw::rows_are_met))]
+pub fn each_row_is_met<V>()
+    ensures { (null : V) (code : Code) (first : V) → Code_reached code → (n : ℕ) → n < length (acts_of_code code) → Meets null (start_code null code first) n }
+{}
+
+/// Statements that can be reached, and two that cannot: one behind a `return`, and a handler of a
+/// body without an act.
+pub fn statements_are_reached()
+    ensures counting { All_reached counting }
+    ensures generating { All_reached generating }
+    ensures nested { All_reached nested_body }
+    ensures jumping { All_reached jumping }
+    ensures behind_a_return { (l : ℕ) (ss : Stms) → All_reached (more (return l absent) (more (pass l) ss)) → ⊥ }
+    ensures caught_return { (l : ℕ) → All_reached (more (try l (more (return l absent) none) (handler l absent None (more (pass l) none) no_handlers) none none) (more (pass l) none)) }
+    ensures nothing_to_catch { (l : ℕ) (xs : List Name) → All_reached (more (try l (more (global l xs) none) (handler l absent None none no_handlers) none none) none) → ⊥ }
+{}
+
+/// Every completion that is passed to every nest goes one of the ways of the table.
+#[tactic(auto, using(crate::proofs::CompletionTable::passes))]
+pub fn completions_go_the_ways_of_the_table<V>()
+    ensures { (null : V) (c : Completion V) (s : Nest V) → Passes null c s (complete null c s) }
+{}
+
+/// Behind a permitted jump there is a nest of the shape that the target has by the syntax, and each
+/// of its frames holds what the place of the jump holds for that part.
+#[tactic(auto, using(crate::proofs::JumpLemmas::jump_lands))]
+pub fn a_permitted_jump_lands<V>()
+    ensures { (block : Stms) (line : ℕ) (place : Nest V) (t : Target) → find block line 0 outside ≡ Some t → verdict (parts place) (parts t.within) ≡ permitted → Landing t place }
+{}
