@@ -6,14 +6,15 @@ use Rattle.std.proofs.lemmas.Bool.{and_from, and_left, and_right, lt-ltb, le-ltb
 use Rattle.std.proofs.lemmas.List.{map-append, drop_all}
 use Rattle.std.proofs.Math.Seq.{drop-cons}
 use Rattle.pt_base.specs.declared.numbers.Line.{Line}
-use Rattle.pt_lexer.specs.declared.source.Spot.{Spot}
+use Rattle.pt_literals.specs.declared.source.Spot.{Spot}
 use Rattle.pt_lexer.specs.declared.token.Column.{Column}
-use Rattle.pt_lexer.specs.declared.token.LexErr.{LexErr}
-use Rattle.pt_lexer.specs.declared.token.LexErr.TheVariants as fault
-use Rattle.pt_lexer.specs.declared.token.Token.{Token}
-use Rattle.pt_lexer.specs.declared.token.TokenKind.{TokenKind}
-use Rattle.pt_lexer.specs.declared.token.TokenKind.TheVariants as kind
-use Rattle.pt_lexer.specs.Lines.{is_blank, behind_blank, column_from, compares_alike, agrees, Back, there, further, Turn, deeper, level, marks}
+use Rattle.pt_literals.specs.declared.token.LexErr.{LexErr}
+use Rattle.pt_literals.specs.declared.token.LexErr.TheVariants as fault
+use Rattle.pt_literals.specs.declared.token.Token.{Token}
+use Rattle.pt_literals.specs.declared.token.TokenKind.{TokenKind}
+use Rattle.pt_literals.specs.declared.token.TokenKind.TheVariants as kind
+use Rattle.pt_literals.specs.Source.{is_blank}
+use Rattle.pt_lexer.specs.Lines.{behind_blank, column_from, compares_alike, agrees, Back, there, further, Turn, deeper, level, marks}
 use Rattle.pt_lexer.specs.Columns.{AreRising, Indented}
 use Rattle.pt_lexer.specs.Faults.{Misplaced, off, mixed, too_deep, number_of, IsMisplaced}
 

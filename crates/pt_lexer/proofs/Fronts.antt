@@ -7,12 +7,23 @@ use Rattle.std.specs.Str.{bytes_eq}
 use Rattle.std.specs.Cmp.Lexicographic.{bytes_decides}
 use Rattle.std.proofs.lemmas.Bool.{and_parts, or_cases, both_ways, cases_Bool, eqb-true, ltb-true, true≢false, not-true}
 use Rattle.unicode_ident.proofs.IdentLemmas.{is_xid_start-ascii}
-use Rattle.pt_lexer.specs.declared.TheConstants.{OPERATORS, KEYWORDS}
-use Rattle.pt_lexer.specs.declared.source.Spot.{Spot}
-use Rattle.pt_lexer.specs.declared.token.TokenKind.{TokenKind}
-use Rattle.pt_lexer.specs.declared.token.TokenKind.TheVariants as kind
-use Rattle.pt_lexer.specs.Words.{chars_of, is_listed, is_operator, is_keyword, starts_name, is_identifier, Spells, Next}
-use Rattle.pt_lexer.specs.Lines.{is_blank}
+use Rattle.pt_tables.specs.Names.{keyword_names}
+use Rattle.pt_lexer.specs.declared.TheConstants.{OPERATORS}
+use Rattle.pt_literals.specs.declared.source.Spot.{Spot}
+use Rattle.pt_literals.specs.declared.token.TokenKind.{TokenKind}
+use Rattle.pt_literals.specs.declared.token.TokenKind.TheVariants as kind
+use Rattle.pt_literals.specs.Source.{chars_of}
+use Rattle.pt_literals.specs.Source.{starts_name}
+use Rattle.pt_lexer.specs.Words.{is_listed, is_operator, is_keyword, is_identifier, Spells, Longest, Next, plain, begun, string}
+use Rattle.pt_literals.specs.declared.source.TextEnd.{TextEnd}
+use Rattle.pt_literals.specs.declared.token.LexErr.{LexErr}
+use Rattle.pt_literals.specs.declared.modes.Mode.{Mode}
+use Rattle.pt_literals.specs.declared.token.Lexeme.{Lexeme}
+use Rattle.pt_lexer.specs.Lines.{Nest, mode_of, has_words}
+use Rattle.pt_literals.specs.Literals.{no_literal, literal}
+use Rattle.pt_lexer.specs.Faults.{LiteralFails, at_once, in_string}
+use Rattle.pt_literals.specs.Source.{is_blank}
+use Rattle.pt_lexer.proofs.LiteralLemmas.{may_begin, no_literal_by, no_literal_at_end, no_or_faulty, no_or_known, no_or_holds}
 
 -- what all listed texts pass
 pub listed_passes : (p : List ℕ → Bool) (ks : List (List ℕ)) (x : List ℕ) → list_all p ks ≡ true → is_listed ks x ≡ true → p x ≡ true
@@ -52,7 +63,7 @@ begins_keyword b = nat_lt b 128 && (is_ascii_alphabetic b && not (parts_words b)
 
 keywords_begin : (x : List ℕ) → is_keyword x ≡ true → begins_by begins_keyword x ≡ true
 unfolding is_keyword
-keywords_begin x h = listed_passes (begins_by begins_keyword) (map (λ k. k.now) KEYWORDS) x refl h
+keywords_begin x h = listed_passes (begins_by begins_keyword) keyword_names x refl h
 
 -- the first character of a text, and that it is apart from gaps
 abbrev pub BeginsApart : List ℕ → Type 0
@@ -114,8 +125,24 @@ front_apart : (ss us : List Spot) → BeginsApart (chars_of ss) → BeginsApart 
 front_apart [] us h = absurd h
 front_apart (s ∷ ss) us h = h
 
-pub next_apart : {text rest : List Spot} {w : TokenKind} → Next text w rest → BeginsApart (chars_of text)
-next_apart {rest = rest} {w = w} n = subst (λ x. BeginsApart (chars_of x)) (sym n.whole) (front_apart n.front rest (word_apart w (chars_of n.front) n.spelled))
+longest_apart : {text rest : List Spot} {w : TokenKind} → Longest text w rest → BeginsApart (chars_of text)
+longest_apart {rest = rest} {w = w} n = subst (λ x. BeginsApart (chars_of x)) (sym n.whole) (front_apart n.front rest (word_apart w (chars_of n.front) n.spelled))
+
+no_literal_in_gap : (m : Mode) (s : Spot) (ss : List Spot) → has_words m ≡ true → parts_words s.char ≡ true → literal m (s ∷ ss) ≡ no_literal
+no_literal_in_gap m s ss w h = no_literal_by m s ss w (not-true (may_begin s.char) (gap_char (λ c. not (may_begin c)) s.char refl refl refl refl refl refl refl h))
+
+pub literal_apart : (m : Mode) (text : List Spot) → has_words m ≡ true → (literal m text ≡ no_literal → ⊥) → BeginsApart (chars_of text)
+literal_apart m [] w n = n (no_literal_at_end m w)
+literal_apart m (s ∷ ss) w n = elim (cases_Bool (parts_words s.char)) [ inl gap ↦ absurd (n (no_literal_in_gap m s ss w gap)) | inr apart ↦ apart ]
+
+pub next_apart : {m : Mode} {text rest : List Spot} {w : Lexeme} → has_words m ≡ true → Next m text w rest → BeginsApart (chars_of text)
+next_apart v (plain l n) = longest_apart n
+next_apart v (begun {m = m} {text = text} e) = literal_apart m text v (λ l. no_or_known l e)
+next_apart v (string {m = m} {text = text} e i x) = literal_apart m text v (λ l. no_or_holds l e)
+
+pub fault_apart : {end : TextEnd} {n : Nest} {text : List Spot} {e : LexErr} {at : ℕ} → has_words (mode_of n) ≡ true → LiteralFails end n text e at → BeginsApart (chars_of text)
+fault_apart {n = n} v (at_once {text = text} h) = literal_apart (mode_of n) text v (λ l. no_or_faulty l h)
+fault_apart {n = n} v (in_string {text = text} h f) = literal_apart (mode_of n) text v (λ l. no_or_holds l h)
 
 -- no operator begins as an identifier
 pub operator_starts : (c : ℕ) (cs : List ℕ) → is_operator (c ∷ cs) ≡ true → starts_name c ≡ false

@@ -2,10 +2,13 @@
 use Rattle.std.proofs.Common.{◌≡◌, ◌≢◌, ◌≤◌, ◌<◌, List, [], ◌∷◌, Bool, true, false, Option, Some, None, MatchOption, Bor, refl, sym, ◌∙◌, ap, subst, arith, inl, inr, ◌⊎◌, length}
 use Rattle.std.specs.Prelude.{◌==◌}
 use Rattle.std.proofs.lemmas.Bool.{both_ways, eqb-true, true≢false}
-use Rattle.pt_lexer.specs.declared.source.Spot.{Spot}
-use Rattle.pt_lexer.specs.declared.source.TextEnd.{TextEnd}
+use Rattle.pt_literals.specs.declared.source.Spot.{Spot}
+use Rattle.pt_literals.specs.declared.source.TextEnd.{TextEnd}
+use Rattle.pt_literals.specs.declared.modes.Mode.{Mode}
 use Rattle.pt_lexer.specs.declared.token.Opening.{Opening}
-use Rattle.pt_lexer.specs.Lines.{is_blank, ends_line, NoFeed, LineEnd, feed, both, carriage, Stops, at_line_end, at_text_end, Comment, text_ends, line_ends, goes_on, Piece, blank, comment, backslash, inside, Gap, nothing, piece, NoPiece}
+use Rattle.pt_literals.specs.Source.{ends_line}
+use Rattle.pt_literals.specs.Source.{is_blank}
+use Rattle.pt_lexer.specs.Lines.{NoFeed, LineEnd, feed, both, carriage, Stops, at_line_end, at_text_end, Comment, text_ends, line_ends, goes_on, Piece, blank, comment, backslash, inside, Nest, nest, mode_of, opened_of, has_words, Gap, nothing, piece, NoPiece}
 
 pub feed_at : {text ss : List Spot} {s : Spot} → text ≡ s ∷ ss → s.char ≡ 10 → LineEnd text ss
 feed_at {ss = ss} e h = subst (λ x. LineEnd x ss) (sym e) (feed h)
@@ -68,8 +71,11 @@ pub comment_more : {text ss rest : List Spot} {s : Spot} → text ≡ s ∷ ss �
 comment_more {rest = rest} e h c = subst (λ x. Comment x rest) (sym e) (goes_on h c)
 
 -- pieces
+abbrev pub NoPieceAt : TextEnd → List Opening → List Spot → Type 0
+NoPieceAt end opened text = (rest : List Spot) → Piece end opened text rest → ⊥
+
 abbrev pub PieceAnswer : Option (Bor (List Spot)) → TextEnd → List Opening → List Spot → Type 0
-PieceAnswer o end opened text = MatchOption o (NoPiece end opened text) (λ r. Piece end opened text r.now)
+PieceAnswer o end opened text = MatchOption o (NoPieceAt end opened text) (λ r. Piece end opened text r.now)
 
 pub blank_at : {end : TextEnd} {opened : List Opening} {text ss : List Spot} {s : Spot} → text ≡ s ∷ ss → is_blank s.char ≡ true → Piece end opened text ss
 blank_at {end} {opened} {text} {ss} e h = subst (λ x. Piece end opened x ss) (sym e) (blank h)
@@ -80,7 +86,7 @@ comment_at {end} {opened} {text} {ss} {rest} e h c = subst (λ x. Piece end open
 no_piece_end : {end : TextEnd} {opened : List Opening} {rest : List Spot} → Piece end opened [] rest → ⊥
 no_piece_end (inside l) = none_at_end l
 
-pub no_piece_at_end : {end : TextEnd} {opened : List Opening} {text : List Spot} → text ≡ [] → NoPiece end opened text
+pub no_piece_at_end : {end : TextEnd} {opened : List Opening} {text : List Spot} → text ≡ [] → NoPieceAt end opened text
 no_piece_at_end {end} {opened} e rest p = no_piece_end (subst (λ x. Piece end opened x rest) e p)
 
 no_backslash : {end : TextEnd} {opened : List Opening} {s : Spot} {ss rest : List Spot} → s.char ≡ 92 → ((r : List Spot) → Stops end ss r → ⊥) → Piece end opened (s ∷ ss) rest → ⊥
@@ -102,7 +108,7 @@ only_inside b c d (inside l) = (λ e. some_opened e, l)
     some_opened : {x : Opening} {opened : List Opening} → x ∷ opened ≡ [] → ⊥
     some_opened e = cc
 
-pub no_piece_outside : {end : TextEnd} {opened : List Opening} {text ss : List Spot} {s : Spot} → text ≡ s ∷ ss → is_blank s.char ≡ false → s.char ≢ 35 → s.char ≢ 92 → opened ≡ [] → NoPiece end opened text
+pub no_piece_outside : {end : TextEnd} {opened : List Opening} {text ss : List Spot} {s : Spot} → text ≡ s ∷ ss → is_blank s.char ≡ false → s.char ≢ 35 → s.char ≢ 92 → opened ≡ [] → NoPieceAt end opened text
 no_piece_outside {end} {opened} e b c d o rest p = (only_inside b c d (subst (λ x. Piece end opened x rest) e p)).0 o
 
 inside_at : {end : TextEnd} {opened : List Opening} {ss rest : List Spot} → opened ≢ [] → LineEnd ss rest → Piece end opened ss rest
@@ -115,9 +121,16 @@ inside_of None end opened text ss s e b c d n a = λ rest p. a rest (subst (λ x
 inside_of (Some r) end opened text ss s e b c d n a = inside_at n a
 
 -- gaps
-pub gap_more : {end : TextEnd} {opened : List Opening} {text mid rest : List Spot} → Gap end opened text mid → Piece end opened mid rest → Gap end opened text rest
-gap_more nothing p = piece p nothing
-gap_more (piece q g) p = piece q (gap_more g p)
+pub gap_more : {end : TextEnd} {n : Nest} {text mid rest : List Spot} → has_words (mode_of n) ≡ true → Gap end n text mid → Piece end (opened_of n) mid rest → Gap end n text rest
+gap_more w nothing p = piece w p nothing
+gap_more w (piece v q g) p = piece v q (gap_more w g p)
+
+-- no gap stands where the text is not read as words
+pub no_piece_in_text : (end : TextEnd) (n : Nest) (text : List Spot) → has_words (mode_of n) ≡ false → NoPiece end n text
+no_piece_in_text end n text f = record { none = λ rest w p. both_ways _ f w }
+
+pub no_piece_here : (end : TextEnd) (m : Mode) (opened : List Opening) (text : List Spot) → NoPieceAt end opened text → NoPiece end (nest m opened) text
+no_piece_here end m opened text n = record { none = λ rest w p. n rest p }
 
 pub line_end_shorter : {ss rest : List Spot} → LineEnd ss rest → length rest < length ss
 line_end_shorter (feed h) = omega arith

@@ -6,5 +6,7 @@ pub mod Once
 pub mod WordLemmas
 pub mod ReadLemmas
 pub mod FirstLemmas
-pub mod SourceLemmas
 pub mod LineLemmas
+pub mod LiteralLemmas
+pub mod StringLemmas
+pub mod ShapeLemmas

@@ -4,17 +4,19 @@ use Rattle.std.specs.Prelude.{◌==◌, if◌then◌else◌}
 use Rattle.std.specs.Str.Lossy.{utf8_valid_len}
 use Rattle.std.specs.Char.{len_utf8}
 use Rattle.std.proofs.lemmas.Str.{len_utf8_bounds}
-use Rattle.pt_lexer.specs.declared.source.Spot.{Spot}
-use Rattle.pt_lexer.specs.declared.source.TextEnd.{TextEnd}
+use Rattle.pt_literals.specs.declared.source.Spot.{Spot}
+use Rattle.pt_literals.specs.declared.source.TextEnd.{TextEnd}
 use Rattle.pt_lexer.specs.declared.token.Column.{Column}
-use Rattle.pt_lexer.specs.declared.token.LexErr.{LexErr}
-use Rattle.pt_lexer.specs.declared.token.LexErr.TheVariants as fault
-use Rattle.pt_lexer.specs.declared.token.Token.{Token}
-use Rattle.pt_lexer.specs.declared.token.TokenKind.TheVariants as kind
+use Rattle.pt_literals.specs.declared.token.LexErr.{LexErr}
+use Rattle.pt_literals.specs.declared.token.LexErr.TheVariants as fault
+use Rattle.pt_literals.specs.declared.token.Token.{Token}
+use Rattle.pt_literals.specs.declared.token.TokenKind.TheVariants as kind
 use Rattle.pt_lexer.specs.Columns.{AreRising}
-use Rattle.pt_lexer.specs.Source.{line_at, placed, end_behind, behind_mark, read_chars, end_of, spots_of}
-use Rattle.pt_lexer.specs.Lines.{at_of, token, Stops, at_line_end, at_text_end, nothing, NoPiece, Body, finish, word, closing, Lines, done, empty, full}
-use Rattle.pt_lexer.specs.Faults.{below_empty, below_full, number_of, Precedes, Refused, Rises, LineRead, empty_line, full_line, ReadsLine, GoesOn, TextRead, margin, IsTokens, IsRefused, Caused}
+use Rattle.pt_literals.specs.Source.{line_at, placed, end_behind, behind_mark, read_chars, end_of, spots_of}
+use Rattle.pt_lexer.specs.Lines.{at_of, token, outside, Stops, at_line_end, at_text_end, nothing, NoPiece, Body, finish, word, closing, Lines, done, empty, full}
+use Rattle.pt_literals.specs.Refusals.{Caused}
+use Rattle.pt_lexer.specs.Faults.{below_empty, below_full, number_of, Precedes, Refused, margin, IsTokens, IsRefused}
+use Rattle.pt_lexer.specs.Progress.{Rises, LineRead, empty_line, full_line, ReadsLine, GoesOn, TextRead}
 use Rattle.pt_lexer.proofs.NextLemmas.{next_shorter}
 use Rattle.pt_lexer.proofs.GapLemmas.{stops_within, broken_stop, line_end_shorter}
 use Rattle.pt_lexer.proofs.ReadLemmas.{gap_within, caused_map}
@@ -22,19 +24,19 @@ use Rattle.pt_lexer.proofs.Once.{lines_once, lines_or_fault, body_once, words_or
 use Rattle.pt_lexer.proofs.FirstLemmas.{by_fault, gap_rises, stops_rises, next_rises, refused_broken}
 
 -- a line takes some of the text, and places still rise behind it
-body_rises : (end : TextEnd) {opened : _} {text stop rest : List Spot} {ws : List Token} → Body end opened text ws stop rest → Rises end text → Rises end rest
+pub body_rises : (end : TextEnd) {n : _} {text stop rest : List Spot} {ws : List Token} → Body end n text ws stop rest → Rises end text → Rises end rest
 body_rises end (finish g e) r = (stops_rises e (gap_rises g r).1).1
-body_rises end (word g n t b) r = body_rises end b (next_rises end n (gap_rises g r).1).1
+body_rises end (word g k t b) r = body_rises end b (next_rises end k (gap_rises g r).1).1
 
 line_rises : {end : TextEnd} {cols after : List Column} {text rest : List Spot} {front : List Token} → LineRead end cols text after rest front → Rises end text → Rises end rest
 line_rises {end = end} (empty_line b) r = body_rises end b r
 line_rises {end = end} (full_line b t a l e) r = body_rises end b r
 
-body_within : {end : TextEnd} {opened : _} {text stop rest : List Spot} {ws : List Token} → Body end opened text ws stop rest → length rest ≤ length text
+body_within : {end : TextEnd} {n : _} {text stop rest : List Spot} {ws : List Token} → Body end n text ws stop rest → length rest ≤ length text
 body_within (finish g e) = let h = gap_within g in let k = stops_within e in omega arith
 body_within (word g n t b) = let h = gap_within g in let k = next_shorter n in let l = body_within b in omega arith
 
-body_shorter : {end : TextEnd} {opened : _} {text stop rest : List Spot} {ws : List Token} → Body end opened text ws stop rest → text ≢ [] → length rest < length text
+body_shorter : {end : TextEnd} {n : _} {text stop rest : List Spot} {ws : List Token} → Body end n text ws stop rest → text ≢ [] → length rest < length text
 body_shorter (finish g (at_line_end l)) n = let h = gap_within g in let k = line_end_shorter l in omega arith
 body_shorter (finish {text = text} g (at_text_end w)) n = some_length text n
   where
@@ -112,8 +114,8 @@ text_read {end} {cols} {now} {text} {rest} {old} {new} {last} g e w k = record {
   lines = g.reads (closing end now) (subst (λ x. Lines end now x (closing end now)) (sym e) (done w refl));
 }
 
-no_piece_here : {end : TextEnd} {rest : List Spot} → rest ≡ [] → NoPiece end [] rest
-no_piece_here {end} e = subst (NoPiece end []) (sym e) no_piece_at_end
+no_piece_here : {end : TextEnd} {rest : List Spot} → rest ≡ [] → NoPiece end outside rest
+no_piece_here {end} e = subst (NoPiece end outside) (sym e) no_piece_at_end
 
 pub text_broken : {end : TextEnd} {cols now : List Column} {text rest : List Spot} {old new : List Token} → GoesOn end cols now text rest old new → rest ≡ [] → end.is_whole ≡ false → Refused end cols text (fault.NotUtf8 end.at)
 text_broken {end} {cols} {now} {text} {rest} g e w =
@@ -151,6 +153,9 @@ rises_mark end (s ∷ ss) r = go (s.char == 0xfeff)
     go : (b : Bool) → Rises end (if b then ss else s ∷ ss)
     go true = r.1
     go false = r
+
+pub rises_whole : (bytes : List ℕ) → Rises (end_of bytes) (spots_of bytes)
+rises_whole bytes = rises_mark (end_of bytes) (placed 0 1 0 (read_chars bytes)) (rises_placed 0 1 0 (read_chars bytes) (utf8_valid_len bytes == length bytes))
 
 mark_within : (text : List Spot) → length (behind_mark text) ≤ length text
 mark_within [] = omega arith

@@ -1,5 +1,5 @@
 -- The longest identifier or operator is the word at the front.
-use Rattle.std.proofs.Common.{◌≡◌, ℕ, zero, suc, ◌≤◌, ◌<◌, List, [], ◌∷◌, ◌++◌, Bool, true, false, Option, Some, None, MatchOption, refl, sym, ◌∙◌, ap, subst, arith, inl, inr, ◌⊎◌, length, map, take, drop, nat_lt, length-take, length-append}
+use Rattle.std.proofs.Common.{◌≡◌, ℕ, zero, suc, ◌≤◌, ◌<◌, List, [], ◌∷◌, ◌++◌, Bool, true, false, Option, Some, None, MatchOption, refl, sym, ◌∙◌, ap, subst, arith, inl, inr, ◌⊎◌, length, take, drop, nat_lt, length-take, length-append}
 use Rattle.std.specs.Prelude.{◌&&◌}
 use Rattle.std.specs.Char.{is_ascii_alphabetic}
 use Rattle.std.specs.List.{list_all}
@@ -7,11 +7,16 @@ use Rattle.std.proofs.lemmas.Bool.{and_parts, or_cases, both_ways, ltb-true, tru
 use Rattle.std.proofs.lemmas.List.{take-append-drop}
 use Rattle.unicode_ident.specs.Ident.{is_xid_start}
 use Rattle.unicode_ident.proofs.IdentLemmas.{is_xid_start-ascii, is_xid_start-is_xid_continue}
-use Rattle.pt_lexer.specs.declared.TheConstants.{KEYWORDS}
-use Rattle.pt_lexer.specs.declared.source.Spot.{Spot}
-use Rattle.pt_lexer.specs.declared.token.TokenKind.{TokenKind}
-use Rattle.pt_lexer.specs.declared.token.TokenKind.TheVariants as kind
-use Rattle.pt_lexer.specs.Words.{chars_of, is_operator, is_keyword, starts_name, continues_name, is_identifier, Spells, Next, NoWord, LongestFront}
+use Rattle.pt_tables.specs.Names.{keyword_names}
+use Rattle.pt_literals.specs.declared.source.Spot.{Spot}
+use Rattle.pt_literals.specs.declared.modes.Mode.{Mode}
+use Rattle.pt_literals.specs.declared.token.Lexeme.{Lexeme}
+use Rattle.pt_literals.specs.declared.token.TokenKind.{TokenKind}
+use Rattle.pt_literals.specs.declared.token.TokenKind.TheVariants as kind
+use Rattle.pt_literals.specs.Source.{chars_of}
+use Rattle.pt_literals.specs.Source.{starts_name, continues_name}
+use Rattle.pt_lexer.specs.Words.{is_operator, is_keyword, is_identifier, Spells, NoneSpelt, Longest, Next, plain, begun, string, LongestFront}
+use Rattle.pt_lexer.proofs.LiteralLemmas.{Behind, beyond, front_tail, behind_shorter, known_behind, part_behind}
 use Rattle.pt_lexer.proofs.Fronts.{listed_passes, operator_starts}
 use Rattle.pt_lexer.proofs.WordLemmas.{operator_short, take-chars_of, length-chars}
 
@@ -44,7 +49,7 @@ letters_identify (c ∷ cs) h =
 
 pub keyword_identifier : (cs : List ℕ) → is_keyword cs ≡ true → is_identifier cs ≡ true
 unfolding is_keyword
-keyword_identifier cs h = letters_identify cs (listed_passes (λ x. nat_lt 0 (length x) && list_all is_letter x) (map (λ k. k.now) KEYWORDS) cs refl h)
+keyword_identifier cs h = letters_identify cs (listed_passes (λ x. nat_lt 0 (length x) && list_all is_letter x) keyword_names cs refl h)
 
 -- a word is an identifier or an operator
 word_is : (w : TokenKind) (cs : List ℕ) → Spells w cs → (is_identifier cs ≡ true) ⊎ (is_operator cs ≡ true)
@@ -83,7 +88,7 @@ begins_both (c ∷ cs) ds (suc m) (suc n) h k = both_ways (starts_name c) (opera
 length_front : (text : List Spot) (n : ℕ) → n ≤ length (chars_of text) → length (take n text) ≡ n
 length_front text n h = omega (arith, length-take n text, length-chars text)
 
-pub next_name : (text : List Spot) (n : ℕ) (w : TokenKind) → LongestFront is_identifier (chars_of text) n → 0 < n → Spells w (chars_of (take n text)) → Next text w (drop n text)
+pub next_name : (text : List Spot) (n : ℕ) (w : TokenKind) → LongestFront is_identifier (chars_of text) n → 0 < n → Spells w (chars_of (take n text)) → Longest text w (drop n text)
 next_name text n w l p s = record {
   front = take n text;
   whole = sym (take-append-drop n text);
@@ -94,7 +99,7 @@ next_name text n w l p s = record {
   ]);
 }
 
-pub next_operator : (text : List Spot) (n : ℕ) (w : TokenKind) → LongestFront is_identifier (chars_of text) 0 → LongestFront is_operator (chars_of text) n → Spells w (chars_of (take n text)) → Next text w (drop n text)
+pub next_operator : (text : List Spot) (n : ℕ) (w : TokenKind) → LongestFront is_identifier (chars_of text) 0 → LongestFront is_operator (chars_of text) n → Spells w (chars_of (take n text)) → Longest text w (drop n text)
 next_operator text n w i l s = record {
   front = take n text;
   whole = sym (take-append-drop n text);
@@ -105,7 +110,7 @@ next_operator text n w i l s = record {
   ]);
 }
 
-pub no_word : (text : List Spot) (n : ℕ) → LongestFront is_identifier (chars_of text) 0 → LongestFront is_operator (chars_of text) n → is_operator (chars_of (take n text)) ≡ false → NoWord text
+pub no_word : (text : List Spot) (n : ℕ) → LongestFront is_identifier (chars_of text) 0 → LongestFront is_operator (chars_of text) n → is_operator (chars_of (take n text)) ≡ false → NoneSpelt text
 no_word text n i l lacks w front rest e k = elim (word_is w (chars_of front) k) [
   | inl h ↦ nothing_short front h (at_front is_identifier 0 text front rest i e h)
   | inr o ↦ both_ways (is_operator (chars_of (take n text))) lacks (subst (λ x. is_operator x ≡ true) (take-chars_of text n) (l.passes (some_operator front o (at_front is_operator n text front rest l e o))))
@@ -119,31 +124,39 @@ no_word text n i l lacks w front rest e k = elim (word_is w (chars_of front) k) 
     nothing_short (s ∷ ss) h z = omega arith
 
 -- a word takes some of the text
-pub next_shorter : {text rest : List Spot} {w : TokenKind} → Next text w rest → length rest < length text
-next_shorter {text = text} {rest = rest} {w = w} n = go n.front (word_is w (chars_of n.front) n.spelled) n.whole
+longest_behind : {text rest : List Spot} {w : TokenKind} → Longest text w rest → Behind text rest
+longest_behind {text = text} {rest = rest} {w = w} n = go n.front (word_is w (chars_of n.front) n.spelled) n.whole
   where
-    go : (front : List Spot) → (is_identifier (chars_of front) ≡ true) ⊎ (is_operator (chars_of front) ≡ true) → text ≡ front ++ rest → length rest < length text
+    go : (front : List Spot) → (is_identifier (chars_of front) ≡ true) ⊎ (is_operator (chars_of front) ≡ true) → text ≡ front ++ rest → Behind text rest
     go [] (inl h) e = absurd (true≢false (sym h))
     go [] (inr h) e = absurd (omega (arith, (operator_short [] h).0))
-    go (s ∷ ss) h e = let l = ap length e in omega (arith, l, length-append ss rest)
+    go (s ∷ ss) h e = subst (λ x. Behind x rest) (sym e) (beyond (front_tail ss rest))
+
+pub next_behind : {m : Mode} {text rest : List Spot} {w : Lexeme} → Next m text w rest → Behind text rest
+next_behind (plain l n) = longest_behind n
+next_behind (begun {m = m} {text = text} e) = known_behind m text e
+next_behind (string {m = m} {text = text} e i x) = part_behind m text e i
+
+pub next_shorter : {m : Mode} {text rest : List Spot} {w : Lexeme} → Next m text w rest → length rest < length text
+next_shorter n = behind_shorter (next_behind n)
 
 -- the same, as the code has them
 pub next_name_at : (text front rest : List Spot) (n : ℕ) (w : TokenKind) → LongestFront is_identifier (chars_of text) n → 0 < n → front ≡ take n text → rest ≡ drop n text → Spells w (chars_of front)
-    → Next text w rest
-next_name_at text front rest n w l p e f s = subst (Next text w) (sym f) (next_name text n w l p (subst (λ x. Spells w (chars_of x)) e s))
+    → Longest text w rest
+next_name_at text front rest n w l p e f s = subst (Longest text w) (sym f) (next_name text n w l p (subst (λ x. Spells w (chars_of x)) e s))
 
 abbrev pub OperatorAnswer : Option TokenKind → List Spot → Type 0
 OperatorAnswer o front = MatchOption o (is_operator (chars_of front) ≡ false) (λ w. Spells w (chars_of front))
 
 pub next_operator_at : (text front rest : List Spot) (m n : ℕ) (o : Option TokenKind) (w : TokenKind) → LongestFront is_identifier (chars_of text) m → m ≤ 0 → LongestFront is_operator (chars_of text) n
-    → front ≡ take n text → rest ≡ drop n text → OperatorAnswer o front → o ≡ Some w → Next text w rest
+    → front ≡ take n text → rest ≡ drop n text → OperatorAnswer o front → o ≡ Some w → Longest text w rest
 next_operator_at text front rest m n o w i z l e f a is =
     let s : Spells w (chars_of front) = subst (λ x. OperatorAnswer x front) is a in
     let zero_long : m ≡ 0 = omega arith in
-    subst (Next text w) (sym f) (next_operator text n w (subst (LongestFront is_identifier (chars_of text)) zero_long i) l (subst (λ x. Spells w (chars_of x)) e s))
+    subst (Longest text w) (sym f) (next_operator text n w (subst (LongestFront is_identifier (chars_of text)) zero_long i) l (subst (λ x. Spells w (chars_of x)) e s))
 
 pub no_word_at : (text front : List Spot) (m n : ℕ) (o : Option TokenKind) → LongestFront is_identifier (chars_of text) m → m ≤ 0 → LongestFront is_operator (chars_of text) n
-    → front ≡ take n text → OperatorAnswer o front → o ≡ None → NoWord text
+    → front ≡ take n text → OperatorAnswer o front → o ≡ None → NoneSpelt text
 no_word_at text front m n o i z l e a is =
     let s : is_operator (chars_of front) ≡ false = subst (λ x. OperatorAnswer x front) is a in
     let zero_long : m ≡ 0 = omega arith in

@@ -1,15 +1,21 @@
 -- The longest word at the front of a text.
 use Rattle.std.proofs.Common.{◌≡◌, ℕ, zero, suc, ◌+◌, ◌≤◌, ◌<◌, List, [], ◌∷◌, ◌++◌, Bool, true, false, Option, Some, None, MatchOption, Bor, refl, sym, ◌∙◌, ap, subst, arith, inl, inr, length, get_or, map, take, append-nil, nat_lt, nat_le, cond, length-take}
-use Rattle.std.specs.Prelude.{◌&&◌, ◌||◌, encode_utf8, encode_utf8_all, is_some}
+use Rattle.std.specs.Prelude.{◌&&◌, ◌||◌, encode_utf8, encode_utf8_all, is_some, if◌then◌else◌}
 use Rattle.std.specs.List.{list_all, prefix_len}
 use Rattle.std.specs.Str.{bytes_eq}
 use Rattle.std.specs.Cmp.Lexicographic.{bytes_decides}
-use Rattle.std.proofs.lemmas.Bool.{and_parts, cases_Bool, cases_eq, ltb-true, leb-true, le-leb, lt-leb, true≢false, and_from, or_left, or_right, and_left, and_right}
+use Rattle.std.proofs.lemmas.Bool.{both_ways, and_parts, cases_Bool, cases_eq, ltb-true, leb-true, le-leb, lt-leb, true≢false, and_from, or_left, or_right, and_left, and_right}
 use Rattle.std.proofs.lemmas.List.{take_more, map-append, take-map}
 use Rattle.std.proofs.lemmas.Str.{encodes-append}
 use Rattle.pt_lexer.specs.declared.TheConstants.{OPERATORS}
-use Rattle.pt_lexer.specs.declared.source.Spot.{Spot}
-use Rattle.pt_lexer.specs.Words.{chars_of, is_listed, is_operator, starts_name, continues_name, is_identifier, LongestFront, has_operator}
+use Rattle.pt_literals.specs.declared.source.Spot.{Spot}
+use Rattle.pt_literals.specs.Source.{chars_of}
+use Rattle.pt_literals.specs.Source.{starts_name, continues_name}
+use Rattle.pt_lexer.specs.Words.{is_listed, is_operator, is_keyword, all_ascii, is_identifier, LongestFront, has_operator}
+use Rattle.std.specs.Char.{is_ascii}
+use Rattle.std.proofs.lemmas.Str.{encode_ascii}
+use Rattle.pt_tables.specs.Names.{keyword_names}
+use Rattle.pt_tables.specs.Rows.{value_of, numbered}
 use Rattle.pt_lexer.proofs.Fronts.{listed_passes}
 
 one-add : (n : ℕ) → 1 + n ≡ suc n
@@ -181,3 +187,43 @@ has_from ss n b w e =
 
 pub has_none : (ss : List Spot) (n : ℕ) → length ss < n → false ≡ has_operator (chars_of ss) n
 has_none ss n w = sym (and_left (nat_le n (length (chars_of ss))) _ (lt-leb n (length (chars_of ss)) (omega (arith, length-chars ss))))
+
+-- keywords are listed with their places
+value_listed : (names : List (List ℕ)) (n : ℕ) (x : List ℕ) → is_some (value_of (numbered n names) x) ≡ is_listed names x
+value_listed [] n x = refl
+value_listed (k ∷ names) n x = go (bytes_eq k x) (value_listed names (n + 1) x)
+  where
+    go : (b : Bool) → is_some (value_of (numbered (n + 1) names) x) ≡ is_listed names x → is_some (if b then Some n else value_of (numbered (n + 1) names) x) ≡ (b || is_listed names x)
+    go true h = refl
+    go false h = h
+
+pub keyword_listed : (x : List ℕ) → is_some (value_of (numbered 0 keyword_names) x) ≡ is_keyword x
+unfolding is_keyword
+keyword_listed x = value_listed keyword_names 0 x
+
+-- keywords are ASCII
+keyword_ascii : (x : List ℕ) → is_keyword x ≡ true → list_all is_ascii x ≡ true
+unfolding is_keyword
+keyword_ascii x h = listed_passes (list_all is_ascii) keyword_names x refl h
+
+spots_ascii : (ss : List Spot) → all_ascii ss ≡ list_all is_ascii (chars_of ss)
+spots_ascii [] = refl
+spots_ascii (s ∷ ss) = ap (λ b. is_ascii s.char && b) (spots_ascii ss)
+
+pub no_keyword : (ss : List Spot) → all_ascii ss ≡ false → false ≡ is_keyword (chars_of ss)
+no_keyword ss h = elim (cases_Bool (is_keyword (chars_of ss))) [
+  | inl k ↦ absurd (both_ways (all_ascii ss) h (spots_ascii ss ∙ keyword_ascii (chars_of ss) k))
+  | inr k ↦ sym k
+]
+
+ascii_text : (x : List ℕ) → list_all is_ascii x ≡ true → encode_utf8_all x ≡ x
+ascii_text [] h = refl
+ascii_text (c ∷ x) h =
+    let p = and_parts (is_ascii c) _ h in
+    ap (λ b. b ++ encode_utf8_all x) (encode_ascii c (ltb-true c 128 p.0)) ∙ ap (λ b. c ∷ b) (ascii_text x p.1)
+
+pub keyword_text : (ss : List Spot) (text : List ℕ) (b : Bool) → all_ascii ss ≡ true → text ≡ encode_utf8_all (chars_of ss) → b ≡ is_keyword text → b ≡ is_keyword (chars_of ss)
+keyword_text ss text b h e k = k ∙ ap is_keyword (e ∙ ascii_text (chars_of ss) (sym (spots_ascii ss) ∙ h))
+
+pub keyword_spelling : (x text : List ℕ) → is_keyword x ≡ true → text ≡ encode_utf8_all x → text ≡ x
+keyword_spelling x text h e = e ∙ ascii_text x (keyword_ascii x h)

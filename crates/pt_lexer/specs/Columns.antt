@@ -2,8 +2,8 @@
 use Rattle.std.specs.Prelude.{◌≡◌, ℕ, ◌<◌, List, [], ◌∷◌, ◌++◌, true}
 use Rattle.pt_base.specs.declared.numbers.Line.{Line}
 use Rattle.pt_lexer.specs.declared.token.Column.{Column}
-use Rattle.pt_lexer.specs.declared.token.Token.{Token}
-use Rattle.pt_lexer.specs.declared.token.TokenKind.{TokenKind}
+use Rattle.pt_literals.specs.declared.token.Token.{Token}
+use Rattle.pt_literals.specs.declared.token.TokenKind.{TokenKind}
 use Rattle.pt_lexer.specs.Lines.{agrees, Turn, marks}
 
 -- each column lies behind the next one, by both computations

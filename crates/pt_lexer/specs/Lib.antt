@@ -1,5 +1,6 @@
 pub mod Columns
 pub mod Faults
 pub mod Lines
-pub mod Source
+pub mod Progress
+pub mod Shape
 pub mod Words

@@ -1,21 +1,28 @@
 -- What text is what tokens: logical lines (Language Reference 2.1.1 to 2.1.9) and their indentation.
-use Rattle.std.specs.Prelude.{◌≡◌, ◌≢◌, ℕ, ◌+◌, ◌*◌, ◌/◌, ◌≤◌, ◌<◌, List, [], ◌∷◌, ◌++◌, length, map, codes, Bool, true, false, ◌==◌, ◌&&◌, ◌||◌, nat_lt, if◌then◌else◌, Option, Some, None, Result, Ok, Err}
+use Rattle.std.specs.Prelude.{◌≡◌, ◌≢◌, ℕ, ◌+◌, ◌*◌, ◌/◌, ◌≤◌, ◌<◌, List, [], ◌∷◌, ◌++◌, length, map, codes, Bool, true, false, ◌==◌, ◌&&◌, nat_lt, if◌then◌else◌, Option, Some, None, Result, Ok, Err}
 use Rattle.std.specs.Bool.{beq}
 use Rattle.std.specs.List.{list_all}
 use Rattle.std.specs.Str.{bytes_eq}
 use Rattle.pt_base.specs.declared.numbers.Line.{Line}
 use Rattle.pt_lexer.specs.declared.TheConstants.{EXCLUDED}
-use Rattle.pt_lexer.specs.declared.source.Spot.{Spot}
-use Rattle.pt_lexer.specs.declared.source.TextEnd.{TextEnd}
+use Rattle.pt_literals.specs.declared.source.Spot.{Spot}
+use Rattle.pt_literals.specs.declared.source.TextEnd.{TextEnd}
 use Rattle.pt_lexer.specs.declared.token.Bracket.{Bracket}
 use Rattle.pt_lexer.specs.declared.token.Bracket.TheVariants.{Round, Square, Curly}
 use Rattle.pt_lexer.specs.declared.token.Column.{Column}
-use Rattle.pt_lexer.specs.declared.token.LexErr.{LexErr}
-use Rattle.pt_lexer.specs.declared.token.LexErr.TheVariants as fault
+use Rattle.pt_literals.specs.declared.modes.Field.{Field}
+use Rattle.pt_literals.specs.declared.modes.Mode.{Mode}
+use Rattle.pt_literals.specs.declared.modes.Mode.TheVariants as mode
+use Rattle.pt_literals.specs.declared.strings.Delimiter.{Delimiter}
+use Rattle.pt_literals.specs.declared.token.Lexeme.{Lexeme}
+use Rattle.pt_literals.specs.declared.token.Lexeme.TheVariants.{Word, Start}
+use Rattle.pt_literals.specs.declared.token.LexErr.{LexErr}
+use Rattle.pt_literals.specs.declared.token.LexErr.TheVariants as fault
 use Rattle.pt_lexer.specs.declared.token.Opening.{Opening}
-use Rattle.pt_lexer.specs.declared.token.Token.{Token}
-use Rattle.pt_lexer.specs.declared.token.TokenKind.{TokenKind}
-use Rattle.pt_lexer.specs.declared.token.TokenKind.TheVariants as kind
+use Rattle.pt_literals.specs.declared.token.Token.{Token}
+use Rattle.pt_literals.specs.declared.token.TokenKind.{TokenKind}
+use Rattle.pt_literals.specs.declared.token.TokenKind.TheVariants as kind
+use Rattle.pt_literals.specs.Source.{is_blank, ends_line}
 use Rattle.pt_lexer.specs.Words.{is_listed, Next}
 
 -- the place and the line at which a rest of the text stands
@@ -29,12 +36,6 @@ line_of end (s ∷ ss) = s.line
 
 abbrev pub token : TextEnd → List Spot → TokenKind → Token
 token end text k = record { kind = k; at = at_of end text; line = line_of end text }
-
-abbrev pub is_blank : ℕ → Bool
-is_blank c = (c == 32) || ((c == 9) || (c == 12))
-
-abbrev pub ends_line : ℕ → Bool
-ends_line c = (c == 10) || (c == 13)
 
 abbrev pub NoFeed : List Spot → Type 0
 NoFeed [] = Unit {0}
@@ -64,17 +65,38 @@ pub data Piece (end : TextEnd) : List Opening → List Spot → List Spot → Ty
   backslash : {opened : List Opening} {s : Spot} {ss rest : List Spot} → s.char ≡ 92 → Stops end ss rest → Piece end opened (s ∷ ss) rest
   inside : {x : Opening} {opened : List Opening} {ss rest : List Spot} → LineEnd ss rest → Piece end (x ∷ opened) ss rest
 
-pub data Gap (end : TextEnd) (opened : List Opening) : List Spot → List Spot → Type 0 where
-  nothing : {text : List Spot} → Gap end opened text text
-  piece : {text mid rest : List Spot} → Piece end opened text mid → Gap end opened mid rest → Gap end opened text rest
+-- How a place is read, and the brackets that are open there, the innermost first.
+pub data Nest : Type 0 where
+  nest : Mode → List Opening → Nest
 
--- nothing of a gap stands at the front
-abbrev pub NoPiece : TextEnd → List Opening → List Spot → Type 0
-NoPiece end opened text = (rest : List Spot) → Piece end opened text rest → ⊥
+abbrev pub mode_of : Nest → Mode
+mode_of (nest m opened) = m
+
+abbrev pub opened_of : Nest → List Opening
+opened_of (nest m opened) = opened
+
+abbrev pub has_words : Mode → Bool
+has_words mode.Words = true
+has_words (mode.Text d) = false
+has_words (mode.Field f) = true
+has_words (mode.Spec f) = false
+
+-- where a line begins
+abbrev pub outside : Nest
+outside = nest mode.Words []
+
+-- Gaps stand between words, and none in the text of an f-string.
+pub data Gap (end : TextEnd) (n : Nest) : List Spot → List Spot → Type 0 where
+  nothing : {text : List Spot} → Gap end n text text
+  piece : {text mid rest : List Spot} → has_words (mode_of n) ≡ true → Piece end (opened_of n) text mid → Gap end n mid rest → Gap end n text rest
+
+-- Nothing of a gap stands at the front.
+pub record NoPiece (end : TextEnd) (n : Nest) (text : List Spot) : Type 0 where
+  pub none : (rest : List Spot) → has_words (mode_of n) ≡ true → Piece end (opened_of n) text rest → ⊥
 
 -- no logical line stops here
-abbrev pub NoLineStop : TextEnd → List Opening → List Spot → Type 0
-NoLineStop end opened text = (rest : List Spot) → Stops end text rest → opened ≡ [] → ⊥
+abbrev pub NoLineStop : TextEnd → Nest → List Spot → Type 0
+NoLineStop end n text = (rest : List Spot) → Stops end text rest → n ≡ outside → ⊥
 
 -- the bracket that a sign opens, and the one that it closes
 abbrev pub opens : List ℕ → Option Bracket
@@ -101,26 +123,92 @@ abbrev pub is_excluded : List ℕ → Bool
 is_excluded x = is_listed (map (λ k. k.now) EXCLUDED) x
 
 -- what a closing bracket leaves open
-abbrev pub shut : List Opening → Bracket → Line → Result (List Opening) LexErr
+abbrev pub shut : List Opening → Bracket → Line → Result Nest LexErr
 shut [] b line = Err (fault.OpenBracket line)
-shut (x ∷ opened) b line = if same_bracket x.bracket b then Ok opened else Err (fault.OpenBracket line)
+shut (x ∷ opened) b line = if same_bracket x.bracket b then Ok (nest x.mode opened) else Err (fault.OpenBracket line)
 
-abbrev pub turned_by : List Opening → Option Bracket → Option Bracket → Line → Result (List Opening) LexErr
-turned_by opened (Some b) _ line =
-    if nat_lt (length opened) 100 then Ok (record { bracket = b; line = line } ∷ opened) else Err (fault.Limit line)
-turned_by opened None (Some b) line = shut opened b line
-turned_by opened None None line = Ok opened
+-- how the text behind an opening bracket is read: the brace of a field is one
+abbrev pub mode_behind : Mode → Mode
+mode_behind mode.Words = mode.Words
+mode_behind (mode.Text d) = mode.Field (record { string = d; is_nested = false })
+mode_behind (mode.Field f) = mode.Words
+mode_behind (mode.Spec f) = mode.Field (record { string = f.string; is_nested = true })
 
--- the brackets that are open behind a word of a line, the innermost first, or what is wrong with the word
-abbrev pub turned : List Opening → TokenKind → Line → Result (List Opening) LexErr
-turned opened (kind.Sign x) line = if is_excluded x then Err (fault.Excluded line) else turned_by opened (opens x) (closes x) line
-turned opened _ line = Ok opened
+-- how words are read where these brackets are open
+abbrev pub mode_in : List Opening → Mode
+mode_in [] = mode.Words
+mode_in (x ∷ opened) = mode_behind x.mode
+
+abbrev pub opened_by : Mode → List Opening → Bracket → Line → Result Nest LexErr
+opened_by m opened b line =
+    if nat_lt (length opened) 100 then Ok (nest (mode_behind m) (record { bracket = b; line = line; mode = m } ∷ opened)) else Err (fault.Limit line)
+
+abbrev pub turned_by : Mode → List Opening → Option Bracket → Option Bracket → Line → Result Nest LexErr
+turned_by m opened (Some b) _ line = opened_by m opened b line
+turned_by m opened None (Some b) line = shut opened b line
+turned_by m opened None None line = Ok (nest m opened)
+
+abbrev pub turned_by_sign : Mode → List Opening → List ℕ → Line → Result Nest LexErr
+turned_by_sign m opened x line = if is_excluded x then Err (fault.Excluded line) else turned_by m opened (opens x) (closes x) line
+
+-- a word among words
+abbrev pub turned_in_words : Mode → List Opening → Lexeme → Line → Result Nest LexErr
+turned_in_words m opened (Word (kind.Sign x)) line = turned_by_sign m opened x line
+turned_in_words m opened (Word _) line = Ok (nest m opened)
+turned_in_words m opened (Start d) line = Ok (nest (mode.Text d) opened)
+
+abbrev pub is_sign : List ℕ → Lexeme → Bool
+is_sign y (Word (kind.Sign x)) = bytes_eq x y
+is_sign y (Word _) = false
+is_sign y (Start d) = false
+
+abbrev pub ends_string : Lexeme → Bool
+ends_string (Word kind.FEnd) = true
+ends_string (Word _) = false
+ends_string (Start d) = false
+
+-- a colon in a field, outside its brackets, begins its format spec
+abbrev pub turned_in_field : Field → List Opening → Lexeme → Line → Result Nest LexErr
+turned_in_field f opened w line = if is_sign (codes ":") w then Ok (nest (mode.Spec f) opened) else turned_in_words (mode.Field f) opened w line
+
+abbrev pub turned_in_text : Delimiter → List Opening → Lexeme → Line → Result Nest LexErr
+turned_in_text d opened w line =
+    if ends_string w then Ok (nest (mode_in opened) opened)
+    else if is_sign (codes "{") w then opened_by (mode.Text d) opened Curly line
+    else Ok (nest (mode.Text d) opened)
+
+-- Where a string ends in a format spec, the brace of the field is a bracket like others.
+abbrev pub left_open : List Opening → Nest
+left_open [] = outside
+left_open (x ∷ opened) = nest mode.Words (record { bracket = x.bracket; line = x.line; mode = mode_in opened } ∷ opened)
+
+-- A format spec has fields, and the spec of these has none.
+abbrev pub field_in_spec : Field → List Opening → Line → Result Nest LexErr
+field_in_spec f opened line = if f.is_nested then Err (fault.Excluded line) else opened_by (mode.Spec f) opened Curly line
+
+abbrev pub turned_in_spec : Field → List Opening → Lexeme → Line → Result Nest LexErr
+turned_in_spec f opened w line =
+    if ends_string w then Ok (left_open opened)
+    else if is_sign (codes "{") w then field_in_spec f opened line
+    else if is_sign (codes "}") w then shut opened Curly line
+    else Ok (nest (mode.Spec f) opened)
+
+-- the mode and the brackets that are open behind a word, or what is wrong with it
+abbrev pub turned : Nest → Lexeme → Line → Result Nest LexErr
+turned (nest mode.Words opened) w line = turned_in_words mode.Words opened w line
+turned (nest (mode.Text d) opened) w line = turned_in_text d opened w line
+turned (nest (mode.Field f) opened) w line = turned_in_field f opened w line
+turned (nest (mode.Spec f) opened) w line = turned_in_spec f opened w line
+
+abbrev pub kind_of : Lexeme → TokenKind
+kind_of (Word k) = k
+kind_of (Start d) = kind.FStart
 
 -- The words of a logical line, the place where it stops, and the text behind it.
-pub data Body (end : TextEnd) : List Opening → List Spot → List Token → List Spot → List Spot → Type 0 where
-  finish : {text stop rest : List Spot} → Gap end [] text stop → Stops end stop rest → Body end [] text [] stop rest
-  word : {opened more : List Opening} {text mid after stop rest : List Spot} {w : TokenKind} {ws : List Token} → Gap end opened text mid → Next mid w after
-      → turned opened w (line_of end mid) ≡ Ok more → Body end more after ws stop rest → Body end opened text (token end mid w ∷ ws) stop rest
+pub data Body (end : TextEnd) : Nest → List Spot → List Token → List Spot → List Spot → Type 0 where
+  finish : {text stop rest : List Spot} → Gap end outside text stop → Stops end stop rest → Body end outside text [] stop rest
+  word : {n more : Nest} {text mid after stop rest : List Spot} {w : Lexeme} {ws : List Token} → Gap end n text mid → Next (mode_of n) mid w after
+      → turned n w (line_of end mid) ≡ Ok more → Body end more after ws stop rest → Body end n text (token end mid (kind_of w) ∷ ws) stop rest
 
 -- the column behind the blanks at the front: a tab goes on to the next multiple of eight, or is one wide
 abbrev pub behind_blank : Column → ℕ → Column
@@ -170,8 +258,8 @@ closing end (k ∷ (l ∷ cols)) = token end [] kind.Dedent ∷ closing end (l �
 -- The tokens of a text where these columns are open. There may be 100 of them beside the left margin.
 pub data Lines (end : TextEnd) : List Column → List Spot → List Token → Type 0 where
   done : {cols : List Column} {all : List Token} → end.is_whole ≡ true → all ≡ closing end cols → Lines end cols [] all
-  empty : {cols : List Column} {s : Spot} {ss stop rest : List Spot} {all : List Token} → Body end [] (s ∷ ss) [] stop rest → Lines end cols rest all
+  empty : {cols : List Column} {s : Spot} {ss stop rest : List Spot} {all : List Token} → Body end outside (s ∷ ss) [] stop rest → Lines end cols rest all
       → Lines end cols (s ∷ ss) all
   full : {cols after : List Column} {s : Spot} {ss stop rest : List Spot} {w : Token} {ws others all : List Token} {ks : List TokenKind}
-      → Body end [] (s ∷ ss) (w ∷ ws) stop rest → Turn cols (column_of (s ∷ ss)) after ks → agrees (column_of (s ∷ ss)) cols ≡ true → length after ≤ 101
+      → Body end outside (s ∷ ss) (w ∷ ws) stop rest → Turn cols (column_of (s ∷ ss)) after ks → agrees (column_of (s ∷ ss)) cols ≡ true → length after ≤ 101
       → Lines end after rest others → all ≡ marks w.at w.line ks ++ ((w ∷ ws) ++ (token end stop kind.Newline ∷ others)) → Lines end cols (s ∷ ss) all

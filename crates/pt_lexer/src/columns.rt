@@ -1,11 +1,12 @@
 ghost use Rattle.std.specs.Prelude.{◌≡◌, ℕ, ◌<◌, ◌≤◌, ◌^◌, [], ◌∷◌, length, MatchResult};
 ghost use Rattle.pt_lexer.specs.Lines.{behind_blank, column_of as column_at};
 ghost use Rattle.pt_lexer.specs.Columns.{AreRising, Indented};
-ghost use Rattle.pt_lexer.specs.Faults.{Caused, IsMisplaced, margin};
+ghost use Rattle.pt_literals.specs.Refusals.{Caused};
+ghost use Rattle.pt_lexer.specs.Faults.{IsMisplaced, margin};
 
-use crate::gaps::is_blank_char;
 use crate::{Column, LexErr, Spot, Token, TokenKind};
 use pt_base::{Seq, Stack};
+use pt_literals::is_blank_char;
 use std::alloc::Global;
 
 /// The column behind a blank.

@@ -1,19 +1,24 @@
-ghost use Rattle.std.specs.Prelude.{◌≡◌, ℕ, ◌<◌, ◌≤◌, ◌^◌, [], ◌∷◌, ◌++◌, List, length, MatchResult, MatchOption, OnOk, IfOk, ◌⊎◌};
-ghost use Rattle.pt_lexer.specs.declared.token.LexErr.{LexErr as Refusal};
-ghost use Rattle.pt_lexer.specs.declared.token.LexErr.TheVariants as fault;
-ghost use Rattle.pt_lexer.specs.declared.token.Token.{Token as Lexed};
-ghost use Rattle.pt_lexer.specs.Lines.{at_of, line_of, token, Gap, NoPiece, NoLineStop, Stops, turned, closing};
+ghost use Rattle.std.specs.Prelude.{◌≡◌, true, false, ℕ, ◌<◌, ◌≤◌, ◌^◌, [], ◌∷◌, ◌++◌, List, length, MatchResult, MatchOption, OnOk, IfOk, ◌⊎◌};
+ghost use Rattle.pt_literals.specs.declared.token.LexErr.{LexErr as Refusal};
+ghost use Rattle.pt_literals.specs.declared.token.LexErr.TheVariants as fault;
+ghost use Rattle.pt_literals.specs.declared.token.Token.{Token as Lexed};
+ghost use Rattle.pt_lexer.specs.Lines.{at_of, line_of, token, nest, outside, has_words, kind_of as kind_of_word, Gap, NoPiece, NoLineStop, Stops, closing};
+ghost use Rattle.pt_literals.specs.declared.modes.Mode.TheVariants as mode;
+ghost use Rattle.pt_literals.specs.Literals.{literal as literal_in, no_literal};
 ghost use Rattle.pt_lexer.specs.Words.{NoWord};
 ghost use Rattle.pt_lexer.specs.Columns.{AreRising};
-ghost use Rattle.pt_lexer.specs.Faults.{Caused, Fails, FailsWith, WordsRead, Begins, FirstFault, Refused, ReadsLine, Rises, TextRead, IsTokens, IsRefused};
+ghost use Rattle.pt_literals.specs.Refusals.{Caused};
+ghost use Rattle.pt_lexer.specs.Faults.{or_line, left_open_by as open_by, line_of_part as part_line, broken_off as breaks_off, string_line, Fails, Refused, IsTokens, IsRefused};
+ghost use Rattle.pt_lexer.specs.Shape.{IsWellFormed, PlacesRise};
+ghost use Rattle.pt_lexer.specs.Progress.{DepthOrWord, FailsWith, WordsRead, Begins, FirstFault, ReadsLine, Rises, TextRead};
 
 use crate::brackets::{outermost, turn};
 use crate::columns::{Columns, column_of};
 use crate::gaps::{behind_gap, behind_stop};
-use crate::source::{behind_byte_order_mark, first_spot, read};
-use crate::words::word;
-use crate::{LexErr, Opening, Spot, TextEnd, Token, TokenKind};
+use crate::words::{plain_word, word};
+use crate::{Begun, LexErr, Lexeme, Mode, Opening, Part, Reading, Spot, TextEnd, Token, TokenKind};
 use pt_base::{Line, Memory, Seq, Stack};
+use pt_literals::{behind_byte_order_mark, first_spot, literal, read};
 use std::alloc::Global;
 
 /// The line on which a rest of the text stands.
@@ -44,65 +49,139 @@ fn token_at(end: TextEnd, text: &[Spot], kind: TokenKind) -> Token
     }
 }
 
-/// What stands behind the logical line that stops here: none stops where a bracket is open.
-fn behind_line<'a>(end: TextEnd, opened: &Stack<Opening>, text: &'a [Spot]) -> Option<&'a [Spot]>
-    ensures { MatchOption result (NoLineStop end opened.now text.now) (λ rest. (opened.now ≡ []) × Stops end text.now rest.now) }
+/// The token of a word.
+fn kind_of(word: Lexeme) -> TokenKind
+    ensures { result ≡ kind_of_word word }
 {
+    match word {
+        Lexeme::Word(kind) => kind,
+        Lexeme::Start(_) => TokenKind::FStart,
+    }
+}
+
+/// What stands behind the logical line that stops here: none stops in a bracket or a string.
+fn behind_line<'a>(
+    end: TextEnd,
+    mode: Mode,
+    opened: &Stack<Opening>,
+    text: &'a [Spot],
+) -> Option<&'a [Spot]>
+    ensures { MatchOption result (NoLineStop end (nest mode opened.now) text.now) (λ rest. (nest mode opened.now ≡ outside) × Stops end text.now rest.now) }
+{
+    if !matches!(mode, Mode::Words) {
+        return None;
+    }
     if opened.is_empty() {
         return behind_stop(end, text);
     }
     None
 }
 
-/// What is wrong where the text ends in a line.
-fn fault_at_end(end: TextEnd, opened: Stack<Opening>) -> LexErr
-    requires { NoLineStop end opened [] }
-    ensures { Fails end opened [] result end.at }
+/// What is wrong where the text ends in brackets, or in a field of an f-string.
+fn fault_at_end(end: TextEnd, mode: Mode, opened: Stack<Opening>) -> LexErr
+    requires words { has_words mode ≡ true }
+    requires stop { NoLineStop end (nest mode opened) [] }
+    ensures { Fails end (nest mode opened) [] result end.at }
 {
-    if end.is_whole {
-        let line = outermost(opened, end.line);
-        return LexErr::OpenBracket { line };
+    if !end.is_whole {
+        return LexErr::NotUtf8 { at: end.at };
     }
-    LexErr::NotUtf8 { at: end.at }
+    let (line, string) = outermost(mode, opened, end.line);
+    left_open_by(line, string)
+}
+
+/// The refusal of what is never closed: a string, or else a bracket.
+fn left_open_by(bracket: Line, string: Option<Line>) -> LexErr
+    ensures { result ≡ open_by bracket string }
+{
+    match string {
+        Some(line) => LexErr::OpenString { line },
+        None => LexErr::OpenBracket { line: bracket },
+    }
 }
 
 /// What is wrong where no word of a line stands, and the line doesn't end either.
-fn fault_at(end: TextEnd, opened: Stack<Opening>, text: &[Spot]) -> LexErr
-    requires gap { NoPiece end opened text.now }
-    requires word { NoWord text.now }
-    requires stop { NoLineStop end opened text.now }
-    ensures { Fails end opened text.now result (at_of end text.now) }
+fn fault_at(end: TextEnd, mode: Mode, opened: Stack<Opening>, text: &[Spot]) -> LexErr
+    requires gap { NoPiece end (nest mode opened) text.now }
+    requires word { NoWord mode text.now }
+    requires stop { NoLineStop end (nest mode opened) text.now }
+    ensures { Fails end (nest mode opened) text.now result (at_of end text.now) }
 {
     match first_spot(text) {
         Some((spot, _)) => LexErr::BadChar { at: spot.at },
-        None => fault_at_end(end, opened),
+        None => fault_at_end(end, mode, opened),
+    }
+}
+
+fn line_of_part(part: Part) -> Line
+    ensures { result ≡ part_line part }
+{
+    match part {
+        Part::Whole(string) => string.line,
+        Part::Text(string) => string.line,
+        Part::Spec(string) => string.line,
+    }
+}
+
+/// What is wrong where the text ends in a part of a string: the outermost f-string is told.
+fn broken_off(end: TextEnd, mode: Mode, opened: Stack<Opening>, part: Part) -> LexErr
+    ensures { result ≡ breaks_off end (or_line (string_line (nest mode opened)) (part_line part)) }
+{
+    if !end.is_whole {
+        return LexErr::NotUtf8 { at: end.at };
+    }
+    let line = line_of_part(part);
+    match outermost(mode, opened, line) {
+        (_, Some(line)) => LexErr::OpenString { line },
+        (_, None) => LexErr::OpenString { line },
     }
 }
 
 /// The place of a line's first word, or of what is strange or ends there.
 fn begin<'a>(alloc: Global, end: TextEnd, text: &'a [Spot]) -> &'a [Spot]
-    ensures gap { Gap end [] text.now result.now }
-    ensures full { NoPiece end [] result.now }
+    ensures gap { Gap end outside text.now result.now }
+    ensures full { NoPiece end outside result.now }
 {
     let opened = Stack::new(alloc);
-    behind_gap(end, &opened, text)
+    behind_gap(end, Mode::Words, &opened, text)
 }
 
-/// What is wrong with a line that opens one block too many: its first word may be at fault too.
+/// What is wrong with a line whose first word opens one block too many: the word itself, or else
+/// the depth of the line.
+fn too_deep_at(alloc: Global, word: &Lexeme, spot: Spot) -> LexErr
+    ensures { DepthOrWord word.now spot result }
+{
+    let mut opened = Stack::new(alloc);
+    match turn(Mode::Words, &mut opened, word, spot.line) {
+        Err(error) => error,
+        Ok(_) => LexErr::Limit { line: spot.line },
+    }
+}
+
+/// The same where the line begins with no number and no string.
+fn too_deep_plain(alloc: Global, end: TextEnd, first: &[Spot], spot: Spot) -> LexErr
+    requires begins { Begins end first.now first.now spot }
+    requires lacks { literal_in mode.Words first.now ≡ no_literal }
+    ensures { Caused result (FirstFault end first.now spot result) }
+{
+    match plain_word(alloc, first) {
+        Err(_) => LexErr::Memory,
+        Ok(None) => LexErr::BadChar { at: spot.at },
+        Ok(Some((word, _))) => too_deep_at(alloc, &Lexeme::Word(word), spot),
+    }
+}
+
+/// What is wrong with a line that opens one block too many: its first word may be at fault too, if
+/// that is found at its first character.
 fn too_deep(alloc: Global, end: TextEnd, first: &[Spot], spot: Spot) -> LexErr
     requires begins { Begins end first.now first.now spot }
     ensures { Caused result (FirstFault end first.now spot result) }
 {
-    let Ok(found) = word(alloc, first) else {
-        return LexErr::Memory;
-    };
-    let Some((found, _)) = found else {
-        return LexErr::BadChar { at: spot.at };
-    };
-    let mut opened = Stack::new(alloc);
-    match turn(&mut opened, &found, spot.line) {
+    match literal(alloc, Mode::Words, first) {
         Err(error) => error,
-        Ok(()) => LexErr::Limit { line: spot.line },
+        Ok(Begun::Holds(..)) => LexErr::Limit { line: spot.line },
+        Ok(Begun::Known(word, _)) => too_deep_at(alloc, &word, spot),
+        Ok(Begun::Nothing) => too_deep_plain(alloc, end, first, spot),
     }
 }
 
@@ -124,24 +203,28 @@ impl Lexer {
     fn words<'a>(&mut self, text: &'a [Spot]) -> Result<(&'a [Spot], &'a [Spot]), LexErr>
         ensures read { MatchResult result
             (λ r. WordsRead self.old.end text.now self.old.tokens self.new.tokens r.0.now r.1.now)
-            (FailsWith self.old.end [] text.now) }
+            (FailsWith self.old.end outside text.now) }
         ensures columns { self.new.columns ≡ self.old.columns }
         ensures end { self.new.end ≡ self.old.end }
     {
         let end = self.end;
+        let mut mode = Mode::Words;
         let mut opened = Stack::new(self.alloc);
         let mut rest = text;
         loop {
-            let here = behind_gap(end, &opened, rest);
-            if let Some(behind) = behind_line(end, &opened, here) {
+            let here = behind_gap(end, mode, &opened, rest);
+            if let Some(behind) = behind_line(end, mode, &opened, here) {
                 return Ok((here, behind));
             }
-            let Some((found, behind)) = word(self.alloc, here)? else {
-                return Err(fault_at(end, opened, here));
-            };
-            turn(&mut opened, &found, line_at(end, here))?;
-            self.tokens.push(token_at(end, here, found))?;
-            rest = behind;
+            match word(self.alloc, mode, here)? {
+                Reading::Found(found, behind) => {
+                    mode = turn(mode, &mut opened, &found, line_at(end, here))?;
+                    self.tokens.push(token_at(end, here, kind_of(found)))?;
+                    rest = behind;
+                }
+                Reading::Broken(part) => return Err(broken_off(end, mode, opened, part)),
+                Reading::NoneFound => return Err(fault_at(end, mode, opened, here)),
+            }
         }
     }
 
@@ -255,6 +338,9 @@ fn lex(alloc: Global, bytes: &[u8]) -> Result<Seq<Token>, LexErr>
 pub fn tokens(alloc: Global, bytes: &[u8]) -> Result<Seq<Token>, LexErr>
     requires { length bytes.now < 2 ^ 31 }
     ensures exact { MatchResult result (IsTokens bytes.now) (λ e. Caused e (IsRefused bytes.now e)) }
+
+    // INDENTs and DEDENTs balance, each line ends with NEWLINE, END is last, and places rise.
+    ensures shape { IfOk result (λ all. IsWellFormed all 0 false × PlacesRise 0 all) }
 
     // A text has at most one list of tokens, none where it is refused, and one refusal.
     ensures one_list { (all : List Lexed) → IsTokens bytes.now all → MatchResult result (λ found. found ≡ all) (λ e. e ≡ fault.Memory) }

@@ -6,30 +6,22 @@ mod brackets;
 mod columns;
 mod gaps;
 mod lexer;
-mod source;
+mod parts;
 #[cfg(test)]
 mod tests;
 mod token;
 mod words;
 
 pub use lexer::tokens;
-use source::{Spot, TextEnd};
-pub use token::{LexErr, Token, TokenKind};
-use token::{Bracket, Column, Opening};
+pub use pt_literals::{LexErr, Token, TokenKind};
+use pt_literals::{Begun, Delimiter, Field, Lexeme, Mode, Part, Spot, TextEnd};
+use token::{Bracket, Column, Opening, Reading};
 
 /// The operators and delimiters (Language Reference 2.5, 2.6), the longer ones first.
 const OPERATORS: [&str; 47] = [
     "**=", "//=", "<<=", ">>=", "...", "**", "//", "<<", ">>", "<=", ">=", "==", "!=", "->", "+=",
     "-=", "*=", "/=", "%=", "@=", "&=", "|=", "^=", ":=", "+", "-", "*", "/", "%", "@", "&", "|",
     "^", "~", "<", ">", "(", ")", "[", "]", "{", "}", ",", ":", ".", ";", "=",
-];
-
-/// The keywords (Language Reference 2.3.1).
-const KEYWORDS: [&str; 35] = [
-    "False", "None", "True", "and", "as", "assert", "async", "await", "break", "class", "continue",
-    "def", "del", "elif", "else", "except", "finally", "for", "from", "global", "if", "import",
-    "in", "is", "lambda", "nonlocal", "not", "or", "pass", "raise", "return", "try", "while",
-    "with", "yield",
 ];
 
 /// What is left out of the language on purpose: asynchronous code, and two operators.

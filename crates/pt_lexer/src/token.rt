@@ -1,68 +1,5 @@
-ghost use Rattle.std.specs.Prelude.{◌≡◌};
-
-use pt_base::{Line, Memory, Text};
-
-/// A token and where it stands: the place of its first byte, and the number of its physical line
-/// (Language Reference 2.1).
-#[derive(Debug, Drop)]
-pub struct Token {
-    pub kind: TokenKind,
-    pub at: u32,
-    pub line: Line,
-}
-
-/// What a token is (Language Reference 2.1 to 2.6). Keywords, operators and brackets are signs.
-#[derive(Debug, Drop)]
-pub enum TokenKind {
-    /// An identifier, brought to NFKC.
-    Name(Text),
-    Int(i128),
-    Str(Text),
-    FStart,
-    FText(Text),
-    FEnd,
-    Sign(Text),
-    Newline,
-    Indent,
-    Dedent,
-    End,
-}
-
-/// Why a text has no tokens.
-#[derive(Clone, Copy, Debug, PartialEq, Eq)]
-pub enum LexErr {
-    /// The bytes from here on are no UTF-8 (Language Reference 2.1.4).
-    NotUtf8 { at: u32 },
-    /// A line stands less far in than the one before it, and no open block stands there
-    /// (Language Reference 2.1.8).
-    BadIndent { line: Line },
-    /// How far a line stands in depends on what a tab is worth (Language Reference 2.1.8).
-    MixedTabs { line: Line },
-    /// No token begins with this character.
-    BadChar { at: u32 },
-    /// A string breaks off.
-    OpenString { line: Line },
-    /// Digits that are no number (Language Reference 2.4.4).
-    BadNumber { at: u32 },
-    /// A bracket is never closed, or never opened (Language Reference 2.1.6).
-    OpenBracket { line: Line },
-    /// What is left out of the language on purpose.
-    Excluded { line: Line },
-    /// Too many levels of indentation, too many open brackets, or too large a number.
-    Limit { line: Line },
-    /// Memory ran out.
-    Memory,
-}
-
-impl From<Memory> for LexErr {
-    ghost use Rattle.pt_lexer.specs.declared.token.LexErr.TheVariants as fault;
-
-    ghost from_gives = { λ _ e. e ≡ fault.Memory };
-
-    fn from(_: Memory) -> Self {
-        LexErr::Memory
-    }
-}
+use crate::{Lexeme, Mode, Part, Spot};
+use pt_base::Line;
 
 /// A kind of bracket.
 #[derive(Clone, Copy, Debug, PartialEq, Eq)]
@@ -72,11 +9,22 @@ pub(crate) enum Bracket {
     Curly,
 }
 
-/// A bracket that is open, and the line on which it stands.
+/// A bracket that is open, the line on which it stands, and the mode that goes on behind it.
 #[derive(Clone, Copy, Debug, PartialEq, Eq)]
 pub(crate) struct Opening {
     pub(crate) bracket: Bracket,
     pub(crate) line: Line,
+    pub(crate) mode: Mode,
+}
+
+/// What stands at the front of a text.
+#[derive(Debug, Drop)]
+pub(crate) enum Reading<'a> {
+    NoneFound,
+    /// A word, and the text behind it.
+    Found(Lexeme, &'a [Spot]),
+    /// The text ends in this part of a string.
+    Broken(Part),
 }
 
 /// How far in a line stands: with tabs that go on to the next multiple of eight, and with tabs

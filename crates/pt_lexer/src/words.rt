@@ -1,28 +1,19 @@
-ghost use Rattle.std.specs.Prelude.{◌≡◌, ℕ, ◌+◌, ◌<◌, ◌≤◌, ◌↔◌, ◌&&◌, [], ◌∷◌, length, map, take, drop, true, false, nat_le, encode_utf8_all, string_bytes, IsTrue, IfOk, MatchOption};
+ghost use Rattle.std.specs.Prelude.{◌≡◌, ℕ, ◌+◌, ◌<◌, ◌≤◌, ◌↔◌, ◌&&◌, [], ◌∷◌, length, map, take, drop, true, false, nat_le, encode_utf8_all, string_bytes, IsTrue, IfOk, MatchOption, MatchResult};
+ghost use Rattle.pt_literals.specs.declared.source.TextEnd.{TextEnd as End};
+ghost use Rattle.pt_literals.specs.Refusals.{Caused};
+ghost use Rattle.pt_lexer.specs.Progress.{IsReading, BeginsSpoilt};
 ghost use Rattle.std.specs.List.{prefix_len};
-ghost use Rattle.pt_lexer.specs.Words.{chars_of, is_listed, is_operator, is_keyword, starts_name, continues_name, is_identifier, Spells, Next, NoWord, LongestFront, has_operator as operator_at};
+ghost use Rattle.pt_literals.specs.Source.{chars_of};
+ghost use Rattle.pt_literals.specs.Source.{starts_name, continues_name};
+ghost use Rattle.pt_lexer.specs.Words.{is_listed, is_operator, is_keyword as keyword_chars, all_ascii, is_identifier, Spells, kind_of_part, NoneSpelt, Longest, LongestFront, has_operator as operator_at};
 
-use crate::source::first_spot;
-use crate::{KEYWORDS, OPERATORS, Spot, TokenKind};
+use crate::parts::string;
+use crate::{Begun, LexErr, Lexeme, Mode, OPERATORS, Part, Reading, Spot, TokenKind};
 use pt_base::{Memory, Text};
+use pt_literals::{begins_name, first_spot, goes_on_name_char, literal};
+use pt_tables::keywords;
 use std::alloc::Global;
 use unicode_normalization::to_nfkc;
-
-/// Whether an identifier may begin with the character (Language Reference 2.3).
-#[tactic(auto, unfolding(crate::specs::Words::starts_name))]
-fn begins_name(c: char) -> bool
-    ensures { result ≡ starts_name c }
-{
-    unicode_ident::is_xid_start(c) || c == '_'
-}
-
-/// Whether an identifier may go on with the character (Language Reference 2.3).
-#[tactic(auto, unfolding(crate::specs::Words::continues_name))]
-fn goes_on_name(c: char) -> bool
-    ensures { result ≡ continues_name c }
-{
-    unicode_ident::is_xid_continue(c)
-}
 
 /// How many characters at the front may stand in an identifier.
 fn run_len(text: &[Spot]) -> usize
@@ -30,7 +21,7 @@ fn run_len(text: &[Spot]) -> usize
     ensures within { result ≤ length text.now }
 {
     text.iter()
-        .take_while(|spot| goes_on_name(spot.char))
+        .take_while(|spot| goes_on_name_char(spot.char))
         .count()
 }
 
@@ -117,16 +108,41 @@ fn written(alloc: Global, front: &[Spot]) -> Result<String, Memory>
     Ok(text)
 }
 
+/// Whether all of the characters are ASCII.
+fn are_ascii(front: &[Spot]) -> bool
+    ensures { result ≡ all_ascii front.now }
+{
+    front.iter().all(|spot| spot.char.is_ascii())
+}
+
+/// Whether the text is a keyword (Language Reference 2.3.1).
+fn is_keyword_text(text: &str) -> bool
+    ensures { result ≡ keyword_chars text.now }
+{
+    keywords().get(text).is_some()
+}
+
+/// Whether the characters, which have this text, are a keyword.
+fn is_keyword(front: &[Spot], text: &str) -> bool
+    requires { text.now ≡ encode_utf8_all (chars_of front.now) }
+    ensures { result ≡ keyword_chars (chars_of front.now) }
+{
+    if are_ascii(front) {
+        return is_keyword_text(text);
+    }
+    false
+}
+
 /// The name or the keyword that is spelled by these characters.
-#[tactic(auto, unfolding(crate::specs::Words::in_nfkc, crate::specs::Words::is_keyword))]
+#[tactic(auto, unfolding(crate::specs::Words::in_nfkc))]
 fn name(alloc: Global, front: &[Spot]) -> Result<TokenKind, Memory>
     requires { is_identifier (chars_of front.now) ≡ true }
     ensures { IfOk result (λ word. Spells word (chars_of front.now)) }
 {
-    if let Some(keyword) = listed(&KEYWORDS, front) {
-        return Ok(TokenKind::Sign(Text::from_str(alloc, keyword)?));
-    }
     let text = written(alloc, front)?;
+    if is_keyword(front, text.as_str()) {
+        return Ok(TokenKind::Sign(Text::from_str(alloc, text.as_str())?));
+    }
     let text = to_nfkc(alloc, text.as_str())?;
     Ok(TokenKind::Name(Text::from_str(alloc, text.as_str())?))
 }
@@ -142,9 +158,12 @@ fn operator(alloc: Global, front: &[Spot]) -> Result<Option<TokenKind>, Memory>
     Ok(Some(TokenKind::Sign(Text::from_str(alloc, spelling)?)))
 }
 
-/// The longest word at the front, and the text behind it (Language Reference 2.1).
-pub(crate) fn word(alloc: Global, text: &[Spot]) -> Result<Option<(TokenKind, &[Spot])>, Memory>
-    ensures { IfOk result (λ found. MatchOption found (NoWord text.now) (λ x. Next text.now x.0 x.1.now)) }
+/// The longest name, keyword or operator at the front, and the text behind it.
+pub(crate) fn plain_word(
+    alloc: Global,
+    text: &[Spot],
+) -> Result<Option<(TokenKind, &[Spot])>, Memory>
+    ensures { IfOk result (λ found. MatchOption found (NoneSpelt text.now) (λ x. Longest text.now x.0 x.1.now)) }
 {
     let n = identifier_len(text);
     if n > 0 {
@@ -157,4 +176,37 @@ pub(crate) fn word(alloc: Global, text: &[Spot]) -> Result<Option<(TokenKind, &[
         return Ok(None);
     };
     Ok(Some((found, rest)))
+}
+
+/// The token of a part of a string.
+fn part_word(part: Part, value: Text) -> TokenKind
+    ensures { result ≡ kind_of_part part value }
+{
+    match part {
+        Part::Whole(_) => TokenKind::Str(value),
+        Part::Text(_) => TokenKind::FText(value),
+        Part::Spec(_) => TokenKind::FText(value),
+    }
+}
+
+/// The word at the front of a text that is read in a mode, and the text behind it (Language
+/// Reference 2.1).
+pub(crate) fn word(alloc: Global, mode: Mode, text: &[Spot]) -> Result<Reading<'_>, LexErr>
+    ensures { (end : End) → MatchResult result (IsReading end mode text.now) (λ e. Caused e (BeginsSpoilt end mode text.now e)) }
+{
+    match literal(alloc, mode, text)? {
+        Begun::Known(found, rest) => Ok(Reading::Found(found, rest)),
+        Begun::Holds(part, inner) => {
+            let Some((value, rest)) = string(alloc, part, inner)? else {
+                return Ok(Reading::Broken(part));
+            };
+            Ok(Reading::Found(Lexeme::Word(part_word(part, value)), rest))
+        }
+        Begun::Nothing => {
+            let Some((found, rest)) = plain_word(alloc, text)? else {
+                return Ok(Reading::NoneFound);
+            };
+            Ok(Reading::Found(Lexeme::Word(found), rest))
+        }
+    }
 }

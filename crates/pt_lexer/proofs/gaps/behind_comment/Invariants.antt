@@ -1,5 +1,5 @@
 use Rattle.std.proofs.Common.{List, length}
-use Rattle.pt_lexer.specs.declared.source.Spot.{Spot as Char}
+use Rattle.pt_literals.specs.declared.source.Spot.{Spot as Char}
 use Rattle.pt_lexer.specs.Lines.{Comment}
 use Rattle.pt_lexer.proofs.gaps.behind_comment.Given as goal
 

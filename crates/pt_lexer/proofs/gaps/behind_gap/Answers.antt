@@ -1,12 +1,10 @@
-use Rattle.pt_lexer.specs.Lines.{nothing}
-use Rattle.pt_lexer.proofs.GapLemmas.{gap_more, piece_shorter}
+use Rattle.std.proofs.Common.{sym, ◌∙◌}
+use Rattle.pt_lexer.specs.Lines.{nest, nothing}
+use Rattle.pt_lexer.proofs.GapLemmas.{no_piece_in_text}
 use Rattle.pt_lexer.proofs.gaps.behind_gap.Goals as goal
 
-pub loop-behind-init : goal.loop-behind-init
-loop-behind-init c = nothing
+pub returns-clause-gap : goal.returns-clause-gap
+returns-clause-gap c = nothing
 
-pub loop-behind-smaller : goal.loop-behind-smaller
-loop-behind-smaller c = piece_shorter c.in-Some.ensures
-
-pub loop-behind-preserved : goal.loop-behind-preserved
-loop-behind-preserved c = gap_more c.loop-behind.invariant c.in-Some.ensures
+pub returns-clause-full : goal.returns-clause-full
+returns-clause-full c = no_piece_in_text c.args.end (nest c.args.mode c.args.opened.now) c.args.text.now (sym c.reads_words.ensures ∙ c.if-reads_words.false)

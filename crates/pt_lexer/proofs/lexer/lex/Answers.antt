@@ -1,5 +1,5 @@
 use Rattle.std.proofs.Common.{◌∙◌, ap}
-use Rattle.pt_lexer.specs.Source.{behind_mark}
+use Rattle.pt_literals.specs.Source.{behind_mark}
 use Rattle.pt_lexer.proofs.LineLemmas.{rises_text}
 use Rattle.pt_lexer.proofs.lexer.lex.Goals as goal
 

@@ -1,5 +1,6 @@
 use Rattle.std.proofs.Common.{sym, ◌∙◌, arith, length, ap, subst, ◌+◌}
-use Rattle.pt_lexer.specs.Words.{chars_of, is_identifier, LongestFront}
+use Rattle.pt_literals.specs.Source.{chars_of}
+use Rattle.pt_lexer.specs.Words.{is_identifier, LongestFront}
 use Rattle.pt_lexer.proofs.WordLemmas.{longest_identifier, no_identifier, no_identifier_at_end}
 use Rattle.pt_lexer.proofs.words.identifier_len.Goals as goal
 

@@ -1,6 +1,6 @@
 use Rattle.std.proofs.Common.{refl}
 use Rattle.std.proofs.lemmas.Bool.{false≢true}
-use Rattle.pt_lexer.specs.Words.{chars_of}
+use Rattle.pt_literals.specs.Source.{chars_of}
 use Rattle.pt_lexer.proofs.WordLemmas.{listed_more, listed_at}
 use Rattle.pt_lexer.proofs.words.listed.Goals as goal
 

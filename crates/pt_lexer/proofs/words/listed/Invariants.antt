@@ -1,5 +1,6 @@
 use Rattle.std.proofs.Common.{◌≡◌, take, map, false}
-use Rattle.pt_lexer.specs.Words.{chars_of, is_listed}
+use Rattle.pt_literals.specs.Source.{chars_of}
+use Rattle.pt_lexer.specs.Words.{is_listed}
 use Rattle.pt_lexer.proofs.words.listed.Given as goal
 
 abbrev pub invariant-loop-spelling : goal.invariant-loop-spelling

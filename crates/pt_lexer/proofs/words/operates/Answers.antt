@@ -1,7 +1,8 @@
 use Rattle.std.proofs.Common.{◌∙◌}
 use Rattle.std.specs.Prelude.{map}
 use Rattle.pt_lexer.specs.declared.TheConstants.{OPERATORS}
-use Rattle.pt_lexer.specs.Words.{chars_of, is_listed, is_operator}
+use Rattle.pt_literals.specs.Source.{chars_of}
+use Rattle.pt_lexer.specs.Words.{is_listed, is_operator}
 use Rattle.pt_lexer.proofs.WordLemmas.{listed_is_some}
 use Rattle.pt_lexer.proofs.words.operates.Goals as goal
 

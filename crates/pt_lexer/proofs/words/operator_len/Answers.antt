@@ -1,5 +1,5 @@
 use Rattle.std.proofs.Common.{sym, ◌∙◌}
-use Rattle.pt_lexer.specs.Words.{chars_of}
+use Rattle.pt_literals.specs.Source.{chars_of}
 use Rattle.pt_lexer.proofs.WordLemmas.{three, two, one, none}
 use Rattle.pt_lexer.proofs.words.operator_len.Goals as goal
 

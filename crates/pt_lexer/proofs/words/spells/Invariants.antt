@@ -1,5 +1,5 @@
 use Rattle.std.proofs.Common.{◌≡◌, take}
-use Rattle.pt_lexer.specs.Words.{chars_of}
+use Rattle.pt_literals.specs.Source.{chars_of}
 use Rattle.pt_lexer.proofs.words.spells.Given as goal
 
 abbrev pub invariant-loop-i : goal.invariant-loop-i

@@ -1,6 +1,6 @@
 use Rattle.std.proofs.Common.{◌≡◌, ◌∷◌, ◌++◌, List, length}
 use Rattle.pt_lexer.specs.Lines.{marks}
-use Rattle.pt_lexer.specs.declared.token.TokenKind.{TokenKind}
+use Rattle.pt_literals.specs.declared.token.TokenKind.{TokenKind}
 use Rattle.pt_lexer.proofs.ColumnLemmas.{Left}
 use Rattle.pt_lexer.proofs.columns.Columns.close.Given as goal
 

@@ -1,6 +1,6 @@
 use Rattle.std.proofs.Common.{◌≤◌, ◌<◌, ◌∷◌, length, arith, sym, subst}
 use Rattle.std.proofs.lemmas.Result.{err_from_is_err_and}
-use Rattle.pt_lexer.specs.Faults.{ReadsLine}
+use Rattle.pt_lexer.specs.Progress.{ReadsLine}
 use Rattle.pt_lexer.proofs.FirstLemmas.{begin_again, refused_column, refused_depth, refused_words, words_line, indented_at, misplaced_at}
 use Rattle.pt_lexer.proofs.lexer.Lexer.full_line.Goals as goal
 

@@ -1,5 +1,5 @@
 use Rattle.std.proofs.Common.{◌≡◌, ◌∷◌, length}
-use Rattle.pt_lexer.specs.Faults.{GoesOn}
+use Rattle.pt_lexer.specs.Progress.{GoesOn}
 use Rattle.pt_lexer.proofs.lexer.Lexer.lines.Given as goal
 
 abbrev pub invariant-loop-rest : goal.invariant-loop-rest

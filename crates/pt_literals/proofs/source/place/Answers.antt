@@ -4,9 +4,9 @@ use Rattle.std.proofs.lemmas.Iterator.Consumers.{YieldsList-turn, YieldsList-end
 use Rattle.std.proofs.lemmas.List.{length_push}
 use Rattle.std.proofs.lemmas.Str.{encodes-chars}
 use Rattle.std.specs.Str.{chars}
-use Rattle.pt_lexer.specs.Source.{placed}
-use Rattle.pt_lexer.proofs.SourceLemmas.{next_char, placed_more, end_more, at_more, line_near, few_chars, all_placed, end_placed, length-placed}
-use Rattle.pt_lexer.proofs.source.place.Goals as goal
+use Rattle.pt_literals.specs.Source.{placed}
+use Rattle.pt_literals.proofs.SourceLemmas.{next_char, placed_more, end_more, at_more, line_near, few_chars, all_placed, end_placed, length-placed}
+use Rattle.pt_literals.proofs.source.place.Goals as goal
 
 pub loop-c-init : goal.loop-c-init
 loop-c-init c = record {

@@ -1,9 +1,10 @@
 -- A text as its characters, each with its place (Language Reference 2.1).
-use Rattle.std.specs.Prelude.{ℕ, ◌+◌, List, [], ◌∷◌, Bool, not, ◌==◌, ◌&&◌, ◌||◌, if◌then◌else◌, length, take, chars}
+use Rattle.std.specs.Prelude.{ℕ, ◌+◌, List, [], ◌∷◌, map, Bool, not, ◌==◌, ◌&&◌, ◌||◌, if◌then◌else◌, length, take, chars}
 use Rattle.std.specs.Char.{len_utf8}
 use Rattle.std.specs.Str.Lossy.{utf8_valid_len}
-use Rattle.pt_lexer.specs.declared.source.Spot.{Spot}
-use Rattle.pt_lexer.specs.declared.source.TextEnd.{TextEnd}
+use Rattle.unicode_ident.specs.Ident.{is_xid_start, is_xid_continue}
+use Rattle.pt_literals.specs.declared.source.Spot.{Spot}
+use Rattle.pt_literals.specs.declared.source.TextEnd.{TextEnd}
 
 -- behind a line feed a line begins, and behind a carriage return, unless a line feed follows it
 abbrev pub begins_line : (before c : ℕ) → Bool
@@ -37,3 +38,28 @@ spots_of bytes = behind_mark (placed 0 1 0 (read_chars bytes))
 
 abbrev pub end_of : List ℕ → TextEnd
 end_of bytes = end_behind 0 1 0 (read_chars bytes) (utf8_valid_len bytes == length bytes)
+
+abbrev pub chars_of : List Spot → List ℕ
+chars_of ss = map (λ s. s.char) ss
+
+abbrev pub is_blank : ℕ → Bool
+is_blank c = (c == 32) || ((c == 9) || (c == 12))
+
+-- identifiers (Language Reference 2.3): their first character, and the others
+unfoldable pub starts_name : ℕ → Bool
+starts_name c = is_xid_start c || (c == 95)
+
+unfoldable pub continues_name : ℕ → Bool
+continues_name c = is_xid_continue c
+
+abbrev pub ends_line : ℕ → Bool
+ends_line c = (c == 10) || (c == 13)
+
+-- what stands behind the end of a physical line: LF, CR LF or CR
+abbrev pub behind_feed : List Spot → List Spot
+behind_feed [] = []
+behind_feed (s ∷ ss) = if s.char == 10 then ss else s ∷ ss
+
+abbrev pub behind_line_end : List Spot → List Spot
+behind_line_end [] = []
+behind_line_end (s ∷ ss) = if s.char == 13 then behind_feed ss else ss

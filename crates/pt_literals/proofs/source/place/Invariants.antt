@@ -1,7 +1,7 @@
 use Rattle.std.proofs.Common.{Bool, ◌≡◌, ◌+◌, ◌≤◌, ◌++◌, length, drop, encode_utf8_all}
 use Rattle.std.specs.Str.{chars}
-use Rattle.pt_lexer.specs.Source.{placed, end_behind}
-use Rattle.pt_lexer.proofs.source.place.Given as goal
+use Rattle.pt_literals.specs.Source.{placed, end_behind}
+use Rattle.pt_literals.proofs.source.place.Given as goal
 
 abbrev pub invariant-loop-c : goal.invariant-loop-c
 invariant-loop-c l = record {

@@ -5,9 +5,9 @@ use Rattle.std.specs.Char.{len_utf8}
 use Rattle.std.proofs.Math.Seq.{drop-cons}
 use Rattle.std.proofs.lemmas.List.{drop_all}
 use Rattle.std.proofs.lemmas.Str.{length-encode, length-le-encodes}
-use Rattle.pt_lexer.specs.declared.source.Spot.{Spot}
-use Rattle.pt_lexer.specs.declared.source.TextEnd.{TextEnd}
-use Rattle.pt_lexer.specs.Source.{begins_line, line_at, placed, end_behind}
+use Rattle.pt_literals.specs.declared.source.Spot.{Spot}
+use Rattle.pt_literals.specs.declared.source.TextEnd.{TextEnd}
+use Rattle.pt_literals.specs.Source.{begins_line, line_at, placed, end_behind}
 
 -- the next character
 pub next_char : (cs : List ℕ) (n m c : ℕ) → (n < length cs) × (c ≡ get_or cs n c) → m ≡ n + 1 → drop n cs ≡ c ∷ drop m cs

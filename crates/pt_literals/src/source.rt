@@ -1,30 +1,30 @@
 ghost use Rattle.std.specs.Prelude.{◌≡◌, ◌==◌, ◌+◌, ◌-◌, ◌<◌, ◌≤◌, ◌^◌, [], ◌∷◌, length, take, chars, IfOk, MatchOption};
 ghost use Rattle.std.specs.Str.{IsUtf8};
 ghost use Rattle.std.specs.Str.Lossy.{utf8_valid_len};
-ghost use Rattle.pt_lexer.specs.Source.{line_at, placed, end_behind, read_chars, end_of, behind_mark};
+ghost use Rattle.pt_literals.specs.Source.{line_at, placed, end_behind, read_chars, end_of, behind_mark, is_blank, ends_line, starts_name, continues_name};
 
 use pt_base::{Line, Memory, Seq};
 use std::alloc::Global;
 
 /// A character of a text, with the place of its first byte and its physical line.
 #[derive(Clone, Copy, Debug, PartialEq, Eq)]
-pub(crate) struct Spot {
-    pub(crate) at: u32,
-    pub(crate) line: Line,
-    pub(crate) char: char,
+pub struct Spot {
+    pub at: u32,
+    pub line: Line,
+    pub char: char,
 }
 
 /// Where the characters of a text end, and whether that is all of it: behind bytes that are no
 /// UTF-8 nothing is read.
 #[derive(Clone, Copy, Debug, PartialEq, Eq)]
-pub(crate) struct TextEnd {
-    pub(crate) at: u32,
-    pub(crate) line: Line,
-    pub(crate) is_whole: bool,
+pub struct TextEnd {
+    pub at: u32,
+    pub line: Line,
+    pub is_whole: bool,
 }
 
 /// The character at the front, and the text behind it.
-pub(crate) fn first_spot(text: &[Spot]) -> Option<(Spot, &[Spot])>
+pub fn first_spot(text: &[Spot]) -> Option<(Spot, &[Spot])>
     ensures { MatchOption result (text.now ≡ []) (λ x. text.now ≡ x.0 ∷ x.1.now) }
 {
     let (spot, rest) = text.split_first()?;
@@ -33,9 +33,9 @@ pub(crate) fn first_spot(text: &[Spot]) -> Option<(Spot, &[Spot])>
 
 /// A text as its characters.
 #[derive(Drop)]
-pub(crate) struct Source {
-    pub(crate) spots: Seq<Spot>,
-    pub(crate) end: TextEnd,
+pub struct Source {
+    pub spots: Seq<Spot>,
+    pub end: TextEnd,
 }
 
 /// Bytes as far as they are UTF-8, and whether that is all of them (Language Reference 2.1.4).
@@ -97,7 +97,7 @@ fn place(alloc: Global, text: &str, is_whole: bool) -> Result<Source, Memory>
 }
 
 /// The characters of bytes, as far as they are UTF-8.
-pub(crate) fn read(alloc: Global, bytes: &[u8]) -> Result<Source, Memory>
+pub fn read(alloc: Global, bytes: &[u8]) -> Result<Source, Memory>
     requires { length bytes.now < 2 ^ 31 }
     ensures { IfOk result (λ s. (s.spots ≡ placed 0 1 0 (read_chars bytes.now)) × (s.end ≡ end_of bytes.now) × (length s.spots ≤ length bytes.now)) }
 {
@@ -106,7 +106,7 @@ pub(crate) fn read(alloc: Global, bytes: &[u8]) -> Result<Source, Memory>
 }
 
 /// What stands behind a byte order mark (Language Reference 2.1.4).
-pub(crate) fn behind_byte_order_mark(text: &[Spot]) -> &[Spot]
+pub fn behind_byte_order_mark(text: &[Spot]) -> &[Spot]
     ensures { result.now ≡ behind_mark text.now }
 {
     match first_spot(text) {
@@ -118,4 +118,34 @@ pub(crate) fn behind_byte_order_mark(text: &[Spot]) -> &[Spot]
         }
         None => text,
     }
+}
+
+/// Whether a physical line ends with the character (Language Reference 2.1.2).
+pub fn ends_line_char(c: char) -> bool
+    ensures { result ≡ ends_line c }
+{
+    c == '\n' || c == '\r'
+}
+
+/// Whether the character is a blank between words (Language Reference 2.1.9).
+pub fn is_blank_char(c: char) -> bool
+    ensures { result ≡ is_blank c }
+{
+    c == ' ' || c == '\t' || c == '\x0c'
+}
+
+/// Whether an identifier may begin with the character (Language Reference 2.3).
+#[tactic(auto, unfolding(crate::specs::Source::starts_name))]
+pub fn begins_name(c: char) -> bool
+    ensures { result ≡ starts_name c }
+{
+    unicode_ident::is_xid_start(c) || c == '_'
+}
+
+/// Whether an identifier may go on with the character (Language Reference 2.3).
+#[tactic(auto, unfolding(crate::specs::Source::continues_name))]
+pub fn goes_on_name_char(c: char) -> bool
+    ensures { result ≡ continues_name c }
+{
+    unicode_ident::is_xid_continue(c)
 }
