@@ -1,0 +1,4 @@
+pub mod Reading
+pub mod Sample
+pub mod Settled
+pub mod Whole
