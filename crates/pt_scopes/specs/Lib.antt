@@ -1,0 +1,10 @@
+pub mod Names
+pub mod Gathering
+pub mod Mentions
+pub mod NameSets
+pub mod Scope
+pub mod Refusals
+pub mod Rows
+pub mod BlockKinds
+pub mod Tables
+pub mod Resolved

@@ -1,0 +1,20 @@
+//! The scopes of the names of a script (Language Reference 4.2).
+#![tactic(auto)]
+
+mod expressions;
+mod gatherer;
+pub mod laws;
+mod name_set;
+mod names;
+mod refusals;
+mod region;
+mod scope;
+mod scopes;
+mod statements;
+mod table;
+
+pub use scope::{Scope, ScopeErr};
+pub use scopes::{Scopes, resolve};
+
+#[cfg(test)]
+mod tests;
