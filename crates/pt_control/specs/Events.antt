@@ -10,22 +10,16 @@ pub data Event (V : Type 0) : Type 0 where
   jumps : Event V
   -- a decision was taken
   branches : Event V
-  -- this is called, with this first positional argument if there is one
-  calls : (callee : V) → (first : Option V) → Event V
+  -- this is called with these arguments, each passed so; which is the first positional one shows once what is spread is known
+  calls : (callee : V) → List Role → (arguments : List V) → Event V
   -- an exception arises or arrives, or goes on
   raises : V → Event V
   raises_again : V → Event V
   -- a handler takes it
   handled : V → Event V
 
--- the first positional argument as it is written
-abbrev pub first_positional : {V : Type 0} → List Role → List V → Option V
-first_positional (T.positional ∷ rs) (v ∷ vs) = Some v
-first_positional (r ∷ rs) (v ∷ vs) = first_positional rs vs
-first_positional rs vs = None
-
 abbrev pub before : {V : Type 0} → Ask V → List (Event V)
-before (seek (T.operate (T.call rs) (f ∷ vs))) = calls f (first_positional rs vs) ∷ []
+before (seek (T.operate (T.call rs) (f ∷ vs))) = calls f rs vs ∷ []
 before (leave T.breaking) = jumps ∷ []
 before (leave T.continuing) = jumps ∷ []
 before a = []
