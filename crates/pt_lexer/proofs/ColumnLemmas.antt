@@ -77,7 +77,7 @@ opened_block f k cols now at line before after r h n is e = subst (λ x. Indente
   rising = (h, n, r);
 })
 
-first_off : (cols : List Column) (k : Column) (line : Line) → ((after : List Column) (ks : List TokenKind) → Turn cols k after ks → ⊥) → IsMisplaced cols k line (fault.BadIndent line)
+pub first_off : (cols : List Column) (k : Column) (line : Line) → ((after : List Column) (ks : List TokenKind) → Turn cols k after ks → ⊥) → IsMisplaced cols k line (fault.BadIndent line)
 first_off cols k line n = record { wrong = off n; small = omega arith; least = λ f m. other f m }
   where
     other : (f : LexErr) → Misplaced cols k line f → (2 < number_of f) ⊎ (fault.BadIndent line ≡ f)
@@ -85,7 +85,7 @@ first_off cols k line n = record { wrong = off n; small = omega arith; least = �
     other f (mixed a) = inl (omega arith)
     other f (too_deep t h) = inl (omega arith)
 
-first_mixed : (cols after : List Column) (k : Column) (line : Line) (ks : List TokenKind) → agrees k cols ≡ false → Turn cols k after ks → IsMisplaced cols k line (fault.MixedTabs line)
+pub first_mixed : (cols after : List Column) (k : Column) (line : Line) (ks : List TokenKind) → agrees k cols ≡ false → Turn cols k after ks → IsMisplaced cols k line (fault.MixedTabs line)
 first_mixed cols after k line ks a t = record { wrong = mixed a; small = omega arith; least = λ f m. other f m }
   where
     other : (f : LexErr) → Misplaced cols k line f → (3 < number_of f) ⊎ (fault.MixedTabs line ≡ f)
@@ -105,10 +105,10 @@ left_back : {k : Column} {cols now after : List Column} {ks ls : List TokenKind}
 left_back none_left b = b
 left_back {k = k} {cols = cols} {after = after} {ls = ls} (one_left {ks = ks} l h) b = subst (Back cols k after) (sym (append_assoc ks (kind.Dedent ∷ []) ls)) (left_back l (further h b))
 
-abbrev NoBack : List Column → Column → Type 0
+abbrev pub NoBack : List Column → Column → Type 0
 NoBack cols k = (after : List Column) (ks : List TokenKind) → Back cols k after ks → ⊥
 
-no_back_above : {t k : Column} {now after : List Column} {ks : List TokenKind} → k.wide < t.wide → NoBack now k → Back (t ∷ now) k after ks → ⊥
+pub no_back_above : {t k : Column} {now after : List Column} {ks : List TokenKind} → k.wide < t.wide → NoBack now k → Back (t ∷ now) k after ks → ⊥
 no_back_above h n (there e) = omega arith
 no_back_above h n (further e b) = n _ _ b
 
@@ -154,7 +154,7 @@ closed_blocks f k cols rest ks at line before after l r h n e = record {
   rising = left_rising l r;
 }
 
-no_turn : {f k : Column} {cols : List Column} → k.wide ≤ f.wide → NoBack (f ∷ cols) k → (after : List Column) (ks : List TokenKind) → Turn (f ∷ cols) k after ks → ⊥
+pub no_turn : {f k : Column} {cols : List Column} → k.wide ≤ f.wide → NoBack (f ∷ cols) k → (after : List Column) (ks : List TokenKind) → Turn (f ∷ cols) k after ks → ⊥
 no_turn h n after ks (deeper e) = omega arith
 no_turn h n after ks (level b) = n after ks b
 
@@ -162,7 +162,7 @@ no_back_out : {t k : Column} {after : List Column} {ks : List TokenKind} → k.w
 no_back_out h (there e) = omega arith
 no_back_out h (further e b) = elim b [ ]
 
-no_back_at : {t k : Column} {now after : List Column} {ks : List TokenKind} → t.wide < k.wide → Back (t ∷ now) k after ks → ⊥
+pub no_back_at : {t k : Column} {now after : List Column} {ks : List TokenKind} → t.wide < k.wide → Back (t ∷ now) k after ks → ⊥
 no_back_at h (there e) = omega arith
 no_back_at h (further e b) = omega arith
 

@@ -42,7 +42,7 @@ EndAnswer o text = MatchOption o ((rest : List Spot) → LineEnd text rest → �
 abbrev pub StopAnswer : Option (Bor (List Spot)) → TextEnd → List Spot → Type 0
 StopAnswer o end text = MatchOption o ((rest : List Spot) → Stops end text rest → ⊥) (λ r. Stops end text r.now)
 
-no_stop : {end : TextEnd} {text rest : List Spot} → text ≢ [] → ((r : List Spot) → LineEnd text r → ⊥) → Stops end text rest → ⊥
+pub no_stop : {end : TextEnd} {text rest : List Spot} → text ≢ [] → ((r : List Spot) → LineEnd text r → ⊥) → Stops end text rest → ⊥
 no_stop n h (at_line_end l) = h _ l
 no_stop n h (at_text_end w) = n refl
 
@@ -89,7 +89,7 @@ no_piece_end (inside l) = none_at_end l
 pub no_piece_at_end : {end : TextEnd} {opened : List Opening} {text : List Spot} → text ≡ [] → NoPieceAt end opened text
 no_piece_at_end {end} {opened} e rest p = no_piece_end (subst (λ x. Piece end opened x rest) e p)
 
-no_backslash : {end : TextEnd} {opened : List Opening} {s : Spot} {ss rest : List Spot} → s.char ≡ 92 → ((r : List Spot) → Stops end ss r → ⊥) → Piece end opened (s ∷ ss) rest → ⊥
+pub no_backslash : {end : TextEnd} {opened : List Opening} {s : Spot} {ss rest : List Spot} → s.char ≡ 92 → ((r : List Spot) → Stops end ss r → ⊥) → Piece end opened (s ∷ ss) rest → ⊥
 no_backslash h n (blank k) = true≢false (sym k ∙ ap is_blank h)
 no_backslash h n (comment k c) = omega arith
 no_backslash h n (backslash k c) = n _ c
@@ -99,7 +99,7 @@ pub backslash_of : (o : Option (Bor (List Spot))) (end : TextEnd) (opened : List
 backslash_of None end opened text ss s e h a = λ rest p. no_backslash h a (subst (λ x. Piece end opened x rest) e p)
 backslash_of (Some r) end opened text ss s e h a = subst (λ x. Piece end opened x r.now) (sym e) (backslash h a)
 
-only_inside : {end : TextEnd} {opened : List Opening} {s : Spot} {ss rest : List Spot} → is_blank s.char ≡ false → s.char ≢ 35 → s.char ≢ 92 → Piece end opened (s ∷ ss) rest → (opened ≢ []) × LineEnd (s ∷ ss) rest
+pub only_inside : {end : TextEnd} {opened : List Opening} {s : Spot} {ss rest : List Spot} → is_blank s.char ≡ false → s.char ≢ 35 → s.char ≢ 92 → Piece end opened (s ∷ ss) rest → (opened ≢ []) × LineEnd (s ∷ ss) rest
 only_inside b c d (blank k) = absurd (both_ways _ b k)
 only_inside b c d (comment k m) = absurd (c k)
 only_inside b c d (backslash k m) = absurd (d k)

@@ -1,4 +1,6 @@
 pub mod ColumnLemmas
+pub mod EveryText
+pub mod EveryWord
 pub mod Fronts
 pub mod GapLemmas
 pub mod NextLemmas

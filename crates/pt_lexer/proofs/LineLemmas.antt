@@ -21,14 +21,14 @@ use Rattle.pt_lexer.proofs.NextLemmas.{next_shorter}
 use Rattle.pt_lexer.proofs.GapLemmas.{stops_within, broken_stop, line_end_shorter}
 use Rattle.pt_lexer.proofs.ReadLemmas.{gap_within, caused_map}
 use Rattle.pt_lexer.proofs.Once.{lines_once, lines_or_fault, body_once, words_or_fault, empty_stops, well_placed, turn_once, empty_or_full, faulty_at, no_piece_at_end}
-use Rattle.pt_lexer.proofs.FirstLemmas.{by_fault, gap_rises, stops_rises, next_rises, refused_broken}
+use Rattle.pt_lexer.proofs.FirstLemmas.{by_fault, gap_rises, stops_rises, next_rises, refused_broken, fault_named}
 
 -- a line takes some of the text, and places still rise behind it
 pub body_rises : (end : TextEnd) {n : _} {text stop rest : List Spot} {ws : List Token} → Body end n text ws stop rest → Rises end text → Rises end rest
 body_rises end (finish g e) r = (stops_rises e (gap_rises g r).1).1
 body_rises end (word g k t b) r = body_rises end b (next_rises end k (gap_rises g r).1).1
 
-line_rises : {end : TextEnd} {cols after : List Column} {text rest : List Spot} {front : List Token} → LineRead end cols text after rest front → Rises end text → Rises end rest
+pub line_rises : {end : TextEnd} {cols after : List Column} {text rest : List Spot} {front : List Token} → LineRead end cols text after rest front → Rises end text → Rises end rest
 line_rises {end = end} (empty_line b) r = body_rises end b r
 line_rises {end = end} (full_line b t a l e) r = body_rises end b r
 
@@ -45,16 +45,16 @@ body_shorter (finish {text = text} g (at_text_end w)) n = some_length text n
     some_length (s ∷ ss) n = omega arith
 body_shorter (word g n t b) m = let h = gap_within g in let k = next_shorter n in let l = body_within b in omega arith
 
-line_shorter : {end : TextEnd} {cols after : List Column} {text rest : List Spot} {front : List Token} → LineRead end cols text after rest front → text ≢ [] → length rest < length text
+pub line_shorter : {end : TextEnd} {cols after : List Column} {text rest : List Spot} {front : List Token} → LineRead end cols text after rest front → text ≢ [] → length rest < length text
 line_shorter (empty_line b) n = body_shorter b n
 line_shorter (full_line b t a l e) n = body_shorter b n
 
 -- the lines behind a line
-lines_behind : {end : TextEnd} {cols after : List Column} {s : Spot} {ss rest : List Spot} {front all : List Token} → LineRead end cols (s ∷ ss) after rest front → Lines end after rest all → Lines end cols (s ∷ ss) (front ++ all)
+pub lines_behind : {end : TextEnd} {cols after : List Column} {s : Spot} {ss rest : List Spot} {front all : List Token} → LineRead end cols (s ∷ ss) after rest front → Lines end after rest all → Lines end cols (s ∷ ss) (front ++ all)
 lines_behind (empty_line b) l = empty b l
 lines_behind (full_line b t a d e) l = full b t a d l (rw (e, append_assoc, append_assoc) refl)
 
-refused_behind : {end : TextEnd} {cols after : List Column} {s : Spot} {ss rest : List Spot} {front : List Token} (e : LexErr) → LineRead end cols (s ∷ ss) after rest front → Refused end after rest e → Refused end cols (s ∷ ss) e
+pub refused_behind : {end : TextEnd} {cols after : List Column} {s : Spot} {ss rest : List Spot} {front : List Token} (e : LexErr) → LineRead end cols (s ∷ ss) after rest front → Refused end after rest e → Refused end cols (s ∷ ss) e
 refused_behind {end} {cols} {after} {s} {ss} {rest} e (empty_line b) r = record {
   at = r.at;
   found = below_empty b r.found;
@@ -225,6 +225,9 @@ precede_once e f m n (inr a) (inr b) = same_number e f a.1 b.1
 -- A text is refused for one thing.
 pub refused_once : (bytes : List ℕ) (e f : LexErr) → IsRefused bytes e → IsRefused bytes f → e ≡ f
 refused_once bytes e f r q = precede_once e f r.at q.at (r.first f q.at q.found) (q.first e r.at r.found)
+
+pub no_memory : (bytes : List ℕ) → IsRefused bytes fault.Memory → ⊥
+no_memory bytes r = let h = fault_named r.found in omega arith
 
 abbrev pub Exact : List ℕ → Result (List Token) LexErr → Type 0
 Exact bytes r = MatchResult r (IsTokens bytes) (λ e. Caused e (IsRefused bytes e))

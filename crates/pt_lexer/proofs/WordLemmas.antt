@@ -1,17 +1,18 @@
 -- The longest word at the front of a text.
 use Rattle.std.proofs.Common.{◌≡◌, ℕ, zero, suc, ◌+◌, ◌≤◌, ◌<◌, List, [], ◌∷◌, ◌++◌, Bool, true, false, Option, Some, None, MatchOption, Bor, refl, sym, ◌∙◌, ap, subst, arith, inl, inr, length, get_or, map, take, append-nil, nat_lt, nat_le, cond, length-take}
-use Rattle.std.specs.Prelude.{◌&&◌, ◌||◌, encode_utf8, encode_utf8_all, is_some, if◌then◌else◌}
+use Rattle.std.specs.Prelude.{◌&&◌, ◌||◌, ◌==◌, filter, encode_utf8, encode_utf8_all, is_some, if◌then◌else◌}
 use Rattle.std.specs.List.{list_all, prefix_len}
 use Rattle.std.specs.Str.{bytes_eq}
 use Rattle.std.specs.Cmp.Lexicographic.{bytes_decides}
-use Rattle.std.proofs.lemmas.Bool.{both_ways, and_parts, cases_Bool, cases_eq, ltb-true, leb-true, le-leb, lt-leb, true≢false, and_from, or_left, or_right, and_left, and_right}
+use Rattle.std.proofs.lemmas.Bool.{both_ways, and_parts, eq-eqb, cases_Bool, cases_eq, ltb-true, leb-true, le-leb, lt-leb, true≢false, and_from, or_left, or_right, and_left, and_right}
 use Rattle.std.proofs.lemmas.List.{take_more, map-append, take-map}
 use Rattle.std.proofs.lemmas.Str.{encodes-append}
 use Rattle.pt_lexer.specs.declared.TheConstants.{OPERATORS}
 use Rattle.pt_literals.specs.declared.source.Spot.{Spot}
+use Rattle.pt_literals.specs.declared.token.TokenKind.TheVariants as kind
 use Rattle.pt_literals.specs.Source.{chars_of}
 use Rattle.pt_literals.specs.Source.{starts_name, continues_name}
-use Rattle.pt_lexer.specs.Words.{is_listed, is_operator, is_keyword, all_ascii, is_identifier, LongestFront, has_operator}
+use Rattle.pt_lexer.specs.Words.{is_listed, is_operator, is_keyword, all_ascii, is_identifier, Spells, LongestFront, has_operator}
 use Rattle.std.specs.Char.{is_ascii}
 use Rattle.std.proofs.lemmas.Str.{encode_ascii}
 use Rattle.pt_tables.specs.Names.{keyword_names}
@@ -51,8 +52,28 @@ pub listed_is_some : (o : Option (Bor (List ℕ))) (b : Bool) (x : List ℕ) →
 listed_is_some None b x h = sym h
 listed_is_some (Some k) b x h = sym h.1
 
+pub listed_as : (o : Option (Bor (List ℕ))) (a b : Bool) (x : List ℕ) → a ≡ b → MatchOption o (a ≡ false) (λ k. (k.now ≡ x) × (a ≡ true)) → MatchOption o (b ≡ false) (λ k. (k.now ≡ x) × (b ≡ true))
+listed_as o a b x e h = subst (λ y. MatchOption o (y ≡ false) (λ k. (k.now ≡ x) × (y ≡ true))) e h
+
+-- a text is listed where it is listed among those of its length
+other_length : (k x : List ℕ) (n : ℕ) → length x ≡ n → (length k == n) ≡ false → bytes_eq k x ≡ false
+other_length k x n h d = differs k x (λ e. both_ways (length k == n) d (eq-eqb (length k) n (ap length e ∙ h)))
+
+listed_by_length : (n : ℕ) (ks : List (List ℕ)) (x : List ℕ) → length x ≡ n → is_listed (filter (λ k. length k == n) ks) x ≡ is_listed ks x
+listed_by_length n [] x h = refl
+listed_by_length n (k ∷ ks) x h = go (listed_by_length n ks x h) (length k == n) refl
+  where
+    go : is_listed (filter (λ k. length k == n) ks) x ≡ is_listed ks x → (b : Bool) → (length k == n) ≡ b
+        → is_listed (cond b (k ∷ filter (λ k. length k == n) ks) (filter (λ k. length k == n) ks)) x ≡ (bytes_eq k x || is_listed ks x)
+    go e true d = ap (λ b. bytes_eq k x || b) e
+    go e false d = rw (other_length k x n h d) e
+
+pub operators_by_length : (n : ℕ) (x : List ℕ) → length x ≡ n → is_listed (filter (λ k. length k == n) (map (λ k. k.now) OPERATORS)) x ≡ is_operator x
+unfolding is_operator
+operators_by_length n x h = listed_by_length n (map (λ k. k.now) OPERATORS) x h
+
 -- the identifier at the front
-abbrev continues_at : Spot → Bool
+abbrev pub continues_at : Spot → Bool
 continues_at s = continues_name s.char
 
 abbrev RunPasses : List Spot → Type 0
@@ -129,6 +150,9 @@ operator_short x h =
     let p = and_parts (nat_lt 0 (length x)) (nat_le (length x) 3) (listed_passes (λ y. nat_lt 0 (length y) && nat_le (length y) 3) (map (λ k. k.now) OPERATORS) x refl h) in
     (ltb-true 0 (length x) p.0, leb-true (length x) 3 p.1)
 
+pub no_operator : (n : ℕ) (x : List ℕ) → (n ≡ 1 → ⊥) → (n ≡ 2 → ⊥) → (n ≡ 3 → ⊥) → length x ≡ n → false ≡ is_operator x
+no_operator n x a b c h = elim (cases_Bool (is_operator x)) [ inl o ↦ absurd (let p = operator_short x o in omega (arith, p.0, p.1)) | inr o ↦ sym o ]
+
 abbrev NoLonger : List ℕ → ℕ → Type 0
 NoLonger cs n = (m : ℕ) → n < m → m ≤ length cs → is_operator (take m cs) ≡ false
 
@@ -177,10 +201,6 @@ take-chars_of ss n = take-map (λ s. s.char) n ss
 pub length-chars : (ss : List Spot) → length (chars_of ss) ≡ length ss
 length-chars ss = length-chars_of ss
 
-operators_listed : (x : List ℕ) → is_listed (map (λ k. k.now) OPERATORS) x ≡ is_operator x
-unfolding is_operator
-operators_listed x = refl
-
 pub has_from : (ss : List Spot) (n : ℕ) (b : Bool) → n ≤ length ss → b ≡ is_operator (chars_of (take n ss)) → b ≡ has_operator (chars_of ss) n
 has_from ss n b w e =
     e ∙ (ap is_operator (sym (take-chars_of ss n)) ∙ sym (ap (λ a. a && is_operator (take n (chars_of ss))) (le-leb n (length (chars_of ss)) (omega (arith, length-chars ss)))))
@@ -225,5 +245,9 @@ ascii_text (c ∷ x) h =
 pub keyword_text : (ss : List Spot) (text : List ℕ) (b : Bool) → all_ascii ss ≡ true → text ≡ encode_utf8_all (chars_of ss) → b ≡ is_keyword text → b ≡ is_keyword (chars_of ss)
 keyword_text ss text b h e k = k ∙ ap is_keyword (e ∙ ascii_text (chars_of ss) (sym (spots_ascii ss) ∙ h))
 
-pub keyword_spelling : (x text : List ℕ) → is_keyword x ≡ true → text ≡ encode_utf8_all x → text ≡ x
+keyword_spelling : (x text : List ℕ) → is_keyword x ≡ true → text ≡ encode_utf8_all x → text ≡ x
 keyword_spelling x text h e = e ∙ ascii_text x (keyword_ascii x h)
+
+-- a keyword is a sign, spelled as it is written
+pub spells_keyword : (x text : List ℕ) (b : Bool) → b ≡ is_keyword x → b ≡ true → text ≡ encode_utf8_all x → Spells (kind.Sign text) x
+spells_keyword x text b e h t = let k = sym e ∙ h in (keyword_spelling x text k t, or_right (is_operator x) _ k)

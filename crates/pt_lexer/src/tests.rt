@@ -292,7 +292,7 @@ fn literals_are_those_of_cpython(rt: HostRuntime) -> Result<(), Fail> {
 
 /// f-strings (Language Reference 2.4.3), as CPython 3.12.1's `tokenize` cuts them: `<` and `>` for
 /// their quotes, `~` before literal text, with doubled braces and escapes as the text has them.
-static FORMATTED: [(&str, &str); 116] = [
+static FORMATTED: [(&str, &str); 123] = [
     ("f\"\"\n", "< > NEWLINE END "),
     ("f\"a\"\n", "< ~a > NEWLINE END "),
     ("F'a'\n", "< ~a > NEWLINE END "),
@@ -405,6 +405,16 @@ static FORMATTED: [(&str, &str); 116] = [
     ("rf\"\\{x}\"\n", "< ~\\ '{ x '} > NEWLINE END "),
     ("f\"\\{{x}}\"\n", "< ~\\{x} > NEWLINE END "),
     ("rf\"\\{{x}}\"\n", "< ~\\{x} > NEWLINE END "),
+    ("f\"\\}}\"\n", "< ~\\} > NEWLINE END "),
+    ("rf\"\\}}\"\n", "< ~\\} > NEWLINE END "),
+    ("f\"\\{{{x}\"\n", "< ~\\{ '{ x '} > NEWLINE END "),
+    ("rf\"\\\\{x}\"\n", "< ~\\\\ '{ x '} > NEWLINE END "),
+    ("rf\"\\N{x}\"\n", "< ~\\N '{ x '} > NEWLINE END "),
+    (
+        "f\"{x:\\{y}}\"\n",
+        "< '{ x ': ~\\ '{ y '} '} > NEWLINE END ",
+    ),
+    ("f\"{x:\\}\"\n", "< '{ x ': ~\\ '} > NEWLINE END "),
     ("rf\"\\\"\"\n", "< ~\\\" > NEWLINE END "),
     ("rf\"\\d{x}\"\n", "< ~\\d '{ x '} > NEWLINE END "),
     ("f\"\\q\"\n", "< ~\\q > NEWLINE END "),
@@ -580,7 +590,7 @@ fn refusals_tell_what_is_found_first(rt: HostRuntime) -> Result<(), Fail> {
 
 /// Faults of numbers and strings. CPython 3.12.1 accepts those that are Excluded or Limit, and refuses
 /// the others, except that a line end ends the format spec in `f"{x:a` there.
-static FAULTS: [(&str, LexErr); 128] = [
+static FAULTS: [(&str, LexErr); 131] = [
     ("x = 1.5\n", LexErr::Excluded { line: Line(1) }),
     (
         "x = 170141183460469231731687303715884105728\n",
@@ -698,6 +708,9 @@ static FAULTS: [(&str, LexErr); 128] = [
     ("f\"{\nf'a\n}\"\n", LexErr::OpenString { line: Line(2) }),
     ("f\"}\"\n", LexErr::OpenBracket { line: Line(1) }),
     ("f\"a}b\"\n", LexErr::OpenBracket { line: Line(1) }),
+    ("f\"\\}\"\n", LexErr::OpenBracket { line: Line(1) }),
+    ("rf\"\\}\"\n", LexErr::OpenBracket { line: Line(1) }),
+    ("f\"\\}}}\"\n", LexErr::OpenBracket { line: Line(1) }),
     ("f\"{x}}\"\n", LexErr::OpenBracket { line: Line(1) }),
     ("f\"{x:}}\"\n", LexErr::OpenBracket { line: Line(1) }),
     ("f\"{)}\"\n", LexErr::OpenBracket { line: Line(1) }),

@@ -1,4 +1,4 @@
-ghost use Rattle.std.specs.Prelude.{◌≡◌, ℕ, ◌+◌, ◌<◌, ◌≤◌, ◌↔◌, ◌&&◌, [], ◌∷◌, length, map, take, drop, true, false, nat_le, encode_utf8_all, string_bytes, IsTrue, IfOk, MatchOption, MatchResult};
+ghost use Rattle.std.specs.Prelude.{◌≡◌, ℕ, ◌+◌, ◌<◌, ◌≤◌, ◌↔◌, ◌&&◌, [], ◌∷◌, List, length, map, take, drop, true, false, nat_le, encode_utf8_all, string_bytes, IsTrue, IfOk, MatchOption, MatchResult};
 ghost use Rattle.pt_literals.specs.declared.source.TextEnd.{TextEnd as End};
 ghost use Rattle.pt_literals.specs.Refusals.{Caused};
 ghost use Rattle.pt_lexer.specs.Progress.{IsReading, BeginsSpoilt};
@@ -68,11 +68,36 @@ fn listed(list: &[&'static str], front: &[Spot]) -> Option<&'static str>
     None
 }
 
+/// The operators of so many characters.
+fn operators_of(count: usize) -> &'static [&'static str]
+    ensures { (x : List ℕ) → length x ≡ count → is_listed (map (λ k. k.now) result.now) x ≡ is_operator x }
+{
+    if count == 3 {
+        return &OPERATORS[..5];
+    }
+    if count == 2 {
+        return &OPERATORS[5..24];
+    }
+    if count == 1 {
+        return &OPERATORS[24..];
+    }
+    &[]
+}
+
+/// The operator that the characters are.
+fn operator_of(front: &[Spot]) -> Option<&'static str>
+    ensures { MatchOption result
+        (is_operator (chars_of front.now) ≡ false)
+        (λ found. (found.now ≡ chars_of front.now) × (is_operator (chars_of front.now) ≡ true)) }
+{
+    listed(operators_of(front.len()), front)
+}
+
 /// Whether the characters are an operator.
 fn operates(front: &[Spot]) -> bool
     ensures { result ≡ is_operator (chars_of front.now) }
 {
-    listed(&OPERATORS, front).is_some()
+    operator_of(front).is_some()
 }
 
 /// Whether so many characters at the front are an operator.
@@ -148,11 +173,10 @@ fn name(alloc: Global, front: &[Spot]) -> Result<TokenKind, Memory>
 }
 
 /// The operator that is spelled by these characters.
-#[tactic(auto, unfolding(crate::specs::Words::is_operator))]
 fn operator(alloc: Global, front: &[Spot]) -> Result<Option<TokenKind>, Memory>
     ensures { IfOk result (λ found. MatchOption found (is_operator (chars_of front.now) ≡ false) (λ word. Spells word (chars_of front.now))) }
 {
-    let Some(spelling) = listed(&OPERATORS, front) else {
+    let Some(spelling) = operator_of(front) else {
         return Ok(None);
     };
     Ok(Some(TokenKind::Sign(Text::from_str(alloc, spelling)?)))
