@@ -1,0 +1,4 @@
+pub mod Syntax
+pub mod Fold
+pub mod StatementFold
+pub mod Measure
