@@ -1,0 +1,10 @@
+pub mod Targets
+pub mod Faults
+pub mod Told
+pub mod Blocks
+pub mod Ways
+pub mod Narrow
+pub mod StatementFaults
+pub mod StatementBlocks
+pub mod StatementNarrow
+pub mod Rows
