@@ -1,0 +1,11 @@
+pub mod Tokens
+pub mod Chains
+pub mod Follow
+pub mod Ends
+pub mod UpTo
+pub mod ImportLemmas
+pub mod SimpleLemmas
+pub mod StatedLemmas
+pub mod BlockLemmas
+pub mod CompoundLemmas
+pub mod ScriptLemmas

@@ -1,0 +1,9 @@
+pub mod Forms
+pub mod Simple
+pub mod Limits
+pub mod Grammar
+pub mod Parts
+pub mod Targets
+pub mod Left
+pub mod Views
+pub mod Script
