@@ -8,7 +8,7 @@ use Rattle.pt_scopes.specs.declared.region.Region.{Region}
 use Rattle.pt_scopes.specs.declared.scope.ScopeErr.{ScopeErr}
 use Rattle.pt_scopes.specs.declared.scope.ScopeErr.TheVariants.{NoBinding, Twice, LateDecl, Outside, Memory}
 use Rattle.pt_scopes.specs.declared.table.Names.{Names}
-use Rattle.pt_scopes.specs.Gathering.{Gathered}
+use Rattle.pt_scopes.specs.Places.{Places}
 use Rattle.pt_scopes.specs.NameSets.{is_in}
 use Rattle.pt_scopes.specs.Refusals.{fault_of, first_fault}
 use Rattle.pt_scopes.specs.Resolved.{IsRefused, IsResolved}
@@ -16,34 +16,34 @@ use Rattle.pt_scopes.specs.Scope.{facts, is_captured, scope_at}
 use Rattle.pt_scopes.specs.Tables.{facts_in}
 use Rattle.pt_tree.specs.Syntax.{Name}
 
-gathered-is : (g : Gathered) (rs : List Region) (bs : List ℕ) (ms : List Mention) → rs ≡ g.regions → bs ≡ g.blocks → ms ≡ g.mentions → record { regions = rs; blocks = bs; mentions = ms } ≡ g
-gathered-is g rs bs ms is_r is_b is_m = λ i. record { regions = is_r i; blocks = is_b i; mentions = is_m i }
+places-are : (g : Places) (rs : List Region) (bs : List ℕ) (ms : List Mention) → rs ≡ g.regions → bs ≡ g.blocks → ms ≡ g.mentions → record { regions = rs; blocks = bs; mentions = ms } ≡ g
+places-are g rs bs ms is_r is_b is_m = λ i. record { regions = is_r i; blocks = is_b i; mentions = is_m i }
 
-pub resolved : (g : Gathered) (rs : List Region) (bs : List ℕ) (ms : List Mention) (names : Names) (captured : NameSet) → rs ≡ g.regions → bs ≡ g.blocks → ms ≡ g.mentions
+pub resolved : (g : Places) (rs : List Region) (bs : List ℕ) (ms : List Mention) (names : Names) (captured : NameSet) → rs ≡ g.regions → bs ≡ g.blocks → ms ≡ g.mentions
     → ((x : Name) (r : ℕ) → facts_in names x r ≡ facts ms x r) → ((r : ℕ) (x : Name) → is_in captured r x ≡ is_captured rs (facts_in names) ms r x) → first_fault rs (facts_in names) [] ms ≡ None
     → IsResolved g (record { blocks = bs; table = record { regions = rs; names = names }; captured = captured })
 resolved g rs bs ms names captured is_r is_b is_m told caught sound =
     let look : facts_in names ≡ facts ms = λ i x r. told x r i in
     let cells : is_in captured ≡ is_captured rs (facts_in names) ms = λ i r x. caught r x i in
-    subst (λ (h : Gathered). IsResolved h (record { blocks = bs; table = record { regions = rs; names = names }; captured = captured })) (gathered-is g rs bs ms is_r is_b is_m) (record {
+    subst (λ (h : Places). IsResolved h (record { blocks = bs; table = record { regions = rs; names = names }; captured = captured })) (places-are g rs bs ms is_r is_b is_m) (record {
       no_fault = ap (λ (l : Name → ℕ → Facts). first_fault rs l [] ms) (sym look) ∙ sound;
       scopes = λ b x. ap (λ (c : ℕ → Name → Bool). scope_at rs (facts_in names) c x (slice_get bs b)) cells ∙ ap (λ (l : Name → ℕ → Facts). scope_at rs l (is_captured rs l ms) x (slice_get bs b)) look;
     })
 
-refused-as : (g : Gathered) (e : ScopeErr) → fault_of g ≡ Some e → IsRefused g e
+refused-as : (g : Places) (e : ScopeErr) → fault_of g ≡ Some e → IsRefused g e
 refused-as g (NoBinding x l) is = is
 refused-as g (Twice x l) is = is
 refused-as g (LateDecl x l) is = is
 refused-as g (Outside l) is = is
 refused-as g Memory is = tt
 
-pub refused : (g : Gathered) (rs : List Region) (bs : List ℕ) (ms : List Mention) (names : Names) (e : ScopeErr) → rs ≡ g.regions → bs ≡ g.blocks → ms ≡ g.mentions
+pub refused : (g : Places) (rs : List Region) (bs : List ℕ) (ms : List Mention) (names : Names) (e : ScopeErr) → rs ≡ g.regions → bs ≡ g.blocks → ms ≡ g.mentions
     → ((x : Name) (r : ℕ) → facts_in names x r ≡ facts ms x r) → first_fault rs (facts_in names) [] ms ≡ Some e → IsRefused g e
 refused g rs bs ms names e is_r is_b is_m told found =
     let look : facts_in names ≡ facts ms = λ i x r. told x r i in
-    refused-as g e (ap (λ (h : Gathered). fault_of h) (sym (gathered-is g rs bs ms is_r is_b is_m)) ∙ ap (λ (l : Name → ℕ → Facts). first_fault rs l [] ms) (sym look) ∙ found)
+    refused-as g e (ap (λ (h : Places). fault_of h) (sym (places-are g rs bs ms is_r is_b is_m)) ∙ ap (λ (l : Name → ℕ → Facts). first_fault rs l [] ms) (sym look) ∙ found)
 
-pub excluded : (g : Gathered) (e : ScopeErr) → fault_of g ≡ None → IsRefused g e → e ≡ Memory
+pub excluded : (g : Places) (e : ScopeErr) → fault_of g ≡ None → IsRefused g e → e ≡ Memory
 excluded g (NoBinding x l) none is = absurd (let same : None ≡ Some (NoBinding x l) = sym none ∙ is in cc)
 excluded g (Twice x l) none is = absurd (let same : None ≡ Some (Twice x l) = sym none ∙ is in cc)
 excluded g (LateDecl x l) none is = absurd (let same : None ≡ Some (LateDecl x l) = sym none ∙ is in cc)

@@ -1,5 +1,6 @@
 pub mod Names
-pub mod Gathering
+pub mod Places
+pub mod Behind
 pub mod Mentions
 pub mod NameSets
 pub mod Scope

@@ -13,7 +13,7 @@ use Rattle.pt_scopes.specs.declared.region.Verdict.{Verdict}
 use Rattle.pt_scopes.specs.declared.region.Verdict.TheVariants.{Own, Outwards}
 use Rattle.pt_scopes.specs.declared.scope.ScopeErr.{ScopeErr}
 use Rattle.pt_scopes.specs.declared.scope.ScopeErr.TheVariants.{NoBinding, Twice, LateDecl, Outside}
-use Rattle.pt_scopes.specs.Gathering.{Gathered}
+use Rattle.pt_scopes.specs.Places.{Places}
 use Rattle.pt_scopes.specs.Scope.{has, facts, owner_from, settled, is_global, is_nonlocal}
 use Rattle.pt_tree.specs.Syntax.{Name}
 
@@ -97,5 +97,5 @@ abbrev pub first_fault : List Region → (Name → ℕ → Facts) → (before : 
 first_fault rs look before [] = None
 first_fault rs look before (m ∷ ms) = or_else (fault_at rs look before m) (first_fault rs look (before ++ m ∷ []) ms)
 
-abbrev pub fault_of : Gathered → Option ScopeErr
+abbrev pub fault_of : Places → Option ScopeErr
 fault_of g = first_fault g.regions (facts g.mentions) [] g.mentions

@@ -12,7 +12,7 @@ use Rattle.pt_scopes.specs.declared.region.Verdict.{Verdict}
 use Rattle.pt_scopes.specs.declared.region.Verdict.TheVariants.{Own, Nobody, Outwards}
 use Rattle.pt_scopes.specs.declared.scope.Scope.{Scope}
 use Rattle.pt_scopes.specs.declared.scope.Scope.TheVariants as scope
-use Rattle.pt_scopes.specs.Gathering.{Gathered}
+use Rattle.pt_scopes.specs.Places.{Places}
 use Rattle.pt_tree.specs.Syntax.{Name}
 
 abbrev pub is_binding : Role → Bool
@@ -141,5 +141,5 @@ scope_at rs look captured x None = None
 scope_at rs look captured x (Some r) = scope_in rs look captured r x (slice_get rs r)
 
 -- the scope of a name in the block with this number; none behind the last block
-abbrev pub scope_of : Gathered → (block : ℕ) → Name → Option Scope
+abbrev pub scope_of : Places → (block : ℕ) → Name → Option Scope
 scope_of g b x = scope_at g.regions (facts g.mentions) (is_captured g.regions (facts g.mentions) g.mentions) x (slice_get g.blocks b)

@@ -1,7 +1,8 @@
 //! What the parts of expressions and targets mention (Language Reference 6, 7.2).
 
 ghost use Rattle.std.specs.Prelude.{◌≡◌, [], OnOk, map, option_map};
-ghost use Rattle.pt_scopes.specs.Mentions.{gather_exp, gather_all, gather_opt, gather_pieces, gather_entries, gather_links, gather_args, gather_clauses, gather_place, gather_target, gather_targets, gather_params, gather_formals, gather_named_parameter, gather_conditions};
+ghost use Rattle.pt_scopes.specs.Behind.{behind};
+ghost use Rattle.pt_scopes.specs.Mentions.{places_exp, places_all, places_opt, places_pieces, places_entries, places_links, places_args, places_clauses, places_place, places_target, places_targets, places_params, places_formals, places_named_parameter, places_conditions};
 ghost use Rattle.pt_tree.specs.Fold.{all_of, argument_of, chained, clause_of, clauses_of, entry_of, exp_of, formal_of, link_of, opt_exp, parameters_of, piece_of, place_node_of, target_of, targets_of};
 ghost use Rattle.pt_tree.specs.Syntax.{no_args, no_entries, no_formals, no_links, no_pieces};
 
@@ -16,7 +17,7 @@ use pt_tree::{
 #[cycle(expressions)]
 #[tactic(auto, using(pt_tree::proofs::Folds::expressions, crate::proofs::Behind::parts))]
 pub fn expression(g: &mut Gatherer, at: Context, class: &str, e: &Expr) -> Result<(), Memory>
-    ensures { OnOk result (g.new ≡ gather_exp at class.now (exp_of e.now) g.old) }
+    ensures { OnOk result (g.new ≡ behind g.old (places_exp at class.now (exp_of e.now))) }
 {
     match &e.node {
         ExprNode::Constant(_) => Ok(()),
@@ -121,11 +122,11 @@ pub fn expression(g: &mut Gatherer, at: Context, class: &str, e: &Expr) -> Resul
             clauses(g, inside, class, rest.as_slice())
         }
         ExprNode::Yield(value) => {
-            g.yields(at, e.line)?;
+            g.gives(at, e.line)?;
             boxed(g, at, class, value)
         }
         ExprNode::YieldFrom(iterable) => {
-            g.yields(at, e.line)?;
+            g.gives(at, e.line)?;
             expression(g, at, class, iterable.get())
         }
     }
@@ -134,7 +135,7 @@ pub fn expression(g: &mut Gatherer, at: Context, class: &str, e: &Expr) -> Resul
 #[cycle(expressions)]
 #[tactic(auto, using(pt_tree::proofs::Folds::expressions, crate::proofs::Behind::parts))]
 fn boxed(g: &mut Gatherer, at: Context, class: &str, e: &Option<Boxed<Expr>>) -> Result<(), Memory>
-    ensures { OnOk result (g.new ≡ gather_opt at class.now (opt_exp e.now) g.old) }
+    ensures { OnOk result (g.new ≡ behind g.old (places_opt at class.now (opt_exp e.now))) }
 {
     match e {
         None => Ok(()),
@@ -145,7 +146,7 @@ fn boxed(g: &mut Gatherer, at: Context, class: &str, e: &Option<Boxed<Expr>>) ->
 #[cycle(expressions)]
 #[tactic(auto, using(pt_tree::proofs::Folds::expressions, crate::proofs::Behind::parts))]
 fn all(g: &mut Gatherer, at: Context, class: &str, items: &[Expr]) -> Result<(), Memory>
-    ensures { OnOk result (g.new ≡ gather_all at class.now (all_of (map exp_of items.now)) g.old) }
+    ensures { OnOk result (g.new ≡ behind g.old (places_all at class.now (all_of (map exp_of items.now)))) }
 {
     for item in items {
         expression(g, at, class, item)?;
@@ -156,7 +157,7 @@ fn all(g: &mut Gatherer, at: Context, class: &str, items: &[Expr]) -> Result<(),
 #[cycle(expressions)]
 #[tactic(auto, using(pt_tree::proofs::Folds::expressions, crate::proofs::Behind::parts))]
 fn links(g: &mut Gatherer, at: Context, class: &str, rest: &[Comparison]) -> Result<(), Memory>
-    ensures { OnOk result (g.new ≡ gather_links at class.now (chained no_links (map link_of rest.now)) g.old) }
+    ensures { OnOk result (g.new ≡ behind g.old (places_links at class.now (chained no_links (map link_of rest.now)))) }
 {
     for link in rest {
         expression(g, at, class, &link.right)?;
@@ -167,7 +168,7 @@ fn links(g: &mut Gatherer, at: Context, class: &str, rest: &[Comparison]) -> Res
 #[cycle(expressions)]
 #[tactic(auto, using(pt_tree::proofs::Folds::expressions, crate::proofs::Behind::parts))]
 fn entries(g: &mut Gatherer, at: Context, class: &str, items: &[Entry]) -> Result<(), Memory>
-    ensures { OnOk result (g.new ≡ gather_entries at class.now (chained no_entries (map entry_of items.now)) g.old) }
+    ensures { OnOk result (g.new ≡ behind g.old (places_entries at class.now (chained no_entries (map entry_of items.now)))) }
 {
     for entry in items {
         expression(g, at, class, &entry.key)?;
@@ -179,7 +180,7 @@ fn entries(g: &mut Gatherer, at: Context, class: &str, items: &[Entry]) -> Resul
 #[cycle(expressions)]
 #[tactic(auto, using(pt_tree::proofs::Folds::expressions, crate::proofs::Behind::parts))]
 fn pieces(g: &mut Gatherer, at: Context, class: &str, parts: &[Piece]) -> Result<(), Memory>
-    ensures { OnOk result (g.new ≡ gather_pieces at class.now (chained no_pieces (map piece_of parts.now)) g.old) }
+    ensures { OnOk result (g.new ≡ behind g.old (places_pieces at class.now (chained no_pieces (map piece_of parts.now)))) }
 {
     for part in parts {
         piece(g, at, class, part)?;
@@ -190,7 +191,7 @@ fn pieces(g: &mut Gatherer, at: Context, class: &str, parts: &[Piece]) -> Result
 #[cycle(expressions)]
 #[tactic(auto, using(pt_tree::proofs::Folds::expressions, crate::proofs::Behind::parts))]
 fn piece(g: &mut Gatherer, at: Context, class: &str, part: &Piece) -> Result<(), Memory>
-    ensures { OnOk result ((r : _) → gather_pieces at class.now r g.new ≡ gather_pieces at class.now (piece_of part.now r) g.old) }
+    ensures { OnOk result ((r : _) → behind g.new (places_pieces at class.now r) ≡ behind g.old (places_pieces at class.now (piece_of part.now r))) }
 {
     match part {
         Piece::Literal { .. } => Ok(()),
@@ -204,7 +205,7 @@ fn piece(g: &mut Gatherer, at: Context, class: &str, part: &Piece) -> Result<(),
 #[cycle(expressions)]
 #[tactic(auto, using(pt_tree::proofs::Folds::expressions, crate::proofs::Behind::parts))]
 fn arguments(g: &mut Gatherer, at: Context, class: &str, values: &[Argument]) -> Result<(), Memory>
-    ensures { OnOk result (g.new ≡ gather_args at class.now (chained no_args (map argument_of values.now)) g.old) }
+    ensures { OnOk result (g.new ≡ behind g.old (places_args at class.now (chained no_args (map argument_of values.now)))) }
 {
     for value in values {
         argument(g, at, class, value)?;
@@ -215,7 +216,7 @@ fn arguments(g: &mut Gatherer, at: Context, class: &str, values: &[Argument]) ->
 #[cycle(expressions)]
 #[tactic(auto, using(pt_tree::proofs::Folds::expressions, crate::proofs::Behind::parts))]
 fn argument(g: &mut Gatherer, at: Context, class: &str, value: &Argument) -> Result<(), Memory>
-    ensures { OnOk result ((r : _) → gather_args at class.now r g.new ≡ gather_args at class.now (argument_of value.now r) g.old) }
+    ensures { OnOk result ((r : _) → behind g.new (places_args at class.now r) ≡ behind g.old (places_args at class.now (argument_of value.now r))) }
 {
     match value {
         Argument::Positional(value) => expression(g, at, class, value),
@@ -235,7 +236,7 @@ fn first_clause(
     class: &str,
     first: &Clause,
 ) -> Result<(), Memory>
-    ensures { OnOk result (g.new ≡ gather_conditions inside class.now (clause_of first.now).conditions (gather_exp at class.now (clause_of first.now).iterable (gather_target inside class.now (clause_of first.now).target g.old))) }
+    ensures { OnOk result (g.new ≡ behind (behind (behind g.old (places_target inside class.now (clause_of first.now).target)) (places_exp at class.now (clause_of first.now).iterable)) (places_conditions inside class.now (clause_of first.now).conditions)) }
 {
     target(g, inside, class, &first.target)?;
     expression(g, at, class, &first.iterable)?;
@@ -245,7 +246,7 @@ fn first_clause(
 #[cycle(expressions)]
 #[tactic(auto, using(pt_tree::proofs::Folds::expressions, crate::proofs::Behind::parts))]
 fn conditions(g: &mut Gatherer, at: Context, class: &str, tests: &[Expr]) -> Result<(), Memory>
-    ensures { OnOk result (g.new ≡ gather_conditions at class.now (map exp_of tests.now) g.old) }
+    ensures { OnOk result (g.new ≡ behind g.old (places_conditions at class.now (map exp_of tests.now))) }
 {
     for test in tests {
         expression(g, at, class, test)?;
@@ -257,7 +258,7 @@ fn conditions(g: &mut Gatherer, at: Context, class: &str, tests: &[Expr]) -> Res
 #[cycle(expressions)]
 #[tactic(auto, using(pt_tree::proofs::Folds::expressions, crate::proofs::Behind::parts))]
 fn clauses(g: &mut Gatherer, at: Context, class: &str, rest: &[Clause]) -> Result<(), Memory>
-    ensures { OnOk result (g.new ≡ gather_clauses at class.now (clauses_of (map clause_of rest.now)) g.old) }
+    ensures { OnOk result (g.new ≡ behind g.old (places_clauses at class.now (clauses_of (map clause_of rest.now)))) }
 {
     for clause in rest {
         first_clause(g, at, at, class, clause)?;
@@ -274,7 +275,7 @@ pub fn place(
     line: Line,
     place: &PlaceNode,
 ) -> Result<(), Memory>
-    ensures { OnOk result (g.new ≡ gather_place at class.now (place_node_of place.now line.0) g.old) }
+    ensures { OnOk result (g.new ≡ behind g.old (places_place at class.now (place_node_of place.now line.0))) }
 {
     match place {
         PlaceNode::Name(name) => g.tell(Role::Bind, at, class, name.as_str(), line),
@@ -289,7 +290,7 @@ pub fn place(
 #[cycle(expressions)]
 #[tactic(auto, using(pt_tree::proofs::Folds::expressions, crate::proofs::Behind::parts))]
 pub fn target(g: &mut Gatherer, at: Context, class: &str, t: &Target) -> Result<(), Memory>
-    ensures { OnOk result (g.new ≡ gather_target at class.now (target_of t.now) g.old) }
+    ensures { OnOk result (g.new ≡ behind g.old (places_target at class.now (target_of t.now))) }
 {
     match &t.node {
         TargetNode::Place(node) => place(g, at, class, t.line, node),
@@ -302,7 +303,7 @@ pub fn target(g: &mut Gatherer, at: Context, class: &str, t: &Target) -> Result<
 #[cycle(expressions)]
 #[tactic(auto, using(pt_tree::proofs::Folds::expressions, crate::proofs::Behind::parts))]
 pub fn targets(g: &mut Gatherer, at: Context, class: &str, parts: &[Target]) -> Result<(), Memory>
-    ensures { OnOk result (g.new ≡ gather_targets at class.now (targets_of (map target_of parts.now)) g.old) }
+    ensures { OnOk result (g.new ≡ behind g.old (places_targets at class.now (targets_of (map target_of parts.now)))) }
 {
     for part in parts {
         target(g, at, class, part)?;
@@ -320,7 +321,7 @@ pub fn parameters(
     class: &str,
     names: &Parameters,
 ) -> Result<(), Memory>
-    ensures { OnOk result (g.new ≡ gather_params at inside class.now (parameters_of names.now) g.old) }
+    ensures { OnOk result (g.new ≡ behind g.old (places_params at inside class.now (parameters_of names.now))) }
 {
     formals(g, at, inside, class, names.positional.as_slice())?;
     named_parameter(g, inside, class, &names.star)?;
@@ -328,13 +329,14 @@ pub fn parameters(
     named_parameter(g, inside, class, &names.double_star)
 }
 
+#[tactic(auto, using(crate::proofs::Behind::parts))]
 fn named_parameter(
     g: &mut Gatherer,
     inside: Context,
     class: &str,
     parameter: &Option<NamedParameter>,
 ) -> Result<(), Memory>
-    ensures { OnOk result (g.new ≡ gather_named_parameter inside class.now parameter.now g.old) }
+    ensures { OnOk result (g.new ≡ behind g.old (places_named_parameter inside class.now parameter.now)) }
 {
     match parameter {
         None => Ok(()),
@@ -351,7 +353,7 @@ fn formals(
     class: &str,
     names: &[Parameter],
 ) -> Result<(), Memory>
-    ensures { OnOk result (g.new ≡ gather_formals at inside class.now (chained no_formals (map formal_of names.now)) g.old) }
+    ensures { OnOk result (g.new ≡ behind g.old (places_formals at inside class.now (chained no_formals (map formal_of names.now)))) }
 {
     for p in names {
         g.tell(Role::Parameter, inside, class, p.name.as_str(), p.line)?;

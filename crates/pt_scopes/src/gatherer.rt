@@ -1,7 +1,8 @@
 ghost use Rattle.std.specs.Prelude.{◌≡◌, [], length, IfOk, OnOk};
 ghost use Rattle.pt_scopes.specs.declared.region.Kind.TheVariants.{Function, Class};
-ghost use Rattle.pt_scopes.specs.Gathering.{mention, misplaced, with_block, with_comprehension, function_context, generator_context, class_context, comprehension_context, only_module};
-ghost use Rattle.pt_scopes.specs.Mentions.{tells, yields, returns, turns};
+ghost use Rattle.pt_scopes.specs.Behind.{behind};
+ghost use Rattle.pt_scopes.specs.Places.{mention, misplaced, block, comprehension, function_context, generator_context, class_context, comprehension_context, only_module};
+ghost use Rattle.pt_scopes.specs.Mentions.{tells, gives, turns};
 
 use crate::names;
 use crate::region::{Context, Kind, Mention, Region, Role};
@@ -19,9 +20,9 @@ pub struct Gatherer {
 }
 
 impl Model for Gatherer {
-    ghost use Rattle.pt_scopes.specs.Gathering.{Gathered};
+    ghost use Rattle.pt_scopes.specs.Places.{Places};
 
-    ghost Value = { Gathered };
+    ghost Value = { Places };
 
     ghost view = { λ g. record { regions = g.regions; blocks = g.blocks; mentions = g.mentions } };
 }
@@ -47,9 +48,9 @@ impl Gatherer {
         })
     }
 
-    #[tactic(auto, unfolding(crate::specs::Gathering::mention))]
+    #[tactic(auto, using(crate::proofs::Behind::steps))]
     fn mention(&mut self, role: Role, at: Context, name: Text, line: Line) -> Result<(), Memory>
-        ensures { OnOk result (self.new ≡ mention role at name line.0 self.old) }
+        ensures { OnOk result (self.new ≡ behind self.old (mention role at name line.0)) }
     {
         self.mentions.push(Mention {
             role,
@@ -68,32 +69,24 @@ impl Gatherer {
         name: &str,
         line: Line,
     ) -> Result<(), Memory>
-        ensures { OnOk result (self.new ≡ tells role at class.now name.now line.0 self.old) }
+        ensures { OnOk result (self.new ≡ behind self.old (tells role at class.now name.now line.0)) }
     {
         let name = names::read_in(self.alloc, class, name)?;
         self.mention(role, at, name, line)
     }
 
     fn misplace(&mut self, at: Context, line: Line) -> Result<(), Memory>
-        ensures { OnOk result (self.new ≡ misplaced at line.0 self.old) }
+        ensures { OnOk result (self.new ≡ behind self.old (misplaced at line.0)) }
     {
         self.mention(Role::Misplaced, at, Text::new(self.alloc), line)
     }
 
-    pub fn yields(&mut self, at: Context, line: Line) -> Result<(), Memory>
-        ensures { OnOk result (self.new ≡ yields at line.0 self.old) }
+    /// A `return` or `yield`.
+    #[tactic(auto, using(crate::proofs::Behind::parts))]
+    pub fn gives(&mut self, at: Context, line: Line) -> Result<(), Memory>
+        ensures { OnOk result (self.new ≡ behind self.old (gives at line.0)) }
     {
-        if at.may_yield {
-            Ok(())
-        } else {
-            self.misplace(at, line)
-        }
-    }
-
-    pub fn returns(&mut self, at: Context, line: Line) -> Result<(), Memory>
-        ensures { OnOk result (self.new ≡ returns at line.0 self.old) }
-    {
-        if at.may_return {
+        if at.may_give {
             Ok(())
         } else {
             self.misplace(at, line)
@@ -101,8 +94,9 @@ impl Gatherer {
     }
 
     /// A `break` or `continue`.
+    #[tactic(auto, using(crate::proofs::Behind::parts))]
     pub fn turns(&mut self, at: Context, line: Line) -> Result<(), Memory>
-        ensures { OnOk result (self.new ≡ turns at line.0 self.old) }
+        ensures { OnOk result (self.new ≡ behind self.old (turns at line.0)) }
     {
         if at.in_loop {
             Ok(())
@@ -112,9 +106,9 @@ impl Gatherer {
     }
 
     /// The number of a new block.
-    #[tactic(auto, unfolding(crate::specs::Gathering::with_block))]
+    #[tactic(auto, using(crate::proofs::Behind::steps))]
     fn open_block(&mut self, kind: Kind, at: Context) -> Result<usize, Memory>
-        ensures { IfOk result (λ n. (n ≡ length self.old.regions) × (self.new ≡ with_block kind at self.old)) }
+        ensures { IfOk result (λ n. (n ≡ length self.old.regions) × (self.new ≡ behind self.old (block kind at))) }
     {
         let number = self.regions.len();
         self.blocks.push(number)?;
@@ -127,47 +121,44 @@ impl Gatherer {
     }
 
     pub fn open_function(&mut self, at: Context) -> Result<Context, Memory>
-        ensures { IfOk result (λ b. (b ≡ function_context (length self.old.regions)) × (self.new ≡ with_block Function at self.old)) }
+        ensures { IfOk result (λ b. (b ≡ function_context (length self.old.regions)) × (self.new ≡ behind self.old (block Function at))) }
     {
         let number = self.open_block(Kind::Function, at)?;
         Ok(Context {
             region: number,
             home: number,
-            may_return: true,
-            may_yield: true,
+            may_give: true,
             in_loop: false,
         })
     }
 
     pub fn open_generator(&mut self, at: Context) -> Result<Context, Memory>
-        ensures { IfOk result (λ b. (b ≡ generator_context (length self.old.regions)) × (self.new ≡ with_block Function at self.old)) }
+        ensures { IfOk result (λ b. (b ≡ generator_context (length self.old.regions)) × (self.new ≡ behind self.old (block Function at))) }
     {
         let number = self.open_block(Kind::Function, at)?;
         Ok(Context {
             region: number,
             home: number,
-            may_return: false,
-            may_yield: false,
+            may_give: false,
             in_loop: false,
         })
     }
 
     pub fn open_class(&mut self, at: Context) -> Result<Context, Memory>
-        ensures { IfOk result (λ b. (b ≡ class_context (length self.old.regions)) × (self.new ≡ with_block Class at self.old)) }
+        ensures { IfOk result (λ b. (b ≡ class_context (length self.old.regions)) × (self.new ≡ behind self.old (block Class at))) }
     {
         let number = self.open_block(Kind::Class, at)?;
         Ok(Context {
             region: number,
             home: number,
-            may_return: false,
-            may_yield: false,
+            may_give: false,
             in_loop: false,
         })
     }
 
-    #[tactic(auto, unfolding(crate::specs::Gathering::with_comprehension))]
+    #[tactic(auto, using(crate::proofs::Behind::steps))]
     pub fn open_comprehension(&mut self, at: Context) -> Result<Context, Memory>
-        ensures { IfOk result (λ b. (b ≡ comprehension_context at (length self.old.regions)) × (self.new ≡ with_comprehension at self.old)) }
+        ensures { IfOk result (λ b. (b ≡ comprehension_context at (length self.old.regions)) × (self.new ≡ behind self.old (comprehension at))) }
     {
         let number = self.regions.len();
         self.regions.push(Region {
@@ -178,8 +169,7 @@ impl Gatherer {
         Ok(Context {
             region: number,
             home: at.home,
-            may_return: false,
-            may_yield: false,
+            may_give: false,
             in_loop: false,
         })
     }

@@ -51,8 +51,8 @@ pub struct Context {
     pub region: usize,
     /// The block of the region.
     pub home: usize,
-    pub may_return: bool,
-    pub may_yield: bool,
+    /// `return` and `yield` may stand here.
+    pub may_give: bool,
     pub in_loop: bool,
 }
 

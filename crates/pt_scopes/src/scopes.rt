@@ -1,5 +1,5 @@
 ghost use Rattle.std.specs.Prelude.{◌≡◌, IfOk, IfErr, OnOk};
-ghost use Rattle.pt_scopes.specs.Mentions.{gather_script};
+ghost use Rattle.pt_scopes.specs.Mentions.{places_script};
 ghost use Rattle.pt_scopes.specs.NameSets.{is_in};
 ghost use Rattle.pt_scopes.specs.Resolved.{scope_told, IsRefused, IsResolved};
 ghost use Rattle.pt_scopes.specs.Scope.{bound_scope as bound_in, is_captured, scope_in};
@@ -100,8 +100,8 @@ fn captured(alloc: Global, table: &Table, mentions: &[Mention]) -> Result<NameSe
 
 /// The scopes of the names of a script, or the first fault in its declarations.
 pub fn resolve(alloc: Global, script: &Script) -> Result<Scopes, ScopeErr>
-    ensures ok { IfOk result (IsResolved (gather_script (script_of script.now))) }
-    ensures err { IfErr result (IsRefused (gather_script (script_of script.now))) }
+    ensures ok { IfOk result (IsResolved (places_script (script_of script.now))) }
+    ensures err { IfErr result (IsRefused (places_script (script_of script.now))) }
 {
     let (regions, blocks, mentions) = gathered(alloc, script)?.into_parts();
     let names = Names::build(alloc, mentions.as_slice())?;

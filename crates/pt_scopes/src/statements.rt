@@ -1,8 +1,9 @@
 //! What statements mention (Language Reference 7, 8).
 
 ghost use Rattle.std.specs.Prelude.{◌≡◌, ◌∷◌, OnOk, IfOk, map, option_map};
-ghost use Rattle.pt_scopes.specs.Mentions.{gather_branches, gather_decorators, gather_handlers, gather_imports, gather_items, gather_named, gather_names, gather_opt, gather_opt_target, gather_place, gather_script, gather_stm, gather_stms};
-ghost use Rattle.pt_scopes.specs.Gathering.{loop_context};
+ghost use Rattle.pt_scopes.specs.Behind.{behind};
+ghost use Rattle.pt_scopes.specs.Mentions.{places_branches, places_decorators, places_handlers, places_imports, places_items, places_named, places_names, places_opt, places_opt_target, places_place, places_script, places_stm, places_stms};
+ghost use Rattle.pt_scopes.specs.Places.{loop_context};
 ghost use Rattle.pt_tree.specs.Fold.{chained, opt_exp, place_of, target_of};
 ghost use Rattle.pt_tree.specs.StatementFold.{branch_of, decorators_of, handler_of, items_of, script_of, stm_of, stms_of};
 ghost use Rattle.pt_tree.specs.Syntax.{no_branches, no_handlers};
@@ -23,8 +24,9 @@ fn in_loop(at: Context) -> Context
     }
 }
 
+#[tactic(auto, using(crate::proofs::Behind::parts))]
 fn optional(g: &mut Gatherer, at: Context, class: &str, e: &Option<Expr>) -> Result<(), Memory>
-    ensures { OnOk result (g.new ≡ gather_opt at class.now (opt_exp e.now) g.old) }
+    ensures { OnOk result (g.new ≡ behind g.old (places_opt at class.now (opt_exp e.now))) }
 {
     match e {
         None => Ok(()),
@@ -32,13 +34,14 @@ fn optional(g: &mut Gatherer, at: Context, class: &str, e: &Option<Expr>) -> Res
     }
 }
 
+#[tactic(auto, using(crate::proofs::Behind::parts))]
 fn optional_target(
     g: &mut Gatherer,
     at: Context,
     class: &str,
     t: &Option<Target>,
 ) -> Result<(), Memory>
-    ensures { OnOk result (g.new ≡ gather_opt_target at class.now (option_map target_of t.now) g.old) }
+    ensures { OnOk result (g.new ≡ behind g.old (places_opt_target at class.now (option_map target_of t.now))) }
 {
     match t {
         None => Ok(()),
@@ -46,8 +49,9 @@ fn optional_target(
     }
 }
 
+#[tactic(auto, using(crate::proofs::Behind::parts))]
 fn decorators(g: &mut Gatherer, at: Context, class: &str, list: &[Decorator]) -> Result<(), Memory>
-    ensures { OnOk result (g.new ≡ gather_decorators at class.now (decorators_of list.now) g.old) }
+    ensures { OnOk result (g.new ≡ behind g.old (places_decorators at class.now (decorators_of list.now))) }
 {
     for decorator in list {
         expression(g, at, class, &decorator.value)?;
@@ -55,8 +59,9 @@ fn decorators(g: &mut Gatherer, at: Context, class: &str, list: &[Decorator]) ->
     Ok(())
 }
 
+#[tactic(auto, using(crate::proofs::Behind::parts))]
 fn with_items(g: &mut Gatherer, at: Context, class: &str, items: &[WithItem]) -> Result<(), Memory>
-    ensures { OnOk result (g.new ≡ gather_items at class.now (items_of items.now) g.old) }
+    ensures { OnOk result (g.new ≡ behind g.old (places_items at class.now (items_of items.now))) }
 {
     for item in items {
         expression(g, at, class, &item.context)?;
@@ -66,6 +71,7 @@ fn with_items(g: &mut Gatherer, at: Context, class: &str, items: &[WithItem]) ->
 }
 
 /// A handler's `as`.
+#[tactic(auto, using(crate::proofs::Behind::parts))]
 fn named(
     g: &mut Gatherer,
     at: Context,
@@ -73,7 +79,7 @@ fn named(
     line: Line,
     name: &Option<Text>,
 ) -> Result<(), Memory>
-    ensures { OnOk result (g.new ≡ gather_named at class.now line.0 name.now g.old) }
+    ensures { OnOk result (g.new ≡ behind g.old (places_named at class.now line.0 name.now)) }
 {
     match name {
         None => Ok(()),
@@ -81,6 +87,7 @@ fn named(
     }
 }
 
+#[tactic(auto, using(crate::proofs::Behind::parts))]
 fn import(
     g: &mut Gatherer,
     at: Context,
@@ -88,7 +95,7 @@ fn import(
     line: Line,
     alias: &Alias,
 ) -> Result<(), Memory>
-    ensures { OnOk result ((rest : _) → gather_imports at class.now line.0 rest g.new ≡ gather_imports at class.now line.0 (alias.now ∷ rest) g.old) }
+    ensures { OnOk result ((rest : _) → behind g.new (places_imports at class.now line.0 rest) ≡ behind g.old (places_imports at class.now line.0 (alias.now ∷ rest))) }
 {
     match &alias.alias {
         None => g.tell(Role::Bind, at, class, alias.name.as_str(), line),
@@ -96,6 +103,7 @@ fn import(
     }
 }
 
+#[tactic(auto, using(crate::proofs::Behind::parts))]
 fn imports(
     g: &mut Gatherer,
     at: Context,
@@ -103,7 +111,7 @@ fn imports(
     line: Line,
     list: &[Alias],
 ) -> Result<(), Memory>
-    ensures { OnOk result (g.new ≡ gather_imports at class.now line.0 list.now g.old) }
+    ensures { OnOk result (g.new ≡ behind g.old (places_imports at class.now line.0 list.now)) }
 {
     for alias in list {
         import(g, at, class, line, alias)?;
@@ -112,6 +120,7 @@ fn imports(
 }
 
 /// The names that are declared global or nonlocal.
+#[tactic(auto, using(crate::proofs::Behind::parts))]
 fn declared(
     g: &mut Gatherer,
     role: Role,
@@ -120,7 +129,7 @@ fn declared(
     line: Line,
     names: &[Text],
 ) -> Result<(), Memory>
-    ensures { OnOk result (g.new ≡ gather_names role at class.now line.0 names.now g.old) }
+    ensures { OnOk result (g.new ≡ behind g.old (places_names role at class.now line.0 names.now)) }
 {
     for name in names {
         g.tell(role, at, class, name.as_str(), line)?;
@@ -129,9 +138,9 @@ fn declared(
 }
 
 #[cycle(statements)]
-#[tactic(auto, using(pt_tree::proofs::StatementFolds::statements))]
+#[tactic(auto, using(pt_tree::proofs::StatementFolds::statements, crate::proofs::Behind::parts))]
 fn statement(g: &mut Gatherer, at: Context, class: &str, s: &Stmt) -> Result<(), Memory>
-    ensures { OnOk result (g.new ≡ gather_stm at class.now (stm_of s.now) g.old) }
+    ensures { OnOk result (g.new ≡ behind g.old (places_stm at class.now (stm_of s.now))) }
 {
     match &s.node {
         StmtNode::Expr(value) => expression(g, at, class, value),
@@ -157,7 +166,7 @@ fn statement(g: &mut Gatherer, at: Context, class: &str, s: &Stmt) -> Result<(),
         StmtNode::Pass => Ok(()),
         StmtNode::Del(parts) => targets(g, at, class, parts.as_slice()),
         StmtNode::Return(value) => {
-            g.returns(at, s.line)?;
+            g.gives(at, s.line)?;
             optional(g, at, class, value)
         }
         StmtNode::Raise { exception, cause } => {
@@ -252,9 +261,9 @@ fn statement(g: &mut Gatherer, at: Context, class: &str, s: &Stmt) -> Result<(),
 }
 
 #[cycle(statements)]
-#[tactic(auto, using(pt_tree::proofs::StatementFolds::statements))]
+#[tactic(auto, using(pt_tree::proofs::StatementFolds::statements, crate::proofs::Behind::parts))]
 fn statements(g: &mut Gatherer, at: Context, class: &str, list: &[Stmt]) -> Result<(), Memory>
-    ensures { OnOk result (g.new ≡ gather_stms at class.now (stms_of list.now) g.old) }
+    ensures { OnOk result (g.new ≡ behind g.old (places_stms at class.now (stms_of list.now))) }
 {
     for s in list {
         statement(g, at, class, s)?;
@@ -263,9 +272,9 @@ fn statements(g: &mut Gatherer, at: Context, class: &str, list: &[Stmt]) -> Resu
 }
 
 #[cycle(statements)]
-#[tactic(auto, using(pt_tree::proofs::StatementFolds::statements))]
+#[tactic(auto, using(pt_tree::proofs::StatementFolds::statements, crate::proofs::Behind::parts))]
 fn branches(g: &mut Gatherer, at: Context, class: &str, list: &[Branch]) -> Result<(), Memory>
-    ensures { OnOk result (g.new ≡ gather_branches at class.now (chained no_branches (map branch_of list.now)) g.old) }
+    ensures { OnOk result (g.new ≡ behind g.old (places_branches at class.now (chained no_branches (map branch_of list.now)))) }
 {
     for branch in list {
         expression(g, at, class, &branch.test)?;
@@ -275,9 +284,9 @@ fn branches(g: &mut Gatherer, at: Context, class: &str, list: &[Branch]) -> Resu
 }
 
 #[cycle(statements)]
-#[tactic(auto, using(pt_tree::proofs::StatementFolds::statements))]
+#[tactic(auto, using(pt_tree::proofs::StatementFolds::statements, crate::proofs::Behind::parts))]
 fn handlers(g: &mut Gatherer, at: Context, class: &str, list: &[Handler]) -> Result<(), Memory>
-    ensures { OnOk result (g.new ≡ gather_handlers at class.now (chained no_handlers (map handler_of list.now)) g.old) }
+    ensures { OnOk result (g.new ≡ behind g.old (places_handlers at class.now (chained no_handlers (map handler_of list.now)))) }
 {
     for handler in list {
         optional(g, at, class, &handler.class)?;
@@ -288,15 +297,15 @@ fn handlers(g: &mut Gatherer, at: Context, class: &str, list: &[Handler]) -> Res
 }
 
 /// What a script mentions.
+#[tactic(auto, using(crate::proofs::Behind::parts))]
 pub fn gathered(alloc: Global, script: &Script) -> Result<Gatherer, Memory>
-    ensures { IfOk result (λ g. g ≡ gather_script (script_of script.now)) }
+    ensures { IfOk result (λ g. g ≡ places_script (script_of script.now)) }
 {
     let mut g = Gatherer::new(alloc)?;
     let at = Context {
         region: 0,
         home: 0,
-        may_return: false,
-        may_yield: false,
+        may_give: false,
         in_loop: false,
     };
     statements(&mut g, at, "", script.body.as_slice())?;

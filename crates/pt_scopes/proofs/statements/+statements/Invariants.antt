@@ -1,15 +1,16 @@
 use Rattle.std.proofs.Common.{◌≡◌, drop, map}
-use Rattle.pt_scopes.specs.Mentions.{gather_branches, gather_handlers, gather_stms}
+use Rattle.pt_scopes.specs.Behind.{behind}
+use Rattle.pt_scopes.specs.Mentions.{places_branches, places_handlers, places_stms}
 use Rattle.pt_tree.specs.Fold.{chained}
 use Rattle.pt_tree.specs.StatementFold.{branch_of, handler_of, stms_of}
 use Rattle.pt_tree.specs.Syntax as S
 use Rattle.pt_scopes.proofs.statements.+statements.Given as goal
 
 abbrev pub invariant-statements-loop-s : goal.invariant-statements-loop-s
-invariant-statements-loop-s l = gather_stms l.at l.class (stms_of (drop l.s-index l.list)) l.g ≡ gather_stms l.at l.class (stms_of l.list) l.fn.g
+invariant-statements-loop-s l = behind l.g (places_stms l.at l.class (stms_of (drop l.s-index l.list))) ≡ behind l.fn.g (places_stms l.at l.class (stms_of l.list))
 
 abbrev pub invariant-branches-loop-branch : goal.invariant-branches-loop-branch
-invariant-branches-loop-branch l = gather_branches l.at l.class (chained S.no_branches (map branch_of (drop l.branch-index l.list))) l.g ≡ gather_branches l.at l.class (chained S.no_branches (map branch_of l.list)) l.fn.g
+invariant-branches-loop-branch l = behind l.g (places_branches l.at l.class (chained S.no_branches (map branch_of (drop l.branch-index l.list)))) ≡ behind l.fn.g (places_branches l.at l.class (chained S.no_branches (map branch_of l.list)))
 
 abbrev pub invariant-handlers-loop-handler : goal.invariant-handlers-loop-handler
-invariant-handlers-loop-handler l = gather_handlers l.at l.class (chained S.no_handlers (map handler_of (drop l.handler-index l.list))) l.g ≡ gather_handlers l.at l.class (chained S.no_handlers (map handler_of l.list)) l.fn.g
+invariant-handlers-loop-handler l = behind l.g (places_handlers l.at l.class (chained S.no_handlers (map handler_of (drop l.handler-index l.list)))) ≡ behind l.fn.g (places_handlers l.at l.class (chained S.no_handlers (map handler_of l.list)))
