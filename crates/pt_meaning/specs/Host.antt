@@ -1,5 +1,5 @@
--- What answers the acts of a script: names, values and what is written.
-use Rattle.std.specs.Prelude.{ℕ, ℤ, pos, negsuc, ◌+ℤ◌, ◌^◌, List, [], ◌∷◌, ◌++◌, codes, length, Option, Some, None, Bool, nat_lt, nat_le, if◌then◌else◌}
+-- What answers the acts of a script: names, values and what is written. An ask that no built form gives leaves the profile.
+use Rattle.std.specs.Prelude.{ℕ, ℤ, pos, negsuc, ◌+◌, ◌+ℤ◌, ◌^◌, List, [], ◌∷◌, ◌++◌, codes, Option, Some, None, Bool, true, false, nat_lt, nat_le, ◌&&◌, if◌then◌else◌}
 use Rattle.std.specs.Fmt.{signed_decimal}
 use Rattle.std.specs.Map.{update}
 use Rattle.std.specs.Str.{bytes_eq}
@@ -7,17 +7,19 @@ use Rattle.pt_base.specs.declared.operators.BinOp.{BinOp}
 use Rattle.pt_base.specs.declared.operators.BinOp.TheVariants.{Add}
 use Rattle.pt_base.specs.declared.what.What.{What}
 use Rattle.pt_base.specs.declared.what.What.TheVariants.{Integer, Length, Feature}
+use Rattle.pt_tree.specs.declared.expression.Constant.{Constant}
+use Rattle.pt_tree.specs.declared.expression.Constant.TheVariants as constant
+use Rattle.pt_tree.specs.Syntax.{Name}
+use Rattle.pt_control.specs.Turn as T
+use Rattle.pt_control.specs.Turn.{Ask, Answer, Note, Role, Operation, Seek, const, load, operate, Deed, store, discard, seek, deed, Reply, got, raised, unbind}
 use Rattle.pt_meaning.specs.declared.value.Value.{Value}
 use Rattle.pt_meaning.specs.declared.value.Value.TheVariants as value
 use Rattle.pt_meaning.specs.declared.value.ExceptionClass.TheVariants.{NameError, TypeError}
-use Rattle.pt_straight.specs.Syntax as S
-use Rattle.pt_straight.specs.Syntax.{Constant}
-use Rattle.pt_straight.specs.Turn.{Ask, Answer, Seek, const, load, binary, call, Deed, store, discard, seek, deed, got, raised}
 use Rattle.pt_meaning.specs.Run.{Outcome, goes, leaves, Host}
 
 -- the value of each bound name (Language Reference 4.2)
 abbrev pub Names : Type 0
-Names = List ℕ → Option Value
+Names = Name → Option Value
 
 -- the names, and the pieces that were written, the oldest first
 pub record World : Type 0 where
@@ -28,21 +30,26 @@ pub record World : Type 0 where
 abbrev pub start_world : World
 start_world = record { names = λ x. None; written = [] }
 
-abbrev pub value_of : Constant → Value
-value_of (S.int n) = value.Int n
-value_of (S.str t) = value.Str t
-
 -- what a name means where the script has not bound it
-abbrev pub builtin : List ℕ → Option Value
+abbrev pub builtin : Name → Option Value
 builtin x = if bytes_eq x (codes "print") then Some value.Print else None
 
-abbrev pub or_builtin : Option Value → List ℕ → Option Value
+abbrev pub or_builtin : Option Value → Name → Option Value
 or_builtin (Some v) x = Some v
 or_builtin None x = builtin x
 
 -- the greatest length of a text, in characters
 abbrev pub text_limit : ℕ
 text_limit = 16777216
+
+-- a byte that goes on with a character of more than one (UTF-8)
+abbrev pub goes_on_with : ℕ → Bool
+goes_on_with b = nat_le 128 b && nat_lt b 192
+
+-- how many characters a text has
+abbrev pub characters : List ℕ → ℕ
+characters [] = 0
+characters (b ∷ bs) = if goes_on_with b then characters bs else characters bs + 1
 
 -- an integer has 128 bits, one of them its sign
 abbrev pub fits : ℤ → Bool
@@ -55,10 +62,10 @@ pub data Result : Type 0 where
   raises : Value → Result
   beyond : What → Result
 
--- a sum of numbers, or one text behind another (Language Reference 6.7); a character of these texts is one byte
+-- a sum of numbers, or one text behind another (Language Reference 6.7)
 abbrev pub sum_of : (a b : Value) → Result
 sum_of (value.Int a) (value.Int b) = if fits (a +ℤ b) then gives (value.Int (a +ℤ b)) else beyond Integer
-sum_of (value.Str s) (value.Str t) = if nat_le (length (s ++ t)) text_limit then gives (value.Str (s ++ t)) else beyond Length
+sum_of (value.Str s) (value.Str t) = if nat_le (characters (s ++ t)) text_limit then gives (value.Str (s ++ t)) else beyond Length
 sum_of a b = raises (value.Exception TypeError)
 
 -- the other operators leave the profile until they have a meaning here
@@ -89,24 +96,60 @@ resulting (gives v) w = goes (got v) w
 resulting (raises v) w = goes (raised v) w
 resulting (beyond what) w = leaves what
 
+-- an integer or a text; the other constants have no value yet
+abbrev pub valued : Constant → World → Outcome Value Value World
+valued (constant.Int n) w = goes (got (value.Int n)) w
+valued (constant.Str t) w = goes (got (value.Str t)) w
+valued constant.None w = leaves Feature
+valued (constant.Bool b) w = leaves Feature
+valued constant.Ellipsis w = leaves Feature
+
+-- the names of comprehensions have no values yet
+abbrev pub named : (within : List ℕ) → Name → World → Outcome Value Value World
+named [] x w = given (or_builtin (w.names x) x) w
+named (n ∷ ns) x w = leaves Feature
+
 -- a `print` is one piece; what is no function cannot be called (Language Reference 6.3.4)
 abbrev pub called : Value → List Value → World → Outcome Value Value World
 called value.Print args w = goes (got value.None) (record w { written = w.written ++ printed args ∷ [] })
 called v args w = goes (raised (value.Exception TypeError)) w
 
-abbrev pub sought : Seek Value → World → Outcome Value Value World
-sought (const k) w = goes (got (value_of k)) w
-sought (load x) w = given (or_builtin (w.names x) x) w
-sought (binary o a b) w = resulting (result_of o a b) w
-sought (call f args) w = called f args w
+-- calls have plain arguments alone
+abbrev pub are_plain : List Role → Bool
+are_plain [] = true
+are_plain (T.positional ∷ rs) = are_plain rs
+are_plain (r ∷ rs) = false
 
-abbrev pub done_with : Deed Value → World → World
-done_with (store x v) w = record w { names = update bytes_eq w.names x (Some v) }
-done_with (discard v) w = w
+abbrev pub operated : Operation → List Value → World → Outcome Value Value World
+operated (T.binary o) (a ∷ b ∷ []) w = resulting (result_of o a b) w
+operated (T.call rs) (f ∷ vs) w = if are_plain rs then called f vs w else leaves Feature
+operated op vs w = leaves Feature
+
+abbrev pub sought : Seek Value → World → Outcome Value Value World
+sought (const k) w = valued k w
+sought (load x) w = named x.within x.name w
+sought (operate op vs) w = operated op vs w
+sought s w = leaves Feature
+
+-- a name is bound or unbound
+abbrev pub bound : (within : List ℕ) → Name → Option Value → World → World
+bound [] x v w = record w { names = update bytes_eq w.names x v }
+bound (n ∷ ns) x v w = w
+
+abbrev pub done_by : Deed Value → World → Outcome Value (Unit {0}) World
+done_by (store x v) w = goes (got tt) (bound x.within x.name (Some v) w)
+done_by (discard v) w = goes (got tt) w
+done_by d w = leaves Feature
 
 abbrev pub answer : (a : Ask Value) → World → Outcome Value (Answer Value a) World
 answer (seek s) w = sought s w
-answer (deed d) w = goes (got tt) (done_with d w)
+answer (deed d) w = done_by d w
+answer a w = leaves Feature
+
+-- a note changes names alone (Language Reference 8.4.1)
+abbrev pub noted : Note Value → World → Reply Value (Unit {0}) × World
+noted (unbind x) w = (got tt, bound x.within x.name None w)
+noted a w = (got tt, w)
 
 abbrev pub host : Host Value World
-host = record { answer = answer }
+host = record { answer = answer; noted = noted }

@@ -1,11 +1,8 @@
 -- Words that spell an item of a sum, and words that spell none.
-use Rattle.std.proofs.Common.{◌≡◌, ◌≢◌, ◌+◌, ◌<◌, ◌^◌, ℕ, pos, negsuc, List, [], ◌∷◌, true, false, refl, sym, ap, subst, ◌∙◌, inl, inr}
+use Rattle.std.proofs.Common.{◌≡◌, ◌≢◌, ◌<◌, ◌^◌, ℕ, pos, negsuc, List, true, false, refl, sym, ap, subst, ◌∙◌}
 use Rattle.std.specs.Prelude.{◌||◌, codes}
 use Rattle.std.specs.Fmt.{decimal}
 use Rattle.std.specs.List.{list_all}
-use Rattle.std.specs.Option.{is_some}
-use Rattle.std.specs.Str.{bytes_eq}
-use Rattle.std.proofs.lemmas.Bool.{cases_Bool}
 use Rattle.pt_straight.specs.declared.tree.Expr.{Expr}
 use Rattle.pt_straight.specs.declared.tree.ExprNode.{Int, Str, Name, Call}
 use Rattle.pt_straight.specs.Syntax as S
@@ -13,16 +10,8 @@ use Rattle.pt_straight.specs.Syntax.{Exp}
 use Rattle.pt_straight.specs.Fold.{exp_of}
 use Rattle.pt_straight.proofs.Folds.{exp_of-Int, exp_of-Str, exp_of-Name, exp_of-Call}
 use Rattle.pt_tables.specs.Names.{keyword_names, builtin_names}
-use Rattle.pt_tables.specs.Rows.{value_of, numbered}
-use Rattle.pt_prog.specs.Spelling.{is_listed, is_reserved, is_name, is_text_byte, quoted, IsItem, spelled}
-
--- a name is found in a table exactly where its list has it
-pub found_listed : (n : ℕ) (ks : List (List ℕ)) (x : List ℕ) → is_some (value_of (numbered n ks) x) ≡ is_listed ks x
-found_listed n [] x = refl
-found_listed n (k ∷ ks) x = elim (cases_Bool (bytes_eq k x)) [
-  | inl same ↦ rw same refl
-  | inr other ↦ rw other (found_listed (n + 1) ks x)
-]
+use Rattle.pt_meaning.specs.Built.{is_listed}
+use Rattle.pt_prog.specs.Spelling.{is_reserved, is_name, is_text_byte, quoted, IsItem, spelled}
 
 -- a keyword is reserved, and else a builtin name is
 pub reserved_keyword : (x : List ℕ) → is_listed keyword_names x ≡ true → is_reserved x ≡ true

@@ -1,12 +1,3 @@
-pub mod Law
-pub mod Follow
-pub mod Means
-pub mod Placed
-pub mod CompileLemmas
-pub mod MachineLemmas
-pub mod RunLemmas
-pub mod AdvanceLemmas
-pub mod LoopLemmas
 pub mod NumberLemmas
 pub mod ItemLemmas
 pub mod CutLemmas
@@ -15,5 +6,6 @@ pub mod SumLoop
 pub mod StatementLemmas
 pub mod LineLemmas
 pub mod SizeLemmas
+pub mod WholeLemmas
 pub mod AnswerLemmas
 pub mod ReadingLaws

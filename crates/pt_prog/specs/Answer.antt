@@ -6,9 +6,8 @@ use Rattle.std.specs.declared.alloc.Global.{Global}
 use Rattle.pt_base.specs.Told.{Told, IsWhole}
 use Rattle.pt_base.specs.Taken.{Pieces, Takes, TakesFront}
 use Rattle.pt_straight.specs.Syntax.{Stms}
-use Rattle.pt_straight.specs.Turn.{done, left_by}
-use Rattle.pt_meaning.specs.Run.{Ending, ended, outside, spent, meaning}
-use Rattle.pt_meaning.specs.Host.{host, start_world}
+use Rattle.pt_control.specs.Turn.{done, gave, left_by}
+use Rattle.pt_meaning.specs.Run.{Ending, ended, outside, spent}
 use Rattle.pt_meaning.specs.declared.value.Value.{Value}
 use Rattle.pt_prog.specs.declared.end.End.{End}
 use Rattle.pt_prog.specs.declared.end.End.TheVariants as end
@@ -16,8 +15,9 @@ use Rattle.pt_prog.specs.declared.end.File.TheVariants as file
 use Rattle.pt_prog.specs.declared.end.Out.TheVariants as out
 use Rattle.pt_prog.specs.Limits.{act_limit}
 use Rattle.pt_prog.specs.Limits.{script_limit}
-use Rattle.pt_prog.specs.Running.{Whole}
+use Rattle.pt_session.specs.Running.{Whole, meaning_of as meaning_under}
 use Rattle.pt_prog.specs.Spelling.{Spells, IsUnbuilt}
+use Rattle.pt_prog.specs.Whole.{whole_of}
 
 -- the words are `run` and the name of a script, which isn't empty and doesn't begin with `-`
 abbrev pub is_command : (command name : List ℕ) → Bool
@@ -32,14 +32,16 @@ abbrev pub OfNamed : Option (List ℕ) → (told : List ℕ → Told) → (Told 
 OfNamed None told P = ⊥
 OfNamed (Some name) told P = P (told name)
 
--- the meaning of a script
-unfoldable pub meaning_of : Stms → Whole
-meaning_of ss = record { world = (meaning host act_limit ss start_world).0; ending = (meaning host act_limit ss start_world).1 }
+-- the meaning of a script, under the bound of the program
+abbrev pub meaning_of : Stms → Whole
+meaning_of ss = meaning_under act_limit (whole_of ss)
 
 -- the program's end for a run's
 abbrev pub IsEndOf : Ending Value → End → Type 0
 IsEndOf (ended done) e = e ≡ end.Done
 IsEndOf (ended (left_by v)) e = e ≡ end.Raised
+-- a module gives nothing
+IsEndOf (ended (gave v)) e = ⊥
 IsEndOf (outside what line) e = e ≡ end.Outside what (record { 0 = line })
 IsEndOf spent e = ⊥
 

@@ -1,14 +1,8 @@
 pub mod Limits
-pub mod View
-pub mod CodeRun
-pub mod Place
-pub mod Layout
-pub mod Operated
-pub mod Machine
-pub mod Running
+pub mod Whole
 pub mod Spelling
 pub mod Reading
 pub mod Lines
 pub mod Status
-pub mod StopEnd
+pub mod RunEnds
 pub mod Answer

@@ -3,20 +3,17 @@
 use Rattle.std.specs.Prelude.{◌≡◌, ℕ, pos, negsuc, ◌+◌, ◌^◌, ◌<◌, List, [], ◌∷◌, ◌++◌, codes, length, Bool, true, not, ◌==◌, ◌&&◌, ◌||◌, nat_le, slice_index, ◌⊎◌}
 use Rattle.std.specs.Char.{is_ascii_digit, is_ascii_alphabetic}
 use Rattle.std.specs.Fmt.{decimal}
-use Rattle.std.specs.List.{slice_split, list_all, list_any}
-use Rattle.std.specs.Str.{bytes_eq}
+use Rattle.std.specs.List.{slice_split, list_all}
 use Rattle.pt_base.specs.declared.operators.BinOp.TheVariants.{Add}
 use Rattle.pt_straight.specs.Syntax as S
 use Rattle.pt_straight.specs.Syntax.{Exp, Stm, Stms, none, more}
 use Rattle.pt_tables.specs.Names.{keyword_names, builtin_names}
+use Rattle.pt_meaning.specs.Built.{is_listed}
 
 -- names (Language Reference 2.3): a letter, and then letters, digits and underscores, that is no keyword and no
 -- builtin name
 abbrev pub is_name_byte : ℕ → Bool
 is_name_byte b = is_ascii_alphabetic b || is_ascii_digit b || (b == 95)
-
-abbrev pub is_listed : List (List ℕ) → List ℕ → Bool
-is_listed ks x = list_any (λ k. bytes_eq k x) ks
 
 unfoldable pub is_reserved : List ℕ → Bool
 is_reserved x = is_listed keyword_names x || is_listed builtin_names x

@@ -2,15 +2,12 @@
 //! how it ends.
 #![tactic(auto)]
 
-mod code;
-mod compiler;
 mod end;
 mod laws;
-mod machine;
 mod program;
 mod reader;
-mod run;
+mod whole;
 
 pub use end::{End, File, Out, status};
-pub use laws::{a_text_is_read_in_one_way, compiled_code_means_the_script};
+pub use laws::a_text_is_read_in_one_way;
 pub use program::{SCRIPT_LIMIT, top};

@@ -4,23 +4,22 @@ ghost use Rattle.pt_base.specs.Faults.{Rose};
 ghost use Rattle.pt_base.specs.Taken.{Takes, TakesFront};
 ghost use Rattle.pt_base.specs.Told.{IsLacked, IsLonger};
 ghost use Rattle.pt_base.specs.Told.Told.{Holds};
-ghost use Rattle.pt_straight.specs.Fold.{stms_of};
-ghost use Rattle.pt_straight.specs.Syntax.{all_size};
-ghost use Rattle.pt_prog.specs.Answer.{script_named, OfNamed, meaning_of, IsEndFor, IsAnsweredFor, IsAnswered};
-ghost use Rattle.pt_prog.specs.Limits.{act_limit, script_limit};
-ghost use Rattle.pt_prog.specs.Running.{Finished};
-ghost use Rattle.pt_prog.specs.StopEnd.{IsEndOfStop};
+ghost use Rattle.pt_prog.specs.Answer.{script_named, OfNamed, IsEndFor, IsAnsweredFor, IsAnswered};
+ghost use Rattle.pt_prog.specs.Limits.{script_limit};
+ghost use Rattle.pt_prog.specs.RunEnds.{IsEndOfRun};
 
 use crate::end::{End, File, Out};
-use crate::reader::ReadErr;
-use crate::run::{RunErr, Stop};
-use crate::{compiler, reader, run};
-use pt_base::{Shelf, ShelfErr, Sink};
-use pt_straight::Script;
+use crate::reader::{ReadErr, read};
+use crate::whole::whole_script;
+use pt_base::{Budget, Shelf, ShelfErr, Sink};
+use pt_session::{RunEnd, RunErr, run};
 use std::alloc::Global;
 
 /// How many bytes a script may have.
 pub const SCRIPT_LIMIT: u64 = 1_048_576;
+
+/// How many acts a run may take. A script of lines has no more acts than bytes.
+const ACT_LIMIT: u64 = 10_000_000;
 
 /// The name of the script, where the words are `run` and a name.
 fn script_name(words: &[String]) -> Option<&str>
@@ -36,27 +35,16 @@ fn script_name(words: &[String]) -> Option<&str>
     }
 }
 
-/// Compiles and runs a script.
-fn run_script<O: Sink>(alloc: Global, script: &Script, out: &mut O) -> Result<Option<Stop>, RunErr>
-    requires { all_size (stms_of script.now.body) ≤ act_limit }
-    ensures ok { IfOk result (λ stop. Finished (meaning_of (stms_of script.now.body)) stop (O.taken out.old) (O.taken out.new)) }
-    ensures err { OnErr result (TakesFront (O.taken out.old) (O.taken out.new) (meaning_of (stms_of script.now.body)).world.written) }
-    ensures cause { result ≡ Err RunErr.Write → Rose (O.faults out.old) (O.faults out.new) × (O.faults out.new ≤ O.most out.new) }
-    ensures most { O.most out.new ≡ O.most out.old }
-    ensures later { O.faults out.old ≤ O.faults out.new }
+/// The end of a run that was not broken off and didn't spend its bound.
+fn end_of(end: RunEnd) -> End
+    requires { end ≢ RunEnd.Spent }
+    ensures { IsEndOfRun end result }
 {
-    let code = compiler::compile(alloc, script)?;
-    run::run(alloc, &code, out)
-}
-
-/// The end of a run that was not broken off.
-fn end_of(stop: Option<Stop>) -> End
-    ensures { IsEndOfStop stop result }
-{
-    match stop {
-        None => End::Done,
-        Some(Stop::Raised) => End::Raised,
-        Some(Stop::Outside { what, line }) => End::Outside { what, line },
+    match end {
+        RunEnd::Done => End::Done,
+        RunEnd::Raised => End::Raised,
+        RunEnd::Outside { what, line } => End::Outside { what, line },
+        RunEnd::Spent => unreachable!(),
     }
 }
 
@@ -68,13 +56,17 @@ fn run_text<O: Sink>(alloc: Global, text: &[u8], out: &mut O) -> End
     ensures most { O.most out.new ≡ O.most out.old }
     ensures later { O.faults out.old ≤ O.faults out.new }
 {
-    let script = match reader::read(alloc, text) {
-        Ok(script) => script,
+    let straight = match read(alloc, text) {
+        Ok(straight) => straight,
         Err(ReadErr::Unbuilt { line }) => return End::Unbuilt { line },
         Err(ReadErr::Memory) => return End::Memory,
     };
-    match run_script(alloc, &script, out) {
-        Ok(stop) => end_of(stop),
+    let Ok(script) = whole_script(alloc, &straight) else {
+        return End::Memory;
+    };
+    let mut budget = Budget::new(ACT_LIMIT);
+    match run(alloc, &script, &mut budget, out) {
+        Ok(end) => end_of(end),
         Err(RunErr::Write) => End::WriteFault { which: Out::Out },
         Err(RunErr::Memory) => End::Memory,
     }

@@ -3,17 +3,19 @@ ghost use Rattle.std.specs.Char.{is_ascii_alphabetic};
 ghost use Rattle.std.specs.Fmt.{decimal};
 ghost use Rattle.std.specs.List.{list_all, position_or_len};
 ghost use Rattle.std.specs.Str.{IsAscii, bytes_eq};
-ghost use Rattle.pt_prog.specs.Spelling.{is_name_byte, is_listed, is_reserved, is_name, is_text_byte, quoted, lines_of, Spells};
+ghost use Rattle.pt_prog.specs.Spelling.{is_name_byte, is_reserved, is_name, is_text_byte, quoted, lines_of, Spells};
 ghost use Rattle.pt_prog.specs.Lines.{lines_left, TakesLine, RefusesLine, IsRefused};
 ghost use Rattle.pt_prog.specs.Reading.{item_len, IsItemRead, IsSumRead, IsPrintRead, IsAssignmentRead, IsStatementRead};
-ghost use Rattle.pt_tables.specs.Names.{keyword_names, builtin_names};
+ghost use Rattle.pt_tables.specs.Names.{keyword_names};
+ghost use Rattle.pt_meaning.specs.Built.{is_listed};
 ghost use Rattle.pt_straight.specs.Fold.{exp_of, stm_of, stms_of};
 ghost use Rattle.pt_straight.specs.Syntax as S;
 
 use itoa::Buffer;
 use pt_base::{BinOp, Boxed, Line, Memory, Seq, Text};
+use pt_session::is_builtin;
 use pt_straight::{Expr, ExprNode, Script, Stmt, StmtNode};
-use pt_tables::{builtins, keywords};
+use pt_tables::keywords;
 use std::alloc::Global;
 
 /// Why a text was not read.
@@ -53,12 +55,6 @@ fn is_keyword(word: &str) -> bool
     ensures { result ≡ is_listed keyword_names word.now }
 {
     keywords().get(word).is_some()
-}
-
-fn is_builtin(word: &str) -> bool
-    ensures { result ≡ is_listed builtin_names word.now }
-{
-    builtins().get(word).is_some()
 }
 
 fn reserves(word: &str) -> bool

@@ -1,4 +1,2 @@
 pub mod Syntax
 pub mod Fold
-pub mod Turn
-pub mod Nest

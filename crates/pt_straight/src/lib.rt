@@ -1,5 +1,4 @@
-//! The syntax tree of a script, and the control of its run: which act comes next, what it asks
-//! for, and how each answer goes on.
+//! The syntax tree of a straight script, as the reader of lines makes it.
 #![tactic(auto)]
 
 mod tree;

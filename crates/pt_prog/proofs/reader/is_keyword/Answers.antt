@@ -2,7 +2,7 @@ use Rattle.std.proofs.Common.{ap, ◌∙◌}
 use Rattle.std.specs.Option.{is_some}
 use Rattle.pt_tables.specs.Names.{keyword_names}
 use Rattle.pt_tables.specs.Rows.{value_of}
-use Rattle.pt_prog.proofs.ItemLemmas.{found_listed}
+use Rattle.pt_session.proofs.NameLemmas.{found_listed}
 use Rattle.pt_prog.proofs.reader.is_keyword.Goals as goal
 
 pub returns : goal.returns

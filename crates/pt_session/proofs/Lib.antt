@@ -1,0 +1,13 @@
+pub mod OtherNodes
+pub mod NameLemmas
+pub mod UnbuiltLemmas
+pub mod Law
+pub mod Follow
+pub mod Means
+pub mod Placed
+pub mod CharacterLemmas
+pub mod MachineLemmas
+pub mod RunLemmas
+pub mod AdvanceLemmas
+pub mod LoopLemmas
+pub mod SessionLemmas

@@ -1,0 +1,14 @@
+use Rattle.std.proofs.Common.{sym, ap}
+use Rattle.pt_tree.proofs.Folds.{target_of-Tuple, target_of-List, target_of-Starred}
+use Rattle.pt_tree.specs.Syntax.{Tgt}
+use Rattle.pt_session.specs.Layout.{lay_target}
+use Rattle.pt_session.proofs.compiler.target.Goals as goal
+
+pub returns-in-Tuple : goal.returns-in-Tuple
+returns-in-Tuple c = sym (ap (λ (t : Tgt). lay_target t c.args.code.now) (target_of-Tuple c.args.t.now _ c.in-Tuple.is))
+
+pub returns-in-List : goal.returns-in-List
+returns-in-List c = sym (ap (λ (t : Tgt). lay_target t c.args.code.now) (target_of-List c.args.t.now _ c.in-List.is))
+
+pub returns-in-Starred : goal.returns-in-Starred
+returns-in-Starred c = sym (ap (λ (t : Tgt). lay_target t c.args.code.now) (target_of-Starred c.args.t.now _ c.in-Starred.is))
