@@ -1,5 +1,6 @@
 pub mod Targets
 pub mod Faults
+pub mod First
 pub mod Told
 pub mod Blocks
 pub mod Ways
