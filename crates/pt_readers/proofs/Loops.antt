@@ -1,7 +1,7 @@
 -- Readers that repeat: a first item, and then, as long as a token says so, that token and another item.
-use Rattle.std.proofs.Common.{◌≡◌, List, [], ◌∷◌, ◌++◌, Option, Some, true, inl, inr, refl, sym, subst}
+use Rattle.std.proofs.Common.{◌≡◌, List, [], ◌∷◌, ◌++◌, Option, Some, None, true, false, inl, inr, refl, sym, subst}
 use Rattle.pt_readers.specs.Reading.{next_of, Part, Alike, Found, Refused}
-use Rattle.pt_readers.proofs.Readers.{Binds, Shifts, left, nothing_found}
+use Rattle.pt_readers.proofs.Readers.{Binds, Shifts, left, nothing_found, bad_refused}
 use Rattle.pt_readers.proofs.Exits.{over_refused_at}
 
 -- What is read so far is s. P ends with `fin s`, or goes on with a token t of J and an item of Q t, and then `next s t` of that.
@@ -66,6 +66,17 @@ module _ {T A B St : Type 0} (P : Part T A) (Tail : St → List T → A → List
         outof a at_end = (refl, refl)
         outof (inl e) (at_step {t = t} j q k) = absurd (n t (sym e) j)
         outof (inr e) (at_step j q k) = cc
+
+    -- neither a token of J is next nor what may stand behind the whole
+    pub loop_bad : (s : St) (ts : List T) → ((t : T) → next_of ts ≡ Some t → J t → ⊥) → (P.stops (fin s) (next_of ts) → ⊥) → (P.stops (fin s) None → ⊥) → P.fits (fin s)
+        → Refused (left P (Tail s)) false ts ts
+    loop_bad s ts n bad no_end fits = bad_refused (left P (Tail s)) ts (λ more a x' rest' k m. outof a (r.out _ _ _ _ k) m) [] (fin s) fits (λ z. r.done s z)
+      where
+        outof : {more rest' : List T} {x' : A} → Alike more ts → Out s more x' rest' → P.stops x' (next_of rest') → ⊥
+        outof (inl e) at_end m = bad (subst (P.stops (fin s)) e m)
+        outof (inr e) at_end m = no_end (subst (λ u. P.stops (fin s) (next_of u)) e m)
+        outof (inl e) (at_step {t = t} j q k) m = n t (sym e) j
+        outof (inr e) (at_step j q k) m = cc
 
     -- a token of J is next, and what it makes is beyond the limits
     pub loop_over : (s : St) (t : T) (ts : List T) → next_of ts ≡ Some t → J t → P.fits (fin s) → ((b : B) → P.fits (fin (next s t b)) → ⊥) → Refused (left P (Tail s)) true ts ts

@@ -1,0 +1,9 @@
+pub mod LexemeLemmas
+pub mod LineLemmas
+pub mod Depths
+pub mod ClauseLemmas
+pub mod OperatorRanks
+pub mod CallLemmas
+pub mod Gathering
+pub mod PieceLemmas
+pub mod Displays

@@ -1,0 +1,12 @@
+pub mod Lexemes
+pub mod Signs
+pub mod Nodes
+pub mod Grammar
+pub mod Parts
+pub mod Views
+pub mod ReadViews
+pub mod CallViews
+pub mod ParameterViews
+pub mod PieceViews
+pub mod Joining
+pub mod QuotedViews
