@@ -10,3 +10,8 @@ pub mod ParameterViews
 pub mod PieceViews
 pub mod Joining
 pub mod QuotedViews
+pub mod CallParts
+pub mod Behind
+pub mod Braced
+pub mod Texts
+pub mod ParameterSteps
