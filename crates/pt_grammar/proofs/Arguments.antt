@@ -1,23 +1,21 @@
 -- Arguments of calls and of classes.
-use Rattle.std.proofs.Common.{◌≡◌, ◌≢◌, ℕ, suc, ◌+◌, ◌≤◌, ◌<◌, max, Bool, true, false, List, [], ◌∷◌, ◌++◌, length, map, Option, Some, None, inl, inr, refl, sym, ◌∙◌, ap, subst, arith}
+use Rattle.std.proofs.Common.{◌≡◌, ◌≢◌, ℕ, ◌<◌, true, false, List, [], ◌∷◌, Option, Some, inl, inr, refl, sym, ◌∙◌, ap, subst, arith}
 use Rattle.pt_base.specs.declared.operators.BinOp.TheVariants.{Mul, Pow}
 use Rattle.pt_wide.specs.declared.expression.WideBinOp.TheVariants.{Plain}
 use Rattle.pt_wide.specs.Syntax as S
 use Rattle.pt_wide.specs.Syntax.{Exp, Args}
-use Rattle.pt_wide.specs.Measure.{depth_exp, width_exp, depth_args, width_args, count_args}
-use Rattle.pt_readers.specs.Reading.{next_of, behind, Part, Alike, Found, Refused}
+use Rattle.pt_readers.specs.Reading.{next_of, behind, Alike, Found, Refused}
 use Rattle.pt_readers.proofs.Readers.{Binds, Shifts, Narrows, Just, just, left, nothing_found, bad_refused}
 use Rattle.pt_readers.proofs.Pieces.{Through, through, through_shifts, through_bad, Made, made, made_binds}
 use Rattle.pt_readers.proofs.Exits.{found_at, at_next}
-use Rattle.pt_grammar.specs.declared.sign.Sign.{Sign}
 use Rattle.pt_grammar.specs.declared.sign.Sign.TheVariants.{Operator, Mark as mark}
 use Rattle.pt_grammar.specs.declared.sign.Mark.TheVariants.{Close, Comma, Assign}
 use Rattle.pt_grammar.specs.Lexemes.{Lexeme, name, sign, sign_at}
 use Rattle.pt_grammar.specs.Signs.{ends_argument}
 use Rattle.pt_grammar.specs.Grammar.{Expr, Argument, by_place, by_keyword, by_star, by_double_star}
-use Rattle.pt_grammar.specs.Nodes.{OneArg, positional, named, spread, spread_named, args_of, Order, any_next, named_next, spread_named_next, may_spread}
+use Rattle.pt_grammar.specs.Nodes.{OneArg, positional, named, spread, spread_named, Order, any_next, may_spread}
 use Rattle.pt_grammar.specs.Parts.{Fits, FitsArg, Stops, ends_in_text, an_expr, an_argument}
-use Rattle.pt_grammar.specs.CallParts.{IsName, begins_expr, a_value_of_argument, OneName, one_name, a_name_alone, Keyword, keyword, a_keyword, Placed, keeps, names}
+use Rattle.pt_grammar.specs.CallParts.{IsName, a_value_of_argument, OneName, one_name, a_name_alone, Keyword, keyword, a_keyword, Placed, keeps, names}
 use Rattle.pt_grammar.proofs.Ranks.{IsSign, is_sign, not_signed}
 use Rattle.pt_grammar.proofs.Atoms.{apart_mark}
 use Rattle.pt_grammar.proofs.Begins.{some_name, some_exp, name_expr, depth_some, fits_name}

@@ -4,21 +4,19 @@ use Rattle.pt_tree.specs.declared.expression.Constant.TheVariants as constant
 use Rattle.pt_wide.specs.Syntax as S
 use Rattle.pt_wide.specs.Syntax.{Exp}
 use Rattle.pt_readers.specs.Reading.{next_of, behind, Found, Refused}
-use Rattle.pt_readers.proofs.Readers.{Binds, Shifts, Just, just, left, bad_refused}
-use Rattle.pt_readers.proofs.Pieces.{Through, through}
+use Rattle.pt_readers.proofs.Readers.{bad_refused}
 use Rattle.pt_readers.proofs.Exits.{found_at, at_next}
 use Rattle.pt_grammar.specs.declared.sign.Sign.{Sign}
 use Rattle.pt_grammar.specs.declared.sign.Sign.TheVariants.{Singleton as singleton, Mark as mark, Layout as layout}
 use Rattle.pt_grammar.specs.declared.sign.Singleton.{Singleton}
 use Rattle.pt_grammar.specs.declared.sign.Singleton.TheVariants as single
 use Rattle.pt_grammar.specs.declared.sign.Mark.{Mark}
-use Rattle.pt_grammar.specs.declared.sign.Mark.TheVariants.{Open, Close, OpenBracket, OpenBrace}
+use Rattle.pt_grammar.specs.declared.sign.Mark.TheVariants.{Open, OpenBracket, OpenBrace}
 use Rattle.pt_grammar.specs.declared.sign.Layout.TheVariants.{FStart}
 use Rattle.pt_grammar.specs.Lexemes.{Lexeme, name, int, sign, sign_at}
 use Rattle.pt_grammar.specs.Signs.{constant_of}
-use Rattle.pt_grammar.specs.Grammar.{Expr, Atom, a_name, an_int, a_singleton, in_parentheses}
-use Rattle.pt_grammar.specs.Parts.{Fits, Stops, Apart, ends_in_text, an_atom, an_expr}
-use Rattle.pt_grammar.proofs.Ranks.{IsSign, is_sign}
+use Rattle.pt_grammar.specs.Grammar.{Atom, a_name, an_int, a_singleton}
+use Rattle.pt_grammar.specs.Parts.{Apart, ends_in_text, an_atom}
 use Rattle.pt_grammar.proofs.Begins.{some_name, some_exp, fits_name, BeginsAtom, atom_begins, alike_begins}
 
 pub name_found : (d : ℕ) → 0 < d → (ts : List Lexeme) (l : ℕ) (x : List ℕ) → next_of ts ≡ Some (name l x) → Found (an_atom d) ts (S.name l x) (behind ts)

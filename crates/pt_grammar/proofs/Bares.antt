@@ -1,27 +1,25 @@
 -- Expressions or targets with commas between them, as one expression, and `yield`.
-use Rattle.std.proofs.Common.{◌≡◌, ◌≢◌, ℕ, suc, ◌-◌, ◌≤◌, ◌<◌, Bool, true, false, List, [], ◌∷◌, ◌++◌, Option, Some, None, inl, inr, refl, sym, ◌∙◌, ap, arith}
-use Rattle.pt_base.specs.declared.operators.BinOp.TheVariants.{Mul}
-use Rattle.pt_wide.specs.declared.expression.WideBinOp.TheVariants.{Plain}
+use Rattle.std.proofs.Common.{◌≡◌, ◌≢◌, ℕ, ◌-◌, ◌≤◌, ◌<◌, Bool, true, false, List, [], ◌∷◌, Option, Some, inl, inr, refl, sym, ◌∙◌, ap, arith}
 use Rattle.pt_wide.specs.Syntax as S
 use Rattle.pt_wide.specs.Syntax.{Exp}
 use Rattle.pt_wide.specs.Fold.{all_of}
 use Rattle.pt_wide.specs.Measure.{depth_exp}
 use Rattle.pt_readers.specs.Reading.{next_of, Part, Alike, Found, Refused, Carries}
-use Rattle.pt_readers.proofs.Readers.{Binds, Shifts, Narrows, Just, left, nothing_found, bad_refused, narrow_carries, then_on}
+use Rattle.pt_readers.proofs.Readers.{Binds, Shifts, Narrows, Just, left, nothing_found, bad_refused, narrow_carries}
 use Rattle.pt_readers.proofs.Pieces.{Made, made, made_binds, made_found}
 use Rattle.pt_readers.proofs.Exits.{over_refused_at, goes_on}
 use Rattle.pt_grammar.specs.declared.part.Part.{Part as WhichPart}
 use Rattle.pt_grammar.specs.declared.part.Part.TheVariants.{Whole, Target}
 use Rattle.pt_grammar.specs.declared.sign.Sign.{Sign}
-use Rattle.pt_grammar.specs.declared.sign.Sign.TheVariants.{Operator, Augmented, Singleton as singleton, Mark as mark, Word as word, Layout as layout}
+use Rattle.pt_grammar.specs.declared.sign.Sign.TheVariants.{Augmented, Mark as mark, Word as word, Layout as layout}
 use Rattle.pt_grammar.specs.declared.sign.Mark.{Mark}
 use Rattle.pt_grammar.specs.declared.sign.Mark.TheVariants.{Close, CloseBracket, CloseBrace, Comma, Colon, Semicolon, Assign, Exclamation}
 use Rattle.pt_grammar.specs.declared.sign.Word.TheVariants.{In, Yield, From}
 use Rattle.pt_grammar.specs.declared.sign.Layout.TheVariants.{Newline, FStart}
 use Rattle.pt_grammar.specs.Lexemes.{Lexeme, sign, sign_at}
 use Rattle.pt_grammar.specs.Signs.{rank_of_sign, begins_sign, begins_item, ends_sign, ends_items}
-use Rattle.pt_grammar.specs.Grammar.{MoreItems, no_comma, last_comma, more_items, Item, unstarred, Bare, alone, a_tuple, Value, no_yield, a_yield, Yielded, yield_none, yield_from, yield_some, Expr}
-use Rattle.pt_grammar.specs.Nodes.{line_of, Listed, listed}
+use Rattle.pt_grammar.specs.Grammar.{MoreItems, no_comma, last_comma, Item, Bare, alone, a_tuple, Value, no_yield, a_yield, Yielded, yield_none, yield_from, yield_some}
+use Rattle.pt_grammar.specs.Nodes.{line_of, Listed}
 use Rattle.pt_grammar.specs.Parts.{Fits, Stops, Apart, ends_in_text, plain_rank, item_rank, last_of, IsComma, StopsItems, FitsItems, an_item, some_exprs, a_bare, a_value, a_yielded, an_expr}
 use Rattle.pt_grammar.specs.Behind.{Starting, starting, Followed, followed_end, followed_more}
 use Rattle.pt_grammar.proofs.Ranks.{IsSign, is_sign}

@@ -9,7 +9,7 @@ use Rattle.pt_grammar.specs.declared.sign.Sign.TheVariants.{Singleton as singlet
 use Rattle.pt_grammar.specs.declared.sign.Mark.TheVariants.{Open, OpenBracket, OpenBrace}
 use Rattle.pt_grammar.specs.declared.sign.Word.TheVariants.{Not, Lambda}
 use Rattle.pt_grammar.specs.declared.sign.Layout.TheVariants.{FStart}
-use Rattle.pt_grammar.specs.Lexemes.{Lexeme, name, int, str, sign, sign_at}
+use Rattle.pt_grammar.specs.Lexemes.{Lexeme, name, int, str, sign}
 use Rattle.pt_grammar.specs.Signs.{unary_at}
 use Rattle.pt_grammar.specs.Grammar.{Expr, expr, no_choice, Disjunction, disjunction, disjoined_end, Conjunction, conjunction, conjoined_end, Negation, comparison, Comparisons, comparisons, compared_end, Binary, factor, binary, operated_end, Factor, unary, no_unary, Power, power, not_raised, Primary, primary, trailed_end, Atom, a_name, an_int, a_string, an_f_string, a_singleton, in_parentheses, no_tuple, a_generator, no_list, a_list, a_list_comprehension, no_dict, a_dict, a_dict_comprehension, a_set, a_set_comprehension, not_so, lambda}
 use Rattle.pt_grammar.specs.Parts.{Fits}

@@ -6,27 +6,27 @@ use Rattle.pt_wide.specs.declared.expression.Comprehension.TheVariants as form
 use Rattle.pt_wide.specs.Syntax as S
 use Rattle.pt_wide.specs.Syntax.{Exp, Entry}
 use Rattle.pt_wide.specs.Fold.{all_of}
-use Rattle.pt_wide.specs.Measure.{depth_exp, width_exp, depth_all, width_all, count_exps, depth_entry, width_entry, depth_entries, width_entries, count_entries, depth_clauses, width_clauses}
+use Rattle.pt_wide.specs.Measure.{depth_all, width_all, depth_entry, width_entry, width_entries, count_entries}
 use Rattle.pt_readers.specs.Reading.{next_of, behind, Part, Alike, Dead, Within, Found, Refused, Carries}
-use Rattle.pt_readers.proofs.Readers.{Binds, Shifts, Narrows, Just, just, left, bad_refused, alike_at, alike_behind, dead_alike}
+use Rattle.pt_readers.proofs.Readers.{Binds, Shifts, Narrows, Just, just, left, bad_refused}
 use Rattle.pt_readers.proofs.Pieces.{Through, through, through_bad, ended, Made, made, made_binds}
 use Rattle.pt_readers.proofs.Exits.{over_refused_at, found_at, at_next}
 use Rattle.pt_grammar.specs.declared.part.Part.TheVariants.{Whole}
 use Rattle.pt_grammar.specs.declared.sign.Sign.TheVariants.{Operator, Mark as mark, Word as word}
 use Rattle.pt_grammar.specs.declared.sign.Mark.TheVariants.{OpenBrace, CloseBrace, Comma, Colon}
 use Rattle.pt_grammar.specs.declared.sign.Word.TheVariants.{In, For}
-use Rattle.pt_grammar.specs.Lexemes.{Lexeme, name, int, str, sign, sign_of, sign_at}
+use Rattle.pt_grammar.specs.Lexemes.{Lexeme, sign, sign_of, sign_at}
 use Rattle.pt_grammar.specs.Signs.{rank_at, begins_item, ends_clauses, ends_entry}
-use Rattle.pt_grammar.specs.Grammar.{MoreItems, no_comma, last_comma, more_items, exprs, Item, starred, unstarred, Expr, Clauses, no_clause, more_clauses, Binary, Atom, no_dict, a_dict, a_dict_comprehension, a_set, a_set_comprehension, dictionary, MoreEntries, entries_end, entries_comma, more_entries, OneEntry, a_pair, a_spread_entry}
+use Rattle.pt_grammar.specs.Grammar.{MoreItems, no_comma, last_comma, more_items, exprs, Item, starred, unstarred, Expr, Clauses, no_clause, more_clauses, Atom, no_dict, a_dict, a_dict_comprehension, a_set, a_set_comprehension, dictionary, MoreEntries, entries_end, entries_comma, more_entries, OneEntry, a_pair, a_spread_entry}
 use Rattle.pt_grammar.specs.Nodes.{Listed, OneClause, a_clause_of, clauses_of, entries_of}
-use Rattle.pt_grammar.specs.Parts.{Fits, Stops, Apart, ends_in_text, item_rank, an_atom, an_expr, a_bor, an_item, some_exprs, last_of, IsComma, StopsItems, FitsItems, FitsClauses, some_clauses, FitsEntry, an_entry, FitsEntries, some_entries, max_items}
+use Rattle.pt_grammar.specs.Parts.{Fits, Stops, Apart, ends_in_text, item_rank, an_atom, an_expr, a_bor, an_item, some_exprs, last_of, StopsItems, FitsItems, FitsClauses, some_clauses, FitsEntry, an_entry, FitsEntries, some_entries, max_items}
 use Rattle.pt_grammar.proofs.Displays.{depth_entries_snoc}
 use Rattle.pt_grammar.specs.Braced.{begins_entry, begins_content, Entered, entered, entered_for, Members, members, Opened, opened_key, opened_for, opened_members, Content, by_entry, by_item, by_expr}
 use Rattle.pt_grammar.proofs.Lists.{Lists, Out, at_end, at_last, at_item, Behind, Another, between_shifts, another_carries, another_binds, last_found, last_bad, list_found, list_bad, list_over}
 use Rattle.pt_grammar.proofs.Ranks.{IsSign, is_sign, signed_next, not_signed}
 use Rattle.pt_grammar.proofs.Atoms.{apart_mark}
 use Rattle.pt_grammar.proofs.Begins.{some_name, some_exp, name_binary, name_expr, depth_some}
-use Rattle.pt_grammar.proofs.Items.{mul_no_expr, item_begins, far_item, item_token, rank_small, count_length}
+use Rattle.pt_grammar.proofs.Items.{mul_no_expr, item_begins, far_item, rank_small}
 use Rattle.pt_grammar.proofs.ClauseReaders.{apart_word_for, name_clause}
 
 -- Behind the last item of a part, where what follows isn't right.

@@ -1,29 +1,25 @@
 -- Arguments with commas between them, up to the parenthesis that closes them.
-use Rattle.std.proofs.Common.{◌≡◌, ◌≢◌, ℕ, suc, ◌+◌, ◌-◌, ◌≤◌, ◌<◌, max, Bool, true, false, List, [], ◌∷◌, ◌++◌, length, map, Option, Some, None, inl, inr, refl, sym, ◌∙◌, ap, subst, arith}
+use Rattle.std.proofs.Common.{◌≡◌, ◌≢◌, ℕ, suc, ◌≤◌, ◌<◌, max, Bool, true, false, List, [], ◌∷◌, ◌++◌, length, map, Option, Some, None, inl, inr, refl, sym, ◌∙◌, ap, subst, arith}
 use Rattle.pt_base.specs.declared.operators.BinOp.TheVariants.{Mul, Pow}
 use Rattle.pt_wide.specs.declared.expression.WideBinOp.TheVariants.{Plain}
-use Rattle.pt_wide.specs.declared.expression.Comprehension.TheVariants as form
 use Rattle.pt_wide.specs.Syntax as S
 use Rattle.pt_wide.specs.Syntax.{Exp, Args}
-use Rattle.pt_wide.specs.Measure.{depth_exp, width_exp, depth_args, width_args, count_args}
+use Rattle.pt_wide.specs.Measure.{depth_args, width_args, count_args}
 use Rattle.pt_readers.specs.Reading.{next_of, behind, Part, Alike, Found, Refused}
 use Rattle.pt_readers.proofs.Readers.{Binds, Shifts, Narrows, Just, just, left}
 use Rattle.pt_readers.proofs.Pieces.{Through, through}
-use Rattle.pt_readers.proofs.Exits.{found_at, at_next, over_refused_at}
-use Rattle.pt_grammar.specs.declared.sign.Sign.{Sign}
-use Rattle.pt_grammar.specs.declared.sign.Sign.TheVariants.{Operator, Mark as mark, Word as word}
+use Rattle.pt_readers.proofs.Exits.{found_at, at_next}
+use Rattle.pt_grammar.specs.declared.sign.Sign.TheVariants.{Operator, Mark as mark}
 use Rattle.pt_grammar.specs.declared.sign.Mark.TheVariants.{Close, Comma, Assign}
-use Rattle.pt_grammar.specs.declared.sign.Word.TheVariants.{For}
 use Rattle.pt_grammar.specs.Lexemes.{Lexeme, name, sign, sign_at}
 use Rattle.pt_grammar.specs.Signs.{ends_argument}
-use Rattle.pt_grammar.specs.Grammar.{Expr, Clauses, Argument, by_place, by_keyword, by_star, by_double_star, Arguments, no_arguments, a_generator_alone, arguments, MoreArguments, arguments_end, arguments_comma, more_arguments}
-use Rattle.pt_grammar.specs.Nodes.{line_of, OneClause, clauses_of, OneArg, positional, named, spread, spread_named, args_of, Order, any_next, named_next, spread_named_next, order_of, may_spread}
-use Rattle.pt_grammar.specs.Parts.{Fits, FitsArg, FitsArgs, Stops, ends_in_text, max_items, an_expr, an_argument, some_arguments}
-use Rattle.pt_grammar.specs.CallParts.{begins_expr, begins_argument, Placed, keeps, names}
+use Rattle.pt_grammar.specs.Grammar.{Expr, Argument, by_place, by_keyword, by_star, by_double_star, Arguments, no_arguments, a_generator_alone, arguments, MoreArguments, arguments_end, arguments_comma, more_arguments}
+use Rattle.pt_grammar.specs.Nodes.{OneArg, positional, named, spread, spread_named, args_of, Order, any_next, named_next, spread_named_next, order_of}
+use Rattle.pt_grammar.specs.Parts.{FitsArg, FitsArgs, max_items, an_argument, some_arguments}
+use Rattle.pt_grammar.specs.CallParts.{begins_expr, begins_argument}
 use Rattle.pt_grammar.proofs.Ranks.{IsSign, is_sign, not_signed}
-use Rattle.pt_grammar.proofs.Begins.{some_name, some_exp, name_expr, depth_some}
+use Rattle.pt_grammar.proofs.Begins.{some_name, some_exp, name_expr}
 use Rattle.pt_grammar.proofs.Names.{expr_starts, far_expr}
-use Rattle.pt_grammar.proofs.Arguments.{placed_argument, placed_stops, placed_part, fits_placed, not_ended}
 use Rattle.pt_grammar.proofs.StateLists.{StateLists, Out, at_end, at_last, at_item, Behind, Another, another, between_shifts, end_narrows, last_narrows, another_narrows, another_binds, tail_bad, behind_bad, behind_over}
 
 -- the parenthesis that closes them

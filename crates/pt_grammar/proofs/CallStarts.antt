@@ -1,10 +1,8 @@
 -- How arguments begin.
-use Rattle.std.proofs.Common.{◌≡◌, ◌≢◌, ℕ, ◌-◌, ◌≤◌, ◌<◌, Bool, true, false, List, [], ◌∷◌, ◌++◌, Option, Some, None, inl, inr, refl, sym, ◌∙◌, ap, arith}
-use Rattle.pt_grammar.specs.Grammar.{clause, more_clauses, no_clause, no_condition, alone, operand, Expr, Clauses, Argument, by_place, by_keyword, by_star, by_double_star, Arguments, no_arguments, a_generator_alone, arguments, MoreArguments, arguments_end, arguments_comma, more_arguments}
+use Rattle.std.proofs.Common.{◌≡◌, ◌≢◌, ℕ, ◌-◌, ◌≤◌, ◌<◌, Bool, true, false, List, [], ◌∷◌, Option, Some, None, inl, inr, refl, sym, ◌∙◌, ap, arith}
+use Rattle.pt_grammar.specs.Grammar.{clause, more_clauses, no_clause, no_condition, alone, operand, Expr, Clauses, Argument, by_place, by_keyword, by_star, by_double_star, Arguments, no_arguments, a_generator_alone, arguments, MoreArguments, arguments_end}
 use Rattle.pt_base.specs.declared.operators.BinOp.TheVariants.{Mul, Pow}
 use Rattle.pt_wide.specs.declared.expression.WideBinOp.TheVariants.{Plain}
-use Rattle.pt_wide.specs.declared.expression.Comprehension.TheVariants as form
-use Rattle.pt_wide.specs.Syntax as S
 use Rattle.pt_wide.specs.Syntax.{Exp, Args}
 use Rattle.pt_wide.specs.Measure.{depth_exp}
 use Rattle.pt_readers.specs.Reading.{next_of, Alike, Refused}
@@ -14,14 +12,14 @@ use Rattle.pt_readers.proofs.Exits.{over_refused_at}
 use Rattle.pt_grammar.specs.declared.sign.Sign.TheVariants.{Operator, Mark as mark, Word as word}
 use Rattle.pt_grammar.specs.declared.sign.Mark.TheVariants.{Close}
 use Rattle.pt_grammar.specs.declared.sign.Word.TheVariants.{For, In}
-use Rattle.pt_grammar.specs.Lexemes.{Lexeme, name, sign, sign_at}
+use Rattle.pt_grammar.specs.Lexemes.{Lexeme, sign, sign_at}
 use Rattle.pt_grammar.specs.Signs.{ends_argument, ends_clauses}
-use Rattle.pt_grammar.specs.Nodes.{line_of, OneClause, a_clause_of, clauses_of, OneArg, positional, args_of, any_next}
-use Rattle.pt_grammar.specs.Parts.{Fits, FitsArg, FitsArgs, FitsClauses, some_clauses, Stops, Apart, ends_in_text, an_expr, an_argument, some_arguments}
+use Rattle.pt_grammar.specs.Nodes.{OneClause, a_clause_of, OneArg, positional, args_of, any_next}
+use Rattle.pt_grammar.specs.Parts.{Fits, FitsArgs, FitsClauses, some_clauses, Stops, Apart, ends_in_text, an_expr, an_argument, some_arguments}
 use Rattle.pt_grammar.specs.CallParts.{begins_expr, Placed, keeps, names, alone_of, Put, put, Opened, generated, several}
 use Rattle.pt_grammar.specs.Behind.{Then, Starting, starting, IsSign, is_sign}
 use Rattle.pt_grammar.proofs.Begins.{some_name, some_exp, name_binary, name_disjunction}
-use Rattle.pt_grammar.proofs.Sequels.{Leads, then_binds}
+use Rattle.pt_grammar.proofs.Sequels.{then_binds}
 use Rattle.pt_grammar.proofs.Names.{name_alone}
 use Rattle.pt_grammar.proofs.Arguments.{placed_argument, placed_stops, placed_part, fits_placed}
 use Rattle.pt_grammar.proofs.CallLists.{more_shrinks, more_ends, one_fits}

@@ -1,10 +1,9 @@
 -- Clauses of comprehensions.
-use Rattle.std.proofs.Common.{◌≡◌, ◌≢◌, ℕ, ◌<◌, max, Bool, true, false, List, [], ◌∷◌, ◌++◌, Option, Some, None, refl, sym, ◌∙◌, ap, arith}
+use Rattle.std.proofs.Common.{◌≡◌, ◌≢◌, ℕ, ◌<◌, max, Bool, true, false, List, [], ◌∷◌, ◌++◌, Option, Some, refl, sym, ◌∙◌, arith}
 use Rattle.pt_wide.specs.Syntax.{Exp}
-use Rattle.pt_wide.specs.Fold.{all_of}
-use Rattle.pt_wide.specs.Measure.{depth_all, width_all, depth_exp, width_exp, depth_clauses, width_clauses}
+use Rattle.pt_wide.specs.Measure.{width_clauses}
 use Rattle.pt_readers.specs.Reading.{next_of, Part, Found, Refused}
-use Rattle.pt_readers.proofs.Readers.{Binds, Shifts, Just, just, left}
+use Rattle.pt_readers.proofs.Readers.{Binds, Shifts, Just, left}
 use Rattle.pt_readers.proofs.Pieces.{Through, through, Made, made, made_binds}
 use Rattle.pt_readers.proofs.Loops.{Repeats, Out, at_end, at_step, Right, loop_shifts, loop_binds, loop_found, loop_bad}
 use Rattle.pt_grammar.specs.declared.part.Part.TheVariants.{Target}
@@ -21,7 +20,7 @@ use Rattle.pt_grammar.proofs.Displays.{depth_clauses_snoc}
 use Rattle.pt_grammar.proofs.Ranks.{IsSign, is_sign, not_signed, apart_of}
 use Rattle.pt_grammar.proofs.Atoms.{apart_mark}
 use Rattle.pt_grammar.proofs.Chains.{width_snoc}
-use Rattle.pt_grammar.proofs.Begins.{some_name, some_exp, name_binary, name_disjunction, depth_some}
+use Rattle.pt_grammar.proofs.Begins.{some_name, some_exp, name_binary, name_disjunction}
 
 -- What may stand behind a clause goes on with nothing in it.
 pub apart_word_for : (b : Bool) (l : ℕ) → Apart b (Some (sign l (word For)))

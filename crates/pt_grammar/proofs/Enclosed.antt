@@ -1,5 +1,5 @@
 -- Parentheses, and displays of lists.
-use Rattle.std.proofs.Common.{◌≡◌, ◌≢◌, ℕ, ◌-◌, ◌≤◌, ◌<◌, Bool, true, false, IsTrue, ◌↔◌, List, [], ◌∷◌, ◌++◌, Option, Some, None, inl, inr, refl, sym, ◌∙◌, ap, subst, arith, append_assoc}
+use Rattle.std.proofs.Common.{◌≡◌, ◌≢◌, ℕ, ◌-◌, ◌≤◌, ◌<◌, Bool, true, false, IsTrue, ◌↔◌, List, [], ◌∷◌, ◌++◌, Option, Some, inl, inr, refl, sym, ◌∙◌, ap, subst, arith, append_assoc}
 use Rattle.pt_base.specs.declared.operators.BinOp.TheVariants.{Mul}
 use Rattle.pt_wide.specs.declared.expression.WideBinOp.TheVariants.{Plain}
 use Rattle.pt_wide.specs.Syntax as S
@@ -10,7 +10,7 @@ use Rattle.pt_readers.specs.Reading.{next_of, behind, Part, Alike, Found, Refuse
 use Rattle.pt_readers.proofs.Readers.{Binds, Shifts, Narrows, Just, just, left, bad_refused}
 use Rattle.pt_readers.proofs.Pieces.{Through, through, Made, made}
 use Rattle.pt_readers.proofs.Exits.{over_refused_at, found_at, at_next, is_so}
-use Rattle.pt_grammar.specs.declared.part.Part.TheVariants.{Whole, Target}
+use Rattle.pt_grammar.specs.declared.part.Part.TheVariants.{Whole}
 use Rattle.pt_grammar.specs.declared.sign.Sign.{Sign}
 use Rattle.pt_grammar.specs.declared.sign.Sign.TheVariants.{Operator, Mark as mark, Word as word}
 use Rattle.pt_grammar.specs.declared.sign.Mark.{Mark}
@@ -18,15 +18,16 @@ use Rattle.pt_grammar.specs.declared.sign.Mark.TheVariants.{Open, Close, OpenBra
 use Rattle.pt_grammar.specs.declared.sign.Word.TheVariants.{In, For, Yield}
 use Rattle.pt_grammar.specs.Lexemes.{Lexeme, sign, sign_at, line_at}
 use Rattle.pt_grammar.specs.Signs.{begins_item, ends_items, ends_clauses_sign, ends_clauses}
-use Rattle.pt_grammar.specs.Grammar.{Exprs, exprs, MoreItems, no_comma, last_comma, more_items, Item, starred, unstarred, operand, Bare, alone, a_tuple, Value, no_yield, a_yield, Expr, Clause, clause, no_condition, Clauses, no_clause, more_clauses, Atom, in_parentheses, no_tuple, a_generator, no_list, a_list, a_list_comprehension}
-use Rattle.pt_grammar.specs.Nodes.{line_of, Listed, OneClause, a_clause_of, clauses_of}
+use Rattle.pt_grammar.specs.Grammar.{Exprs, exprs, MoreItems, no_comma, last_comma, more_items, Item, starred, unstarred, operand, Bare, alone, a_tuple, Value, no_yield, a_yield, Expr, clause, no_condition, Clauses, no_clause, more_clauses, Atom, in_parentheses, no_tuple, a_generator, no_list, a_list, a_list_comprehension}
+use Rattle.pt_grammar.specs.Nodes.{Listed, OneClause, a_clause_of}
 use Rattle.pt_grammar.specs.Parts.{Fits, Stops, ends_in_text, item_rank, FitsItems, FitsClauses, an_atom, an_item, some_exprs, a_bare, a_value, some_clauses}
+pub use Rattle.pt_grammar.specs.Behind.{Inside, nothing, something, generated}
 use Rattle.pt_grammar.specs.Behind.{Then, Starting, starting, Followed, followed_end, followed_more, ByClauses, Behind, otherwise, by_clauses, Closed, generator_of, InParentheses, Listing, list_comprehension_of, InBrackets}
 use Rattle.pt_grammar.proofs.Ranks.{IsSign, is_sign, signed_next}
 use Rattle.pt_grammar.proofs.Atoms.{apart_mark}
-use Rattle.pt_grammar.proofs.Begins.{some_name, some_exp, depth_some, name_binary, name_disjunction, expr_begins}
+use Rattle.pt_grammar.proofs.Begins.{some_name, some_exp, depth_some, name_binary, name_disjunction}
 use Rattle.pt_grammar.proofs.Items.{item_begins, far_item, rank_small, expr_plain, items_list, opened, starred_shifts}
-use Rattle.pt_grammar.proofs.Sequels.{Leads, then_binds, starting_carries}
+use Rattle.pt_grammar.proofs.Sequels.{then_binds, starting_carries}
 use Rattle.pt_grammar.proofs.Bares.{apart_sign, end_stops_item, end_stops_items, bare_begins, bare_binds, followed_shrinks}
 
 -- An item without a star is an expression.
@@ -133,13 +134,6 @@ clauses_some d l {ts = ts} {rest = rest} {cs = cs} f h e =
 
 yield_no_item : (next : Option Lexeme) → sign_at next ≡ Some (word Yield) → begins_item Whole next ≡ true → ⊥
 yield_no_item next h b = let n = signed_next next h in let g = sym (ap (begins_item Whole) n.1) ∙ b in cc
-
--- parentheses
-pub data Inside (l : ℕ) : List Lexeme → Exp → List Lexeme → Type 0 where
-  nothing : {m : ℕ} {rest : List Lexeme} → Inside l (sign m (mark Close) ∷ rest) (S.parenthesized l (S.tuple l S.no_exps)) rest
-  something : {m : ℕ} {ts rest : List Lexeme} {e : Exp} → Value ts e (sign m (mark Close) ∷ rest) → Inside l ts (S.parenthesized l e) rest
-  generated : {k m : ℕ} {ts us rest : List Lexeme} {e : Exp} {cs : List OneClause} → Expr ts e (sign k (word For) ∷ us) → Clauses [] (sign k (word For) ∷ us) cs (sign m (mark Close) ∷ rest)
-      → Inside l ts (generator_of l e cs) rest
 
 module _ (d l : ℕ) where
   pub open_shifts : Shifts (sign l (mark Open)) (left (an_atom d) (Inside l)) (an_atom d)

@@ -1,5 +1,5 @@
 -- Parameters that a named argument may reach, with annotations and defaults.
-use Rattle.std.proofs.Common.{◌≡◌, ◌≢◌, ℕ, ◌+◌, ◌≤◌, ◌<◌, Bool, true, false, List, [], ◌∷◌, ◌++◌, Option, Some, None, inl, inr, ◌⊎◌, refl, sym, ◌∙◌, ap, subst, arith}
+use Rattle.std.proofs.Common.{◌≡◌, ◌≢◌, ℕ, ◌≤◌, ◌<◌, Bool, true, false, List, [], ◌∷◌, Option, Some, inl, inr, ◌⊎◌, refl, sym, ◌∙◌, ap, subst, arith}
 use Rattle.pt_wide.specs.Syntax as S
 use Rattle.pt_wide.specs.Syntax.{Exp, Opt}
 use Rattle.pt_readers.specs.Reading.{next_of, Alike, Found, Refused, Carries}
@@ -8,7 +8,7 @@ use Rattle.pt_readers.proofs.Pieces.{Made, made, made_binds}
 use Rattle.pt_grammar.specs.declared.sign.Sign.TheVariants.{Mark as mark}
 use Rattle.pt_grammar.specs.declared.sign.Mark.TheVariants.{Close, Comma, Colon, Assign}
 use Rattle.pt_grammar.specs.Lexemes.{Lexeme, name, sign, sign_at}
-use Rattle.pt_grammar.specs.Signs.{ends_parameters, closes_parameters}
+use Rattle.pt_grammar.specs.Signs.{ends_parameters}
 use Rattle.pt_grammar.specs.Grammar.{Expr, MoreParameters, parameters_end, parameters_comma, Parameter, a_formal, Annotation, no_annotation, Default, no_default, a_default}
 use Rattle.pt_grammar.specs.Grammar as G
 use Rattle.pt_grammar.specs.Nodes.{Formal, OneParameter, formal, slash, bare_star, star, double_star, Stage, plain, defaulted, keyword_only, over, Gathered, gathered, is_allowed, allows_formal, allows_double_star, has_default, params_of}
@@ -17,8 +17,8 @@ use Rattle.pt_grammar.specs.Parts.{FitsParams, FitsOpt, Fits, Stops, Apart, ends
 use Rattle.pt_grammar.specs.ParameterSteps.{NextParameters, no_next, one_next, next_parameters, more_parameters, Held, StopsAnnotation, an_annotation}
 use Rattle.pt_grammar.proofs.Atoms.{apart_mark}
 use Rattle.pt_grammar.proofs.Begins.{some_name, some_exp, name_expr}
-use Rattle.pt_grammar.proofs.ParameterSizes.{number, counted, depth_one, width_one, held_more, fits_one, shrinks, sound_more}
-use Rattle.pt_grammar.proofs.ParameterLists.{BeginsWith, not_both, open_alike, assign_open, next_bad, next_over}
+use Rattle.pt_grammar.proofs.ParameterSizes.{number, counted, held_more, fits_one, shrinks, sound_more}
+use Rattle.pt_grammar.proofs.ParameterLists.{BeginsWith, not_both, assign_open, next_bad, next_over}
 
 abbrev pub a_formal_of : ℕ → List ℕ → Opt → Opt → OneParameter
 a_formal_of l x a d = formal record { line = l; name = x; annotation = a; default = d }

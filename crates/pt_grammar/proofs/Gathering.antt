@@ -3,10 +3,10 @@ use Rattle.std.proofs.Common.{◌≡◌, ◌≢◌, ℕ, ◌+◌, max, Bool, fal
 use Rattle.std.specs.Option.{is_some}
 use Rattle.pt_base.specs.declared.numbers.Line.{Line}
 use Rattle.pt_tree.specs.Fold.{chained}
-use Rattle.pt_wide.specs.declared.expression.WideParameter.{WideParameter, out-WideParameter}
+use Rattle.pt_wide.specs.declared.expression.WideParameter.{WideParameter}
 use Rattle.pt_wide.specs.declared.expression.WideParameters.{WideParameters, out-WideParameters}
 use Rattle.pt_wide.specs.Syntax as S
-use Rattle.pt_wide.specs.Fold.{formal_of, parameters_of, line_of, opt_exp}
+use Rattle.pt_wide.specs.Fold.{formal_of, parameters_of, line_of}
 use Rattle.pt_wide.specs.Measure.{depth_params, depth_opt, depth_formals, width_opt, width_formals, count_formals}
 use Rattle.pt_wide.proofs.Folds.{formal_of-parts, parameters_of-parts}
 use Rattle.pt_grammar.specs.declared.deep.Parameters.{Parameters}

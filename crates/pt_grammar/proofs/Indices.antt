@@ -1,5 +1,5 @@
 -- What stands in the brackets of an item.
-use Rattle.std.proofs.Common.{◌≡◌, ◌≢◌, ℕ, ◌≤◌, ◌<◌, Bool, true, false, List, [], ◌∷◌, Option, Some, None, inl, inr, refl, sym, ◌∙◌, ap, arith}
+use Rattle.std.proofs.Common.{◌≡◌, ◌≢◌, ℕ, ◌≤◌, true, List, [], ◌∷◌, Option, Some, inl, inr, refl, sym, ◌∙◌, ap, arith}
 use Rattle.pt_base.specs.declared.operators.BinOp.TheVariants.{Mul}
 use Rattle.pt_wide.specs.declared.expression.WideBinOp.TheVariants.{Plain}
 use Rattle.pt_wide.specs.Syntax as S
@@ -18,7 +18,7 @@ use Rattle.pt_grammar.specs.Grammar as grammar
 use Rattle.pt_grammar.specs.Parts.{Fits, Stops, ends_in_text, an_expr, a_bare}
 use Rattle.pt_grammar.specs.Parts as parts
 use Rattle.pt_grammar.specs.Behind.{Followed, followed_end, followed_more}
-use Rattle.pt_grammar.specs.CallParts.{ends_bound, begins_expr, Sliced, sliced, Indexed, listed, started}
+use Rattle.pt_grammar.specs.CallParts.{Sliced, sliced, Indexed, listed, started}
 use Rattle.pt_grammar.proofs.Atoms.{apart_mark}
 use Rattle.pt_grammar.proofs.Bares.{followed_shrinks}
 use Rattle.pt_grammar.proofs.Slices.{expr_bad, bound_stops, close_bound, slice_of}

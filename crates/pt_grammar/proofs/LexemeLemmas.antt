@@ -1,5 +1,5 @@
 -- Tokens and what the grammar sees of them.
-use Rattle.std.proofs.Common.{◌≡◌, ℕ, Bool, true, false, List, [], ◌∷◌, Option, Some, None, option_map, refl}
+use Rattle.std.proofs.Common.{◌≡◌, ℕ, Bool, false, List, [], ◌∷◌, Option, Some, None, option_map, refl}
 use Rattle.pt_literals.specs.declared.token.Token.{Token}
 use Rattle.pt_literals.specs.declared.token.TokenKind.{TokenKind}
 use Rattle.pt_literals.specs.declared.token.TokenKind.TheVariants as kind

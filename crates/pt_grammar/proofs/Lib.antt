@@ -39,3 +39,5 @@ pub mod StepExits
 pub mod StringLemmas
 pub mod ClauseReaders
 pub mod BraceLemmas
+pub mod AfterAtoms
+pub mod AtomFirst

@@ -1,6 +1,6 @@
 -- Expressions that are a name alone, and how expressions begin.
-use Rattle.std.proofs.Common.{◌≡◌, ◌≢◌, ℕ, Bool, true, false, List, [], ◌∷◌, ◌++◌, Option, Some, None, inl, inr, refl, sym, ◌∙◌, ap}
-use Rattle.pt_base.specs.declared.operators.BinOp.TheVariants.{Mul, Pow}
+use Rattle.std.proofs.Common.{◌≡◌, ◌≢◌, ℕ, Bool, true, false, List, [], ◌∷◌, ◌++◌, Option, Some, inl, inr, refl, ◌∙◌, ap}
+use Rattle.pt_base.specs.declared.operators.BinOp.TheVariants.{Mul}
 use Rattle.pt_wide.specs.declared.expression.WideBinOp.TheVariants.{Plain}
 use Rattle.pt_wide.specs.Syntax as S
 use Rattle.pt_wide.specs.Syntax.{Exp}
@@ -9,7 +9,7 @@ use Rattle.pt_grammar.specs.declared.part.Part.TheVariants.{Whole}
 use Rattle.pt_grammar.specs.declared.sign.Sign.TheVariants.{Operator}
 use Rattle.pt_grammar.specs.Lexemes.{Lexeme, name, sign, sign_at}
 use Rattle.pt_grammar.specs.Signs.{begins_item}
-use Rattle.pt_grammar.specs.Grammar.{Item, starred, unstarred, Expr, expr, lambda, Choice, no_choice, choice, alternatives, Disjunction, disjunction, Disjoined, disjoined_end, disjoined_more, Conjunction, conjunction, Conjoined, conjoined_end, conjoined_more, Negation, not_so, comparison, Comparisons, comparisons, Compared, compared_end, compared_more, Binary, factor, binary, Operated, operated_end, operated_more, Factor, unary, no_unary, Power, power, Raised, not_raised, raised, Primary, primary, Trailed, trailed_end, trailed_more, Atom, a_name, an_int, a_string, an_f_string, a_singleton, in_parentheses, no_tuple, a_generator, no_list, a_list, a_list_comprehension, no_dict, a_dict, a_dict_comprehension, a_set, a_set_comprehension}
+use Rattle.pt_grammar.specs.Grammar.{Item, starred, unstarred, Expr, expr, lambda, Choice, no_choice, choice, alternatives, Disjunction, disjunction, Disjoined, disjoined_end, disjoined_more, Conjunction, conjunction, Conjoined, conjoined_end, conjoined_more, Negation, not_so, comparison, comparisons, Compared, compared_end, compared_more, Binary, factor, binary, Operated, operated_end, operated_more, Factor, unary, no_unary, power, Raised, not_raised, raised, Primary, primary, Trailed, trailed_end, trailed_more, Atom, a_name, an_int, a_string, an_f_string, a_singleton, in_parentheses, no_tuple, a_generator, no_list, a_list, a_list_comprehension, no_dict, a_dict, a_dict_comprehension, a_set, a_set_comprehension}
 use Rattle.pt_grammar.specs.Nodes.{Link, joined, compared, Trailer, by_name, by_index, by_call, trailed_by, OnePiece, string_at}
 use Rattle.pt_grammar.specs.CallParts.{begins_expr}
 use Rattle.pt_grammar.proofs.Begins.{BeginsExpr, expr_begins}

@@ -1,9 +1,6 @@
 -- How each parameter changes the depth, the width and the number of parameters.
-use Rattle.std.proofs.Common.{◌≡◌, ℕ, ◌+◌, max, ◌≤◌, ◌<◌, Bool, true, false, List, [], ◌∷◌, Option, Some, None, refl, ap, arith}
-use Rattle.pt_tree.specs.declared.expression.NamedParameter.{NamedParameter}
-use Rattle.pt_wide.specs.Syntax as S
-use Rattle.pt_wide.specs.Syntax.{Params}
-use Rattle.pt_wide.specs.Measure.{depth_params, depth_opt, depth_formals, width_params, width_opt, width_formals, count_params, count_formals, count_named}
+use Rattle.std.proofs.Common.{◌≡◌, ℕ, ◌+◌, max, ◌≤◌, Bool, true, List, Option, Some, None, refl, ap, arith}
+use Rattle.pt_wide.specs.Measure.{depth_params, depth_opt, depth_formals, width_opt, width_formals, count_params, count_formals, count_named}
 use Rattle.pt_grammar.specs.Grammar.{MoreParameters, parameters_end, parameters_comma, more_parameters}
 use Rattle.pt_grammar.specs.Lexemes.{Lexeme}
 use Rattle.pt_grammar.specs.Nodes.{Formal, formals_of, OneParameter, formal, slash, bare_star, star, double_star, Stage, plain, defaulted, keyword_only, over, Gathered, no_parameters, gathered, with_formal, is_allowed, allows_formal, allows_star, allows_double_star, allows_slash, params_of}

@@ -1,9 +1,9 @@
 -- Texts one behind the other, and the limits of parts of strings.
-use Rattle.std.proofs.Common.{◌≡◌, ◌≢◌, ℕ, max, List, [], ◌∷◌, ◌++◌, map, refl, sym, ◌∙◌, ap, append_assoc, append-nil, arith}
+use Rattle.std.proofs.Common.{◌≡◌, ◌≢◌, ℕ, max, List, [], ◌∷◌, ◌++◌, refl, ap, append_assoc, append-nil, arith}
 use Rattle.pt_tree.specs.Fold.{chained}
 use Rattle.pt_wide.specs.Syntax as S
 use Rattle.pt_wide.specs.Syntax.{Pieces}
-use Rattle.pt_wide.specs.Measure.{depth_exp, depth_pieces, width_exp, width_pieces}
+use Rattle.pt_wide.specs.Measure.{depth_pieces, width_pieces}
 use Rattle.pt_grammar.specs.Nodes.{OnePiece, text, field, text_before, pieces_of, all_text}
 use Rattle.pt_grammar.specs.Joining.{NoText}
 

@@ -192,7 +192,7 @@ far_comparing (Operator o) h = absurd (omega (arith, rank_small o))
 far_comparing (mark m) h = absurd (omega (arith, mark_rank m))
 far_comparing _ h = absurd (omega arith)
 
-comparing_rank : {s : Sign} {ts rest : List Lexeme} {c : Link} → Comparing s ts c rest → rank_of_sign s ≡ 8
+pub comparing_rank : {s : Sign} {ts rest : List Lexeme} {c : Link} → Comparing s ts c rest → rank_of_sign s ≡ 8
 comparing_rank (by_sign k) = refl
 comparing_rank (is_in k) = refl
 comparing_rank (is_not_in k) = refl

@@ -1,6 +1,6 @@
 -- Parts one after another, and parts that begin with a token.
-use Rattle.std.proofs.Common.{◌≡◌, List, [], ◌∷◌, ◌++◌, Some, false, true, Bool, inl, inr, refl, sym, ◌∙◌, ap, subst}
-use Rattle.pt_readers.specs.Reading.{next_of, behind, Part, Alike, Dead, Within, Found, Refused, Carries}
+use Rattle.std.proofs.Common.{◌≡◌, List, [], ◌∷◌, ◌++◌, Some, false, true, Bool, inl, refl, sym, ◌∙◌, ap, subst}
+use Rattle.pt_readers.specs.Reading.{next_of, Part, Alike, Dead, Within, Found, Refused, Carries}
 use Rattle.pt_readers.proofs.Readers.{Binds, left, Just, just, bad_refused}
 use Rattle.pt_grammar.specs.Behind.{Then, Starting, starting}
 

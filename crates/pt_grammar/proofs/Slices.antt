@@ -1,27 +1,24 @@
 -- Indices: slices and their bounds.
-use Rattle.std.proofs.Common.{◌≡◌, ◌≢◌, ℕ, ◌-◌, ◌≤◌, ◌<◌, Bool, true, false, List, [], ◌∷◌, ◌++◌, Option, Some, None, inl, inr, refl, sym, ◌∙◌, ap, subst, arith}
+use Rattle.std.proofs.Common.{◌≡◌, ◌≢◌, ℕ, ◌-◌, ◌<◌, Bool, true, false, List, [], ◌∷◌, Option, Some, None, inl, inr, refl, sym, ◌∙◌, ap, subst, arith}
 use Rattle.pt_wide.specs.Syntax as S
 use Rattle.pt_wide.specs.Syntax.{Exp, Opt}
-use Rattle.pt_wide.specs.Measure.{depth_exp, depth_opt}
-use Rattle.pt_readers.specs.Reading.{next_of, behind, Part, Alike, Found, Refused}
+use Rattle.pt_readers.specs.Reading.{next_of, Alike, Found, Refused}
 use Rattle.pt_readers.proofs.Readers.{Binds, Shifts, Narrows, Just, just, left, nothing_found, bad_refused}
 use Rattle.pt_readers.proofs.Pieces.{Made, made, made_binds}
 use Rattle.pt_readers.proofs.Exits.{over_refused_at}
 use Rattle.pt_grammar.specs.declared.part.Part.TheVariants.{Whole}
-use Rattle.pt_grammar.specs.declared.sign.Sign.{Sign}
 use Rattle.pt_grammar.specs.declared.sign.Sign.TheVariants.{Mark as mark}
 use Rattle.pt_grammar.specs.declared.sign.Mark.TheVariants.{CloseBracket, Colon}
 use Rattle.pt_grammar.specs.Lexemes.{Lexeme, sign, sign_at}
 use Rattle.pt_grammar.specs.Signs.{begins_item}
 use Rattle.pt_grammar.specs.Grammar.{Expr, Index, an_index, a_slice, Bound, no_bound, Step, no_step, Bare, alone, a_tuple, unstarred}
 use Rattle.pt_grammar.specs.Grammar as grammar
-use Rattle.pt_grammar.specs.Nodes.{line_of, slice_line}
+use Rattle.pt_grammar.specs.Nodes.{slice_line}
 use Rattle.pt_grammar.specs.Parts.{Fits, FitsOpt, Stops, ends_in_text, an_expr}
 use Rattle.pt_grammar.specs.Parts as parts
 use Rattle.pt_grammar.specs.CallParts.{ends_bound, begins_expr, a_bound, a_step, Sliced, sliced}
-use Rattle.pt_grammar.proofs.Ranks.{IsSign, is_sign}
 use Rattle.pt_grammar.proofs.Atoms.{apart_mark}
-use Rattle.pt_grammar.proofs.Begins.{some_name, some_exp, name_expr, depth_some}
+use Rattle.pt_grammar.proofs.Begins.{depth_some}
 use Rattle.pt_grammar.proofs.Items.{item_begins}
 use Rattle.pt_grammar.proofs.Names.{expr_starts, far_expr}
 

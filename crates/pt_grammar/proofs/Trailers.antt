@@ -1,11 +1,11 @@
 -- What stands behind a primary.
-use Rattle.std.proofs.Common.{◌≡◌, ◌≢◌, ℕ, ◌-◌, ◌≤◌, ◌<◌, List, [], ◌∷◌, ◌++◌, Option, Some, true, false, inl, inr, refl, sym, ◌∙◌, ap, subst, arith}
+use Rattle.std.proofs.Common.{◌≡◌, ◌≢◌, ℕ, ◌-◌, ◌≤◌, ◌<◌, List, [], ◌∷◌, ◌++◌, Option, Some, true, false, inl, inr, refl, ap, subst, arith}
 use Rattle.pt_wide.specs.Syntax as S
 use Rattle.pt_wide.specs.Syntax.{Exp, Args}
 use Rattle.pt_wide.specs.Measure.{depth_exp}
 use Rattle.pt_readers.specs.Reading.{next_of, behind, Alike, Found, Refused}
 use Rattle.pt_readers.proofs.Readers.{Binds, Shifts, Just, just, left, bad_refused}
-use Rattle.pt_readers.proofs.Pieces.{Through, through, Made, made, made_binds}
+use Rattle.pt_readers.proofs.Pieces.{Through, through}
 use Rattle.pt_readers.proofs.Loops.{Repeats, Out, at_end, at_step, Right, loop_shifts, loop_binds, loop_found, loop_over}
 use Rattle.pt_readers.proofs.Exits.{found_at, at_next}
 use Rattle.pt_grammar.specs.declared.sign.Sign.{Sign}
@@ -15,7 +15,7 @@ use Rattle.pt_grammar.specs.declared.sign.Mark.TheVariants.{Dot, Open, Close, Op
 use Rattle.pt_grammar.specs.Lexemes.{Lexeme, name, sign, sign_at}
 use Rattle.pt_grammar.specs.Signs.{rank_of_sign}
 use Rattle.pt_grammar.specs.Grammar.{Primary, primary, Trailed, trailed_end, trailed_more, Trailing, attribute, call, item, an_index, alone, unstarred, no_arguments, Index, Arguments, Atom}
-use Rattle.pt_grammar.specs.Nodes.{line_of, Trailer, by_name, by_index, by_call, trailed_by}
+use Rattle.pt_grammar.specs.Nodes.{Trailer, by_name, by_index, by_call, trailed_by}
 use Rattle.pt_grammar.specs.Parts.{Fits, FitsTrailer, FitsArgs, Stops, Apart, ends_in_text, an_atom, an_index as index_part, some_arguments, a_trailer, a_primary}
 use Rattle.pt_grammar.specs.CallViews.{depth_trailer}
 use Rattle.pt_grammar.specs.CallParts.{IsName}

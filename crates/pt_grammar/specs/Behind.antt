@@ -14,7 +14,7 @@ use Rattle.pt_grammar.specs.declared.sign.Mark.{Mark}
 use Rattle.pt_grammar.specs.declared.sign.Mark.TheVariants.{Close, CloseBracket, Comma}
 use Rattle.pt_grammar.specs.declared.sign.Word.TheVariants.{For}
 use Rattle.pt_grammar.specs.Lexemes.{Lexeme, sign}
-use Rattle.pt_grammar.specs.Grammar.{MoreItems, Clauses}
+use Rattle.pt_grammar.specs.Grammar.{MoreItems, Value, Expr, Clauses}
 use Rattle.pt_grammar.specs.Nodes.{line_of, Listed, OneClause, clauses_of}
 use Rattle.pt_grammar.specs.Parts.{item_rank}
 
@@ -50,6 +50,13 @@ Closed l y = Through (IsSign (mark Close)) (Just (S.parenthesized l y))
 
 abbrev pub generator_of : ℕ → Exp → List OneClause → Exp
 generator_of l e cs = S.parenthesized l (S.comprehension (line_of e) form.Generator e (clauses_of cs))
+
+-- behind the opening parenthesis on this line, with the closing one
+pub data Inside (l : ℕ) : List Lexeme → Exp → List Lexeme → Type 0 where
+  nothing : {m : ℕ} {rest : List Lexeme} → Inside l (sign m (mark Close) ∷ rest) (S.parenthesized l (S.tuple l S.no_exps)) rest
+  something : {m : ℕ} {ts rest : List Lexeme} {e : Exp} → Value ts e (sign m (mark Close) ∷ rest) → Inside l ts (S.parenthesized l e) rest
+  generated : {k m : ℕ} {ts us rest : List Lexeme} {e : Exp} {cs : List OneClause} → Expr ts e (sign k (word For) ∷ us) → Clauses [] (sign k (word For) ∷ us) cs (sign m (mark Close) ∷ rest)
+      → Inside l ts (generator_of l e cs) rest
 
 -- behind the first item in parentheses
 abbrev pub InParentheses : ℕ → Exp → List Lexeme → Exp → List Lexeme → Type 0

@@ -1,6 +1,5 @@
 -- What readers of indices and calls hand around, as plain data.
 use Rattle.std.specs.Prelude.{ℕ, List, map, Option, Some, None}
-use Rattle.pt_tree.specs.Syntax.{Name}
 use Rattle.pt_wide.specs.declared.expression.WideArgument.TheOpen as node
 use Rattle.pt_wide.specs.declared.expression.WideArgument.{WideArgument, out-WideArgument}
 use Rattle.pt_wide.specs.declared.expression.WideEntry.{WideEntry}

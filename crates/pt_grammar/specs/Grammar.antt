@@ -24,7 +24,7 @@ use Rattle.pt_grammar.specs.declared.sign.Word.TheVariants.{And, Or, Not, In, Is
 use Rattle.pt_grammar.specs.declared.sign.Layout.TheVariants.{FStart, FEnd}
 use Rattle.pt_grammar.specs.Lexemes.{Lexeme, name, int, str, f_text, sign}
 use Rattle.pt_grammar.specs.Signs.{rank_of, unary_of, constant_of, conversion_of}
-use Rattle.pt_grammar.specs.Nodes.{line_of, Link, compared, conjoined, disjoined, Trailer, by_name, by_index, by_call, trailed_by, slice_line, Listed, listed, OneClause, a_clause_of, clauses_of, entries_of, OneArg, positional, named, spread, spread_named, args_of, Order, any_next, named_next, order_of, may_spread, OneParameter, formal, slash, bare_star, star, double_star, Gathered, no_parameters, gathered, is_allowed, params_of, named_parameter, OnePiece, text, field, pieces_of, Quoted, quoted, string_of}
+use Rattle.pt_grammar.specs.Nodes.{line_of, Link, compared, conjoined, disjoined, Trailer, by_name, by_index, by_call, trailed_by, slice_line, Listed, listed, OneClause, a_clause_of, clauses_of, entries_of, OneArg, positional, named, spread, spread_named, args_of, Order, any_next, order_of, may_spread, OneParameter, formal, slash, bare_star, star, double_star, Gathered, no_parameters, gathered, is_allowed, params_of, named_parameter, OnePiece, text, field, pieces_of, Quoted, quoted, string_of}
 
 mutual
   -- exprs = item { "," item } [ "," ], and the same of targets

@@ -1,3 +1,4 @@
+pub mod BehindAtom
 pub mod Lexemes
 pub mod Signs
 pub mod Nodes

@@ -1,5 +1,5 @@
 -- What is read in several tokens before a node is made of it, and the nodes that are made (Language Reference 6).
-use Rattle.std.specs.Prelude.{◌≡◌, ℕ, suc, List, [], ◌∷◌, ◌++◌, Option, Some, None, Bool, true, false, if◌then◌else◌}
+use Rattle.std.specs.Prelude.{ℕ, List, [], ◌∷◌, ◌++◌, Option, Some, None, Bool, true, false, if◌then◌else◌}
 use Rattle.pt_base.specs.declared.operators.CompareOp.{CompareOp}
 use Rattle.pt_tree.specs.Syntax.{Name}
 use Rattle.pt_tree.specs.declared.expression.Constant.TheVariants as constant

@@ -1,5 +1,5 @@
 -- A list of parameters, step by step (Language Reference 8.7).
-use Rattle.std.specs.Prelude.{◌≡◌, ℕ, List, [], ◌∷◌, Option, Some, None, Bool, true, Result, Ok, Err}
+use Rattle.std.specs.Prelude.{◌≡◌, ℕ, List, [], Option, Some, None, Bool, true, Result, Ok, Err}
 use Rattle.pt_tree.specs.declared.expression.NamedParameter.{NamedParameter}
 use Rattle.pt_wide.specs.Syntax as S
 use Rattle.pt_wide.specs.Syntax.{Opt}

@@ -1,6 +1,6 @@
 -- What readers hand around, as plain data.
 use Rattle.std.specs.Prelude.{map, option_map}
-use Rattle.pt_wide.specs.declared.expression.WideParameters.{WideParameters, out-WideParameters}
+use Rattle.pt_wide.specs.declared.expression.WideParameters.{out-WideParameters}
 use Rattle.pt_grammar.specs.declared.deep.Arguments.{Arguments}
 use Rattle.pt_grammar.specs.declared.deep.Clauses.{Clauses}
 use Rattle.pt_grammar.specs.declared.deep.Parameters.{Parameters}

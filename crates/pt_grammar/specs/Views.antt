@@ -6,7 +6,6 @@ use Rattle.pt_wide.specs.Syntax.{Args}
 use Rattle.pt_wide.specs.declared.expression.WideArgument.{WideArgument}
 use Rattle.pt_wide.specs.declared.expression.WideClause.{WideClause, out-WideClause}
 use Rattle.pt_wide.specs.declared.expression.WideParameter.{WideParameter, out-WideParameter}
-use Rattle.pt_wide.specs.declared.expression.WideParameters.{WideParameters, out-WideParameters}
 use Rattle.pt_wide.specs.declared.expression.WideComparison.{WideComparison}
 use Rattle.pt_wide.specs.Fold.{exp_of, opt_exp, argument_of}
 use Rattle.pt_wide.specs.Measure.{depth_links}

@@ -1,6 +1,6 @@
 use Rattle.std.proofs.Common.{◌∙◌, ap, arith}
 use Rattle.pt_wide.specs.Syntax as S
-use Rattle.pt_wide.specs.Fold.{exp_of, entry_of}
+use Rattle.pt_wide.specs.Fold.{entry_of}
 use Rattle.pt_wide.specs.Measure.{depth_exp, depth_entry}
 use Rattle.pt_grammar.specs.Nodes.{clauses_of}
 use Rattle.pt_grammar.specs.Views.{clauses_in}

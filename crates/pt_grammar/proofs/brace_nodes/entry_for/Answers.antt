@@ -1,8 +1,8 @@
-use Rattle.std.proofs.Common.{ℕ, sym, ◌∙◌, ap, map}
+use Rattle.std.proofs.Common.{ℕ, ◌∙◌, ap, map}
 use Rattle.pt_tree.specs.Fold.{chained}
 use Rattle.pt_wide.specs.declared.expression.WideExpr.{WideExpr}
 use Rattle.pt_wide.specs.Syntax as S
-use Rattle.pt_wide.specs.Fold.{exp_of, clause_of, entry_of}
+use Rattle.pt_wide.specs.Fold.{clause_of, entry_of}
 use Rattle.pt_wide.proofs.Folds.{exp_of-DictComprehension}
 use Rattle.pt_grammar.proofs.ClauseLemmas.{clauses_apart}
 use Rattle.pt_grammar.proofs.brace_nodes.entry_for.Goals as goal

@@ -1,6 +1,5 @@
-use Rattle.std.proofs.Common.{map, ap, arith}
+use Rattle.std.proofs.Common.{map, arith}
 use Rattle.pt_wide.specs.Fold.{entry_of}
-use Rattle.pt_wide.specs.Measure.{depth_entry}
 use Rattle.pt_grammar.proofs.Depths.{map_snoc}
 use Rattle.pt_grammar.proofs.Displays.{depth_entries_snoc}
 use Rattle.pt_grammar.proofs.brace_nodes.Entries.with.Goals as goal

@@ -1,4 +1,4 @@
-use Rattle.std.proofs.Common.{◌∙◌, ap, arith}
+use Rattle.std.proofs.Common.{ap, arith}
 use Rattle.pt_wide.specs.Measure.{depth_args}
 use Rattle.pt_grammar.proofs.CallLemmas.{arguments_same}
 use Rattle.pt_grammar.proofs.call_nodes.Ordered.finish.Goals as goal

@@ -1,7 +1,6 @@
-use Rattle.std.proofs.Common.{◌∙◌, sym, ap, arith}
-use Rattle.pt_grammar.specs.Nodes.{any_next, order_behind}
-use Rattle.pt_grammar.specs.CallViews.{exp_in, argument_in, argument_read, arguments_in}
-use Rattle.pt_wide.specs.Measure.{depth_exp}
+use Rattle.std.proofs.Common.{sym, arith}
+use Rattle.pt_grammar.specs.Nodes.{any_next}
+use Rattle.pt_grammar.specs.CallViews.{argument_in, argument_read, arguments_in}
 use Rattle.pt_grammar.proofs.Depths.{map_snoc}
 use Rattle.pt_grammar.proofs.CallLemmas.{depth_args_snoc, order_snoc}
 use Rattle.pt_grammar.proofs.call_nodes.Ordered.with.Goals as goal

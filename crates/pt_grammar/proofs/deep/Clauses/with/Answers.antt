@@ -1,4 +1,4 @@
-use Rattle.std.proofs.Common.{map, ap, arith}
+use Rattle.std.proofs.Common.{arith}
 use Rattle.pt_grammar.specs.Views.{clause_in, clauses_in}
 use Rattle.pt_grammar.proofs.Depths.{map_snoc}
 use Rattle.pt_grammar.proofs.Displays.{depth_clauses_snoc}

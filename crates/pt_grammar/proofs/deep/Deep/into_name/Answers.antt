@@ -1,5 +1,4 @@
 use Rattle.std.proofs.Common.{◌∙◌, sym, ap}
-use Rattle.pt_wide.specs.declared.expression.WideExpr.{WideExpr}
 use Rattle.pt_wide.specs.Fold.{exp_of}
 use Rattle.pt_wide.proofs.Folds.{exp_of-Name}
 use Rattle.pt_grammar.proofs.CallLemmas.{no_name}

@@ -1,4 +1,4 @@
-use Rattle.std.proofs.Common.{◌∙◌, sym, ap, arith}
+use Rattle.std.proofs.Common.{◌∙◌, ap, arith}
 use Rattle.pt_wide.specs.Measure.{depth_params, depth_formals}
 use Rattle.pt_grammar.specs.Nodes.{Gathered, plain, formals_of, params_of}
 use Rattle.pt_grammar.specs.ReadViews.{stage_read}
