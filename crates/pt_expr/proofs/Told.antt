@@ -6,10 +6,10 @@ use Rattle.pt_readers.specs.Settled.{Settled}
 use Rattle.pt_readers.specs.Whole.{Tells}
 use Rattle.pt_readers.specs.declared.halt.Halt.{Halt}
 use Rattle.pt_readers.proofs.Wholes.{settled_tells}
-use Rattle.pt_expr.specs.declared.front.Part.{Part}
-use Rattle.pt_expr.specs.declared.front.Part.TheVariants.{Whole, Target}
-use Rattle.pt_expr.specs.Lexemes.{Lexeme}
-use Rattle.pt_expr.specs.Parts.{Apart, ends_in_text}
+use Rattle.pt_grammar.specs.declared.part.Part.{Part}
+use Rattle.pt_grammar.specs.declared.part.Part.TheVariants.{Whole, Target}
+use Rattle.pt_grammar.specs.Lexemes.{Lexeme}
+use Rattle.pt_grammar.specs.Parts.{Apart, ends_in_text}
 use Rattle.pt_expr.specs.Answers.{part_of}
 
 apart_none : (e : Exp) → Apart (ends_in_text e) None

@@ -8,12 +8,12 @@ use Rattle.pt_readers.specs.Reading as R
 use Rattle.pt_readers.specs.Reading.{next_of}
 use Rattle.pt_readers.specs.Whole.{Tells}
 use Rattle.pt_readers.specs.declared.halt.Halt.TheVariants as cause
-use Rattle.pt_expr.specs.declared.front.Part.{Part}
-use Rattle.pt_expr.specs.declared.front.Part.TheVariants.{Whole, Target}
+use Rattle.pt_grammar.specs.declared.part.Part.{Part}
+use Rattle.pt_grammar.specs.declared.part.Part.TheVariants.{Whole, Target}
 use Rattle.pt_expr.specs.declared.front.ParseErr.{ParseErr}
 use Rattle.pt_expr.specs.declared.front.ParseErr.TheVariants.{Unexpected, Limit, Memory}
-use Rattle.pt_expr.specs.Lexemes.{Lexeme, lexemes, line_at}
-use Rattle.pt_expr.specs.Parts.{an_expr, a_bor}
+use Rattle.pt_grammar.specs.Lexemes.{Lexeme, lexemes, line_at}
+use Rattle.pt_grammar.specs.Parts.{an_expr, a_bor}
 
 -- how many nodes may stand inside one another
 abbrev pub max_depth : ℕ

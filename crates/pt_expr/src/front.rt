@@ -7,26 +7,18 @@ ghost use Rattle.pt_readers.specs.Settled.{Settled};
 ghost use Rattle.pt_readers.specs.Whole.{Tells};
 ghost use Rattle.pt_readers.specs.declared.halt.Halt.{Halt as Cause};
 ghost use Rattle.pt_readers.specs.declared.halt.Halt.TheVariants as cause;
-ghost use Rattle.pt_expr.specs.declared.front.Part.{Part as WhichPart};
-ghost use Rattle.pt_expr.specs.Lexemes.{Lexeme, lexemes};
+ghost use Rattle.pt_grammar.specs.declared.part.Part.{Part as WhichPart};
+ghost use Rattle.pt_grammar.specs.Lexemes.{Lexeme, lexemes};
 ghost use Rattle.pt_expr.specs.Answers.{part_of, Answers, place_at};
 
-use crate::deep::Deep;
 use crate::reader::Reader;
 use pt_base::Line;
+use pt_grammar::Part;
+use pt_grammar::deep::Deep;
 use pt_lexer::Token;
 use pt_readers::Halt;
 use pt_wide::WideExpr;
 use std::alloc::Global;
-
-/// A part of the grammar that is read by itself.
-#[derive(Clone, Copy, Debug, PartialEq, Eq)]
-pub enum Part {
-    /// An expression.
-    Whole,
-    /// What may stand in a target's place.
-    Target,
-}
 
 /// Why tokens are no expression.
 #[derive(Clone, Copy, Debug, PartialEq, Eq)]

@@ -2,19 +2,15 @@
 //! Reference 6).
 #![tactic(auto)]
 
-mod deep;
+mod braces;
+mod calls;
+mod clauses;
+mod displays;
 mod front;
-mod lexemes;
-mod nodes;
-mod operators;
+mod parameters;
 mod reader;
-mod sign;
+mod sequels;
+mod strings;
 
-pub use deep::{Deep, Linked, Links, Listed, Several};
-pub use front::{ParseErr, Part, one_answer, wide};
-pub use lexemes::Lexemes;
+pub use front::{ParseErr, one_answer, wide};
 pub use reader::Reader;
-pub use sign::{Keyword, Layout, Mark, SIGNS, Sign, Singleton, Word};
-
-#[cfg(test)]
-mod tests;

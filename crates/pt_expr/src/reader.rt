@@ -1,23 +1,27 @@
 //! Readers of expressions, from the loosest operators to the tightest (Language Reference 6).
 
-ghost use Rattle.std.specs.Prelude.{◌≡◌, ◌≢◌, ◌≤◌, ◌<◌, ℕ, Some, None, length, MatchOption, OnSome};
+ghost use Rattle.std.specs.Prelude.{◌≡◌, ◌≢◌, ◌≤◌, ◌<◌, ◌↔◌, ℕ, Some, None, false, map, length, IsTrue, MatchOption, OnSome};
 ghost use Rattle.pt_wide.specs.Fold.{exp_of};
 ghost use Rattle.pt_readers.specs.Reading.{next_of};
 ghost use Rattle.pt_readers.specs.Settled.{Settled};
-ghost use Rattle.pt_expr.specs.declared.sign.Sign.{Sign as SignKind};
-ghost use Rattle.pt_expr.specs.declared.sign.Sign.TheVariants.{Operator as operator_sign, Singleton as singleton_sign, Mark as mark_sign};
-ghost use Rattle.pt_expr.specs.declared.sign.Mark.TheVariants.{Open as open_parenthesis, Dot as dot, OpenBracket as open_bracket};
-ghost use Rattle.pt_expr.specs.Grammar.{by_name};
+ghost use Rattle.pt_grammar.specs.declared.sign.Sign.{Sign as SignKind};
+ghost use Rattle.pt_grammar.specs.declared.sign.Sign.TheVariants.{Operator as operator_sign, Singleton as singleton_sign, Mark as mark_sign};
+ghost use Rattle.pt_grammar.specs.declared.sign.Mark.TheVariants.{Dot as dot};
+ghost use Rattle.pt_grammar.specs.Nodes.{by_name};
 ghost use Rattle.pt_wide.specs.declared.expression.WideBinOp.{WideBinOp as OperatorKind};
-ghost use Rattle.pt_expr.specs.Lexemes.{sign_at, lexemes as lexemes_of, int as int_lexeme};
-ghost use Rattle.pt_expr.specs.Signs.{rank_of as rank_of_operator, rank_of_sign, unary_at, begins_item as begins_item_at};
-ghost use Rattle.pt_expr.specs.Parts.{an_atom, an_item, some_exprs, a_trailer, a_primary, a_power, a_factor, a_binary, a_link, a_comparing, comparisons, a_negation, a_conjunction, a_disjunction, an_expr};
-ghost use Rattle.pt_expr.specs.ReadViews.{link_read, listed_read};
+ghost use Rattle.pt_wide.specs.declared.expression.WideBinOp.TheVariants.{Plain as plain_operator};
+ghost use Rattle.pt_base.specs.declared.operators.BinOp.TheVariants.{Mul as multiply};
+ghost use Rattle.pt_readers.proofs.Readers.{left};
+ghost use Rattle.pt_grammar.specs.Grammar.{MoreItems};
+ghost use Rattle.pt_grammar.specs.Signs.{BeginsString, rank_of as rank_of_operator, rank_of_sign, unary_at, begins_item as begins_item_at};
+ghost use Rattle.pt_grammar.specs.Lexemes.{sign_at, lexemes as lexemes_of, int as int_lexeme};
+ghost use Rattle.pt_grammar.specs.Parts.{FitsItems, IsComma, StopsItems, an_atom, an_item, some_exprs, a_trailer, a_primary, a_power, a_factor, a_binary, a_link, a_comparing, comparisons, a_negation, a_conjunction, a_disjunction, an_expr};
+ghost use Rattle.pt_grammar.specs.ReadViews.{link_read, listed_read};
 
-use crate::deep::{Deep, Linked, Links, Listed, Several};
-use crate::operators::{begins_sign, compares, rank_of, unary_of};
-use crate::{Lexemes, Mark, Sign, Singleton, Word, nodes};
 use pt_base::{BinOp, CompareOp, Line, Text, UnOp};
+use pt_grammar::deep::{Deep, Linked, Listed, Several};
+use pt_grammar::operators::{begins_sign, compares, rank_of, unary_of};
+use pt_grammar::{Layout, Lexemes, Mark, Part, Sign, Singleton, Word, nodes};
 use pt_lexer::{Token, TokenKind};
 use pt_readers::Halt;
 use pt_wide::WideBinOp;
@@ -45,7 +49,7 @@ impl<'a> Reader<'a> {
     }
 
     /// The operator of this rank that is next, if one is.
-    fn operator(&self, rank: u8) -> Option<WideBinOp>
+    pub(crate) fn operator(&self, rank: u8) -> Option<WideBinOp>
         ensures value { MatchOption result
             ((o : OperatorKind) → sign_at (next_of self.now.lexemes) ≡ Some (operator_sign o) → rank_of_operator o ≢ rank)
             (λ o. (sign_at (next_of self.now.lexemes) ≡ Some (operator_sign o)) × (rank_of_operator o ≡ rank)) }
@@ -58,7 +62,7 @@ impl<'a> Reader<'a> {
     }
 
     /// The sign with which a comparison's operator begins, if it is next.
-    fn comparing_sign(&self) -> Option<Sign>
+    pub(crate) fn comparing_sign(&self) -> Option<Sign>
         ensures value { MatchOption result
             ((s : SignKind) → sign_at (next_of self.now.lexemes) ≡ Some s → rank_of_sign s ≢ 8)
             (λ s. (sign_at (next_of self.now.lexemes) ≡ Some s) × (rank_of_sign s ≡ 8)) }
@@ -92,7 +96,8 @@ impl<'a> Reader<'a> {
 
     /// A name or a number.
     fn literal(&mut self) -> Result<Deep, Halt>
-        requires { sign_at (next_of self.old.lexemes) ≡ None }
+        requires none { sign_at (next_of self.old.lexemes) ≡ None }
+        requires no_string { BeginsString (next_of self.old.lexemes) → ⊥ }
         ensures { (d : ℕ) → 0 < d → Settled (an_atom d) (λ e. exp_of e.tree) self.old.lexemes self.new.lexemes result }
     {
         let Some(token) = self.lexemes.peek() else {
@@ -108,10 +113,10 @@ impl<'a> Reader<'a> {
         }
     }
 
-    /// Whether a name or a number is next, where no sign is.
-    fn begins_literal(&self) -> bool
+    /// Whether a name, a number or a string is next, where no sign is.
+    fn begins_literal(&self, part: Part) -> bool
         requires { sign_at (next_of self.now.lexemes) ≡ None }
-        ensures { result ≡ begins_item_at (next_of self.now.lexemes) }
+        ensures { result ≡ begins_item_at part (next_of self.now.lexemes) }
     {
         let Some(token) = self.lexemes.peek() else {
             return false;
@@ -119,22 +124,37 @@ impl<'a> Reader<'a> {
         match &token.kind {
             TokenKind::Name(_) => true,
             TokenKind::Int(_) => true,
+            TokenKind::Str(_) => true,
             _ => false,
         }
     }
 
-    /// Whether an item of a display begins with the next token.
-    fn begins_item(&self) -> bool
-        ensures { result ≡ begins_item_at (next_of self.now.lexemes) }
+    /// Whether an item of a display or of targets begins with the next token.
+    pub(crate) fn begins_item(&self, part: Part) -> bool
+        ensures { result ≡ begins_item_at part (next_of self.now.lexemes) }
     {
         match self.lexemes.sign() {
-            Some(sign) => begins_sign(sign),
-            None => self.begins_literal(),
+            Some(sign) => begins_sign(part, sign),
+            None => self.begins_literal(part),
+        }
+    }
+
+    /// Whether a string is next, where no sign is.
+    pub(crate) fn is_string(&self) -> bool
+        requires { sign_at (next_of self.now.lexemes) ≡ None }
+        ensures { IsTrue result ↔ BeginsString (next_of self.now.lexemes) }
+    {
+        let Some(token) = self.lexemes.peek() else {
+            return false;
+        };
+        match &token.kind {
+            TokenKind::Str(_) => true,
+            _ => false,
         }
     }
 
     /// The name behind a dot.
-    fn attribute_name(&mut self) -> Result<Text, Halt>
+    pub(crate) fn attribute_name(&mut self) -> Result<Text, Halt>
         ensures value { (d : ℕ) → Settled (a_trailer d (mark_sign dot)) by_name self.old.lexemes self.new.lexemes result }
         ensures not_longer { length self.new.lexemes ≤ length self.old.lexemes }
     {
@@ -168,6 +188,9 @@ impl<'a> Reader<'a> {
         ensures { Settled (an_atom room) (λ e. exp_of e.tree) self.old.lexemes self.new.lexemes result }
     {
         let Some(sign) = self.lexemes.sign() else {
+            if self.is_string() {
+                return self.strings(room);
+            }
             return self.literal();
         };
         if sign.same(Sign::Mark(Mark::Open)) {
@@ -176,24 +199,44 @@ impl<'a> Reader<'a> {
         if sign.same(Sign::Mark(Mark::OpenBracket)) {
             return self.list(room);
         }
+        if sign.same(Sign::Mark(Mark::OpenBrace)) {
+            return self.braces(room);
+        }
+        if sign.same(Sign::Layout(Layout::FStart)) {
+            return self.strings(room);
+        }
         match sign {
             Sign::Singleton(which) => self.singleton(which),
             _ => Err(Halt::Unexpected),
         }
     }
 
-    /// An item of a display (Language Reference 6.2.4, 6.15).
+    /// An item of a display without a star, or of targets.
     #[cycle(reading)]
-    fn item(&mut self, room: u32) -> Result<Deep, Halt>
+    fn unstarred(&mut self, part: Part, room: u32) -> Result<Deep, Halt>
+        requires none { sign_at (next_of self.old.lexemes) ≢ Some (operator_sign (plain_operator multiply)) }
         requires some { 0 < room }
         requires few { room ≤ 500 }
-        ensures { Settled (an_item room) (λ e. exp_of e.tree) self.old.lexemes self.new.lexemes result }
+        ensures { Settled (an_item part room) (λ e. exp_of e.tree) self.old.lexemes self.new.lexemes result }
+    {
+        match part {
+            Part::Whole => self.expr(room),
+            Part::Target => self.binary(6, room),
+        }
+    }
+
+    /// An item of a display or of targets (Language Reference 6.2.4, 6.15, 7.2).
+    #[cycle(reading)]
+    pub(crate) fn item(&mut self, part: Part, room: u32) -> Result<Deep, Halt>
+        requires some { 0 < room }
+        requires few { room ≤ 500 }
+        ensures { Settled (an_item part room) (λ e. exp_of e.tree) self.old.lexemes self.new.lexemes result }
     {
         if !self
             .lexemes
             .is(Sign::Operator(WideBinOp::Plain(BinOp::Mul)))
         {
-            return self.expr(room);
+            return self.unstarred(part, room);
         }
         let line = self.lexemes.line();
         self.lexemes.skip();
@@ -201,72 +244,30 @@ impl<'a> Reader<'a> {
         Ok(nodes::starred(self.alloc, line, value)?)
     }
 
-    /// Items with commas between them (Language Reference 6.2.4), and perhaps one behind the last.
+    /// What is left of items with commas between them behind these (Language Reference 6.2.4), and perhaps one comma behind the last.
     #[cycle(reading)]
-    pub fn exprs(&mut self, room: u32) -> Result<Listed, Halt>
+    pub fn more_items(&mut self, part: Part, items: Several, room: u32) -> Result<Listed, Halt>
         requires some { 0 < room }
         requires few { room ≤ 500 }
-        ensures { Settled (some_exprs room) listed_read self.old.lexemes self.new.lexemes result }
+        requires fits { FitsItems room (map exp_of items.items) }
+        requires stops { (IsComma (next_of self.old.lexemes) → ⊥) → StopsItems part false (map exp_of items.items) (next_of self.old.lexemes) }
+        ensures { Settled (left (some_exprs part room) (MoreItems part (map exp_of items.items))) listed_read self.old.lexemes self.new.lexemes result }
     {
-        let first = self.item(room)?;
-        let mut items = Several::new(self.alloc).with(first)?;
+        let mut items = items;
         'more: while self.lexemes.take(Sign::Mark(Mark::Comma)) {
-            if !self.begins_item() {
+            if !self.begins_item(part) {
                 return Ok(Listed { items, comma: true });
             }
             if items.items.len() >= MAX_ITEMS {
                 return Err(Halt::Limit);
             }
-            let next = self.item(room)?;
+            let next = self.item(part, room)?;
             items = items.with(next)?;
         }
         Ok(Listed {
             items,
             comma: false,
         })
-    }
-
-    /// `[ .. ]` (Language Reference 6.2.5).
-    #[cycle(reading)]
-    fn list(&mut self, room: u32) -> Result<Deep, Halt>
-        requires open { sign_at (next_of self.old.lexemes) ≡ Some (mark_sign open_bracket) }
-        requires some { 0 < room }
-        requires few { room ≤ 500 }
-        ensures { Settled (an_atom room) (λ e. exp_of e.tree) self.old.lexemes self.new.lexemes result }
-    {
-        let line = self.lexemes.line();
-        self.lexemes.skip();
-        if self.lexemes.take(Sign::Mark(Mark::CloseBracket)) {
-            return Ok(nodes::list(self.alloc, line, Several::new(self.alloc))?);
-        }
-        if !self.begins_item() {
-            return Err(Halt::Unexpected);
-        }
-        if room == 1 {
-            return Err(Halt::Limit);
-        }
-        let listed = self.exprs(room - 1)?;
-        if !self.lexemes.take(Sign::Mark(Mark::CloseBracket)) {
-            return Err(Halt::Unexpected);
-        }
-        Ok(nodes::list(self.alloc, line, listed.items)?)
-    }
-
-    /// `( .. )`
-    #[cycle(reading)]
-    fn parenthesized(&mut self, room: u32) -> Result<Deep, Halt>
-        requires open { sign_at (next_of self.old.lexemes) ≡ Some (mark_sign open_parenthesis) }
-        requires some { 0 < room }
-        requires few { room ≤ 500 }
-        ensures { Settled (an_atom room) (λ e. exp_of e.tree) self.old.lexemes self.new.lexemes result }
-    {
-        let line = self.lexemes.line();
-        self.lexemes.skip();
-        let inside = self.expr(room)?;
-        if !self.lexemes.take(Sign::Mark(Mark::Close)) {
-            return Err(Halt::Unexpected);
-        }
-        Ok(nodes::parenthesized(self.alloc, line, inside)?)
     }
 
     /// A primary (Language Reference 6.3).
@@ -276,16 +277,8 @@ impl<'a> Reader<'a> {
         requires few { room ≤ 500 }
         ensures { Settled (a_primary room) (λ e. exp_of e.tree) self.old.lexemes self.new.lexemes result }
     {
-        let mut object = self.atom(room)?;
-        'more: while self.lexemes.is(Sign::Mark(Mark::Dot)) {
-            if object.depth >= room {
-                return Err(Halt::Limit);
-            }
-            self.lexemes.skip();
-            let name = self.attribute_name()?;
-            object = nodes::attribute(self.alloc, object, name)?;
-        }
-        Ok(object)
+        let object = self.atom(room)?;
+        self.more_trailers(object, room)
     }
 
     /// A primary, and what it is raised to (Language Reference 6.5).
@@ -296,21 +289,12 @@ impl<'a> Reader<'a> {
         ensures { Settled (a_power room) (λ e. exp_of e.tree) self.old.lexemes self.new.lexemes result }
     {
         let base = self.primary(room)?;
-        let operator = WideBinOp::Plain(BinOp::Pow);
-        if !self.lexemes.is(Sign::Operator(operator)) {
-            return Ok(base);
-        }
-        if base.depth >= room {
-            return Err(Halt::Limit);
-        }
-        self.lexemes.skip();
-        let exponent = self.factor(room - 1)?;
-        Ok(nodes::binary(self.alloc, base, operator, exponent)?)
+        self.raising(base, room)
     }
 
     /// Signs before a value, and the value (Language Reference 6.6).
     #[cycle(reading)]
-    fn factor(&mut self, room: u32) -> Result<Deep, Halt>
+    pub(crate) fn factor(&mut self, room: u32) -> Result<Deep, Halt>
         requires some { 0 < room }
         requires few { room ≤ 500 }
         ensures { Settled (a_factor room) (λ e. exp_of e.tree) self.old.lexemes self.new.lexemes result }
@@ -338,16 +322,8 @@ impl<'a> Reader<'a> {
         if level == 0 {
             return self.factor(room);
         }
-        let mut left = self.binary(level - 1, room)?;
-        'more: while let Some(operator) = self.operator(level + 1) {
-            if left.depth >= room {
-                return Err(Halt::Limit);
-            }
-            self.lexemes.skip();
-            let right = self.binary(level - 1, room - 1)?;
-            left = nodes::binary(self.alloc, left, operator, right)?;
-        }
-        Ok(left)
+        let first = self.binary(level - 1, room)?;
+        self.more_operands(level, first, room)
     }
 
     /// The right side of a comparison with this operator.
@@ -363,7 +339,7 @@ impl<'a> Reader<'a> {
 
     /// What follows the sign with which a comparison's operator begins (Language Reference 6.10).
     #[cycle(reading)]
-    fn comparing(&mut self, sign: Sign, room: u32) -> Result<Linked, Halt>
+    pub(crate) fn comparing(&mut self, sign: Sign, room: u32) -> Result<Linked, Halt>
         requires sign { rank_of_sign sign ≡ 8 }
         requires some { 0 < room }
         requires few { room ≤ 500 }
@@ -398,26 +374,12 @@ impl<'a> Reader<'a> {
         ensures { Settled (comparisons room) (λ e. exp_of e.tree) self.old.lexemes self.new.lexemes result }
     {
         let left = self.binary(6, room)?;
-        let Some(sign) = self.comparing_sign() else {
-            return Ok(left);
-        };
-        if left.depth >= room {
-            return Err(Halt::Limit);
-        }
-        self.lexemes.skip();
-        let first = self.comparing(sign, room - 1)?;
-        let mut more = Links::new(self.alloc);
-        'more: while let Some(sign) = self.comparing_sign() {
-            self.lexemes.skip();
-            let next = self.comparing(sign, room - 1)?;
-            more = more.with(next)?;
-        }
-        Ok(nodes::comparison(self.alloc, left, first, more)?)
+        self.more_comparisons(left, room)
     }
 
     /// `not` before comparisons (Language Reference 6.11).
     #[cycle(reading)]
-    fn negation(&mut self, room: u32) -> Result<Deep, Halt>
+    pub(crate) fn negation(&mut self, room: u32) -> Result<Deep, Halt>
         requires some { 0 < room }
         requires few { room ≤ 500 }
         ensures { Settled (a_negation room) (λ e. exp_of e.tree) self.old.lexemes self.new.lexemes result }
@@ -436,22 +398,13 @@ impl<'a> Reader<'a> {
 
     /// A chain of `and` (Language Reference 6.11).
     #[cycle(reading)]
-    fn conjunction(&mut self, room: u32) -> Result<Deep, Halt>
+    pub(crate) fn conjunction(&mut self, room: u32) -> Result<Deep, Halt>
         requires some { 0 < room }
         requires few { room ≤ 500 }
         ensures { Settled (a_conjunction room) (λ e. exp_of e.tree) self.old.lexemes self.new.lexemes result }
     {
         let first = self.negation(room)?;
-        let mut more = Several::new(self.alloc);
-        'more: while self.lexemes.is(Sign::Word(Word::And)) {
-            if first.depth >= room {
-                return Err(Halt::Limit);
-            }
-            self.lexemes.skip();
-            let next = self.negation(room - 1)?;
-            more = more.with(next)?;
-        }
-        Ok(nodes::conjunction(self.alloc, first, more)?)
+        self.more_conjuncts(first, room)
     }
 
     /// A chain of `or` (Language Reference 6.11).
@@ -462,38 +415,20 @@ impl<'a> Reader<'a> {
         ensures { Settled (a_disjunction room) (λ e. exp_of e.tree) self.old.lexemes self.new.lexemes result }
     {
         let first = self.conjunction(room)?;
-        let mut more = Several::new(self.alloc);
-        'more: while self.lexemes.is(Sign::Word(Word::Or)) {
-            if first.depth >= room {
-                return Err(Halt::Limit);
-            }
-            self.lexemes.skip();
-            let next = self.conjunction(room - 1)?;
-            more = more.with(next)?;
-        }
-        Ok(nodes::disjunction(self.alloc, first, more)?)
+        self.more_disjuncts(first, room)
     }
 
-    /// An expression (Language Reference 6.13, 6.15), of at most so many nodes inside one another.
+    /// An expression (Language Reference 6.13 to 6.15), of at most so many nodes inside one another.
     #[cycle(reading)]
     pub fn expr(&mut self, room: u32) -> Result<Deep, Halt>
         requires some { 0 < room }
         requires few { room ≤ 500 }
         ensures { Settled (an_expr room) (λ e. exp_of e.tree) self.old.lexemes self.new.lexemes result }
     {
+        if self.lexemes.is(Sign::Word(Word::Lambda)) {
+            return self.lambda(room);
+        }
         let body = self.disjunction(room)?;
-        if !self.lexemes.is(Sign::Word(Word::If)) {
-            return Ok(body);
-        }
-        if body.depth >= room {
-            return Err(Halt::Limit);
-        }
-        self.lexemes.skip();
-        let test = self.disjunction(room - 1)?;
-        if !self.lexemes.take(Sign::Word(Word::Else)) {
-            return Err(Halt::Unexpected);
-        }
-        let otherwise = self.expr(room - 1)?;
-        Ok(nodes::conditional(self.alloc, body, test, otherwise)?)
+        self.choosing(body, room)
     }
 }

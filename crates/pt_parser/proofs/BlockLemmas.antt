@@ -8,19 +8,20 @@ use Rattle.pt_readers.specs.Reading.{next_of, behind, Part, Alike, Found, Refuse
 use Rattle.pt_readers.specs.Settled.{Settled, Fails}
 use Rattle.pt_readers.proofs.Readers.{Binds, Shifts, Narrows, left, nothing_found, bad_refused, narrow_carries, then_on}
 use Rattle.pt_readers.proofs.Exits.{carried, first_fails}
-use Rattle.pt_expr.specs.declared.sign.Sign.{Sign}
-use Rattle.pt_expr.specs.declared.sign.Sign.TheVariants.{Mark as mark, Word as word, Keyword as keyword, Layout as layout}
-use Rattle.pt_expr.specs.declared.sign.Mark.TheVariants.{Colon, Semicolon}
-use Rattle.pt_expr.specs.declared.sign.Word.TheVariants.{Else, From, If, For}
-use Rattle.pt_expr.specs.declared.sign.Keyword.{Keyword}
-use Rattle.pt_expr.specs.declared.sign.Keyword.TheVariants.{Elif, Except, Finally, Pass, While}
-use Rattle.pt_expr.specs.declared.sign.Layout.TheVariants.{Newline, Indent, Dedent, End}
-use Rattle.pt_expr.specs.Lexemes.{Lexeme, name, int, str, f_text, sign, unknown, sign_at}
+use Rattle.pt_grammar.specs.declared.sign.Sign.{Sign}
+use Rattle.pt_wide.specs.declared.expression.WideBinOp.TheVariants.{MatMul}
+use Rattle.pt_grammar.specs.declared.sign.Sign.TheVariants.{Operator, Mark as mark, Word as word, Keyword as keyword, Layout as layout}
+use Rattle.pt_grammar.specs.declared.sign.Mark.TheVariants.{Colon, Semicolon}
+use Rattle.pt_grammar.specs.declared.sign.Word.TheVariants.{Else, From, If, For}
+use Rattle.pt_grammar.specs.declared.sign.Keyword.{Keyword}
+use Rattle.pt_grammar.specs.declared.sign.Keyword.TheVariants.{Class, Def, Elif, Except, Finally, Pass, Try, While, With}
+use Rattle.pt_grammar.specs.declared.sign.Layout.TheVariants.{Newline, Indent, Dedent, End}
+use Rattle.pt_grammar.specs.Lexemes.{Lexeme, name, int, str, f_text, sign, unknown, sign_at}
 use Rattle.pt_parser.specs.Forms.{Reads, Is, is, Then, The, the, UpTo, closed, a_sign}
 use Rattle.pt_parser.specs.Simple.{Simple, led, imported_from, stated}
-use Rattle.pt_parser.specs.Grammar.{Simples, Block, on_line, indented, Stmts, no_stmt, one_stmt, Stmt, compound, simples, Otherwise, no_else, else_block, Suite, Compound, if_so, while_so, for_each}
+use Rattle.pt_parser.specs.Grammar.{Simples, Block, on_line, indented, Stmts, no_stmt, one_stmt, Stmt, compound, simples, Afterwards, nothing_after, block_after, Suite, Compound, if_so, while_so, for_each, try_so, def_so, class_so, with_decorators, with_so}
 use Rattle.pt_parser.specs.Limits.{FitsStm, FitsStms}
-use Rattle.pt_parser.specs.Parts.{IsEnd, IsClause, Clear, BeginsCompound, no_clause, Each, closing, FitsBlock, a_simple, some_simples, a_compound, a_stmt, some_stmts, a_block, an_otherwise, a_suite}
+use Rattle.pt_parser.specs.Parts.{IsEnd, IsClause, Clear, BeginsCompound, no_clause, Each, closing, FitsBlock, a_simple, some_simples, a_compound, a_stmt, some_stmts, a_block, IsAfterwards, an_afterwards, a_last, a_suite}
 use Rattle.pt_parser.proofs.Tokens.{sign_next, not_sign}
 use Rattle.pt_parser.proofs.Chains.{Ready, ready_is, ready_then, Follows, chain, is_found, within_all, within_one}
 use Rattle.pt_parser.proofs.Ends.{nothing, before, before_binds, before_is}
@@ -67,6 +68,11 @@ abbrev pub role : Sign → ℕ
 role (word If) = 1
 role (word For) = 1
 role (keyword While) = 1
+role (keyword Try) = 1
+role (keyword Def) = 1
+role (keyword Class) = 1
+role (keyword With) = 1
+role (Operator MatMul) = 1
 role (word Else) = 2
 role (keyword Elif) = 2
 role (keyword Except) = 2
@@ -83,6 +89,11 @@ simple_role : (o : Option Lexeme) → BeginsSimple o → role_at (sign_at o) ≡
 simple_role (Some (sign l (word If))) b = absurd b
 simple_role (Some (sign l (word For))) b = absurd b
 simple_role (Some (sign l (keyword While))) b = absurd b
+simple_role (Some (sign l (keyword Try))) b = absurd b
+simple_role (Some (sign l (keyword Def))) b = absurd b
+simple_role (Some (sign l (keyword Class))) b = absurd b
+simple_role (Some (sign l (keyword With))) b = absurd b
+simple_role (Some (sign l (Operator MatMul))) b = absurd b
 simple_role (Some (sign l (word Else))) b = absurd b
 simple_role (Some (sign l (keyword Elif))) b = absurd b
 simple_role (Some (sign l (keyword Except))) b = absurd b
@@ -95,7 +106,12 @@ simple_role _ b = refl
 compound_role : (o : Option Lexeme) → BeginsCompound o → role_at (sign_at o) ≡ 1
 compound_role o (inl h) = ap role_at h
 compound_role o (inr (inl h)) = ap role_at h
-compound_role o (inr (inr h)) = ap role_at h
+compound_role o (inr (inr (inl h))) = ap role_at h
+compound_role o (inr (inr (inr (inl h)))) = ap role_at h
+compound_role o (inr (inr (inr (inr (inl h))))) = ap role_at h
+compound_role o (inr (inr (inr (inr (inr (inl h)))))) = ap role_at h
+compound_role o (inr (inr (inr (inr (inr (inr (inl h))))))) = ap role_at h
+compound_role o (inr (inr (inr (inr (inr (inr (inr h))))))) = ap role_at h
 
 clause_role : (o : Option Lexeme) → IsClause o → role_at (sign_at o) ≡ 2
 clause_role o (inl h) = ap role_at h
@@ -118,7 +134,12 @@ Starts o = BeginsSimple o ⊎ BeginsCompound o
 compound_begins : {ts rest : List Lexeme} {s : Stm} → Compound ts s rest → BeginsCompound (next_of ts)
 compound_begins (if_so q) = inl refl
 compound_begins (while_so q b o) = inr (inl refl)
-compound_begins (for_each q p b o) = inr (inr refl)
+compound_begins (for_each q p b o) = inr (inr (inl refl))
+compound_begins (try_so b k) = inr (inr (inr (inl refl)))
+compound_begins (def_so k) = inr (inr (inr (inr (inl refl))))
+compound_begins (class_so k) = inr (inr (inr (inr (inr (inl refl)))))
+compound_begins (with_decorators d k) = inr (inr (inr (inr (inr (inr (inl refl))))))
+compound_begins (with_so q k) = inr (inr (inr (inr (inr (inr (inr refl))))))
 
 stmt_starts : {ss all : List Stm} {ts rest : List Lexeme} → Stmt ss ts all rest → Starts (next_of ts)
 stmt_starts (compound q e) = inr (compound_begins q)
@@ -331,42 +352,59 @@ suite_ready over = ready_then FitsBlock over (a_sign (mark Colon)) (λ l. Block)
 pub suite_next : {ss : List Stm} {ts rest : List Lexeme} → Suite ts ss rest → sign_at (next_of ts) ≡ Some (mark Colon)
 suite_next (l, mid, the e, b) = ap (λ u. Some u) e
 
--- [ "else" ":" block ]
-abbrev pub ElseSuite : Reads (List Stm)
-ElseSuite = Then Suite (λ ss. Is ss)
-
-pub else_none : (ts : List Lexeme) → sign_at (next_of ts) ≢ Some (word Else) → Narrows ts (before Clear FitsBlock (Is [])) an_otherwise
-else_none ts n = record { into = λ more all rest k. into k; out = λ more all rest a o m. (out (not_sign ts a n) o, m); stop = λ all o k. k; up = λ all f. f; down = λ all f. f }
+-- the block with which a statement ends
+pub ending_binds : Binds a_suite (λ ss. Is ss) a_last
+ending_binds = record {
+  intro = λ ts y mid x rest q i. into q i;
+  inv = λ ts x rest q n. (x, rest, q, tt, is);
+  down = λ y mid x rest i f. down i f;
+  finish = λ y f. ([], y, f, λ z. is);
+  extend = λ y. ([], y, λ z. is);
+}
   where
-    into : {more rest : List Lexeme} {all : List Stm} → Is [] more all rest → Otherwise more all rest
-    into is = no_else
+    into : {ts mid rest : List Lexeme} {y x : List Stm} → Suite ts y mid → Is y mid x rest → Suite ts x rest
+    into q is = q
 
-    out : {more rest : List Lexeme} {all : List Stm} → sign_at (next_of more) ≢ Some (word Else) → Otherwise more all rest → Is [] more all rest
-    out m no_else = is
-    out m (else_block b) = absurd (m refl)
-
-pub else_shifts : (l : ℕ) → Shifts (sign l (word Else)) (before Clear FitsBlock ElseSuite) an_otherwise
-else_shifts l = record { intro = λ ts all rest k. into k; inv = λ ts all rest o n. (out o n, n); stop = λ all o n. n; up = λ all f. f; down = λ all f. f }
-  where
-    into : {ts rest : List Lexeme} {all : List Stm} → ElseSuite ts all rest → Otherwise (sign l (word Else) ∷ ts) all rest
-    into {rest = rest} {all = all} (ss, end, (m, mid, the e, b), is) = subst (λ t. Otherwise (sign l (word Else) ∷ (sign m t ∷ mid)) all rest) (sym e) (else_block b)
-
-    out : {ts rest : List Lexeme} {all : List Stm} → Otherwise (sign l (word Else) ∷ ts) all rest → Clear (next_of rest) → ElseSuite ts all rest
-    out no_else n = absurd (n (inl refl))
-    out (else_block b) n = (_, _, (_, _, the refl, b), is)
-
-pub else_binds : Binds a_suite (λ ss. Is ss) (before Clear FitsBlock ElseSuite)
-else_binds = chain an_otherwise a_suite (λ ss. Is ss) record { apart = λ ss mid all rest k n. tt; down = λ ss mid all rest k f. down k f; ready = λ over ss f. ready_is FitsBlock over ss f }
-  where
-    down : {ss all : List Stm} {mid rest : List Lexeme} → Is ss mid all rest → FitsBlock all → FitsBlock ss
+    down : {y x : List Stm} {mid rest : List Lexeme} → Is y mid x rest → FitsBlock x → FitsBlock y
     down is f = f
 
-pub otherwise_ready : (over : Bool) → Ready FitsBlock over Otherwise
-otherwise_ready over = record { word = []; done = []; fits = within_all FitsBlock over [] tt; reads = λ z. no_else }
+-- [ "else" ":" block ], and the same with "finally"
+pub after_none : (w : Sign) (ts : List Lexeme) → sign_at (next_of ts) ≢ Some w → Narrows ts (before Clear FitsBlock (Is [])) (an_afterwards w)
+after_none w ts n = record { into = λ more all rest k. into k; out = λ more all rest a o m. (out (not_sign ts a n) o, m); stop = λ all o k. k; up = λ all f. f; down = λ all f. f }
+  where
+    into : {more rest : List Lexeme} {all : List Stm} → Is [] more all rest → Afterwards w more all rest
+    into is = nothing_after
 
--- where no "else" was taken
-pub none_carries : {ts rest : List Lexeme} → (sign_at (next_of ts) ≢ Some (word Else)) × (rest ≡ ts) → Carries an_otherwise ts (before Clear FitsBlock (Is [])) rest
-none_carries {ts} n = subst (λ u. Carries an_otherwise ts (before Clear FitsBlock (Is [])) u) (sym n.1) (narrow_carries (else_none ts n.0))
+    out : {more rest : List Lexeme} {all : List Stm} → sign_at (next_of more) ≢ Some w → Afterwards w more all rest → Is [] more all rest
+    out m nothing_after = is
+    out m (block_after e b) = absurd (m (ap (λ u. Some u) e))
+
+pub clause_word : (w : Sign) → IsAfterwards w → (l : ℕ) → IsClause (Some (sign l w))
+clause_word w (inl e) l = subst (λ u. IsClause (Some (sign l u))) (sym e) (inl refl)
+clause_word w (inr e) l = subst (λ u. IsClause (Some (sign l u))) (sym e) (inr (inr (inr refl)))
+
+pub after_shifts : (w : Sign) (l : ℕ) → IsAfterwards w → Shifts (sign l w) a_last (an_afterwards w)
+after_shifts w l h = record { intro = λ ts all rest k. into k; inv = λ ts all rest o n. (out o n, n); stop = λ all o n. n; up = λ all f. f; down = λ all f. f }
+  where
+    into : {ts rest : List Lexeme} {all : List Stm} → Suite ts all rest → Afterwards w (sign l w ∷ ts) all rest
+    into {rest = rest} {all = all} (m, mid, the e, b) = subst (λ t. Afterwards w (sign l w ∷ (sign m t ∷ mid)) all rest) (sym e) (block_after refl b)
+
+    out : {ts rest : List Lexeme} {all : List Stm} → Afterwards w (sign l w ∷ ts) all rest → Clear (next_of rest) → Suite ts all rest
+    out nothing_after n = absurd (n (clause_word w h l))
+    out (block_after e b) n = (_, _, the refl, b)
+
+pub after_ready : (w : Sign) (over : Bool) → Ready FitsBlock over (Afterwards w)
+after_ready w over = record { word = []; done = []; fits = within_all FitsBlock over [] tt; reads = λ z. nothing_after }
+
+pub otherwise_ready : (over : Bool) → Ready FitsBlock over (Afterwards (word Else))
+otherwise_ready over = after_ready (word Else) over
+
+pub last_ready : (over : Bool) → Ready a_last.fits over a_last.reads
+last_ready over = suite_ready over
+
+-- where its word was not taken
+pub none_carries : {ts rest : List Lexeme} (w : Sign) → (sign_at (next_of ts) ≢ Some w) × (rest ≡ ts) → Carries (an_afterwards w) ts (before Clear FitsBlock (Is [])) rest
+none_carries {ts} w n = subst (λ u. Carries (an_afterwards w) ts (before Clear FitsBlock (Is [])) u) (sym n.1) (narrow_carries (after_none w ts n.0))
 
 -- where the closing sign was not taken
 pub next_carries : {P : Part Lexeme (List Stm)} {ts mid rest : List Lexeme} (close : Sign) (ss : List Stm) → Carries P ts (some_stmts close ss) mid

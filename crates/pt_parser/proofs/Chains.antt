@@ -2,7 +2,7 @@
 use Rattle.std.proofs.Common.{◌≡◌, List, [], ◌∷◌, ◌++◌, Option, Bool, true, false, refl, append_assoc}
 use Rattle.pt_readers.specs.Reading.{next_of, Part, Within, Found, Alike}
 use Rattle.pt_readers.proofs.Readers.{Binds, Shifts, left, nothing_found}
-use Rattle.pt_expr.specs.Lexemes.{Lexeme, name}
+use Rattle.pt_grammar.specs.Lexemes.{Lexeme, name}
 use Rattle.pt_parser.specs.Forms.{Reads, Is, is, Then, identifier, an_identifier}
 
 -- What is left can be completed, within the limits where they are asked for.

@@ -5,26 +5,32 @@ use Rattle.pt_wide.specs.Syntax.{Exp, Stm, Stms, Branches}
 use Rattle.pt_wide.specs.StatementFold.{stms_from}
 use Rattle.pt_readers.specs.Reading.{next_of, behind, Part, Alike, Found, Refused, Carries, Within}
 use Rattle.pt_readers.proofs.Readers.{Binds, Shifts, Narrows, left, narrow_carries, then_on}
-use Rattle.pt_expr.specs.declared.sign.Sign.{Sign}
-use Rattle.pt_expr.specs.declared.sign.Sign.TheVariants.{Mark as mark, Word as word, Keyword as keyword}
-use Rattle.pt_expr.specs.declared.sign.Mark.TheVariants.{Colon}
-use Rattle.pt_expr.specs.declared.sign.Word.TheVariants.{Else, If, For, In}
-use Rattle.pt_expr.specs.declared.sign.Keyword.TheVariants.{Elif, While}
-use Rattle.pt_expr.specs.Lexemes.{Lexeme, sign, sign_at}
+use Rattle.pt_grammar.specs.declared.sign.Sign.{Sign}
+use Rattle.pt_grammar.specs.declared.sign.Sign.TheVariants.{Mark as mark, Word as word, Keyword as keyword}
+use Rattle.pt_grammar.specs.declared.sign.Mark.TheVariants.{Colon}
+use Rattle.pt_grammar.specs.declared.sign.Word.TheVariants.{Else, If, For, In}
+use Rattle.pt_grammar.specs.declared.sign.Keyword.TheVariants.{Class, Def, Elif, Try, While, With}
+use Rattle.pt_grammar.specs.Lexemes.{Lexeme, sign, sign_at}
 use Rattle.pt_parser.specs.Forms.{Reads, Is, is, Then, The, the, a_sign}
 use Rattle.pt_parser.specs.Simple.{an_expression, expressions, places}
-use Rattle.pt_parser.specs.Grammar.{OneBranch, branches_of, Block, Otherwise, no_else, else_block, Suite, Chosen, chosen, Alternative, elif, otherwise, Compound, if_so, while_so, for_each, Repetition, Iteration}
+use Rattle.pt_parser.specs.Grammar.{OneBranch, branches_of, Block, Afterwards, nothing_after, block_after, Otherwise, Suite, Chosen, chosen, Alternative, elif, otherwise, Compound, if_so, while_so, for_each, Repetition, Iteration}
+use Rattle.pt_parser.specs.Headings.{at_sign}
 use Rattle.pt_parser.specs.Limits.{FitsExp, FitsStm, FitsStms, FitsBranches}
 use Rattle.pt_parser.specs.Parts.{IsClause, Clear, BeginsCompound, Each, FitsBlock, FitsBranch, a_compound, an_otherwise, a_suite}
 use Rattle.pt_parser.specs.Views.{branch_parts}
 use Rattle.pt_parser.proofs.Tokens.{not_sign}
 use Rattle.pt_parser.proofs.Chains.{Ready, ready_is, ready_then, Follows, chain, within_all, within_one, within_two, within_three}
-use Rattle.pt_parser.proofs.Follow.{Follow, follow_at, expr_follow, expressions_follow, places_in, expressions_ready}
+use Rattle.pt_grammar.specs.declared.part.Part.TheVariants.{Whole}
+use Rattle.pt_grammar.specs.Signs.{ends_items}
+use Rattle.pt_parser.proofs.Follow.{Follow, follow_at, items_at, expr_follow, expressions_ready}
 use Rattle.pt_parser.proofs.UpTo.{each_before, each_behind, each_snoc}
 use Rattle.pt_parser.proofs.BlockLemmas.{suite_ready, suite_next, otherwise_ready}
 
 suite_follow : {ss : List Stm} {ts rest : List Lexeme} → Suite ts ss rest → Follow (next_of ts)
 suite_follow q = follow_at _ (suite_next q) tt
+
+suite_items : {ss : List Stm} {ts rest : List Lexeme} → Suite ts ss rest → ends_items Whole (next_of ts) ≡ true
+suite_items q = items_at Whole _ (suite_next q) refl
 
 -- behind "while"
 abbrev pub WhileBody : ℕ → Exp → Reads Stm
@@ -124,7 +130,7 @@ for_target l = chain a_compound places (ForIn l) record {
 }
   where
     apart : (t : Exp) {k : ℕ} {mid rest : List Lexeme} → The (word In) mid k rest → places.stops t (next_of mid)
-    apart t (the {l = k} e) = subst (λ u. places.stops t (Some (sign k u))) (sym e) (places_in t k)
+    apart t (the {l = k} e) = subst (λ u. places.stops t (Some (sign k u))) (sym e) refl
 
     down : {t : Exp} {mid rest : List Lexeme} {s : Stm} → ForIn l t mid s rest → FitsStm s → FitsExp t
     down (j, us, d, (e, m5, p, (body, m2, b, (els, m4, o, is)))) f = f.0
@@ -138,7 +144,7 @@ for_in l t f = chain a_compound (a_sign (word In)) (λ k. ForOver l t) record {
 
 pub for_over : (l : ℕ) (t : Exp) → FitsExp t → Binds expressions (ForBody l t) (left a_compound (ForOver l t))
 for_over l t f = chain a_compound expressions (ForBody l t) record {
-  apart = λ e mid s rest k n. expressions_follow e _ (suite_follow k.2);
+  apart = λ e mid s rest k n. suite_items k.2;
   down = λ e mid s rest k g. down k g;
   ready = λ over e g. ready_then FitsStm over a_suite (ForElse l t e) (suite_ready over) (λ body h. for_last over l t e body (within_all FitsExp over t f) g h);
 }
@@ -210,7 +216,7 @@ alternative_ready over l m bs c body f g h = record {
   word = [];
   done = S.choice l (branches_of (bs ++ (branch_parts m c body ∷ []))) S.none;
   fits = within_branches over l m bs c body f g h;
-  reads = λ z. otherwise no_else;
+  reads = λ z. otherwise nothing_after;
 }
 
 pub choice_test : (l m : ℕ) (bs : List OneBranch) → Each FitsBranch bs → Binds an_expression (Body l m bs) (left a_compound (Then an_expression.reads (Body l m bs)))
@@ -230,8 +236,12 @@ choice_body l m bs c f g = chain a_compound a_suite (λ body. Alternative l (bs 
 pub elif_shifts : (l m : ℕ) (bs : List OneBranch) → Shifts (sign m (keyword Elif)) (left a_compound (Chosen l m bs)) (left a_compound (Alternative l bs))
 elif_shifts l m bs = record { intro = λ ts s rest k. elif k; inv = λ ts s rest k n. (out k n, n); stop = λ s o n. n; up = λ s f. f; down = λ s f. f }
   where
+    other : keyword Elif ≡ word Else → ⊥
+    other e = cc
+
     no_other : {ts rest : List Lexeme} {els : List Stm} → Otherwise (sign m (keyword Elif) ∷ ts) els rest → Clear (next_of rest) → ⊥
-    no_other no_else n = n (inr (inl refl))
+    no_other nothing_after n = n (inr (inl refl))
+    no_other (block_after e b) n = other e
 
     out : {ts rest : List Lexeme} {s : Stm} → Alternative l bs (sign m (keyword Elif) ∷ ts) s rest → Clear (next_of rest) → Chosen l m bs ts s rest
     out (elif k) n = k
@@ -269,11 +279,17 @@ if_shifts l = record { intro = λ ts s rest k. if_so k; inv = λ ts s rest k n. 
     out : {ts rest : List Lexeme} {s : Stm} → Compound (sign l (word If) ∷ ts) s rest → Chosen l l [] ts s rest
     out (if_so k) = k
 
--- neither "if" nor "while" is next
-pub is_for : (o : Option Lexeme) → BeginsCompound o → sign_at o ≢ Some (word If) → sign_at o ≢ Some (keyword While) → sign_at o ≡ Some (word For)
-is_for o (inl h) m n = absurd (m h)
-is_for o (inr (inl h)) m n = absurd (n h)
-is_for o (inr (inr h)) m n = h
+-- none of the keywords is next
+pub is_at : (o : Option Lexeme) → BeginsCompound o → sign_at o ≢ Some (word If) → sign_at o ≢ Some (keyword While) → sign_at o ≢ Some (word For) → sign_at o ≢ Some (keyword Try)
+    → sign_at o ≢ Some (keyword Def) → sign_at o ≢ Some (keyword Class) → sign_at o ≢ Some (keyword With) → sign_at o ≡ Some at_sign
+is_at o (inl h) a b c d e f g = absurd (a h)
+is_at o (inr (inl h)) a b c d e f g = absurd (b h)
+is_at o (inr (inr (inl h))) a b c d e f g = absurd (c h)
+is_at o (inr (inr (inr (inl h)))) a b c d e f g = absurd (d h)
+is_at o (inr (inr (inr (inr (inl h))))) a b c d e f g = absurd (e h)
+is_at o (inr (inr (inr (inr (inr (inl h)))))) a b c d e f g = absurd (f h)
+is_at o (inr (inr (inr (inr (inr (inr (inl h))))))) a b c d e f g = h
+is_at o (inr (inr (inr (inr (inr (inr (inr h))))))) a b c d e f g = absurd (g h)
 
 -- where no "elif" was taken
 pub last_carries : {P : Part Lexeme Stm} {ts mid rest : List Lexeme} (l : ℕ) (bs : List OneBranch) → Carries P ts (left a_compound (Alternative l bs)) mid

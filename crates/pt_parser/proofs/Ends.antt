@@ -4,20 +4,26 @@ use Rattle.pt_wide.specs.Syntax.{Exp, Opt, absent, given}
 use Rattle.pt_readers.specs.Reading.{next_of, behind, Part, Alike, Found, Refused, Carries, Within}
 use Rattle.pt_readers.proofs.Readers.{Binds, Shifts, Narrows, left, nothing_found, bad_refused, carries_all, narrow_carries, then_on}
 use Rattle.pt_readers.proofs.Loops.{Repeats, Out, at_end, at_step, loop_shifts, loop_binds, loop_found, Right}
-use Rattle.pt_expr.specs.declared.sign.Sign.{Sign}
-use Rattle.pt_expr.specs.declared.sign.Sign.TheVariants.{Mark as mark, Layout as layout}
-use Rattle.pt_expr.specs.declared.sign.Mark.TheVariants.{Semicolon}
-use Rattle.pt_expr.specs.declared.sign.Layout.TheVariants.{Newline}
-use Rattle.pt_expr.specs.Lexemes.{Lexeme, sign, sign_of, sign_at, line_at}
+use Rattle.pt_grammar.specs.declared.sign.Sign.{Sign}
+use Rattle.pt_grammar.specs.declared.sign.Sign.TheVariants.{Mark as mark, Layout as layout}
+use Rattle.pt_grammar.specs.declared.sign.Mark.TheVariants.{Semicolon}
+use Rattle.pt_grammar.specs.declared.sign.Layout.TheVariants.{Newline}
+use Rattle.pt_grammar.specs.Lexemes.{Lexeme, sign, sign_of, sign_at, line_at}
 use Rattle.pt_parser.specs.Forms.{Reads, Is, is, Then, More, no_more, one_more, an_identifier, an_optional}
 use Rattle.pt_parser.specs.Simple.{comma, an_expression}
 use Rattle.pt_parser.specs.Parts.{IsEnd, an_end, a_list}
 use Rattle.pt_parser.proofs.Chains.{Ready, Follows, chain, is_found, identifier_ready}
-use Rattle.pt_parser.proofs.Follow.{Follow, follow_at, expr_follow}
+use Rattle.pt_grammar.specs.declared.part.Part.{Part as WhichPart}
+use Rattle.pt_grammar.specs.Signs.{ends_items}
+use Rattle.pt_parser.proofs.Follow.{Follow, follow_at, items_at, expr_follow}
 
 pub end_follow : (o : Option Lexeme) → IsEnd o → Follow o
 end_follow o (inl h) = follow_at o h tt
 end_follow o (inr h) = follow_at o h tt
+
+pub end_items : (p : WhichPart) (o : Option Lexeme) → IsEnd o → ends_items p o ≡ true
+end_items p o (inl h) = items_at p o h refl
+end_items p o (inr h) = items_at p o h refl
 
 -- another sign is no end
 pub end_not : {s : Sign} (o : Option Lexeme) → IsEnd o → s ≢ mark Semicolon → s ≢ layout Newline → sign_at o ≢ Some s

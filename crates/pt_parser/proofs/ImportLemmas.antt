@@ -8,12 +8,12 @@ use Rattle.pt_base.specs.declared.operators.BinOp.TheVariants.{Mul}
 use Rattle.pt_wide.specs.declared.expression.WideBinOp.TheVariants.{Plain}
 use Rattle.pt_readers.specs.Reading.{next_of, behind, Part, Alike, Found, Refused, Carries, Within}
 use Rattle.pt_readers.proofs.Readers.{Binds, Shifts, Narrows, left, nothing_found, narrow_carries}
-use Rattle.pt_expr.specs.declared.sign.Sign.{Sign}
-use Rattle.pt_expr.specs.declared.sign.Sign.TheVariants.{Operator, Singleton as singleton, Mark as mark, Word as word, Keyword as keyword}
-use Rattle.pt_expr.specs.declared.sign.Singleton.TheVariants.{Ellipsis}
-use Rattle.pt_expr.specs.declared.sign.Mark.TheVariants.{Open, Close, Dot}
-use Rattle.pt_expr.specs.declared.sign.Keyword.TheVariants.{As, Import}
-use Rattle.pt_expr.specs.Lexemes.{Lexeme, name, sign, sign_at}
+use Rattle.pt_grammar.specs.declared.sign.Sign.{Sign}
+use Rattle.pt_grammar.specs.declared.sign.Sign.TheVariants.{Operator, Singleton as singleton, Mark as mark, Word as word, Keyword as keyword}
+use Rattle.pt_grammar.specs.declared.sign.Singleton.TheVariants.{Ellipsis}
+use Rattle.pt_grammar.specs.declared.sign.Mark.TheVariants.{Open, Close, Dot}
+use Rattle.pt_grammar.specs.declared.sign.Keyword.TheVariants.{As, Import}
+use Rattle.pt_grammar.specs.Lexemes.{Lexeme, name, sign, sign_at}
 use Rattle.pt_parser.specs.Forms.{Reads, Is, is, Then, The, the, Identifier, identifier, Separated, no_more, UpTo, a_sign, an_identifier}
 use Rattle.pt_parser.specs.Simple.{comma, Renamed, not_renamed, renamed, Aliased, Imports, Imported, star, listed, enclosed, Dotted, no_dot, dot, dots, ImportedFrom}
 use Rattle.pt_parser.specs.Limits.{FitsStm}

@@ -8,4 +8,13 @@ pub mod SimpleLemmas
 pub mod StatedLemmas
 pub mod BlockLemmas
 pub mod CompoundLemmas
+pub mod HeadLemmas
+pub mod DefinitionLemmas
+pub mod TryLemmas
+pub mod NodeLemmas
 pub mod ScriptLemmas
+pub mod WithLemmas
+pub mod HeldLemmas
+pub mod HeldEnds
+pub mod HeldReaders
+pub mod EnterLemmas

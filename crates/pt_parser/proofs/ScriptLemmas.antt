@@ -6,7 +6,7 @@ use Rattle.pt_readers.specs.Settled.{Settled}
 use Rattle.pt_readers.specs.Whole.{Tells}
 use Rattle.pt_readers.specs.declared.halt.Halt.{Halt}
 use Rattle.pt_readers.proofs.Wholes.{settled_tells}
-use Rattle.pt_expr.specs.Lexemes.{Lexeme}
+use Rattle.pt_grammar.specs.Lexemes.{Lexeme}
 use Rattle.pt_parser.specs.Script.{a_script}
 
 pub ok_told : (ts us rest : List Lexeme) (ss : List Stm) → us ≡ ts → Found a_script us ss rest → Tells a_script ts rest (Ok ss)

@@ -1,22 +1,28 @@
 -- How what is left of a simple statement goes on.
-use Rattle.std.proofs.Common.{◌≡◌, ◌≢◌, ℕ, List, [], ◌∷◌, ◌++◌, Option, Some, None, Bool, true, false, inl, inr, refl, sym, ◌∙◌, ap, subst}
+use Rattle.std.proofs.Common.{◌≡◌, ◌≢◌, ℕ, List, [], ◌∷◌, ◌++◌, Option, Some, None, Bool, true, false, inl, inr, refl, sym, ◌∙◌, ap, subst, ◌<◌, arith}
 use Rattle.pt_wide.specs.Syntax as S
 use Rattle.pt_wide.specs.Syntax.{Exp, Opt, Stm}
 use Rattle.pt_readers.specs.Reading.{next_of, behind, Part, Alike, Found, Refused, Carries, Within}
 use Rattle.pt_readers.proofs.Readers.{Binds, Shifts, Narrows, left, bad_refused}
-use Rattle.pt_expr.specs.declared.sign.Sign.{Sign}
-use Rattle.pt_expr.specs.declared.sign.Sign.TheVariants.{Word as word, Keyword as keyword}
-use Rattle.pt_expr.specs.declared.sign.Keyword.{Keyword}
-use Rattle.pt_expr.specs.declared.sign.Keyword.TheVariants.{Assert, Break, Continue, Del, Global, Import, Nonlocal, Pass, Raise, Return}
-use Rattle.pt_expr.specs.declared.sign.Word.TheVariants.{From}
-use Rattle.pt_expr.specs.Lexemes.{Lexeme, sign, sign_at}
+use Rattle.pt_grammar.specs.declared.sign.Sign.{Sign}
+use Rattle.pt_grammar.specs.declared.sign.Sign.TheVariants.{Mark as mark, Word as word, Keyword as keyword}
+use Rattle.pt_grammar.specs.declared.sign.Mark.TheVariants.{Comma}
+use Rattle.pt_grammar.specs.declared.sign.Keyword.{Keyword}
+use Rattle.pt_grammar.specs.declared.sign.Keyword.TheVariants.{Assert, Break, Continue, Del, Global, Import, Nonlocal, Pass, Raise, Return}
+use Rattle.pt_grammar.specs.declared.sign.Word.TheVariants.{From}
+use Rattle.pt_grammar.specs.Lexemes.{Lexeme, name, int, str, f_text, sign, unknown, sign_at}
+use Rattle.pt_grammar.specs.declared.part.Part.TheVariants.{Whole, Target}
+use Rattle.pt_grammar.specs.Nodes.{Listed}
+use Rattle.pt_grammar.specs.Parts.{IsComma, StopsItems, item_rank, last_of}
+use Rattle.pt_grammar.specs.Signs.{begins_sign, begins_item}
+use Rattle.pt_wide.specs.Fold.{all_of}
 use Rattle.pt_parser.specs.Forms.{Reads, Is, is, Then, Optional, an_optional}
-use Rattle.pt_parser.specs.Simple.{Behind, Nothing, ImportedFrom, Stated, annotated, augmented, assigned, only_value, Simple, led, imported_from, stated, comma, an_expression, expressions, places, Returned, returned_nothing, returned, Raised, raised_again, raised}
-use Rattle.pt_parser.specs.Limits.{FitsExp, FitsOpt, FitsStm}
+use Rattle.pt_parser.specs.Simple.{Behind, Nothing, ImportedFrom, Stated, annotated, augmented, assigned, only_value, Simple, led, imported_from, stated, comma, an_expression, expressions, several_places, Returned, returned_nothing, returned, Raised, raised_again, raised}
+use Rattle.pt_parser.specs.Limits.{FitsExp, FitsOpt, FitsTargets, FitsStm}
 use Rattle.pt_parser.specs.Parts.{IsEnd, keyword_in, a_list, a_simple}
 use Rattle.pt_parser.proofs.Chains.{Ready, ready_is, ready_then, within_all, within_one, within_two, Follows, chain}
-use Rattle.pt_parser.proofs.Follow.{Follow, Begins, begins_not, values_begins, place_value, target_value, expr_begins, expressions_begins, expr_follow, expressions_follow, places_follow, expr_comma, expr_ready, optional_ready, optional_follow}
-use Rattle.pt_parser.proofs.Ends.{end_follow, end_not, not_end}
+use Rattle.pt_parser.proofs.Follow.{Follow, Begins, begins_not, values_begins, place_value, target_value, expr_begins, expressions_begins, follow_stops, expr_follow, expr_comma, expr_ready, optional_ready, optional_follow}
+use Rattle.pt_parser.proofs.Ends.{end_follow, end_items, end_not, not_end}
 
 -- an optional expression before the end
 pub optional_end : {s : Sign} (o : Opt) (next : Option Lexeme) → IsEnd next → (IsEnd next → sign_at next ≢ Some s) → (an_optional s an_expression).stops o next
@@ -68,19 +74,43 @@ listed_binds {A} Q f fits = chain a_simple (a_list Q) (λ xs. Is (f xs)) record 
     apart : {xs : List A} {s : Stm} {ts rest : List Lexeme} → Is (f xs) ts s rest → IsEnd (next_of rest) → IsEnd (next_of ts)
     apart is e = e
 
+-- targets with commas between them, before the end
+rank_low : (e : Exp) → item_rank Target e < 12
+rank_low (S.starred l e) = omega arith
+rank_low _ = omega arith
+
+end_no_comma : (o : Option Lexeme) → IsEnd o → IsComma o → ⊥
+end_no_comma (Some (sign l (mark Comma))) e c = end_not {s = mark Comma} (Some (sign l (mark Comma))) e (λ k. cc) (λ k. cc) refl
+end_no_comma _ e c = absurd c
+
+begins_at : {s : Sign} (o : Option Lexeme) → sign_at o ≡ Some s → begins_sign Target s ≡ false → begins_item Target o ≡ false
+begins_at {s} (Some (sign l u)) h f = let e : s ≡ u = cc in subst (λ v. begins_sign Target v ≡ false) e f
+begins_at None h f = cc
+begins_at (Some (name l x)) h f = cc
+begins_at (Some (int l n)) h f = cc
+begins_at (Some (str l x)) h f = cc
+begins_at (Some (f_text l x)) h f = cc
+begins_at (Some (unknown l)) h f = cc
+
+end_stops : (b : Bool) (es : List Exp) (o : Option Lexeme) → IsEnd o → StopsItems Target b es o
+end_stops true es o (inl h) = begins_at o h refl
+end_stops true es o (inr h) = begins_at o h refl
+end_stops false [] o e = end_no_comma o e
+end_stops false (x ∷ es) o e = (follow_stops (item_rank Target (last_of x es)) (last_of x es) o (rank_low (last_of x es)) (end_follow o e), end_no_comma o e)
+
 -- "del" targets
-pub del_binds : (l : ℕ) → Binds places (λ t. Is (S.del l (S.more_exps t S.no_exps))) (left a_simple (Then places.reads (λ t. Is (S.del l (S.more_exps t S.no_exps)))))
-del_binds l = chain a_simple places (λ t. Is (S.del l (S.more_exps t S.no_exps))) record {
-  apart = λ t mid s rest k e. apart t k e;
-  down = λ t mid s rest k f. down k f;
-  ready = λ over t f. ready_is FitsStm over _ (within_one FitsExp FitsStm over t (S.del l (S.more_exps t S.no_exps)) (λ f. (f, tt)) f);
+pub del_binds : (l : ℕ) → Binds several_places (λ x. Is (S.del l (all_of x.items))) (left a_simple (Then several_places.reads (λ x. Is (S.del l (all_of x.items)))))
+del_binds l = chain a_simple several_places (λ x. Is (S.del l (all_of x.items))) record {
+  apart = λ x mid s rest k e. apart x k e;
+  down = λ x mid s rest k f. down x k f;
+  ready = λ over x f. ready_is FitsStm over _ (within_one several_places.fits FitsStm over x (S.del l (all_of x.items)) (λ f. f) f);
 }
   where
-    apart : (t : Exp) {s : Stm} {ts rest : List Lexeme} → Is (S.del l (S.more_exps t S.no_exps)) ts s rest → IsEnd (next_of rest) → places.stops t (next_of ts)
-    apart t is e = places_follow t _ (end_follow _ e)
+    apart : (x : Listed) {s : Stm} {ts rest : List Lexeme} → Is (S.del l (all_of x.items)) ts s rest → IsEnd (next_of rest) → several_places.stops x (next_of ts)
+    apart x is e = end_stops x.comma x.items _ e
 
-    down : {t : Exp} {s : Stm} {ts rest : List Lexeme} → Is (S.del l (S.more_exps t S.no_exps)) ts s rest → FitsStm s → FitsExp t
-    down is f = f.0
+    down : (x : Listed) {s : Stm} {ts rest : List Lexeme} → Is (S.del l (all_of x.items)) ts s rest → FitsStm s → several_places.fits x
+    down x is f = f
 
 -- no expression begins with the end of a statement
 pub begins_no_end : (o : Option Lexeme) → Begins o → IsEnd o → ⊥
@@ -123,7 +153,7 @@ value_binds l = chain a_simple expressions (λ e. Is (S.return l (S.given e))) r
 }
   where
     apart : (e : Exp) {s : Stm} {ts rest : List Lexeme} → Is (S.return l (S.given e)) ts s rest → IsEnd (next_of rest) → expressions.stops e (next_of ts)
-    apart e is n = expressions_follow e _ (end_follow _ n)
+    apart e is n = end_items Whole _ n
 
     down : {e : Exp} {s : Stm} {ts rest : List Lexeme} → Is (S.return l (S.given e)) ts s rest → FitsStm s → FitsExp e
     down is f = f

@@ -6,12 +6,12 @@ use Rattle.pt_wide.specs.Syntax.{Exp, Exps, Opt, Stm}
 use Rattle.pt_wide.specs.Fold.{all_of}
 use Rattle.pt_readers.specs.Reading.{next_of, behind, Part, Alike, Found, Refused, Carries, Within}
 use Rattle.pt_readers.proofs.Readers.{Binds, Shifts, Narrows, left, bad_refused}
-use Rattle.pt_expr.specs.declared.sign.Sign.{Sign}
-use Rattle.pt_expr.specs.declared.sign.Sign.TheVariants.{Augmented, Mark as mark, Layout as layout}
-use Rattle.pt_expr.specs.declared.sign.Layout.TheVariants.{Newline}
-use Rattle.pt_expr.specs.declared.sign.Mark.TheVariants.{Colon, Assign, Semicolon}
-use Rattle.pt_expr.specs.Grammar.{line_of}
-use Rattle.pt_expr.specs.Lexemes.{Lexeme, sign, sign_at}
+use Rattle.pt_grammar.specs.declared.sign.Sign.{Sign}
+use Rattle.pt_grammar.specs.declared.sign.Sign.TheVariants.{Augmented, Mark as mark, Layout as layout}
+use Rattle.pt_grammar.specs.declared.sign.Layout.TheVariants.{Newline}
+use Rattle.pt_grammar.specs.declared.sign.Mark.TheVariants.{Colon, Assign, Semicolon}
+use Rattle.pt_grammar.specs.Nodes.{line_of}
+use Rattle.pt_grammar.specs.Lexemes.{Lexeme, sign, sign_at}
 use Rattle.pt_parser.specs.Forms.{Reads, Is, is, Then, Optional, an_optional}
 use Rattle.pt_parser.specs.Simple.{an_expression, a_place, values, places, Assigned, last_value, one_target, Annotation, Stated, annotated, augmented, assigned, only_value}
 use Rattle.pt_parser.specs.Limits.{FitsExp, FitsOpt, FitsExps, FitsStm}
@@ -20,8 +20,9 @@ use Rattle.pt_parser.specs.Targets.{is_place, is_target}
 use Rattle.pt_parser.specs.Left.{After, at_end, at_assign, Augmentation}
 use Rattle.pt_parser.proofs.Tokens.{not_sign}
 use Rattle.pt_parser.proofs.Chains.{Ready, ready_is, ready_then, within_one, within_two, Follows, chain}
-use Rattle.pt_parser.proofs.Follow.{values_follow, place_follow, places_follow, expr_follow, expr_ready, optional_ready, optional_follow, place_value, value_place, place_is, target_value, value_target, target_is}
-use Rattle.pt_parser.proofs.Ends.{end_follow, end_not, no_end}
+use Rattle.pt_grammar.specs.declared.part.Part.TheVariants.{Whole}
+use Rattle.pt_parser.proofs.Follow.{expr_follow, expr_ready, optional_ready, optional_follow, place_value, value_place, place_is, target_value, value_target, target_is}
+use Rattle.pt_parser.proofs.Ends.{end_follow, end_items, end_not, no_end}
 use Rattle.pt_parser.proofs.UpTo.{each_snoc, each_before, each_behind}
 
 -- what is left behind the first value
@@ -48,8 +49,8 @@ after_keeps xs v at_end f = f.1
 after_keeps xs v (at_assign h a) f = (each_behind FitsExp xs (v ∷ []) (assigned_keeps (xs ++ (v ∷ [])) a f)).0
 
 after_stops : {l : ℕ} {xs : List Exp} (v : Exp) {ts rest : List Lexeme} {s : Stm} → After l xs v ts s rest → IsEnd (next_of rest) → values.stops v (next_of ts)
-after_stops v at_end n = values_follow v _ (end_follow _ n)
-after_stops v (at_assign h a) n = values_follow v _ tt
+after_stops v at_end n = end_items Whole _ n
+after_stops v (at_assign h a) n = refl
 
 within_after : (over : Bool) (l : ℕ) (xs : List Exp) (v : Exp) → Each FitsExp xs → Within FitsExp over v → Within FitsStm over (S.assign l (all_of xs) v)
 within_after over l xs v f g = within_one FitsExp FitsStm over v (S.assign l (all_of xs) v) (λ g. (fits_all xs f, g)) g
@@ -69,8 +70,8 @@ assigned_binds l xs f = record {
 
     out : {ts rest : List Lexeme} {s : Stm} → Assigned l xs ts s rest → IsEnd (next_of rest)
         → (v : Exp) × (mid : List Lexeme) × values.reads ts v mid × values.stops v (next_of mid) × After l xs v mid s rest
-    out {rest = rest} (last_value {v = v} q) n = (v, rest, q, values_follow v (next_of rest) (end_follow (next_of rest) n), at_end)
-    out (one_target {m = m} {t = t} q a) n = (t, _, target_value q, values_follow t (Some (sign m (mark Assign))) tt, at_assign (target_is q) a)
+    out {rest = rest} (last_value {v = v} q) n = (v, rest, q, end_items Whole (next_of rest) n, at_end)
+    out (one_target {m = m} {t = t} q a) n = (t, _, target_value q, refl, at_assign (target_is q) a)
 
 -- an `=` behind a target
 pub assign_shifts : (l m : ℕ) (xs : List Exp) (v : Exp) → is_target v ≡ true → Shifts (sign m (mark Assign)) (left a_simple (Assigned l (xs ++ (v ∷ [])))) (left a_simple (After l xs v))
@@ -126,10 +127,10 @@ stated_binds = record {
 
     out : {ts rest : List Lexeme} {s : Stm} → Stated ts s rest → IsEnd (next_of rest)
         → (v : Exp) × (mid : List Lexeme) × values.reads ts v mid × values.stops v (next_of mid) × Continued v mid s rest
-    out (annotated {m = m} {t = t} q k) n = (t, _, place_value q, values_follow t (Some (sign m (mark Colon))) tt, as_annotated (place_is q) k)
-    out {rest = rest} (augmented {m = m} {t = t} {v = v} {o = o} q p) n = (t, _, place_value q, values_follow t (Some (sign m (Augmented o))) tt, as_augmented (place_is q) (v, rest, p, is))
-    out (assigned {m = m} {t = t} q a) n = (t, _, target_value q, values_follow t (Some (sign m (mark Assign))) tt, as_value (at_assign (target_is q) a))
-    out {rest = rest} (only_value {v = v} q) n = (v, rest, q, values_follow v (next_of rest) (end_follow (next_of rest) n), as_value at_end)
+    out (annotated {m = m} {t = t} q k) n = (t, _, place_value q, refl, as_annotated (place_is q) k)
+    out {rest = rest} (augmented {m = m} {t = t} {v = v} {o = o} q p) n = (t, _, place_value q, refl, as_augmented (place_is q) (v, rest, p, is))
+    out (assigned {m = m} {t = t} q a) n = (t, _, target_value q, refl, as_value (at_assign (target_is q) a))
+    out {rest = rest} (only_value {v = v} q) n = (v, rest, q, end_items Whole (next_of rest) n, as_value at_end)
 
     down : {v : Exp} {mid rest : List Lexeme} {s : Stm} → Continued v mid s rest → FitsStm s → FitsExp v
     down {v} (as_value k) f = after_keeps [] v k f
@@ -236,7 +237,7 @@ AnnotationValue t a = Then (Optional (mark Assign) values.reads) (λ v. Is (S.an
 
 values_end : (o : Opt) (next : Option Lexeme) → IsEnd next → (an_optional (mark Assign) values).stops o next
 values_end S.absent next e = end_not next e (λ k. cc) (λ k. cc)
-values_end (S.given v) next e = values_follow v next (end_follow next e)
+values_end (S.given v) next e = end_items Whole next e
 
 pub annotation_binds : (t : Exp) → FitsExp t → Binds an_expression (AnnotationValue t) (left a_simple (Annotation t))
 annotation_binds t ft = chain a_simple an_expression (AnnotationValue t) record {
@@ -273,7 +274,7 @@ augmentation_binds t o ft = chain a_simple values (λ v. Is (S.augmented (line_o
 }
   where
     apart : (v : Exp) {mid rest : List Lexeme} {s : Stm} → Is (S.augmented (line_of t) t o v) mid s rest → IsEnd (next_of rest) → values.stops v (next_of mid)
-    apart v is n = values_follow v _ (end_follow _ n)
+    apart v is n = end_items Whole _ n
 
     down : {v : Exp} {mid rest : List Lexeme} {s : Stm} → Is (S.augmented (line_of t) t o v) mid s rest → FitsStm s → FitsExp v
     down is f = f.1

@@ -5,8 +5,8 @@ use Rattle.pt_readers.specs.Reading.{next_of, behind, Part, Alike, Found, Refuse
 use Rattle.pt_readers.proofs.Readers.{Binds, Shifts, left, Just, nothing_found, bad_refused}
 use Rattle.pt_readers.proofs.Exits.{found_at, at_next}
 use Rattle.pt_readers.proofs.Pieces.{Made, made, made_binds}
-use Rattle.pt_expr.specs.declared.sign.Sign.{Sign}
-use Rattle.pt_expr.specs.Lexemes.{Lexeme, name, int, str, f_text, sign, unknown, sign_of, sign_at, line_at}
+use Rattle.pt_grammar.specs.declared.sign.Sign.{Sign}
+use Rattle.pt_grammar.specs.Lexemes.{Lexeme, name, int, str, f_text, sign, unknown, sign_of, sign_at, line_at}
 use Rattle.pt_parser.specs.Forms.{The, the, Identifier, identifier, Optional, left_out, written, a_sign, an_identifier, StopsOptional, FitsOptional, an_optional}
 
 some_sign : {s : Sign} (t : Lexeme) → sign_of t ≡ Some s → Some t ≡ Some (sign (line_at (Some t)) s)

@@ -3,8 +3,8 @@ use Rattle.std.proofs.Common.{◌≡◌, ◌≢◌, ℕ, List, [], ◌∷◌, �
 use Rattle.pt_readers.specs.Reading.{next_of, behind, Part, Alike, Found, Refused, Carries, Within}
 use Rattle.pt_readers.proofs.Readers.{Binds, Shifts, Narrows, left, bad_refused, narrow_carries, then_on}
 use Rattle.pt_readers.proofs.Exits.{shift_on}
-use Rattle.pt_expr.specs.declared.sign.Sign.{Sign}
-use Rattle.pt_expr.specs.Lexemes.{Lexeme, sign, sign_at}
+use Rattle.pt_grammar.specs.declared.sign.Sign.{Sign}
+use Rattle.pt_grammar.specs.Lexemes.{Lexeme, sign, sign_at}
 use Rattle.pt_parser.specs.Forms.{Reads, Is, is, Then, UpTo, closed, separated, Onward, closed_behind, item}
 use Rattle.pt_parser.specs.Parts.{Each, closing}
 use Rattle.pt_parser.proofs.Tokens.{sign_next, not_sign}

@@ -3,8 +3,8 @@ use Rattle.std.specs.Prelude.{◌≡◌, ◌≢◌, ℕ, List, [], ◌∷◌, �
 use Rattle.pt_tree.specs.Syntax.{Name}
 use Rattle.pt_wide.specs.Syntax.{Exp, Opt, absent, given}
 use Rattle.pt_readers.specs.Reading.{Part}
-use Rattle.pt_expr.specs.declared.sign.Sign.{Sign}
-use Rattle.pt_expr.specs.Lexemes.{Lexeme, name, sign, sign_at}
+use Rattle.pt_grammar.specs.declared.sign.Sign.{Sign}
+use Rattle.pt_grammar.specs.Lexemes.{Lexeme, name, sign, sign_at}
 
 -- The tokens begin with what a production names, and the last list is behind that.
 abbrev pub Reads : Type 0 → Type 1

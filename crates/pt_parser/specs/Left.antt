@@ -4,10 +4,10 @@ use Rattle.pt_base.specs.declared.operators.BinOp.{BinOp}
 use Rattle.pt_wide.specs.Syntax as S
 use Rattle.pt_wide.specs.Syntax.{Exp, Stm}
 use Rattle.pt_wide.specs.Fold.{all_of}
-use Rattle.pt_expr.specs.declared.sign.Sign.TheVariants.{Mark as mark}
-use Rattle.pt_expr.specs.declared.sign.Mark.TheVariants.{Assign}
-use Rattle.pt_expr.specs.Grammar.{line_of}
-use Rattle.pt_expr.specs.Lexemes.{Lexeme, sign}
+use Rattle.pt_grammar.specs.declared.sign.Sign.TheVariants.{Mark as mark}
+use Rattle.pt_grammar.specs.declared.sign.Mark.TheVariants.{Assign}
+use Rattle.pt_grammar.specs.Nodes.{line_of}
+use Rattle.pt_grammar.specs.Lexemes.{Lexeme, sign}
 use Rattle.pt_parser.specs.Forms.{Reads, Is, Then}
 use Rattle.pt_parser.specs.Simple.{values, Assigned}
 use Rattle.pt_parser.specs.Targets.{is_target}

@@ -1,5 +1,6 @@
 pub mod Forms
 pub mod Simple
+pub mod Headings
 pub mod Limits
 pub mod Grammar
 pub mod Parts
@@ -7,3 +8,5 @@ pub mod Targets
 pub mod Left
 pub mod Views
 pub mod Script
+pub mod With
+pub mod WithLeft

@@ -2,8 +2,8 @@
 use Rattle.std.specs.Prelude.{◌≤◌}
 use Rattle.pt_wide.specs.Syntax as S
 use Rattle.pt_wide.specs.Syntax.{Exp, Exps, Opt, Args, Params, Decorators, Items, Stm, Stms, Branches, Handlers}
-use Rattle.pt_wide.specs.Measure.{depth_params, width_params, depth_args, width_args, count_args}
-use Rattle.pt_expr.specs.Parts.{Fits, max_items}
+use Rattle.pt_wide.specs.Measure.{depth_all, width_all, count_exps, depth_params, width_params, depth_args, width_args, count_args}
+use Rattle.pt_grammar.specs.Parts.{Fits, max_items}
 use Rattle.pt_parser.specs.Forms.{FitsOptional}
 use Rattle.pt_parser.specs.Simple.{max_depth}
 
@@ -16,6 +16,10 @@ FitsOpt o = FitsOptional FitsExp o
 abbrev pub FitsExps : Exps → Type 0
 FitsExps S.no_exps = Unit {0}
 FitsExps (S.more_exps e es) = FitsExp e × FitsExps es
+
+-- several targets with commas between them
+abbrev pub FitsTargets : Exps → Type 0
+FitsTargets ts = (depth_all ts ≤ max_depth) × (width_all ts ≤ max_items) × (count_exps ts ≤ max_items)
 
 abbrev pub FitsItems : Items → Type 0
 FitsItems S.no_items = Unit {0}
@@ -38,7 +42,7 @@ abbrev mutual
   FitsStm (S.annotated l t a v) = FitsExp t × FitsExp a × FitsOpt v
   FitsStm (S.assert l c m) = FitsExp c × FitsOpt m
   FitsStm (S.pass l) = Unit {0}
-  FitsStm (S.del l ts) = FitsExps ts
+  FitsStm (S.del l ts) = FitsTargets ts
   FitsStm (S.return l v) = FitsOpt v
   FitsStm (S.raise l e c) = FitsExp e × FitsOpt c
   FitsStm (S.raise_again l) = Unit {0}

@@ -1,22 +1,26 @@
 -- The parts of the grammar of statements: which tokens they are, which tokens go on with them, and the limits.
 use Rattle.std.specs.Prelude.{◌≡◌, ◌≢◌, ◌⊎◌, ℕ, List, [], ◌∷◌, Option, Some, None}
 use Rattle.pt_tree.specs.declared.statement.Alias.{Alias}
-use Rattle.pt_wide.specs.Syntax.{Stm}
+use Rattle.pt_wide.specs.Syntax.{Stm, absent}
 use Rattle.pt_readers.specs.Reading.{Part}
-use Rattle.pt_expr.specs.declared.sign.Sign.{Sign}
-use Rattle.pt_expr.specs.declared.sign.Sign.TheVariants.{Augmented, Mark as mark, Word as word, Layout as layout, Keyword as keyword, Singleton as singleton}
-use Rattle.pt_expr.specs.declared.sign.Singleton.TheVariants.{Ellipsis}
-use Rattle.pt_expr.specs.declared.sign.Keyword.{Keyword}
-use Rattle.pt_expr.specs.declared.sign.Word.TheVariants.{Else, If, For}
-use Rattle.pt_expr.specs.declared.sign.Keyword.TheVariants.{As, Elif, Except, Finally, While}
+use Rattle.pt_grammar.specs.declared.sign.Sign.{Sign}
+use Rattle.pt_grammar.specs.declared.sign.Sign.TheVariants.{Augmented, Mark as mark, Word as word, Layout as layout, Keyword as keyword, Singleton as singleton}
+use Rattle.pt_grammar.specs.declared.sign.Singleton.TheVariants.{Ellipsis}
+use Rattle.pt_grammar.specs.declared.sign.Keyword.{Keyword}
+use Rattle.pt_grammar.specs.declared.sign.Word.TheVariants.{Else, If, For}
+use Rattle.pt_grammar.specs.declared.sign.Keyword.TheVariants.{As, Class, Def, Elif, Except, Finally, Try, While, With}
 use Rattle.pt_base.specs.declared.operators.BinOp.{BinOp}
-use Rattle.pt_expr.specs.declared.sign.Mark.TheVariants.{Semicolon, Dot, Close}
-use Rattle.pt_expr.specs.declared.sign.Layout.TheVariants.{Newline}
-use Rattle.pt_expr.specs.Lexemes.{Lexeme, sign_at}
-use Rattle.pt_parser.specs.Forms.{Reads, Is, Then, Separated, UpTo, an_identifier}
-use Rattle.pt_parser.specs.Simple.{comma, Aliased, Imported, Dotted, Simple}
-use Rattle.pt_parser.specs.Limits.{FitsExp, FitsStm, FitsStms}
-use Rattle.pt_parser.specs.Grammar.{OneBranch, Block, Stmts, Stmt, Simples, Otherwise, Suite, Compound}
+use Rattle.pt_grammar.specs.declared.sign.Mark.TheVariants.{Arrow, Colon, Semicolon, Dot, Close}
+use Rattle.pt_grammar.specs.declared.sign.Layout.TheVariants.{Newline}
+use Rattle.pt_grammar.specs.Lexemes.{Lexeme, sign_at}
+use Rattle.pt_grammar.specs.Nodes.{params_of}
+use Rattle.pt_tree.specs.Syntax.{Name}
+use Rattle.pt_parser.specs.Forms.{Reads, Is, Then, Separated, UpTo, an_identifier, an_optional}
+use Rattle.pt_parser.specs.Simple.{comma, an_expression, a_place, Renamed, Aliased, Imported, Dotted, Simple}
+use Rattle.pt_parser.specs.Headings.{at_sign, OneDecorator, Decorated, OneSignature, Signature, OneCatch, Catch}
+use Rattle.pt_parser.specs.With.{OneItem, WithItem, WithItems, FitsItem}
+use Rattle.pt_parser.specs.Limits.{FitsExp, FitsOpt, FitsParams, FitsStm, FitsStms}
+use Rattle.pt_parser.specs.Grammar.{OneBranch, OneHandler, Block, Stmts, Stmt, Simples, Afterwards, Suite, Compound}
 use Rattle.pt_wide.specs.StatementFold.{stms_from}
 
 -- The next token ends a simple statement.
@@ -43,6 +47,13 @@ keyword_in _ = None
 abbrev pub operator_in : Option Sign → Option BinOp
 operator_in (Some (Augmented o)) = Some o
 operator_in _ = None
+
+-- nothing, before this sign
+abbrev pub a_sign_next : Sign → Part Lexeme (Unit {0})
+a_sign_next s = record { reads = Is tt; stops = λ u next. sign_at next ≡ Some s; fits = λ u. Unit {0} }
+
+abbrev pub a_renamed : Part Lexeme (Option Name)
+a_renamed = record { reads = Renamed; stops = λ x next. x ≡ None → sign_at next ≢ Some (keyword As); fits = λ x. Unit {0} }
 
 abbrev pub an_alias : Part Lexeme Alias
 an_alias = record { reads = Aliased; stops = StopsAlias; fits = λ a. Unit {0} }
@@ -79,6 +90,31 @@ FitsBlock ss = FitsStms (stms_from ss)
 abbrev pub FitsBranch : OneBranch → Type 0
 FitsBranch b = FitsExp b.test × FitsBlock b.body
 
+abbrev pub FitsHandler : OneHandler → Type 0
+FitsHandler h = FitsOpt h.class × FitsBlock h.body
+
+abbrev pub FitsDecorator : OneDecorator → Type 0
+FitsDecorator d = FitsExp d.value
+
+-- behind the "@" on this line
+abbrev pub some_decorators : ℕ → Part Lexeme (List OneDecorator)
+some_decorators l = record { reads = Decorated l []; stops = λ ds next. sign_at next ≢ Some at_sign; fits = Each FitsDecorator }
+
+abbrev pub a_signature : Part Lexeme OneSignature
+a_signature = record { reads = Signature; stops = λ h next. (an_optional (mark Arrow) an_expression).stops h.returns next; fits = λ h. FitsParams (params_of h.parameters) × FitsOpt h.returns }
+
+-- up to the colon, which stays
+abbrev pub a_catch : Part Lexeme OneCatch
+a_catch = record { reads = Catch; stops = λ c next. sign_at next ≡ Some (mark Colon); fits = λ c. FitsOpt c.class }
+
+-- an item of a `with`
+abbrev pub a_with_item : Part Lexeme OneItem
+a_with_item = record { reads = WithItem; stops = λ i next. (an_optional (keyword As) a_place).stops i.target next × (i.target ≡ absent → an_expression.stops i.context next); fits = FitsItem }
+
+-- all of them, up to the colon, which stays
+abbrev pub with_items : Part Lexeme (List OneItem)
+with_items = record { reads = WithItems; stops = λ is next. sign_at next ≡ Some (mark Colon); fits = Each FitsItem }
+
 -- The next token goes on with a compound statement before it.
 abbrev pub IsClause : Option Lexeme → Type 0
 IsClause next = (sign_at next ≡ Some (word Else)) ⊎ (sign_at next ≡ Some (keyword Elif)) ⊎ (sign_at next ≡ Some (keyword Except)) ⊎ (sign_at next ≡ Some (keyword Finally))
@@ -110,13 +146,25 @@ some_stmts close ss = record { reads = Stmts close ss; stops = λ all next. Unit
 abbrev pub a_block : Part Lexeme (List Stm)
 a_block = record { reads = Block; stops = λ ss next. Unit {0}; fits = FitsBlock }
 
+-- the words of parts that stand behind all others
+abbrev pub IsAfterwards : Sign → Type 0
+IsAfterwards w = (w ≡ word Else) ⊎ (w ≡ keyword Finally)
+
+abbrev pub an_afterwards : Sign → Part Lexeme (List Stm)
+an_afterwards w = record { reads = Afterwards w; stops = λ ss next. Clear next; fits = FitsBlock }
+
 abbrev pub an_otherwise : Part Lexeme (List Stm)
-an_otherwise = record { reads = Otherwise; stops = λ ss next. Clear next; fits = FitsBlock }
+an_otherwise = an_afterwards (word Else)
 
 -- ":" and a block
 abbrev pub a_suite : Part Lexeme (List Stm)
 a_suite = record { reads = Suite; stops = λ ss next. Unit {0}; fits = FitsBlock }
 
+-- the same at the end of a statement
+abbrev pub a_last : Part Lexeme (List Stm)
+a_last = record { reads = Suite; stops = λ ss next. Clear next; fits = FitsBlock }
+
 -- A compound statement is next.
 abbrev pub BeginsCompound : Option Lexeme → Type 0
-BeginsCompound next = (sign_at next ≡ Some (word If)) ⊎ (sign_at next ≡ Some (keyword While)) ⊎ (sign_at next ≡ Some (word For))
+BeginsCompound next = (sign_at next ≡ Some (word If)) ⊎ (sign_at next ≡ Some (keyword While)) ⊎ (sign_at next ≡ Some (word For)) ⊎ (sign_at next ≡ Some (keyword Try))
+    ⊎ (sign_at next ≡ Some (keyword Def)) ⊎ (sign_at next ≡ Some (keyword Class)) ⊎ (sign_at next ≡ Some at_sign) ⊎ (sign_at next ≡ Some (keyword With))

@@ -9,9 +9,9 @@ use Rattle.pt_readers.specs.Whole.{Tells}
 use Rattle.pt_readers.specs.declared.halt.Halt.TheVariants as cause
 use Rattle.pt_expr.specs.declared.front.ParseErr.{ParseErr}
 use Rattle.pt_expr.specs.declared.front.ParseErr.TheVariants.{Unexpected, Limit, Memory}
-use Rattle.pt_expr.specs.declared.sign.Sign.TheVariants.{Layout as layout}
-use Rattle.pt_expr.specs.declared.sign.Layout.TheVariants.{End}
-use Rattle.pt_expr.specs.Lexemes.{Lexeme, lexemes, line_at}
+use Rattle.pt_grammar.specs.declared.sign.Sign.TheVariants.{Layout as layout}
+use Rattle.pt_grammar.specs.declared.sign.Layout.TheVariants.{End}
+use Rattle.pt_grammar.specs.Lexemes.{Lexeme, lexemes, line_at}
 use Rattle.pt_expr.specs.Answers.{place_at}
 use Rattle.pt_parser.specs.Parts.{some_stmts}
 

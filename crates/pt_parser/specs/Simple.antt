@@ -9,23 +9,25 @@ use Rattle.pt_wide.specs.Syntax as S
 use Rattle.pt_wide.specs.Syntax.{Exp, Exps, Opt, Stm}
 use Rattle.pt_wide.specs.Fold.{all_of}
 use Rattle.pt_readers.specs.Reading.{Part}
-use Rattle.pt_expr.specs.declared.sign.Sign.{Sign}
-use Rattle.pt_expr.specs.declared.sign.Sign.TheVariants.{Operator, Augmented, Singleton as singleton, Mark as mark, Word as word, Keyword as keyword, Layout as layout}
-use Rattle.pt_expr.specs.declared.sign.Singleton.TheVariants.{Ellipsis}
-use Rattle.pt_expr.specs.declared.sign.Mark.TheVariants.{Open, Close, Comma, Colon, Dot, Assign}
-use Rattle.pt_expr.specs.declared.sign.Word.TheVariants.{From}
-use Rattle.pt_expr.specs.declared.sign.Keyword.{Keyword}
-use Rattle.pt_expr.specs.declared.sign.Keyword.TheVariants.{As, Assert, Break, Continue, Del, Global, Import, Nonlocal, Pass, Raise, Return}
-use Rattle.pt_expr.specs.Grammar.{line_of}
-use Rattle.pt_expr.specs.Lexemes.{Lexeme, sign}
-use Rattle.pt_expr.specs.Parts.{a_bor, an_expr}
+use Rattle.pt_grammar.specs.declared.sign.Sign.{Sign}
+use Rattle.pt_grammar.specs.declared.sign.Sign.TheVariants.{Operator, Augmented, Singleton as singleton, Mark as mark, Word as word, Keyword as keyword, Layout as layout}
+use Rattle.pt_grammar.specs.declared.sign.Singleton.TheVariants.{Ellipsis}
+use Rattle.pt_grammar.specs.declared.sign.Mark.TheVariants.{Open, Close, Comma, Colon, Dot, Assign}
+use Rattle.pt_grammar.specs.declared.sign.Word.TheVariants.{From}
+use Rattle.pt_grammar.specs.declared.sign.Keyword.{Keyword}
+use Rattle.pt_grammar.specs.declared.sign.Keyword.TheVariants.{As, Assert, Break, Continue, Del, Global, Import, Nonlocal, Pass, Raise, Return}
+use Rattle.pt_grammar.specs.Nodes.{line_of}
+use Rattle.pt_grammar.specs.Lexemes.{Lexeme, sign}
+use Rattle.pt_grammar.specs.Nodes as L
+use Rattle.pt_grammar.specs.declared.part.Part.TheVariants.{Whole, Target}
+use Rattle.pt_grammar.specs.Parts.{a_bare, a_bor, a_value, an_expr, some_exprs}
 use Rattle.pt_parser.specs.Forms.{Reads, Is, Then, The, Identifier, Optional, Separated, UpTo}
 
 -- an expression may have so many nodes inside one another
 abbrev pub max_depth : ℕ
 max_depth = 500
 
--- The parts of the grammar of expressions. Not read yet: tuples without parentheses, items with a star, and `yield`.
+-- The parts of the grammar of expressions.
 abbrev pub an_expression : Part Lexeme Exp
 an_expression = an_expr max_depth
 
@@ -33,13 +35,17 @@ abbrev pub a_place : Part Lexeme Exp
 a_place = a_bor max_depth
 
 abbrev pub expressions : Part Lexeme Exp
-expressions = an_expr max_depth
+expressions = a_bare Whole max_depth
 
 abbrev pub values : Part Lexeme Exp
-values = an_expr max_depth
+values = a_value max_depth
 
 abbrev pub places : Part Lexeme Exp
-places = a_bor max_depth
+places = a_bare Target max_depth
+
+-- the same, one by one
+abbrev pub several_places : Part Lexeme L.Listed
+several_places = some_exprs Target max_depth
 
 abbrev pub comma : Sign
 comma = mark Comma
@@ -100,7 +106,7 @@ Behind l Return = Returned l
 Behind l Raise = Raised l
 Behind l Global = Then Names (λ xs. Is (S.global l xs))
 Behind l Nonlocal = Then Names (λ xs. Is (S.nonlocal l xs))
-Behind l Del = Then places.reads (λ t. Is (S.del l (S.more_exps t S.no_exps)))
+Behind l Del = Then several_places.reads (λ x. Is (S.del l (all_of x.items)))
 Behind l Assert = Then an_expression.reads (λ e. Then (Optional comma an_expression.reads) (λ m. Is (S.assert l e m)))
 Behind l Import = Then Imports (λ xs. Is (S.import l xs))
 Behind l _ = Nothing

@@ -5,17 +5,18 @@ ghost use Rattle.pt_wide.specs.StatementFold.{stm_of};
 ghost use Rattle.pt_readers.specs.Reading.{next_of};
 ghost use Rattle.pt_readers.specs.Settled.{Settled};
 ghost use Rattle.pt_readers.proofs.Readers.{left};
-ghost use Rattle.pt_expr.specs.declared.sign.Sign.TheVariants.{Layout as layout_sign};
-ghost use Rattle.pt_expr.specs.declared.sign.Layout.TheVariants.{Dedent, End};
-ghost use Rattle.pt_parser.specs.Grammar.{Chosen, Repetition, Iteration};
-ghost use Rattle.pt_parser.specs.Parts.{FitsBlock, IsClause, BeginsCompound, no_clause, a_compound, some_simples, a_stmt, some_stmts, a_block, an_otherwise, a_suite};
+ghost use Rattle.pt_grammar.specs.declared.sign.Sign.TheVariants.{Layout as layout_sign};
+ghost use Rattle.pt_grammar.specs.declared.sign.Layout.TheVariants.{Dedent, End};
+ghost use Rattle.pt_parser.specs.Grammar.{Chosen, Repetition, Iteration, Entering};
+ghost use Rattle.pt_parser.specs.Parts.{FitsBlock, IsClause, BeginsCompound, no_clause, a_compound, some_simples, a_stmt, some_stmts, a_block, IsAfterwards, an_afterwards, a_last, a_suite};
 
 use crate::signs::{
-    COLON, DEDENT, ELIF, ELSE, EXCEPT, FINALLY, FOR, IF, IN, INDENT, NEWLINE, SEMICOLON, WHILE,
+    AT, CLASS, COLON, DEDENT, DEF, ELIF, ELSE, EXCEPT, FINALLY, FOR, IF, IN, INDENT, NEWLINE,
+    SEMICOLON, TRY, WHILE, WITH,
 };
 use crate::{Statements, nodes};
 use pt_base::{Line, Seq};
-use pt_expr::Sign;
+use pt_grammar::Sign;
 use pt_readers::Halt;
 use pt_wide::WideStmt;
 
@@ -78,15 +79,24 @@ impl<'a> Statements<'a> {
         Ok(all)
     }
 
-    /// `else` and its block, if they are there.
+    /// `else` or `finally` and its block, if they are there.
     #[cycle(statements)]
-    pub(crate) fn otherwise(&mut self) -> Result<Seq<WideStmt>, Halt>
-        ensures { Settled an_otherwise (λ all. map stm_of all) self.old self.new result }
+    pub(crate) fn afterwards(&mut self, word: Sign) -> Result<Seq<WideStmt>, Halt>
+        requires { IsAfterwards word }
+        ensures { Settled (an_afterwards word) (λ all. map stm_of all) self.old self.new result }
     {
-        if !self.take(ELSE) {
+        if !self.take(word) {
             self.clear()?;
             return Ok(Seq::new(self.alloc));
         }
+        self.last()
+    }
+
+    /// `:` and the block with which a statement ends.
+    #[cycle(statements)]
+    pub(crate) fn last(&mut self) -> Result<Seq<WideStmt>, Halt>
+        ensures { Settled a_last (λ all. map stm_of all) self.old self.new result }
+    {
         let all = self.suite()?;
         self.clear()?;
         Ok(all)
@@ -133,7 +143,14 @@ impl<'a> Statements<'a> {
     fn is_compound(&self) -> bool
         ensures { IsTrue result ↔ BeginsCompound (next_of self.now) }
     {
-        self.is(IF) || self.is(WHILE) || self.is(FOR)
+        self.is(IF)
+            || self.is(WHILE)
+            || self.is(FOR)
+            || self.is(TRY)
+            || self.is(DEF)
+            || self.is(CLASS)
+            || self.is(AT)
+            || self.is(WITH)
     }
 
     /// A compound statement.
@@ -149,8 +166,24 @@ impl<'a> Statements<'a> {
         if self.take(WHILE) {
             return self.repetition(line);
         }
+        if self.take(FOR) {
+            return self.iteration(line);
+        }
+        if self.take(TRY) {
+            return self.attempt(line);
+        }
+        let decorators = Seq::new(self.alloc);
+        if self.take(DEF) {
+            return self.function(line, decorators, line);
+        }
+        if self.take(CLASS) {
+            return self.class(line, decorators, line);
+        }
+        if self.take(WITH) {
+            return self.entering(line);
+        }
         self.skip();
-        self.iteration(line)
+        self.decorated(line)
     }
 
     /// Behind `if` (Language Reference 8.1).
@@ -166,7 +199,7 @@ impl<'a> Statements<'a> {
             branches.push(nodes::if_branch(at, test, body))?;
             at = self.line();
             if !self.take(ELIF) {
-                let otherwise = self.otherwise()?;
+                let otherwise = self.afterwards(ELSE)?;
                 return Ok(nodes::choice(line, branches, otherwise));
             }
         }
@@ -179,7 +212,7 @@ impl<'a> Statements<'a> {
     {
         let test = self.expression()?;
         let body = self.suite()?;
-        let otherwise = self.otherwise()?;
+        let otherwise = self.afterwards(ELSE)?;
         Ok(nodes::repetition(line, test, body, otherwise))
     }
 
@@ -192,7 +225,17 @@ impl<'a> Statements<'a> {
         self.expect(IN)?;
         let iterable = self.exprs()?;
         let body = self.suite()?;
-        let otherwise = self.otherwise()?;
+        let otherwise = self.afterwards(ELSE)?;
         Ok(nodes::iteration(line, target, iterable, body, otherwise))
+    }
+
+    /// Behind `with` (Language Reference 8.5).
+    #[cycle(statements)]
+    fn entering(&mut self, line: Line) -> Result<WideStmt, Halt>
+        ensures { Settled (left a_compound (Entering line.0)) stm_of self.old self.new result }
+    {
+        let items = self.with_items()?;
+        let body = self.last()?;
+        Ok(nodes::with(line, items, body))
     }
 }

@@ -6,14 +6,14 @@ ghost use Rattle.pt_readers.specs.Settled.{Settled};
 ghost use Rattle.pt_parser.specs.Forms.{an_identifier};
 ghost use Rattle.pt_wide.specs.StatementFold.{stm_of};
 ghost use Rattle.pt_readers.proofs.Readers.{left};
-ghost use Rattle.pt_expr.specs.Lexemes.{sign_at};
+ghost use Rattle.pt_grammar.specs.Lexemes.{sign_at};
 ghost use Rattle.pt_parser.specs.Simple.{ImportedFrom};
 ghost use Rattle.pt_parser.specs.Parts.{IsEnd, an_end, an_alias, a_list, an_enclosure, imported as imported_part, dots_in, some_dots, a_simple};
 
 use crate::signs::{AS, CLOSE, COMMA, IMPORT, NEWLINE, OPEN, SEMICOLON, STAR};
 use crate::{Statements, nodes};
 use pt_base::{Line, Seq, Text};
-use pt_expr::{Mark, Sign, Singleton};
+use pt_grammar::{Mark, Sign, Singleton};
 use pt_readers::Halt;
 use pt_tree::Alias;
 use pt_wide::WideStmt;

@@ -2,8 +2,13 @@
 //! Reference 7 to 9).
 #![tactic(auto)]
 
+mod attempts;
 mod blocks;
+mod definitions;
+mod heads;
 mod imports;
+mod inner;
+mod item_nodes;
 mod nodes;
 mod reader;
 mod script;
@@ -11,9 +16,7 @@ mod signs;
 mod simple;
 mod stated;
 mod targets;
+mod with_items;
 
 pub use reader::Statements;
 pub use script::wide_script;
-
-#[cfg(test)]
-mod tests;

@@ -1,19 +1,27 @@
 //! Nodes of the tree of statements.
 
-ghost use Rattle.std.specs.Prelude.{◌≡◌, map, IfOk};
+ghost use Rattle.std.specs.Prelude.{◌≡◌, map};
 ghost use Rattle.pt_wide.specs.Fold.{exp_of, opt_exp, all_of};
 ghost use Rattle.pt_wide.specs.StatementFold.{stm_of, stms_of};
-ghost use Rattle.pt_parser.specs.Grammar.{branches_of};
-ghost use Rattle.pt_parser.specs.Views.{branch_in, branch_parts};
+ghost use Rattle.pt_grammar.specs.Nodes.{params_of};
+ghost use Rattle.pt_grammar.specs.Views.{args_in};
+ghost use Rattle.pt_grammar.specs.ReadViews.{gathered_read};
+ghost use Rattle.pt_parser.specs.Headings.{a_decorator, decorators_from};
+ghost use Rattle.pt_parser.specs.Grammar.{branches_of, handler_at, handlers_from};
+ghost use Rattle.pt_parser.specs.With.{items_from};
+ghost use Rattle.pt_parser.specs.Views.{item_in, branch_in, branch_parts, decorator_in, catch_in, handler_in};
 ghost use Rattle.pt_wide.specs.Syntax as S;
 
-use pt_base::{BinOp, Boxed, Line, Memory, Seq, Text};
+use crate::heads::{Catch, Signature};
+use pt_base::{BinOp, Boxed, Line, Seq, Text};
 use pt_tree::Alias;
-use pt_wide::{WideBranch, WideExpr, WideStmt, WideStmtNode};
-use std::alloc::Global;
+use pt_wide::{
+    WideArgument, WideBranch, WideDecorator, WideExpr, WideHandler, WideItem, WideStmt,
+    WideStmtNode,
+};
 
 /// What is in the box, if it is there.
-fn unboxed(value: Option<Boxed<WideExpr>>) -> Option<WideExpr>
+pub(crate) fn unboxed(value: Option<Boxed<WideExpr>>) -> Option<WideExpr>
     ensures { opt_exp result ≡ opt_exp value }
 {
     match value {
@@ -94,17 +102,11 @@ pub(crate) fn nonlocal(line: Line, names: Seq<Text>) -> WideStmt
 }
 
 #[tactic(auto, using(pt_wide::proofs::StatementFolds::statements))]
-pub(crate) fn deleted(
-    alloc: Global,
-    line: Line,
-    target: Boxed<WideExpr>,
-) -> Result<WideStmt, Memory>
-    ensures { IfOk result (λ s. stm_of s ≡ S.del line.0 (S.more_exps (exp_of target) S.no_exps)) }
+pub(crate) fn deleted(line: Line, targets: Seq<WideExpr>) -> WideStmt
+    ensures { stm_of result ≡ S.del line.0 (all_of (map exp_of targets)) }
 {
-    let mut targets = Seq::new(alloc);
-    targets.push(target.into_inner())?;
     let node = WideStmtNode::Del(targets);
-    Ok(WideStmt { line, node })
+    WideStmt { line, node }
 }
 
 #[tactic(auto, using(pt_wide::proofs::StatementFolds::statements))]
@@ -247,5 +249,91 @@ pub(crate) fn choice(line: Line, branches: Seq<WideBranch>, otherwise: Seq<WideS
         branches,
         otherwise,
     };
+    WideStmt { line, node }
+}
+
+pub(crate) fn decorator(line: Line, value: Boxed<WideExpr>) -> WideDecorator
+    ensures { decorator_in result ≡ a_decorator line.0 (exp_of value) }
+{
+    WideDecorator {
+        line,
+        value: value.into_inner(),
+    }
+}
+
+pub(crate) fn function(
+    line: Line,
+    decorators: Seq<WideDecorator>,
+    at: Line,
+    signature: Signature,
+    body: Seq<WideStmt>,
+) -> WideStmt
+    ensures { stm_of result ≡ S.def line.0 (decorators_from (map decorator_in decorators)) at.0 signature.name (params_of (gathered_read signature.parameters)) (opt_exp signature.returns) (stms_of body) }
+{
+    let node = WideStmtNode::Def {
+        decorators,
+        line: at,
+        name: signature.name,
+        parameters: signature.parameters.tree,
+        returns: unboxed(signature.returns),
+        body,
+    };
+    WideStmt { line, node }
+}
+
+pub(crate) fn class(
+    line: Line,
+    decorators: Seq<WideDecorator>,
+    at: Line,
+    name: Text,
+    arguments: Seq<WideArgument>,
+    body: Seq<WideStmt>,
+) -> WideStmt
+    ensures { stm_of result ≡ S.class line.0 (decorators_from (map decorator_in decorators)) at.0 name (args_in arguments) (stms_of body) }
+{
+    let node = WideStmtNode::Class {
+        decorators,
+        line: at,
+        name,
+        arguments,
+        body,
+    };
+    WideStmt { line, node }
+}
+
+pub(crate) fn handler(line: Line, catch: Catch, body: Seq<WideStmt>) -> WideHandler
+    ensures { handler_in result ≡ handler_at line.0 (catch_in catch) (map stm_of body) }
+{
+    WideHandler {
+        line,
+        star: catch.star,
+        class: unboxed(catch.class),
+        name: catch.name,
+        body,
+    }
+}
+
+pub(crate) fn attempt(
+    line: Line,
+    body: Seq<WideStmt>,
+    handlers: Seq<WideHandler>,
+    otherwise: Seq<WideStmt>,
+    finally: Seq<WideStmt>,
+) -> WideStmt
+    ensures { stm_of result ≡ S.try line.0 (stms_of body) (handlers_from (map handler_in handlers)) (stms_of otherwise) (stms_of finally) }
+{
+    let node = WideStmtNode::Try {
+        body,
+        handlers,
+        otherwise,
+        finally,
+    };
+    WideStmt { line, node }
+}
+
+pub(crate) fn with(line: Line, items: Seq<WideItem>, body: Seq<WideStmt>) -> WideStmt
+    ensures { stm_of result ≡ S.with line.0 (items_from (map item_in items)) (stms_of body) }
+{
+    let node = WideStmtNode::With { items, body };
     WideStmt { line, node }
 }

@@ -2,12 +2,16 @@ ghost use Rattle.std.specs.Prelude.{◌≡◌, ◌≢◌, ◌↔◌, Some, None,
 ghost use Rattle.pt_wide.specs.Fold.{exp_of, opt_exp};
 ghost use Rattle.pt_readers.specs.Reading.{next_of, behind};
 ghost use Rattle.pt_readers.specs.Settled.{Settled};
-ghost use Rattle.pt_expr.specs.Lexemes.{lexeme_of, lexemes as lexemes_of, sign_at, line_at};
-ghost use Rattle.pt_parser.specs.Simple.{an_expression, a_place, expressions as expression_list, values as some_values, places as target_list};
+ghost use Rattle.pt_grammar.specs.Lexemes.{lexeme_of, lexemes as lexemes_of, sign_at, line_at};
+ghost use Rattle.pt_parser.specs.Simple.{an_expression, a_place, expressions as expression_list, values as some_values, places as target_list, several_places};
+ghost use Rattle.pt_grammar.specs.ReadViews.{arguments_read, gathered_read, listed_read};
+ghost use Rattle.pt_parser.specs.Headings.{argument_list, parameter_list};
 ghost use Rattle.pt_parser.specs.Forms.{a_sign, an_identifier, an_optional};
 
 use pt_base::{Boxed, Dup, Line, Text};
-use pt_expr::{Reader, Sign};
+use pt_expr::Reader;
+use pt_grammar::deep::{Arguments, Listed, Parameters};
+use pt_grammar::{Part, Sign};
 use pt_lexer::{Token, TokenKind};
 use pt_readers::Halt;
 use pt_wide::WideExpr;
@@ -15,21 +19,21 @@ use std::alloc::Global;
 use std::marker::Model;
 
 /// How many nodes of an expression may stand inside one another.
-const MAX_DEPTH: u32 = 500;
+pub(crate) const MAX_DEPTH: u32 = 500;
 
 /// The level of the operators that may stand in a target's place: those of numbers.
-const LEVEL_OF_PLACES: u8 = 6;
+pub(crate) const LEVEL_OF_PLACES: u8 = 6;
 
 /// A reader of statements. Contracts see the tokens that are left.
 #[derive(Drop)]
 pub struct Statements<'a> {
     pub(crate) alloc: Global,
-    expressions: Reader<'a>,
+    pub(crate) expressions: Reader<'a>,
 }
 
 impl<'a> Model for Statements<'a> {
     ghost use Rattle.std.specs.Prelude.{List};
-    ghost use Rattle.pt_expr.specs.Lexemes.{Lexeme};
+    ghost use Rattle.pt_grammar.specs.Lexemes.{Lexeme};
 
     ghost Value = { List Lexeme };
 
@@ -154,7 +158,7 @@ impl<'a> Statements<'a> {
     pub(crate) fn exprs(&mut self) -> Result<Boxed<WideExpr>, Halt>
         ensures { Settled expression_list exp_of self.old self.new result }
     {
-        let read = self.expressions.expr(MAX_DEPTH)?;
+        let read = self.expressions.exprs(Part::Whole, MAX_DEPTH)?;
         Ok(read.tree)
     }
 
@@ -162,7 +166,7 @@ impl<'a> Statements<'a> {
     pub(crate) fn value(&mut self) -> Result<Boxed<WideExpr>, Halt>
         ensures { Settled some_values exp_of self.old self.new result }
     {
-        let read = self.expressions.expr(MAX_DEPTH)?;
+        let read = self.expressions.value(MAX_DEPTH)?;
         Ok(read.tree)
     }
 
@@ -170,8 +174,29 @@ impl<'a> Statements<'a> {
     pub(crate) fn targets(&mut self) -> Result<Boxed<WideExpr>, Halt>
         ensures { Settled target_list exp_of self.old self.new result }
     {
-        let read = self.expressions.binary(LEVEL_OF_PLACES, MAX_DEPTH)?;
+        let read = self.expressions.exprs(Part::Target, MAX_DEPTH)?;
         Ok(read.tree)
+    }
+
+    /// Targets with commas between them (Language Reference 7.5).
+    pub(crate) fn several_targets(&mut self) -> Result<Listed, Halt>
+        ensures { Settled several_places listed_read self.old self.new result }
+    {
+        self.expressions.several(Part::Target, MAX_DEPTH)
+    }
+
+    /// Parameters of a function up to `)`, which stays (Language Reference 8.7).
+    pub(crate) fn parameters(&mut self) -> Result<Parameters, Halt>
+        ensures { Settled parameter_list gathered_read self.old self.new result }
+    {
+        self.expressions.parameters(true, MAX_DEPTH)
+    }
+
+    /// Arguments behind `(`, and the `)` behind them (Language Reference 6.3.4, 8.8).
+    pub(crate) fn arguments(&mut self) -> Result<Arguments, Halt>
+        ensures { Settled argument_list arguments_read self.old self.new result }
+    {
+        self.expressions.arguments(MAX_DEPTH)
     }
 
     /// An expression behind this sign, where the sign is next.

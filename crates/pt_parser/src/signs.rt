@@ -1,7 +1,7 @@
 //! The signs of statements (Language Reference 2.3.1, 2.5, 2.6).
 
 use pt_base::BinOp;
-use pt_expr::{Keyword, Layout, Mark, Sign, Singleton, Word};
+use pt_grammar::{Keyword, Layout, Mark, Sign, Singleton, Word};
 use pt_wide::WideBinOp;
 
 pub(crate) const COMMA: Sign = Sign::Mark(Mark::Comma);
@@ -36,6 +36,8 @@ pub(crate) const DEDENT: Sign = Sign::Layout(Layout::Dedent);
 
 pub(crate) const END: Sign = Sign::Layout(Layout::End);
 
+pub(crate) const YIELD: Sign = Sign::Word(Word::Yield);
+
 pub(crate) const IF: Sign = Sign::Word(Word::If);
 
 pub(crate) const ELSE: Sign = Sign::Word(Word::Else);
@@ -55,3 +57,11 @@ pub(crate) const EXCEPT: Sign = Sign::Keyword(Keyword::Except);
 pub(crate) const FINALLY: Sign = Sign::Keyword(Keyword::Finally);
 
 pub(crate) const WITH: Sign = Sign::Keyword(Keyword::With);
+
+pub(crate) const DEF: Sign = Sign::Keyword(Keyword::Def);
+
+pub(crate) const CLASS: Sign = Sign::Keyword(Keyword::Class);
+
+pub(crate) const AT: Sign = Sign::Operator(WideBinOp::MatMul);
+
+pub(crate) const ARROW: Sign = Sign::Mark(Mark::Arrow);

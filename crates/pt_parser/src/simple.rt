@@ -5,9 +5,9 @@ ghost use Rattle.pt_wide.specs.StatementFold.{stm_of};
 ghost use Rattle.pt_readers.specs.Settled.{Settled};
 ghost use Rattle.pt_readers.proofs.Readers.{left};
 ghost use Rattle.pt_readers.specs.Reading.{next_of};
-ghost use Rattle.pt_expr.specs.declared.sign.Sign.TheVariants.{Keyword as keyword_sign};
-ghost use Rattle.pt_expr.specs.declared.sign.Keyword.TheVariants as keyword;
-ghost use Rattle.pt_expr.specs.Lexemes.{sign, sign_at};
+ghost use Rattle.pt_grammar.specs.declared.sign.Sign.TheVariants.{Keyword as keyword_sign};
+ghost use Rattle.pt_grammar.specs.declared.sign.Keyword.TheVariants as keyword;
+ghost use Rattle.pt_grammar.specs.Lexemes.{sign, sign_at};
 ghost use Rattle.pt_parser.specs.Forms.{Is};
 ghost use Rattle.pt_parser.specs.Simple.{Behind};
 ghost use Rattle.pt_parser.specs.Limits.{FitsStm};
@@ -16,7 +16,7 @@ ghost use Rattle.pt_parser.specs.Parts.{keyword_in, a_simple};
 use crate::signs::{COMMA, FROM};
 use crate::{Statements, nodes};
 use pt_base::Line;
-use pt_expr::{Keyword, Sign};
+use pt_grammar::{Keyword, Sign};
 use pt_readers::Halt;
 use pt_wide::WideStmt;
 
@@ -73,9 +73,8 @@ impl<'a> Statements<'a> {
     fn deleting(&mut self, line: Line) -> Result<WideStmt, Halt>
         ensures { Settled (left a_simple (Behind line.0 keyword.Del)) stm_of self.old self.new result }
     {
-        let target = self.targets()?;
-        let statement = nodes::deleted(self.alloc, line, target)?;
-        self.ended(statement)
+        let targets = self.several_targets()?;
+        self.ended(nodes::deleted(line, targets.items.items))
     }
 
     /// Behind `assert` (Language Reference 7.3).

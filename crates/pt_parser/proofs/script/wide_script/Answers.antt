@@ -2,7 +2,7 @@ use Rattle.std.proofs.Common.{Err, ◌∙◌, sym, ap, subst, length, map, inl, 
 use Rattle.pt_wide.specs.StatementFold.{stm_of}
 use Rattle.pt_readers.specs.Whole.{Tells}
 use Rattle.pt_readers.specs.declared.halt.Halt.TheVariants.{Unexpected, Limit}
-use Rattle.pt_expr.specs.Lexemes.{lexemes}
+use Rattle.pt_grammar.specs.Lexemes.{lexemes}
 use Rattle.pt_expr.specs.Answers.{place_at}
 use Rattle.pt_parser.specs.Script.{a_script}
 use Rattle.pt_parser.proofs.ScriptLemmas.{ok_told, err_told, no_length}

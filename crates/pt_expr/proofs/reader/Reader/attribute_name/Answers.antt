@@ -1,18 +1,9 @@
-use Rattle.std.proofs.Common.{◌≡◌, ℕ, List, Some, None, refl, sym, ◌∙◌, ap, subst, arith}
-use Rattle.pt_literals.specs.declared.token.TokenKind.{TokenKind}
-use Rattle.pt_literals.specs.declared.token.TokenKind.TheVariants as kind
-use Rattle.pt_expr.specs.Lexemes.{lexeme_at, signed, spelled}
-use Rattle.pt_expr.proofs.Trailers.{name_trails, no_name, IsName}
+use Rattle.std.proofs.Common.{Some, sym, ◌∙◌, ap, subst, arith}
+use Rattle.pt_grammar.specs.Lexemes.{lexeme_at}
+use Rattle.pt_grammar.specs.CallParts.{IsName}
+use Rattle.pt_grammar.proofs.NameKinds.{no_kind}
+use Rattle.pt_grammar.proofs.Trailers.{name_trails, no_name}
 use Rattle.pt_expr.proofs.reader.Reader.attribute_name.Goals as goal
-
-no_sign : (l : ℕ) (s : _) → IsName (Some (signed l s)) → ⊥
-no_sign l None b = b
-no_sign l (Some s) b = b
-
-no_kind : (l : ℕ) (k : TokenKind) → ((x : List ℕ) → k ≡ kind.Name x → ⊥) → IsName (Some (lexeme_at l k)) → ⊥
-no_kind l (kind.Name x) n b = n x refl
-no_kind l (kind.Sign x) n b = no_sign l (spelled x) b
-no_kind l _ n b = b
 
 pub returns-in_default : goal.returns-in_default
 returns-in_default c = record { value = λ d. no_name d _ (λ b. subst IsName (sym c.in_default.ensures) b); not_longer = omega arith }

@@ -1,6 +1,6 @@
 use Rattle.std.proofs.lemmas.Int.{to_z-of_z}
 use Rattle.std.specs.Int.{w128}
-use Rattle.pt_expr.proofs.Atoms.{int_found}
+use Rattle.pt_grammar.proofs.Atoms.{int_found}
 use Rattle.pt_expr.proofs.reader.Reader.number.Goals as goal
 
 pub returns : goal.returns

@@ -1,7 +1,7 @@
 use Rattle.std.proofs.Common.{ap}
-use Rattle.pt_expr.specs.Lexemes.{line_at}
-use Rattle.pt_expr.proofs.Ranks.{signed_next}
-use Rattle.pt_expr.proofs.Atoms.{singleton_found}
+use Rattle.pt_grammar.specs.Lexemes.{line_at}
+use Rattle.pt_grammar.proofs.Ranks.{signed_next}
+use Rattle.pt_grammar.proofs.Atoms.{singleton_found}
 use Rattle.pt_expr.proofs.reader.Reader.singleton.Goals as goal
 
 pub returns : goal.returns

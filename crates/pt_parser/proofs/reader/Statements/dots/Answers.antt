@@ -2,7 +2,7 @@ use Rattle.std.proofs.Common.{◌≡◌, ◌≢◌, ◌∙◌, ℕ, zero, suc, �
 use Rattle.pt_readers.specs.Reading.{next_of, behind, Carries}
 use Rattle.pt_readers.proofs.Readers.{carries_all, left}
 use Rattle.pt_readers.proofs.Exits.{some_more, shift_on}
-use Rattle.pt_expr.specs.Lexemes.{Lexeme, sign_at}
+use Rattle.pt_grammar.specs.Lexemes.{Lexeme, sign_at}
 use Rattle.pt_parser.specs.Simple.{Dotted}
 use Rattle.pt_parser.specs.Parts.{dots_in, some_dots}
 use Rattle.pt_parser.proofs.ImportLemmas.{dots_shifts, dots_end}

@@ -1,8 +1,8 @@
 use Rattle.std.proofs.Common.{[], length, arith, ap, false}
 use Rattle.pt_readers.proofs.Readers.{carries_all, left}
 use Rattle.pt_readers.proofs.Exits.{fails_at, goes_on, found_shorter, some_more}
-use Rattle.pt_expr.specs.declared.sign.Sign.TheVariants.{Mark as mark}
-use Rattle.pt_expr.specs.declared.sign.Mark.TheVariants.{Close}
+use Rattle.pt_grammar.specs.declared.sign.Sign.TheVariants.{Mark as mark}
+use Rattle.pt_grammar.specs.declared.sign.Mark.TheVariants.{Close}
 use Rattle.pt_parser.specs.Simple.{comma}
 use Rattle.pt_parser.specs.Parts.{an_alias}
 use Rattle.pt_parser.proofs.Tokens.{sign_next}

@@ -1,7 +1,7 @@
 use Rattle.std.proofs.Common.{length}
 use Rattle.pt_readers.specs.Reading.{Carries}
-use Rattle.pt_expr.specs.declared.sign.Sign.TheVariants.{Mark as mark}
-use Rattle.pt_expr.specs.declared.sign.Mark.TheVariants.{Close}
+use Rattle.pt_grammar.specs.declared.sign.Sign.TheVariants.{Mark as mark}
+use Rattle.pt_grammar.specs.declared.sign.Mark.TheVariants.{Close}
 use Rattle.pt_parser.specs.Forms.{UpTo}
 use Rattle.pt_parser.specs.Simple.{comma}
 use Rattle.pt_parser.specs.Parts.{Each, closing, an_alias, an_enclosure}

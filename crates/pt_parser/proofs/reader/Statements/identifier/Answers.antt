@@ -2,8 +2,8 @@ use Rattle.std.proofs.Common.{◌≡◌, ◌≢◌, ◌∙◌, sym, ap, refl, So
 use Rattle.pt_base.specs.declared.numbers.Line.{Line}
 use Rattle.pt_literals.specs.declared.token.TokenKind.{TokenKind}
 use Rattle.pt_literals.specs.declared.token.TokenKind.TheVariants as kind
-use Rattle.pt_expr.specs.declared.sign.Sign.{Sign}
-use Rattle.pt_expr.specs.Lexemes.{Lexeme, name, lexeme_at, signed, spelled}
+use Rattle.pt_grammar.specs.declared.sign.Sign.{Sign}
+use Rattle.pt_grammar.specs.Lexemes.{Lexeme, name, lexeme_at, signed, spelled}
 use Rattle.pt_parser.proofs.Tokens.{identifier_found, identifier_bad}
 use Rattle.pt_parser.proofs.reader.Statements.identifier.Goals as goal
 

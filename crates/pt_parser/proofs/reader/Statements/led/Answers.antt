@@ -2,10 +2,10 @@ use Rattle.pt_wide.specs.Fold.{exp_of}
 use Rattle.pt_wide.specs.StatementFold.{stm_of}
 use Rattle.pt_readers.proofs.Readers.{carries_all, narrow_carries, then_on}
 use Rattle.pt_readers.proofs.Exits.{fails_at, goes_on, carried_all, shift_on, is_so, is_not}
-use Rattle.pt_expr.specs.declared.sign.Keyword.TheVariants.{Assert, Break, Continue, Del, Global, Import, Nonlocal, Pass, Raise, Return}
+use Rattle.pt_grammar.specs.declared.sign.Keyword.TheVariants.{Assert, Break, Continue, Del, Global, Import, Nonlocal, Pass, Raise, Return}
 use Rattle.std.proofs.Common.{ap, ◌∙◌, Some}
-use Rattle.pt_expr.specs.declared.sign.Sign.TheVariants.{Keyword as keyword}
-use Rattle.pt_expr.specs.Lexemes.{sign}
+use Rattle.pt_grammar.specs.declared.sign.Sign.TheVariants.{Keyword as keyword}
+use Rattle.pt_grammar.specs.Lexemes.{sign}
 use Rattle.pt_parser.proofs.SimpleLemmas.{keyword_shifts, led_bad}
 use Rattle.pt_parser.proofs.reader.Statements.led.Goals as goal
 

@@ -3,9 +3,9 @@ use Rattle.std.proofs.lemmas.List.{map-append}
 use Rattle.pt_wide.specs.StatementFold.{stm_of}
 use Rattle.pt_readers.proofs.Readers.{narrow_carries}
 use Rattle.pt_readers.proofs.Exits.{fails_at, goes_on, found_shorter, some_more}
-use Rattle.pt_expr.specs.declared.sign.Sign.TheVariants.{Mark as mark, Layout as layout}
-use Rattle.pt_expr.specs.declared.sign.Mark.TheVariants.{Semicolon}
-use Rattle.pt_expr.specs.declared.sign.Layout.TheVariants.{Newline}
+use Rattle.pt_grammar.specs.declared.sign.Sign.TheVariants.{Mark as mark, Layout as layout}
+use Rattle.pt_grammar.specs.declared.sign.Mark.TheVariants.{Semicolon}
+use Rattle.pt_grammar.specs.declared.sign.Layout.TheVariants.{Newline}
 use Rattle.pt_parser.specs.Limits.{FitsStm}
 use Rattle.pt_parser.specs.Parts.{a_simple}
 use Rattle.pt_parser.proofs.UpTo.{each_snoc, item_binds, upto_bad, closed_found, sign_carries, behind_found, item_carries}

@@ -1,9 +1,9 @@
 use Rattle.std.proofs.Common.{map, length}
 use Rattle.pt_readers.specs.Reading.{Carries}
 use Rattle.pt_wide.specs.StatementFold.{stm_of}
-use Rattle.pt_expr.specs.declared.sign.Sign.TheVariants.{Mark as mark, Layout as layout}
-use Rattle.pt_expr.specs.declared.sign.Mark.TheVariants.{Semicolon}
-use Rattle.pt_expr.specs.declared.sign.Layout.TheVariants.{Newline}
+use Rattle.pt_grammar.specs.declared.sign.Sign.TheVariants.{Mark as mark, Layout as layout}
+use Rattle.pt_grammar.specs.declared.sign.Mark.TheVariants.{Semicolon}
+use Rattle.pt_grammar.specs.declared.sign.Layout.TheVariants.{Newline}
 use Rattle.pt_parser.specs.Forms.{UpTo}
 use Rattle.pt_parser.specs.Limits.{FitsStm}
 use Rattle.pt_parser.specs.Parts.{Each, closing, a_simple, some_simples}

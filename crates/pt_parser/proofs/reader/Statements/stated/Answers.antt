@@ -5,10 +5,10 @@ use Rattle.pt_wide.specs.StatementFold.{stm_of}
 use Rattle.pt_readers.specs.Reading.{next_of}
 use Rattle.pt_readers.proofs.Readers.{carries_all, narrow_carries, then_on}
 use Rattle.pt_readers.proofs.Exits.{fails_at, goes_on, carried_all, shift_on, is_so, is_not}
-use Rattle.pt_expr.specs.declared.sign.Sign.TheVariants.{Augmented, Mark as mark}
-use Rattle.pt_expr.specs.declared.sign.Mark.TheVariants.{Colon}
-use Rattle.pt_expr.specs.Lexemes.{sign_at}
-use Rattle.pt_expr.proofs.LineLemmas.{line_is}
+use Rattle.pt_grammar.specs.declared.sign.Sign.TheVariants.{Augmented, Mark as mark}
+use Rattle.pt_grammar.specs.declared.sign.Mark.TheVariants.{Colon}
+use Rattle.pt_grammar.specs.Lexemes.{sign_at}
+use Rattle.pt_grammar.proofs.LineLemmas.{line_is}
 use Rattle.pt_parser.specs.Targets.{is_place}
 use Rattle.pt_parser.proofs.Tokens.{sign_next}
 use Rattle.pt_parser.proofs.StatedLemmas.{stated_binds, continued_bad, annotation_shifts, augmentation_shifts, value_narrows, operator_sign}

@@ -1,0 +1,11 @@
+use Rattle.pt_wide.specs.Fold.{exp_of}
+use Rattle.pt_readers.proofs.Readers.{carries_all}
+use Rattle.pt_readers.proofs.Exits.{fails_at, goes_on, carried_all}
+use Rattle.pt_grammar.proofs.AfterAtoms.{after_disjunction}
+use Rattle.pt_expr.proofs.reader.Reader.behind_atom.Goals as goal
+
+pub returns-in_err-body : goal.returns-in_err-body
+returns-in_err-body c = fails_at _ _ _ _ _ _ c.from_residual.ensures.1 carries_all (after_disjunction c.args.room (exp_of c.args.atom.tree)) c.in_err-body.ensures
+
+pub returns : goal.returns
+returns c = carried_all (λ e. exp_of e.tree) _ _ (goes_on carries_all (after_disjunction c.args.room (exp_of c.args.atom.tree)) c.in_ok-body.ensures) c.choosing.ensures

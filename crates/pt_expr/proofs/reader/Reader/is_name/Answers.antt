@@ -1,0 +1,7 @@
+use Rattle.std.proofs.Common.{sym, subst}
+use Rattle.pt_grammar.specs.CallParts.{IsName}
+use Rattle.pt_grammar.proofs.NameKinds.{no_kind}
+use Rattle.pt_expr.proofs.reader.Reader.is_name.Goals as goal
+
+pub returns-in_default-kind : goal.returns-in_default-kind
+returns-in_default-kind c = (λ h. cc, λ b. absurd (no_kind c.in-Some.token.now.line.0 c.in-Some.token.now.kind c.in_default-kind.not-Name (subst IsName (sym c.in-Some.ensures) b)))
