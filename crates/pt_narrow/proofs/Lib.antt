@@ -4,3 +4,5 @@ pub mod ExclusiveStatements
 pub mod Others
 pub mod Stops
 pub mod OtherStatements
+pub mod Building
+pub mod Telling

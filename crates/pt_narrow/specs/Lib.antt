@@ -5,6 +5,7 @@ pub mod Told
 pub mod Blocks
 pub mod Ways
 pub mod Narrow
+pub mod Narrowed
 pub mod StatementFaults
 pub mod StatementBlocks
 pub mod StatementNarrow

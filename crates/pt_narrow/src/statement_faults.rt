@@ -79,7 +79,8 @@ fn check_origin(line: Line, dots: u32, names: &Option<Seq<Alias>>) -> Result<(),
     }
 }
 
-fn is_generator(e: &WideExpr) -> bool
+/// Whether an expression is a generator without brackets of its own (Language Reference 6.2.8).
+pub fn is_generator(e: &WideExpr) -> bool
     ensures { result ≡ is_generator_of (exp_of e.now) }
 {
     match &e.node {

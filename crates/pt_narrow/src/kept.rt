@@ -1,0 +1,62 @@
+//! Tests of what the language keeps of a wide tree (Language Reference 7.2, 8.7).
+
+ghost use Rattle.std.specs.Prelude.{◌≡◌, [], true, None, IfOk};
+ghost use Rattle.pt_narrow.specs.Narrowed.{wide_exps};
+ghost use Rattle.pt_narrow.specs.Targets.{are_targets as are_targets_of, is_inside_target as is_inside_target_of};
+ghost use Rattle.pt_narrow.specs.declared.stars.Stars.TheVariants.{Here};
+ghost use Rattle.pt_wide.specs.Fold.{exp_of};
+ghost use Rattle.pt_wide.specs.declared.expression.WideParameters.{out-WideParameters};
+
+use crate::forms::{are_targets, is_inside_target};
+use crate::stars::Stars;
+use crate::unnarrowed::Unnarrowed;
+use pt_wide::{WideExpr, WideParameters};
+
+/// Brackets that hold targets, one at least.
+pub fn only_targets(items: &[WideExpr]) -> Result<(), Unnarrowed>
+    ensures { IfOk result (λ _. are_targets_of (wide_exps items.now) ≡ true) }
+{
+    if are_targets(items) {
+        Ok(())
+    } else {
+        Err(Unnarrowed::LeftOut)
+    }
+}
+
+/// Parentheses that hold a target.
+pub fn only_inside(inside: &WideExpr) -> Result<(), Unnarrowed>
+    ensures { IfOk result (λ _. is_inside_target_of (exp_of inside.now) ≡ true) }
+{
+    if is_inside_target(inside) {
+        Ok(())
+    } else {
+        Err(Unnarrowed::LeftOut)
+    }
+}
+
+/// A place at which a star may stand.
+pub fn only_here(stars: Stars) -> Result<(), Unnarrowed>
+    ensures { IfOk result (λ _. stars ≡ Here) }
+{
+    match stars {
+        Stars::Here => Ok(()),
+        Stars::Never => Err(Unnarrowed::LeftOut),
+        Stars::Inside => Err(Unnarrowed::LeftOut),
+    }
+}
+
+/// Parameters without a `/`, before which there would be others.
+pub fn without_slash(names: &WideParameters) -> Result<(), Unnarrowed>
+    ensures { IfOk result (λ _. ((out-WideParameters names.now).positional_only ≡ []) × ((out-WideParameters names.now).slash ≡ None)) }
+{
+    match names.slash {
+        Some(_) => Err(Unnarrowed::LeftOut),
+        None => {
+            if names.positional_only.is_empty() {
+                Ok(())
+            } else {
+                Err(Unnarrowed::LeftOut)
+            }
+        }
+    }
+}

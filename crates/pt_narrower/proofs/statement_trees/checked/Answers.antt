@@ -1,0 +1,15 @@
+use Rattle.std.proofs.Common.{refl}
+use Rattle.pt_tree.proofs.StatementFolds as tree
+use Rattle.pt_tree.specs.Syntax as P
+use Rattle.pt_wide.proofs.StatementFolds as wide
+use Rattle.pt_wide.specs.Fold as V
+use Rattle.pt_narrow.specs.Narrow.{narrow_opt}
+use Rattle.pt_narrow.proofs.Building.{made-is, made-two}
+use Rattle.pt_narrower.proofs.StatementBuilding.{at-made-stm}
+use Rattle.pt_narrower.proofs.statement_trees.checked.Goals as goal
+
+pub returns-in_ok-message-in-Assert : goal.returns-in_ok-message-in-Assert
+returns-in_ok-message-in-Assert c = at-made-stm (wide.stm_of-Assert c.args.s.now _ _ c.in-Assert.is) (made-is refl (tree.stm_of-Assert _ _ _ refl) refl (made-two (P.assert c.args.s.now.line.0) (λ m. narrow_opt m (V.opt_exp c.in-Assert.told)) c.in_ok-test-in-Assert.ensures c.in_ok-message-in-Assert.ensures))
+
+pub returns-in_ok-cause-in-Raise : goal.returns-in_ok-cause-in-Raise
+returns-in_ok-cause-in-Raise c = at-made-stm (wide.stm_of-Raise c.args.s.now _ _ c.in-Raise.is) (made-is refl (tree.stm_of-Raise _ _ _ refl) refl (made-two (P.raise c.args.s.now.line.0) (λ m. narrow_opt m (V.opt_exp c.in-Raise.cause)) c.in_ok-exception-in-Raise.ensures c.in_ok-cause-in-Raise.ensures))
