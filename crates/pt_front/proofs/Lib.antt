@@ -1,0 +1,3 @@
+pub mod SyntaxOnce
+pub mod Once
+pub mod FrontLemmas

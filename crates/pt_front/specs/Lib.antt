@@ -1,0 +1,3 @@
+pub mod Syntax
+pub mod Refusals
+pub mod Text
