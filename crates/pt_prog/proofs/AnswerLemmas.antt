@@ -1,64 +1,64 @@
 -- From the run of a script to the answer for its text.
-use Rattle.std.proofs.Common.{◌≡◌, ◌≤◌, ◌<◌, ℕ, List, length, refl, sym, ap, ◌∙◌, subst, arith}
-use Rattle.pt_base.specs.Taken.{Pieces, TakesFront}
-use Rattle.pt_tree.specs.Sizes.{stms_size}
-use Rattle.pt_tree.specs.Syntax as T
-use Rattle.pt_straight.specs.Syntax.{Stms}
+use Rattle.std.proofs.Common.{◌≡◌, ℕ, List, Option, Some, None, option_map, sym, subst, refl}
+use Rattle.pt_base.specs.declared.numbers.Line.{Line}
+use Rattle.pt_base.specs.Taken.{Pieces, Takes, TakesFront}
+use Rattle.pt_tree.specs.Syntax.{Stms}
 use Rattle.pt_control.specs.Turn.{done, gave, left_by}
+use Rattle.pt_meaning.specs.Built.{Built, unbuilt_of}
 use Rattle.pt_meaning.specs.declared.value.Value.{Value}
 use Rattle.pt_meaning.specs.Run.{Ending, ended, outside, spent}
+use Rattle.pt_meaning.proofs.BuiltLemmas.{is_built}
+use Rattle.pt_front.specs.Text.{IsScript}
 use Rattle.pt_session.specs.declared.runner.RunEnd.{RunEnd}
 use Rattle.pt_session.specs.declared.runner.RunEnd.TheVariants as run
-use Rattle.pt_session.specs.Running.{IsEnding, IsBeyond, Finished, meaning_of as meaning_under}
-use Rattle.pt_prog.specs.declared.end.End.{End}
+use Rattle.pt_session.specs.Running.{IsEnding, Finished, meaning_of as meaning_under}
 use Rattle.pt_prog.specs.declared.end.End.TheVariants as end
-use Rattle.pt_prog.specs.Limits.{act_limit, script_limit}
-use Rattle.pt_prog.specs.RunEnds.{IsEndOfRun}
-use Rattle.pt_prog.specs.Spelling.{Spells}
-use Rattle.pt_prog.specs.Whole.{whole_of}
-use Rattle.pt_prog.specs.Answer.{meaning_of, IsEndOf, Ran, WroteFront, IsAnsweredFor}
-use Rattle.pt_prog.proofs.SizeLemmas.{script_size}
+use Rattle.pt_prog.specs.Limits.{act_limit}
+use Rattle.pt_prog.specs.RunEnds.{end_of_run}
+use Rattle.pt_prog.specs.Answer.{meaning_of, IsEndOf, IsBuilt, Ran, WroteFront, IsAnsweredFor}
 
-is_end : (r : RunEnd) (E : Ending Value) (e : End) → IsEnding r E → IsEndOfRun r e → IsEndOf E e
-is_end run.Done (ended done) e i h = h
-is_end run.Done (ended (gave v)) e i h = absurd i
-is_end run.Done (ended (left_by v)) e i h = absurd i
-is_end run.Done (outside what line) e i h = absurd i
-is_end run.Done spent e i h = absurd i
-is_end run.Raised (ended done) e i h = absurd i
-is_end run.Raised (ended (gave v)) e i h = absurd i
-is_end run.Raised (ended (left_by v)) e i h = h
-is_end run.Raised (outside what line) e i h = absurd i
-is_end run.Raised spent e i h = absurd i
-is_end (run.Outside what line) (ended done) e i h = absurd i
-is_end (run.Outside what line) (ended (gave v)) e i h = absurd i
-is_end (run.Outside what line) (ended (left_by v)) e i h = absurd i
-is_end (run.Outside what line) (outside what' line') e i h = h ∙ (λ k. end.Outside (sym i.0 k) (record { 0 = sym i.1 k }))
-is_end (run.Outside what line) spent e i h = absurd i
-is_end run.Spent E e i h = absurd h
+-- where no line is told of a script, all of it is built
+pub built : (script : Stms) (o : Option Line) → option_map (λ (l : Line). l.0) o ≡ unbuilt_of script → ((l : Line) → o ≡ Some l → ⊥) → Built script
+built script None told none = is_built script (sym told)
+built script (Some l) told none = absurd (none l refl)
 
-module _ (text : List ℕ) (ss : Stms) (spells : Spells text ss) (script : T.Stms) (is : script ≡ whole_of ss) (limit : ℕ) (bound : limit ≡ act_limit) where
-  -- a script of lines does not spend the bound
-  pub not_spent : length text ≤ script_limit → (r : RunEnd) → IsBeyond r limit (stms_size script) → r ≡ run.Spent → ⊥
-  not_spent fits r beyond spends =
-      let more : limit < stms_size script = subst (λ r. IsBeyond r limit (stms_size script)) spends beyond in
-      let size : stms_size script ≡ stms_size (whole_of ss) = ap stms_size is in
-      omega (arith, script_size text ss spells)
+pub built_script : (text : List ℕ) (script : Stms) → IsScript text script → (o : Option Line) → option_map (λ (l : Line). l.0) o ≡ unbuilt_of script
+    → ((l : Line) → o ≡ Some l → ⊥) → IsBuilt text script
+built_script text script is o told none = record { is_script = is; is_built = built script o told none }
 
-  same_meaning : meaning_under limit script ≡ meaning_of ss
-  same_meaning = λ i. meaning_under (bound i) (is i)
+is_end : (r : RunEnd) (E : Ending Value) → IsEnding r E → IsEndOf E (end_of_run r)
+is_end run.Done (ended done) i = refl
+is_end run.Done (ended (gave v)) i = absurd i
+is_end run.Done (ended (left_by v)) i = absurd i
+is_end run.Done (outside what line) i = absurd i
+is_end run.Done spent i = absurd i
+is_end run.Raised (ended done) i = absurd i
+is_end run.Raised (ended (gave v)) i = absurd i
+is_end run.Raised (ended (left_by v)) i = refl
+is_end run.Raised (outside what line) i = absurd i
+is_end run.Raised spent i = absurd i
+is_end (run.Outside what line) (ended done) i = absurd i
+is_end (run.Outside what line) (ended (gave v)) i = absurd i
+is_end (run.Outside what line) (ended (left_by v)) i = absurd i
+is_end (run.Outside what line) (outside what' line') i = λ k. end.Outside (sym i.0 k) (record { 0 = sym i.1 k })
+is_end (run.Outside what line) spent i = absurd i
+is_end run.Spent (ended done) i = absurd i
+is_end run.Spent (ended (gave v)) i = absurd i
+is_end run.Spent (ended (left_by v)) i = absurd i
+is_end run.Spent (outside what line) i = absurd i
+is_end run.Spent spent i = refl
 
-  module _ (old new : Pieces → Pieces → Type 0) where
-    ran : (r : RunEnd) (e : End) → Finished (meaning_under limit script) r old new → IsEndOfRun r e → Ran text e old new
-    ran r e f h =
-        let g = subst (λ m. Finished m r old new) same_meaning f in
-        record { script = ss; spells = spells; is_end = is_end r (meaning_of ss).ending e g.0 h; wrote = g.1 }
+module _ (text : List ℕ) (ss : Stms) (is : IsBuilt text ss) (limit : ℕ) (bound : limit ≡ act_limit) (old new : Pieces → Pieces → Type 0) where
+  ran : (r : RunEnd) → Finished (meaning_under limit ss) r old new → Ran text (end_of_run r) old new
+  ran r f =
+      let g = subst (λ n. Finished (meaning_under n ss) r old new) bound f in
+      record { script = ss; is = is; is_end = is_end r (meaning_of ss).ending g.0; wrote = g.1 }
 
-    pub answered : (r : RunEnd) (e : End) → Finished (meaning_under limit script) r old new → IsEndOfRun r e → IsAnsweredFor text old new e
-    answered run.Done e f h = subst (IsAnsweredFor text old new) (sym h) (ran run.Done end.Done f refl)
-    answered run.Raised e f h = subst (IsAnsweredFor text old new) (sym h) (ran run.Raised end.Raised f refl)
-    answered (run.Outside what line) e f h = subst (IsAnsweredFor text old new) (sym h) (ran (run.Outside what line) (end.Outside what line) f refl)
-    answered run.Spent e f h = absurd h
+  pub answered : (r : RunEnd) → Finished (meaning_under limit ss) r old new → IsAnsweredFor text old new (end_of_run r)
+  answered run.Done f = ran run.Done f
+  answered run.Raised f = ran run.Raised f
+  answered (run.Outside what line) f = ran (run.Outside what line) f
+  answered run.Spent f = ran run.Spent f
 
-    pub wrote_front : TakesFront old new (meaning_under limit script).world.written → WroteFront text old new
-    wrote_front f = record { script = ss; spells = spells; wrote = subst (λ m. TakesFront old new m.world.written) same_meaning f }
+  pub wrote_front : TakesFront old new (meaning_under limit ss).world.written → WroteFront text old new
+  wrote_front f = record { script = ss; is = is; wrote = subst (λ n. TakesFront old new (meaning_under n ss).world.written) bound f }

@@ -1,11 +1,2 @@
-pub mod NumberLemmas
-pub mod ItemLemmas
-pub mod CutLemmas
-pub mod SumLemmas
-pub mod SumLoop
-pub mod StatementLemmas
-pub mod LineLemmas
-pub mod SizeLemmas
-pub mod WholeLemmas
 pub mod AnswerLemmas
-pub mod ReadingLaws
+pub mod EndLaws

@@ -5,10 +5,12 @@ use Rattle.std.specs.declared.string.String.{String}
 use Rattle.std.specs.declared.alloc.Global.{Global}
 use Rattle.pt_base.specs.Told.{Told, IsWhole}
 use Rattle.pt_base.specs.Taken.{Pieces, Takes, TakesFront}
-use Rattle.pt_straight.specs.Syntax.{Stms}
+use Rattle.pt_tree.specs.Syntax.{Stms}
 use Rattle.pt_control.specs.Turn.{done, gave, left_by}
+use Rattle.pt_meaning.specs.Built.{Built, unbuilt_of}
 use Rattle.pt_meaning.specs.Run.{Ending, ended, outside, spent}
 use Rattle.pt_meaning.specs.declared.value.Value.{Value}
+use Rattle.pt_front.specs.Text.{IsScript, IsRefused}
 use Rattle.pt_prog.specs.declared.end.End.{End}
 use Rattle.pt_prog.specs.declared.end.End.TheVariants as end
 use Rattle.pt_prog.specs.declared.end.File.TheVariants as file
@@ -16,8 +18,6 @@ use Rattle.pt_prog.specs.declared.end.Out.TheVariants as out
 use Rattle.pt_prog.specs.Limits.{act_limit}
 use Rattle.pt_prog.specs.Limits.{script_limit}
 use Rattle.pt_session.specs.Running.{Whole, meaning_of as meaning_under}
-use Rattle.pt_prog.specs.Spelling.{Spells, IsUnbuilt}
-use Rattle.pt_prog.specs.Whole.{whole_of}
 
 -- the words are `run` and the name of a script, which isn't empty and doesn't begin with `-`
 abbrev pub is_command : (command name : List ℕ) → Bool
@@ -34,7 +34,7 @@ OfNamed (Some name) told P = P (told name)
 
 -- the meaning of a script, under the bound of the program
 abbrev pub meaning_of : Stms → Whole
-meaning_of ss = meaning_under act_limit (whole_of ss)
+meaning_of ss = meaning_under act_limit ss
 
 -- the program's end for a run's
 abbrev pub IsEndOf : Ending Value → End → Type 0
@@ -43,26 +43,46 @@ IsEndOf (ended (left_by v)) e = e ≡ end.Raised
 -- a module gives nothing
 IsEndOf (ended (gave v)) e = ⊥
 IsEndOf (outside what line) e = e ≡ end.Outside what (record { 0 = line })
-IsEndOf spent e = ⊥
+-- all acts of the bound are taken, and another would begin
+IsEndOf spent e = e ≡ end.Spent act_limit
 
--- the text spells a script with this meaning's end, and all that it writes was written
+-- the text is this script, all of which is built
+pub record IsBuilt (text : List ℕ) (script : Stms) : Type 0 where
+  pub is_script : IsScript text script
+  pub is_built : Built script
+
+-- the text is a script, and this is the line of its first node that isn't built
+pub record IsUnbuilt (text : List ℕ) (line : ℕ) : Type 0 where
+  pub script : Stms
+  pub is_script : IsScript text script
+  pub is_first : unbuilt_of script ≡ Some line
+
+-- the text is a built script whose meaning has this end
+pub record Ends (text : List ℕ) (e : End) : Type 0 where
+  pub script : Stms
+  pub is : IsBuilt text script
+  pub is_end : IsEndOf (meaning_of script).ending e
+
+-- the same, and all that it writes was written
 pub record Ran (text : List ℕ) (e : End) (old new : Pieces → Pieces → Type 0) : Type 0 where
   pub script : Stms
-  pub spells : Spells text script
+  pub is : IsBuilt text script
   pub is_end : IsEndOf (meaning_of script).ending e
   pub wrote : Takes old new (meaning_of script).world.written
 
--- the text spells a script, and a front of what it writes was written
+-- the text is a built script, and a front of what it writes was written
 pub record WroteFront (text : List ℕ) (old new : Pieces → Pieces → Type 0) : Type 0 where
   pub script : Stms
-  pub spells : Spells text script
+  pub is : IsBuilt text script
   pub wrote : TakesFront old new (meaning_of script).world.written
 
 -- the answer for a text, and what was written to out
 abbrev pub IsAnsweredFor : List ℕ → (old new : Pieces → Pieces → Type 0) → End → Type 0
 IsAnsweredFor text old new end.Done = Ran text end.Done old new
 IsAnsweredFor text old new end.Raised = Ran text end.Raised old new
+IsAnsweredFor text old new (end.Spent acts) = Ran text (end.Spent acts) old new
 IsAnsweredFor text old new (end.Outside what line) = Ran text (end.Outside what line) old new
+IsAnsweredFor text old new (end.Refused error) = IsRefused text error × Takes old new []
 IsAnsweredFor text old new (end.Unbuilt line) = IsUnbuilt text line.0 × Takes old new []
 IsAnsweredFor text old new (end.WriteFault out.Out) = WroteFront text old new
 IsAnsweredFor text old new (end.WriteFault out.Log) = ⊥
@@ -83,14 +103,18 @@ IsAnswered name told old new (end.TooLong file.Second) = ⊥
 IsAnswered name told old new end.Memory = Takes old new [] ⊎ OfText name told (λ text. WroteFront text old new)
 IsAnswered name told old new end.Done = OfText name told (λ text. IsAnsweredFor text old new end.Done)
 IsAnswered name told old new end.Raised = OfText name told (λ text. IsAnsweredFor text old new end.Raised)
+IsAnswered name told old new (end.Spent acts) = OfText name told (λ text. IsAnsweredFor text old new (end.Spent acts))
 IsAnswered name told old new (end.Outside what line) = OfText name told (λ text. IsAnsweredFor text old new (end.Outside what line))
+IsAnswered name told old new (end.Refused error) = OfText name told (λ text. IsAnsweredFor text old new (end.Refused error))
 IsAnswered name told old new (end.Unbuilt line) = OfText name told (λ text. IsAnsweredFor text old new (end.Unbuilt line))
 IsAnswered name told old new (end.WriteFault which) = OfText name told (λ text. IsAnsweredFor text old new (end.WriteFault which))
 
 -- the end is the one that the text says
 abbrev pub IsEndFor : List ℕ → End → Type 0
+IsEndFor text (end.Refused error) = IsRefused text error
 IsEndFor text (end.Unbuilt line) = IsUnbuilt text line.0
-IsEndFor text end.Done = (ss : Stms) × Spells text ss × IsEndOf (meaning_of ss).ending end.Done
-IsEndFor text end.Raised = (ss : Stms) × Spells text ss × IsEndOf (meaning_of ss).ending end.Raised
-IsEndFor text (end.Outside what line) = (ss : Stms) × Spells text ss × IsEndOf (meaning_of ss).ending (end.Outside what line)
+IsEndFor text end.Done = Ends text end.Done
+IsEndFor text end.Raised = Ends text end.Raised
+IsEndFor text (end.Spent acts) = Ends text (end.Spent acts)
+IsEndFor text (end.Outside what line) = Ends text (end.Outside what line)
 IsEndFor text e = ⊥

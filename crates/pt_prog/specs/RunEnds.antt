@@ -2,12 +2,12 @@
 use Rattle.std.specs.Prelude.{◌≡◌}
 use Rattle.pt_prog.specs.declared.end.End.{End}
 use Rattle.pt_prog.specs.declared.end.End.TheVariants as end
+use Rattle.pt_prog.specs.Limits.{act_limit}
 use Rattle.pt_session.specs.declared.runner.RunEnd.{RunEnd}
 use Rattle.pt_session.specs.declared.runner.RunEnd.TheVariants as run
 
--- no script of this program spends the bound
-abbrev pub IsEndOfRun : RunEnd → End → Type 0
-IsEndOfRun run.Done e = e ≡ end.Done
-IsEndOfRun run.Raised e = e ≡ end.Raised
-IsEndOfRun (run.Outside what line) e = e ≡ end.Outside what line
-IsEndOfRun run.Spent e = ⊥
+abbrev pub end_of_run : RunEnd → End
+end_of_run run.Done = end.Done
+end_of_run run.Raised = end.Raised
+end_of_run (run.Outside what line) = end.Outside what line
+end_of_run run.Spent = end.Spent act_limit

@@ -2,18 +2,23 @@ ghost use Rattle.std.specs.Prelude.{◌≡◌};
 ghost use Rattle.pt_prog.specs.Status.{status_of};
 
 use pt_base::{Line, What};
+use pt_front::Refusal;
 
 /// How a call of the program ends.
-#[derive(Clone, Copy, Debug, PartialEq, Eq)]
+#[derive(Debug, Drop)]
 pub enum End {
     /// The script came to its end.
     Done,
     /// An exception left the script.
     Raised,
-    /// The words are no command line.
-    Usage,
+    /// So many acts, the bound of the run, are taken, and another would begin.
+    Spent { acts: u64 },
     /// The script left the profile of the language, at an act on this line.
     Outside { what: What, line: Line },
+    /// The words are no command line.
+    Usage,
+    /// The text is no script.
+    Refused { error: Refusal },
     /// A file is too long.
     TooLong { which: File },
     /// A file could not be read.
@@ -22,7 +27,7 @@ pub enum End {
     WriteFault { which: Out },
     /// Memory ran out.
     Memory,
-    /// The first line of the script that isn't built.
+    /// The line of the first node of the script, in source order, that isn't built.
     Unbuilt { line: Line },
 }
 
@@ -48,7 +53,9 @@ pub fn status(end: &End) -> u8
         End::Done => 0,
         End::Raised => 1,
         End::Usage => 2,
+        End::Spent { .. } => 3,
         End::Outside { .. } => 4,
+        End::Refused { .. } => 6,
         End::TooLong { .. } => 8,
         End::ReadFault => 9,
         End::WriteFault { .. } => 10,

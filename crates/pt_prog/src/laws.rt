@@ -1,11 +1,10 @@
 //! A law of the definitions, the contract of a function that does nothing.
 
 ghost use Rattle.std.specs.Prelude.{◌≡◌, ℕ, List};
-ghost use Rattle.pt_straight.specs.Syntax.{Stms};
-ghost use Rattle.pt_prog.specs.Spelling.{Spells, IsUnbuilt};
+ghost use Rattle.pt_prog.specs.declared.end.End.{End as HowItEnds};
+ghost use Rattle.pt_prog.specs.Answer.{IsEndFor};
 
-/// A text spells one script at most, and no text that spells a script is unbuilt.
-pub fn a_text_is_read_in_one_way()
-    ensures one { (text : List ℕ) (ss ts : Stms) → Spells text ss → Spells text ts → ss ≡ ts }
-    ensures never_both { (text : List ℕ) (ss : Stms) (k : ℕ) → Spells text ss → IsUnbuilt text k → ⊥ }
+/// A text says one end at most.
+pub fn a_text_says_one_end()
+    ensures { (text : List ℕ) (e f : HowItEnds) → IsEndFor text e → IsEndFor text f → e ≡ f }
 {}

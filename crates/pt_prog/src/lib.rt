@@ -5,9 +5,7 @@
 mod end;
 mod laws;
 mod program;
-mod reader;
-mod whole;
 
 pub use end::{End, File, Out, status};
-pub use laws::a_text_is_read_in_one_way;
+pub use laws::a_text_says_one_end;
 pub use program::{SCRIPT_LIMIT, top};

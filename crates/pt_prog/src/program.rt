@@ -6,19 +6,18 @@ ghost use Rattle.pt_base.specs.Told.{IsLacked, IsLonger};
 ghost use Rattle.pt_base.specs.Told.Told.{Holds};
 ghost use Rattle.pt_prog.specs.Answer.{script_named, OfNamed, IsEndFor, IsAnsweredFor, IsAnswered};
 ghost use Rattle.pt_prog.specs.Limits.{script_limit};
-ghost use Rattle.pt_prog.specs.RunEnds.{IsEndOfRun};
+ghost use Rattle.pt_prog.specs.RunEnds.{end_of_run};
 
 use crate::end::{End, File, Out};
-use crate::reader::{ReadErr, read};
-use crate::whole::whole_script;
 use pt_base::{Budget, Shelf, ShelfErr, Sink};
-use pt_session::{RunEnd, RunErr, run};
+use pt_front::{FrontErr, front};
+use pt_session::{RunEnd, RunErr, first_unbuilt, run};
 use std::alloc::Global;
 
 /// How many bytes a script may have.
 pub const SCRIPT_LIMIT: u64 = 1_048_576;
 
-/// How many acts a run may take. A script of lines has no more acts than bytes.
+/// How many acts a run may take.
 const ACT_LIMIT: u64 = 10_000_000;
 
 /// The name of the script, where the words are `run` and a name.
@@ -35,16 +34,15 @@ fn script_name(words: &[String]) -> Option<&str>
     }
 }
 
-/// The end of a run that was not broken off and didn't spend its bound.
+/// The end of a run that was not broken off.
 fn end_of(end: RunEnd) -> End
-    requires { end ≢ RunEnd.Spent }
-    ensures { IsEndOfRun end result }
+    ensures { result ≡ end_of_run end }
 {
     match end {
         RunEnd::Done => End::Done,
         RunEnd::Raised => End::Raised,
         RunEnd::Outside { what, line } => End::Outside { what, line },
-        RunEnd::Spent => unreachable!(),
+        RunEnd::Spent => End::Spent { acts: ACT_LIMIT },
     }
 }
 
@@ -56,14 +54,14 @@ fn run_text<O: Sink>(alloc: Global, text: &[u8], out: &mut O) -> End
     ensures most { O.most out.new ≡ O.most out.old }
     ensures later { O.faults out.old ≤ O.faults out.new }
 {
-    let straight = match read(alloc, text) {
-        Ok(straight) => straight,
-        Err(ReadErr::Unbuilt { line }) => return End::Unbuilt { line },
-        Err(ReadErr::Memory) => return End::Memory,
+    let script = match front(alloc, text) {
+        Ok((script, _)) => script,
+        Err(FrontErr::Refused(error)) => return End::Refused { error },
+        Err(FrontErr::Memory) => return End::Memory,
     };
-    let Ok(script) = whole_script(alloc, &straight) else {
-        return End::Memory;
-    };
+    if let Some(line) = first_unbuilt(&script) {
+        return End::Unbuilt { line };
+    }
     let mut budget = Budget::new(ACT_LIMIT);
     match run(alloc, &script, &mut budget, out) {
         Ok(end) => end_of(end),
@@ -74,8 +72,8 @@ fn run_text<O: Sink>(alloc: Global, text: &[u8], out: &mut O) -> End
 
 /// All that the program does: reads the words, the script that they name, and runs it.
 ///
-/// The order of answers is Usage, ReadFault, TooLong, Unbuilt, and then those of the run. After a
-/// write that failed nothing more is written. Nothing is written to the log.
+/// The order of answers is Usage, ReadFault, TooLong, Refused, Unbuilt, and then those of the run.
+/// After a write that failed nothing more is written. Nothing is written to the log.
 pub fn top<F: Shelf, O: Sink, L: Sink>(
     alloc: Global,
     words: &[String],

@@ -14,7 +14,7 @@ use pt_tree::{
 };
 
 /// Whether the name is that of a builtin.
-pub fn is_builtin(name: &str) -> bool
+fn is_builtin(name: &str) -> bool
     ensures { result ≡ is_listed builtin_names name.now }
 {
     builtins().get(name).is_some()

@@ -1,7 +1,8 @@
 //! Runs of `top` over objects in memory.
 
 use super::*;
-use pt_base::{Line, MemShelf, MemSink, Memory, Seq, Text, What};
+use crate::end::status;
+use pt_base::{MemShelf, MemSink, Memory, Seq, Text, What};
 use std::test::Fail;
 
 /// What a call of `top` came to: its end, what out has taken, each piece with a bar behind it, and
@@ -45,84 +46,141 @@ fn run_over(
     })
 }
 
-fn unbuilt(line: u32) -> End {
-    End::Unbuilt { line: Line(line) }
+/// What a row tells of an end: of a refusal the number and the place.
+#[derive(Clone, Copy, Debug, PartialEq, Eq)]
+enum Told {
+    Done,
+    Raised,
+    Spent(u64),
+    Outside(What, u32),
+    Usage,
+    Refused(u8, u32),
+    TooLong(File),
+    ReadFault,
+    WriteFault(Out),
+    Memory,
+    Unbuilt(u32),
+}
+
+fn told(end: &End) -> Told {
+    match end {
+        End::Done => Told::Done,
+        End::Raised => Told::Raised,
+        End::Spent { acts } => Told::Spent(*acts),
+        End::Outside { what, line } => Told::Outside(*what, line.0),
+        End::Usage => Told::Usage,
+        End::Refused { error } => Told::Refused(error.number(), error.place()),
+        End::TooLong { which } => Told::TooLong(*which),
+        End::ReadFault => Told::ReadFault,
+        End::WriteFault { which } => Told::WriteFault(*which),
+        End::Memory => Told::Memory,
+        End::Unbuilt { line } => Told::Unbuilt(line.0),
+    }
 }
 
 #[test]
 fn runs_scripts(rt: HostRuntime) -> Result<(), Fail> {
-    let outside = |what, line| End::Outside {
-        what,
-        line: Line(line),
-    };
-    let rows: [(&str, &str, End); 16] = [
-        ("", "", End::Done),
-        ("\n\n", "", End::Done),
-        ("print(40)\n\nprint(0)", "40\n|0\n|", End::Done),
+    let rows: [(&str, &str, Told); 31] = [
+        ("", "", Told::Done),
+        ("\n\n", "", Told::Done),
+        ("print(40)\n\nprint(0)", "40\n|0\n|", Told::Done),
         (
             "x = 40\ny = x + 2\nprint(y)\nprint(\"a\" + \"b\")",
             "42\n|ab\n|",
-            End::Done,
+            Told::Done,
         ),
-        ("x = 1\nx = 2\nprint(x + x)", "4\n|", End::Done),
+        ("x = 1\nx = 2\nprint(x + x)", "4\n|", Told::Done),
         (
             "t = \"\"\nprint(t)\nprint(t + \"a + b\")",
             "\n|a + b\n|",
-            End::Done,
+            Told::Done,
         ),
-        ("print(1)\nprint(z)\nprint(2)", "1\n|", End::Raised),
-        ("print(1)\nprint(1 + \"a\")", "1\n|", End::Raised),
-        ("print(\"a\" + 1)", "", End::Raised),
+        ("print(1)\nprint(z)\nprint(2)", "1\n|", Told::Raised),
+        ("print(1)\nprint(1 + \"a\")", "1\n|", Told::Raised),
+        ("print(\"a\" + 1)", "", Told::Raised),
         (
             "x = 170141183460469231731687303715884105727\nprint(x)\nprint(x + 1)",
             "170141183460469231731687303715884105727\n|",
-            outside(What::Integer, 3),
+            Told::Outside(What::Integer, 3),
         ),
-        ("x = 1\nx = -1", "", unbuilt(2)),
-        ("print(1)\nprint(01)\nx = ", "", unbuilt(2)),
+        // in any spelling
+        ("x=1", "", Told::Done),
+        ("x = 1 ", "", Told::Done),
+        ("x = 1 +2; print ( x )", "3\n|", Told::Done),
+        ("print(1) ", "1\n|", Told::Done),
+        ("print(1)\r", "1\n|", Told::Done),
+        ("print(1)\r\nprint(2)\r\n", "1\n|2\n|", Told::Done),
+        ("x = 'a'\nprint(x)  # x", "a\n|", Told::Done),
+        ("print('a' \"b\"\n  '''c\nd''')", "abc\nd\n|", Told::Done),
+        ("print(\"a\\n\")", "a\n\n|", Told::Done),
         (
-            "x = 170141183460469231731687303715884105728",
-            "",
-            unbuilt(1),
+            "x = \"\u{e9}\"\nprint(x + x)",
+            "\u{e9}\u{e9}\n|",
+            Told::Done,
         ),
-        ("\nprint = 1", "", unbuilt(2)),
-        ("for = 1", "", unbuilt(1)),
-        ("x = len", "", unbuilt(1)),
+        ("\u{fb01} = 1\nprint(fi)", "1\n|", Told::Done),
+        ("x = \\\n  0x_ff + 1_0\nprint((x))", "265\n|", Told::Done),
+        ("print(1 + (2 + 3),)", "6\n|", Told::Done),
+        ("1; 'a'; x = 2; x", "", Told::Done),
+        // a script of which not all is built does nothing
+        ("x = 1\nx = -1", "", Told::Unbuilt(2)),
+        ("x = + 1", "", Told::Unbuilt(1)),
+        ("print()", "", Told::Unbuilt(1)),
+        ("\nprint = 1", "", Told::Unbuilt(2)),
+        ("x = len", "", Told::Unbuilt(1)),
+        ("print(1)\nprint()\nx = -1", "", Told::Unbuilt(2)),
+        ("f\"{a[\"b\"]}\"", "", Told::Unbuilt(1)),
     ];
     for (text, out, end) in rows {
         let got = run_over(rt.alloc(), &["run", "a.py"], text.as_bytes(), &[], &[])?;
-        assert_eq!(rt; got.end, end, "at {text:?}");
+        assert_eq!(rt; told(&got.end), end, "at {text:?}");
         assert_eq!(rt; got.out.as_slice(), out.as_bytes(), "at {text:?}");
         assert_eq!(rt; got.log, 0);
     }
     Ok(())
 }
 
+/// Texts that are no script, each with the number of the refusal and its place in bytes or its line.
 #[test]
-fn refuses_other_lines(rt: HostRuntime) -> Result<(), Fail> {
-    let rows: [&[u8]; 14] = [
-        b"x=1",
-        b"x = 1 ",
-        b" x = 1",
-        b"x = 1 +2",
-        b"x = 1 + ",
-        b"x = + 1",
-        b"print(1",
-        b"print(1) ",
-        b"print()",
-        b"x = 'a'",
-        b"x = \"a",
-        b"x = \"a\\n\"",
-        b"print(1)\r",
-        b"x = \"\xc3\xa9\"",
+fn refuses_what_is_no_script(rt: HostRuntime) -> Result<(), Fail> {
+    let rows: [(&[u8], u8, u32); 28] = [
+        (b"x\xff", 1, 1),
+        (b"if x:\n    a\n  b", 2, 3),
+        (b"if x:\n\ta\n        b", 3, 3),
+        (b"print(1)\nx = \0", 4, 13),
+        (b"x = \"a", 5, 1),
+        (b"x = 07", 6, 4),
+        (b"print(1)\nprint(01)\nx = ", 6, 15),
+        (b"x = (1", 7, 1),
+        (b"print(1", 7, 1),
+        (b"x = 1.5", 8, 1),
+        (b"x = 170141183460469231731687303715884105728", 9, 1),
+        (b" x = 1", 10, 1),
+        (b"x = = 1", 10, 4),
+        (b"x = 1 + ", 10, 8),
+        (b"for = 1", 10, 4),
+        (b"f() = 1", 11, 1),
+        (b"print(1)\nx + 1 = 2", 11, 2),
+        (b"x = a @ b", 12, 1),
+        (b"def f():\n    nonlocal x", 14, 2),
+        (b"def f(a, a): pass", 15, 1),
+        (b"def f():\n    print(x)\n    global x", 16, 3),
+        (b"return", 17, 1),
+        (b"print(1)\nbreak", 17, 2),
+        // the first layer that refuses, before what isn't built
+        (b"x = = 1\ny = 07", 6, 12),
+        (b"f() = 1\nx = = 1", 10, 12),
+        (b"return\nf() = 1", 11, 2),
+        (b"x = -1\nreturn", 17, 2),
+        (b"x = -1\nx = a @ b", 12, 2),
     ];
-    for text in rows {
+    for (text, number, place) in rows {
         let got = run_over(rt.alloc(), &["run", "a.py"], text, &[], &[])?;
-        assert_eq!(rt; got.end, unbuilt(1), "at {text:?}");
+        assert_eq!(rt; told(&got.end), Told::Refused(number, place), "at {text:?}");
+        assert_eq!(rt; status(&got.end), 6);
         assert_eq!(rt; got.out.len(), 0, "at {text:?}");
+        assert_eq!(rt; got.log, 0);
     }
-    let nul = run_over(rt.alloc(), &["run", "a.py"], b"print(1)\nx = \0", &[], &[])?;
-    assert_eq!(rt; nul.end, unbuilt(2));
     Ok(())
 }
 
@@ -148,58 +206,54 @@ fn long_text(alloc: Global, doublings: usize, last: &[u8]) -> Result<Vec<u8>, Me
 
 #[test]
 fn meets_the_limits(rt: HostRuntime) -> Result<(), Fail> {
-    let most = long_sum(rt.alloc(), 499)?;
+    let most = long_sum(rt.alloc(), 500)?;
     let got = run_over(rt.alloc(), &["run", "a.py"], most.as_slice(), &[], &[])?;
-    assert_eq!(rt; got.end, End::Done);
-    assert_eq!(rt; got.out.as_slice(), b"499\n|".as_slice());
+    assert_eq!(rt; told(&got.end), Told::Done);
+    assert_eq!(rt; got.out.as_slice(), b"500\n|".as_slice());
 
-    let more = long_sum(rt.alloc(), 500)?;
+    let more = long_sum(rt.alloc(), 501)?;
     let got = run_over(rt.alloc(), &["run", "a.py"], more.as_slice(), &[], &[])?;
-    assert_eq!(rt; got.end, unbuilt(1));
+    assert_eq!(rt; told(&got.end), Told::Refused(13, 1));
 
     let longest = long_text(rt.alloc(), 24, b"y = x + \"\"")?;
     let got = run_over(rt.alloc(), &["run", "a.py"], longest.as_slice(), &[], &[])?;
-    assert_eq!(rt; got.end, End::Done);
+    assert_eq!(rt; told(&got.end), Told::Done);
 
     let longer = long_text(rt.alloc(), 24, b"y = x + \"a\"")?;
     let got = run_over(rt.alloc(), &["run", "a.py"], longer.as_slice(), &[], &[])?;
-    let length = End::Outside {
-        what: What::Length,
-        line: Line(26),
-    };
-    assert_eq!(rt; got.end, length);
+    assert_eq!(rt; told(&got.end), Told::Outside(What::Length, 26));
 
     let mut whole = Vec::new(rt.alloc());
     for _ in 0..SCRIPT_LIMIT {
         whole.push(b'\n')?;
     }
     let got = run_over(rt.alloc(), &["run", "a.py"], whole.as_slice(), &[], &[])?;
-    assert_eq!(rt; got.end, End::Done);
+    assert_eq!(rt; told(&got.end), Told::Done);
     whole.push(b'\n')?;
     let got = run_over(rt.alloc(), &["run", "a.py"], whole.as_slice(), &[], &[])?;
-    assert_eq!(rt; got.end, End::TooLong { which: File::First });
+    assert_eq!(rt; told(&got.end), Told::TooLong(File::First));
     Ok(())
 }
 
 #[test]
 fn answers_for_words_and_faults(rt: HostRuntime) -> Result<(), Fail> {
-    let write_fault = End::WriteFault { which: Out::Out };
-    let rows: [(&[&str], &[u64], &[u64], &str, End); 10] = [
-        (&[], &[], &[], "", End::Usage),
-        (&["run"], &[], &[], "", End::Usage),
-        (&["run", ""], &[], &[], "", End::Usage),
-        (&["run", "-x"], &[], &[], "", End::Usage),
-        (&["run", "a.py", "b.py"], &[], &[], "", End::Usage),
-        (&["trace", "a.py"], &[], &[], "", End::Usage),
-        (&["run", "b.py"], &[], &[], "", End::ReadFault),
-        (&["run", "a.py"], &[1], &[], "", End::ReadFault),
+    let write_fault = Told::WriteFault(Out::Out);
+    let rows: [(&[&str], &[u64], &[u64], &str, Told); 10] = [
+        (&[], &[], &[], "", Told::Usage),
+        (&["run"], &[], &[], "", Told::Usage),
+        (&["run", ""], &[], &[], "", Told::Usage),
+        (&["run", "-x"], &[], &[], "", Told::Usage),
+        (&["run", "a.py", "b.py"], &[], &[], "", Told::Usage),
+        (&["trace", "a.py"], &[], &[], "", Told::Usage),
+        (&["run", "b.py"], &[], &[], "", Told::ReadFault),
+        (&["run", "a.py"], &[1], &[], "", Told::ReadFault),
         (&["run", "a.py"], &[2], &[2], "1\n|", write_fault),
-        (&["run", "a.py"], &[], &[4], "1\n|2\n|3\n|", End::Done),
+        (&["run", "a.py"], &[], &[4], "1\n|2\n|3\n|", Told::Done),
     ];
     for (words, read_fails, write_fails, out, end) in rows {
         let text = b"print(1)\nprint(2)\nprint(3)\n";
         let got = run_over(rt.alloc(), words, text, read_fails, write_fails)?;
-        assert_eq!(rt; got.end, end, "at {words:?}");
+        assert_eq!(rt; told(&got.end), end, "at {words:?}");
         assert_eq!(rt; got.out.as_slice(), out.as_bytes(), "at {words:?}");
         assert_eq!(rt; got.log, 0);
     }
