@@ -328,18 +328,63 @@ def name_of(node):
     return "lambda" if isinstance(node, ast.Lambda) else "genexpr"
 
 
+def is_comprehension(node):
+    return isinstance(node, (ast.ListComp, ast.SetComp, ast.DictComp))
+
+
+def named_in(node, apart):
+    """The names that stand in a part of a block, without those of inner blocks and without these, which are targets of a
+    comprehension around it."""
+    if isinstance(node, ast.Name):
+        return {node.id} - apart
+    if isinstance(node, (ast.FunctionDef, ast.ClassDef)):
+        outside = node.decorator_list + (node.bases if isinstance(node, ast.ClassDef) else node.args.defaults + node.args.kw_defaults)
+        return {node.name}.union(*(named_in(part, apart) for part in outside if part))
+    if isinstance(node, ast.Lambda):
+        return set().union(*(named_in(part, apart) for part in node.args.defaults))
+    if isinstance(node, ast.GeneratorExp):
+        return named_in(node.generators[0].iter, apart)
+    if is_comprehension(node):
+        first = node.generators[0]
+        inner = apart.union(*({n.id for n in ast.walk(g.target) if isinstance(n, ast.Name)} for g in node.generators))
+        rest = [part for part in ast.iter_child_nodes(node) if part is not first] + [first.target, *first.ifs]
+        return named_in(first.iter, apart).union(*(named_in(part, inner) for part in rest))
+    found = set(getattr(node, "names", [])) if isinstance(node, (ast.Global, ast.Nonlocal)) else set()
+    if isinstance(node, ast.ExceptHandler) and node.name:
+        found.add(node.name)
+    if isinstance(node, ast.alias):
+        found.add((node.asname or node.name).split(".")[0])
+    return found.union(*(named_in(part, apart) for part in ast.iter_child_nodes(node)))
+
+
+def targets_alone(node):
+    """The targets of comprehensions of a block that are no names of the block as well."""
+    if isinstance(node, (ast.FunctionDef, ast.Lambda)):
+        body = node.body if isinstance(node.body, list) else [node.body]
+        given = node.args
+        names = {a.arg for a in given.posonlyargs + given.args + given.kwonlyargs + [given.vararg, given.kwarg] if a}
+    elif isinstance(node, ast.GeneratorExp):
+        body, names = [node.elt, *node.generators], set()
+    else:
+        body, names = node.body, set()
+    own = names.union(*(named_in(part, set()) for part in body))
+    clauses = [clause for part in body for n in ast.walk(part) if is_comprehension(n) for clause in n.generators]
+    return {n.id for clause in clauses for n in ast.walk(clause.target) if isinstance(n, ast.Name)} - own
+
+
 def scopes(script):
-    """Block, name and scope. CPython adds the targets of a comprehension to the names of the block around it."""
+    """Block, name and scope. The targets of a comprehension, which CPython adds to the names of the block around it, are left
+    out."""
     module, *rest = tables(symtable.symtable(script, "a.py", "exec"))
-    ordered = [module]
+    ordered = [(module, targets_alone(ast.parse(script)))]
     for node in nodes(script):
         table = next(t for t in rest if (t.get_name(), t.get_lineno()) == (name_of(node), node.lineno))
         rest.remove(table)
-        ordered.append(table)
+        ordered.append((table, targets_alone(node)))
     found = []
-    for block, table in enumerate(ordered):
+    for block, (table, apart) in enumerate(ordered):
         for symbol in sorted(table.get_symbols(), key=lambda s: s.get_name()):
-            if symbol.get_name().startswith("."):
+            if symbol.get_name().startswith(".") or symbol.get_name() in apart:
                 continue
             scope = SCOPES[symbol._Symbol__scope]
             if block == 0:

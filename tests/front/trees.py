@@ -44,11 +44,16 @@ def constant(value):
     return " " + (str(value) if value in (0, 1, 2) else "int")
 
 
+def pieces(values):
+    """The parts of an f-string or of a spec. CPython 3.12 leaves an empty text behind a field that ends a spec."""
+    return "".join(piece(v) for v in values if not (isinstance(v, ast.Constant) and v.value == ""))
+
+
 def piece(value):
     if isinstance(value, ast.Constant):
         return constant(value.value)
     conversion = {-1: "", 115: " !s", 114: " !r"}[value.conversion]
-    spec = "".join(map(piece, value.format_spec.values)) if value.format_spec else ""
+    spec = pieces(value.format_spec.values) if value.format_spec else ""
     return node("field", expression(value.value), conversion, spec)
 
 
@@ -86,7 +91,7 @@ def expression(e):
         case ast.Name(name):
             return named(name)
         case ast.JoinedStr(values):
-            return node("joined", "".join(map(piece, values)))
+            return node("joined", pieces(values))
         case ast.Tuple(items):
             return node("tuple", all_of(items))
         case ast.List(items):

@@ -1,0 +1,74 @@
+"""Times a program on files of 1 MiB of several shapes, and of twice the size.
+
+Each is run five times. What is printed: the median time beyond that of an empty file, the greatest
+memory, and the ratio of the times.
+"""
+
+import os
+import statistics
+import subprocess
+import sys
+import tempfile
+import time
+from pathlib import Path
+
+CRATES = Path(__file__).resolve().parent.parent / "crates"
+MEBIBYTE = 1 << 20
+RUNS = 5
+
+ORDINARY = '''
+def area(width, height=1, *, scale=1):
+    """The area of a rectangle."""
+    total = width * height  # unscaled
+    for step in range(0, 10):
+        if step % 2 == 0 and total != 0x1F:
+            total += step ** 2 - (width // 3)
+        else:
+            print(f"{step:>{width}} of {total!r}", "done\\n", sep=" ")
+    return [total, {"width": width, 'height': height}]
+
+'''
+
+
+def repeated(text, size):
+    return text * (size // len(text))
+
+
+def blocks(size):
+    lines = ["if x:\n" if depth == 0 else " " * depth + "if x:\n" for depth in range(100)]
+    return repeated("".join(lines) + " " * 100 + "x\n", size)
+
+
+def run(words):
+    """Seconds and peak KiB: the median and the greatest of the runs."""
+    rows = []
+    for _ in range(RUNS):
+        start = time.perf_counter()
+        child = subprocess.Popen(words)
+        _, status, usage = os.wait4(child.pid, 0)
+        rows.append((time.perf_counter() - start, usage.ru_maxrss))
+        child.returncode = os.waitstatus_to_exitcode(status)
+        if child.returncode != 0:
+            sys.exit(f"{words} ended with status {child.returncode}")
+    return statistics.median(r[0] for r in rows), max(r[1] for r in rows)
+
+
+def main(crate, shapes):
+    """Builds the crate's program and times it on texts of these shapes."""
+    folder = CRATES / crate
+    program = folder / "out" / crate
+    build = subprocess.run(["rt", "run", "--", folder / "data" / "a.py"], cwd=folder, capture_output=True, text=True)
+    if build.returncode != 0:
+        sys.exit(build.stdout + build.stderr)
+    with tempfile.TemporaryDirectory() as files:
+        path = Path(files, "script")
+        path.write_text("")
+        start, _ = run([program, path])
+        for name, shape in shapes.items():
+            times = []
+            for size, twice in [(MEBIBYTE, ""), (2 * MEBIBYTE, " twice")]:
+                path.write_text(shape(size))
+                seconds, memory = run([program, path])
+                times.append(seconds - start)
+                print(f"{name + twice:26} {seconds - start:7.3f} s  {memory:8} KiB")
+            print(f"{name + ' ratio':26} {times[1] / times[0]:7.2f}")

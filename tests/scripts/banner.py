@@ -1,0 +1,8 @@
+"""Prints a banner."""
+
+title = "JOISTMINT"
+rule = "=========" + "===="
+
+print(rule)
+print("= " + title + " =")
+print(rule)

@@ -1,0 +1,6 @@
+n = 1
+n = n + n
+n = n + n
+n = n + n
+n = n + n
+print(n)

@@ -1,0 +1,4 @@
+first = "Grace"
+last = "Hopper"
+name = first + " " + last
+print("Hello, " + name + "!")

@@ -1,0 +1,5 @@
+message = "one " "two " \
+          "three"
+print(message)
+print(("four" + " "
+       "five"))

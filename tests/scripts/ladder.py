@@ -1,0 +1,3 @@
+rung = "|--|"
+gap = "|  |"
+print(rung + "\n" + gap + "\n" + rung + "\n" + gap + "\n" + rung)

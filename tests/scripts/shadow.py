@@ -1,0 +1,4 @@
+value = "text"
+value = 3
+value = value + 4
+print(value)

@@ -1,0 +1,4 @@
+naïve = "naïve café"
+print(naïve + " ☕")
+ñ = 1
+print(ñ + 1)
