@@ -1,2 +1,2 @@
-print("no line is run where one is not built")
+print("nothing is run where a form is not built")
 x = -1

@@ -1,0 +1,2 @@
+print("nothing is run of what is no script")
+x = = 1
