@@ -62,7 +62,7 @@ enum Told {
     Unbuilt(u32),
 }
 
-fn told(end: &End) -> Told {
+fn told_of(end: &End) -> Told {
     match end {
         End::Done => Told::Done,
         End::Raised => Told::Raised,
@@ -133,7 +133,7 @@ fn runs_scripts(rt: HostRuntime) -> Result<(), Fail> {
     ];
     for (text, out, end) in rows {
         let got = run_over(rt.alloc(), &["run", "a.py"], text.as_bytes(), &[], &[])?;
-        assert_eq!(rt; told(&got.end), end, "at {text:?}");
+        assert_eq!(rt; told_of(&got.end), end, "at {text:?}");
         assert_eq!(rt; got.out.as_slice(), out.as_bytes(), "at {text:?}");
         assert_eq!(rt; got.log, 0);
     }
@@ -176,7 +176,7 @@ fn refuses_what_is_no_script(rt: HostRuntime) -> Result<(), Fail> {
     ];
     for (text, number, place) in rows {
         let got = run_over(rt.alloc(), &["run", "a.py"], text, &[], &[])?;
-        assert_eq!(rt; told(&got.end), Told::Refused(number, place), "at {text:?}");
+        assert_eq!(rt; told_of(&got.end), Told::Refused(number, place), "at {text:?}");
         assert_eq!(rt; status(&got.end), 6);
         assert_eq!(rt; got.out.len(), 0, "at {text:?}");
         assert_eq!(rt; got.log, 0);
@@ -208,30 +208,30 @@ fn long_text(alloc: Global, doublings: usize, last: &[u8]) -> Result<Vec<u8>, Me
 fn meets_the_limits(rt: HostRuntime) -> Result<(), Fail> {
     let most = long_sum(rt.alloc(), 500)?;
     let got = run_over(rt.alloc(), &["run", "a.py"], most.as_slice(), &[], &[])?;
-    assert_eq!(rt; told(&got.end), Told::Done);
+    assert_eq!(rt; told_of(&got.end), Told::Done);
     assert_eq!(rt; got.out.as_slice(), b"500\n|".as_slice());
 
     let more = long_sum(rt.alloc(), 501)?;
     let got = run_over(rt.alloc(), &["run", "a.py"], more.as_slice(), &[], &[])?;
-    assert_eq!(rt; told(&got.end), Told::Refused(13, 1));
+    assert_eq!(rt; told_of(&got.end), Told::Refused(13, 1));
 
     let longest = long_text(rt.alloc(), 24, b"y = x + \"\"")?;
     let got = run_over(rt.alloc(), &["run", "a.py"], longest.as_slice(), &[], &[])?;
-    assert_eq!(rt; told(&got.end), Told::Done);
+    assert_eq!(rt; told_of(&got.end), Told::Done);
 
     let longer = long_text(rt.alloc(), 24, b"y = x + \"a\"")?;
     let got = run_over(rt.alloc(), &["run", "a.py"], longer.as_slice(), &[], &[])?;
-    assert_eq!(rt; told(&got.end), Told::Outside(What::Length, 26));
+    assert_eq!(rt; told_of(&got.end), Told::Outside(What::Length, 26));
 
     let mut whole = Vec::new(rt.alloc());
     for _ in 0..SCRIPT_LIMIT {
         whole.push(b'\n')?;
     }
     let got = run_over(rt.alloc(), &["run", "a.py"], whole.as_slice(), &[], &[])?;
-    assert_eq!(rt; told(&got.end), Told::Done);
+    assert_eq!(rt; told_of(&got.end), Told::Done);
     whole.push(b'\n')?;
     let got = run_over(rt.alloc(), &["run", "a.py"], whole.as_slice(), &[], &[])?;
-    assert_eq!(rt; told(&got.end), Told::TooLong(File::First));
+    assert_eq!(rt; told_of(&got.end), Told::TooLong(File::First));
     Ok(())
 }
 
@@ -253,7 +253,7 @@ fn answers_for_words_and_faults(rt: HostRuntime) -> Result<(), Fail> {
     for (words, read_fails, write_fails, out, end) in rows {
         let text = b"print(1)\nprint(2)\nprint(3)\n";
         let got = run_over(rt.alloc(), words, text, read_fails, write_fails)?;
-        assert_eq!(rt; told(&got.end), end, "at {words:?}");
+        assert_eq!(rt; told_of(&got.end), end, "at {words:?}");
         assert_eq!(rt; got.out.as_slice(), out.as_bytes(), "at {words:?}");
         assert_eq!(rt; got.log, 0);
     }
