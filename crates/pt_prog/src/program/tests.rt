@@ -176,7 +176,11 @@ fn refuses_what_is_no_script(rt: HostRuntime) -> Result<(), Fail> {
     ];
     for (text, number, place) in rows {
         let got = run_over(rt.alloc(), &["run", "a.py"], text, &[], &[])?;
-        assert_eq!(rt; told_of(&got.end), Told::Refused(number, place), "at {text:?}");
+        assert_eq!(rt;
+            told_of(&got.end),
+            Told::Refused(number, place),
+            "at {text:?}"
+        );
         assert_eq!(rt; status(&got.end), 6);
         assert_eq!(rt; got.out.len(), 0, "at {text:?}");
         assert_eq!(rt; got.log, 0);
@@ -204,34 +208,52 @@ fn long_text(alloc: Global, doublings: usize, last: &[u8]) -> Result<Vec<u8>, Me
     Ok(text)
 }
 
+/// How the run of a script ends, where no call of an object fails.
+fn end_for(alloc: Global, text: &[u8]) -> Result<Told, Fail> {
+    let got = run_over(alloc, &["run", "a.py"], text, &[], &[])?;
+    Ok(told_of(&got.end))
+}
+
 #[test]
-fn meets_the_limits(rt: HostRuntime) -> Result<(), Fail> {
+fn a_sum_has_at_most_500_items(rt: HostRuntime) -> Result<(), Fail> {
     let most = long_sum(rt.alloc(), 500)?;
     let got = run_over(rt.alloc(), &["run", "a.py"], most.as_slice(), &[], &[])?;
     assert_eq!(rt; told_of(&got.end), Told::Done);
     assert_eq!(rt; got.out.as_slice(), b"500\n|".as_slice());
+    Ok(())
+}
 
+#[test]
+fn a_sum_of_more_items_is_refused(rt: HostRuntime) -> Result<(), Fail> {
     let more = long_sum(rt.alloc(), 501)?;
-    let got = run_over(rt.alloc(), &["run", "a.py"], more.as_slice(), &[], &[])?;
-    assert_eq!(rt; told_of(&got.end), Told::Refused(13, 1));
+    assert_eq!(rt; end_for(rt.alloc(), more.as_slice())?, Told::Refused(13, 1));
+    Ok(())
+}
 
-    let longest = long_text(rt.alloc(), 24, b"y = x + \"\"")?;
-    let got = run_over(rt.alloc(), &["run", "a.py"], longest.as_slice(), &[], &[])?;
-    assert_eq!(rt; told_of(&got.end), Told::Done);
-
-    let longer = long_text(rt.alloc(), 24, b"y = x + \"a\"")?;
-    let got = run_over(rt.alloc(), &["run", "a.py"], longer.as_slice(), &[], &[])?;
-    assert_eq!(rt; told_of(&got.end), Told::Outside(What::Length, 26));
-
-    let mut whole = Vec::new(rt.alloc());
-    for _ in 0..SCRIPT_LIMIT {
-        whole.push(b'\n')?;
+#[test]
+fn a_text_has_at_most_16777216_characters(rt: HostRuntime) -> Result<(), Fail> {
+    for (last, end) in [
+        (b"y = x + \"\"".as_slice(), Told::Done),
+        (b"y = x + \"a\"".as_slice(), Told::Outside(What::Length, 26)),
+    ] {
+        let text = long_text(rt.alloc(), 24, last)?;
+        assert_eq!(rt; end_for(rt.alloc(), text.as_slice())?, end);
     }
-    let got = run_over(rt.alloc(), &["run", "a.py"], whole.as_slice(), &[], &[])?;
-    assert_eq!(rt; told_of(&got.end), Told::Done);
-    whole.push(b'\n')?;
-    let got = run_over(rt.alloc(), &["run", "a.py"], whole.as_slice(), &[], &[])?;
-    assert_eq!(rt; told_of(&got.end), Told::TooLong(File::First));
+    Ok(())
+}
+
+#[test]
+fn a_script_has_at_most_1048576_bytes(rt: HostRuntime) -> Result<(), Fail> {
+    for (bytes, end) in [
+        (SCRIPT_LIMIT, Told::Done),
+        (SCRIPT_LIMIT + 1, Told::TooLong(File::First)),
+    ] {
+        let mut text = Vec::new(rt.alloc());
+        for _ in 0..bytes {
+            text.push(b'\n')?;
+        }
+        assert_eq!(rt; end_for(rt.alloc(), text.as_slice())?, end);
+    }
     Ok(())
 }
 
