@@ -11,6 +11,3 @@ pub use front_end::front;
 pub use laws::{a_text_has_one_answer, tokens_have_one_answer};
 pub use refusal::{FrontErr, Refusal};
 pub use syntax::{SyntaxErr, parse_expr, parse_script};
-
-#[cfg(test)]
-mod tests;

@@ -6,6 +6,8 @@ mod calls;
 #[cfg(test)]
 mod expressions;
 #[cfg(test)]
+mod places;
+#[cfg(test)]
 mod reading;
 #[cfg(test)]
 mod statements;
