@@ -1,6 +1,6 @@
 -- Parts that are made one behind the other, and a list of them.
-use Rattle.std.proofs.Common.{◌≡◌, ◌∙◌, ap, sym, refl, subst, ℕ, ◌+◌, ◌<◌, ◌≤◌, get_or, length, drop, List, [], ◌∷◌, ◌++◌, map, Option, None, Some, option_map, Result, Bool, true, arith}
-use Rattle.std.specs.Prelude.{if◌then◌else◌}
+use Rattle.std.proofs.Common.{◌≡◌, ◌∙◌, ap, sym, refl, subst, ℕ, ◌+◌, ◌<◌, ◌≤◌, get_or, length, drop, List, [], ◌∷◌, ◌++◌, map, Option, None, Some, option_map, Result, Ok, Err, Bool, true, false, arith}
+use Rattle.std.specs.Prelude.{◌↔◌, if◌then◌else◌, IsErrAnd, IsTrue}
 use Rattle.std.proofs.lemmas.List.{drop_all, drop_more}
 use Rattle.pt_base.specs.declared.numbers.Line.{Line}
 use Rattle.pt_tree.specs.declared.expression.Clause.{Clause, out-Clause, out-roll-Clause, roll-Clause}
@@ -21,7 +21,7 @@ use Rattle.pt_narrow.specs.declared.stars.Stars.TheVariants.{Never, Inside, Here
 use Rattle.pt_narrow.specs.declared.unnarrowed.Unnarrowed.{Unnarrowed}
 use Rattle.pt_narrow.specs.Blocks.{blocks_entry, blocks_exp, blocks_params, blocks_pieces}
 use Rattle.pt_narrow.specs.Narrow.{Pair, clause, comprehension, conditions, generator, narrow_bare, narrow_exp, narrow_pair, narrow_params, narrow_pieces, narrow_target}
-use Rattle.pt_narrow.specs.Narrowed.{Made, Makes, MakesBare, MakesBareTarget, Put, formals_of, narrow_bare_target, put_clause}
+use Rattle.pt_narrow.specs.Narrowed.{Left, Made, Makes, MakesBare, MakesBareTarget, Put, Puts, formals_of, narrow_bare_target, put_clause}
 use Rattle.pt_narrow.specs.Targets.{alone, exp_line, is_inside_target}
 use Rattle.pt_narrow.specs.Ways.{both, three, four}
 use Rattle.pt_narrow.proofs.Others.{line-is}
@@ -187,6 +187,9 @@ at-node r line n m e d is h = subst (λ x. MakesBare r line n x m) (sym is) h
 pub at-target : (r : Result Target Unnarrowed) (line n : ℕ) (s : Stars) (m : ℕ) (e d : W.Exp) → e ≡ d → MakesBareTarget r line n s d m → MakesBareTarget r line n s e m
 at-target r line n s m e d is h = subst (λ x. MakesBareTarget r line n s x m) (sym is) h
 
+pub at-made-in : (q : W.Exp → Option T.Exp) {t : T.Exp} {n m : ℕ} {e d : W.Exp} → e ≡ d → Made (q d) t n (blocks_exp d) m → Made (q e) t n (blocks_exp e) m
+at-made-in q {t} {n} {m} is h = subst (λ x. Made (q x) t n (blocks_exp x) m) (sym is) h
+
 pub at-made : (line : ℕ) {t : T.Exp} {n m : ℕ} {e d : W.Exp} → e ≡ d → Made (narrow_bare line n d) t n (blocks_exp d) m → Made (narrow_bare line n e) t n (blocks_exp e) m
 at-made line {t} {n} {m} is h = subst (λ x. Made (narrow_bare line n x) t n (blocks_exp x) m) (sym is) h
 
@@ -205,3 +208,57 @@ at-made-entry {p} {n} {m} is h = subst (λ x. Made (narrow_pair n x) p n (blocks
 
 pub at-made-params : {p : T.Params} {n m : ℕ} {g d : W.Params} → g ≡ d → Made (narrow_params n d) p n (blocks_params d) m → Made (narrow_params n g) p n (blocks_params g) m
 at-made-params {p} {n} {m} is h = subst (λ x. Made (narrow_params n x) p n (blocks_params x) m) (sym is) h
+
+-- what lacks a part behind the first is not in the language
+pub both-none : {A B P : Type 0} (f : A → B → P) (o : Option A) → both f o None ≡ None
+both-none f None = refl
+both-none f (Some x) = refl
+
+pub three-none-second : {A B C P : Type 0} (f : A → B → C → P) (o : Option A) (r : Option C) → three f o None r ≡ None
+three-none-second f None r = refl
+three-none-second f (Some x) r = refl
+
+pub three-none-third : {A B C P : Type 0} (f : A → B → C → P) (o : Option A) (p : Option B) → three f o p None ≡ None
+three-none-third f None p = refl
+three-none-third f (Some x) p = both-none (f x) p
+
+pub four-none-second : {A B C D P : Type 0} (f : A → B → C → D → P) (o : Option A) (r : Option C) (s : Option D) → four f o None r s ≡ None
+four-none-second f None r s = refl
+four-none-second f (Some x) r s = refl
+
+pub four-none-third : {A B C D P : Type 0} (f : A → B → C → D → P) (o : Option A) (p : Option B) (s : Option D) → four f o p None s ≡ None
+four-none-third f None p s = refl
+four-none-third f (Some x) p s = three-none-second (f x) p s
+
+pub four-none-fourth : {A B C D P : Type 0} (f : A → B → C → D → P) (o : Option A) (p : Option B) (r : Option C) → four f o p r None ≡ None
+four-none-fourth f None p r = refl
+four-none-fourth f (Some x) p r = three-none-third (f x) p r
+
+pub comprehension-none : (l : ℕ) (o : Option T.Made) → comprehension l o None ≡ None
+comprehension-none l None = refl
+comprehension-none l (Some m) = refl
+
+pub generator-none : (l b : ℕ) (o : Option T.Exp) → generator l b o None ≡ None
+generator-none l b None = refl
+generator-none l b (Some e) = refl
+
+-- a `?` at which a part is left out
+pub left-out : {A P Q : Type 0} (f : A → P) (r : Result A Unnarrowed) (e : Unnarrowed) (o : Option Q) (p : Option P) (n k m : ℕ) → IsErrAnd r (λ y. y ≡ e) → Left e o → (o ≡ None → p ≡ None) → Makes f r p n k m
+left-out f (Ok a) e o p n k m is left whole = absurd is
+left-out f (Err x) e o p n k m is left whole = λ out. whole (left (sym is ∙ out))
+
+pub left-out-before : {A P Q R : Type 0} (f : A → P → P) (r : Result A Unnarrowed) (e : Unnarrowed) (o : Option Q) (p q : R → Option P) (n : ℕ) (k : R → ℕ) (m : ℕ) (l : R → ℕ) → IsErrAnd r (λ y. y ≡ e) → Left e o → ((s : R) → o ≡ None → p s ≡ None) → Puts f r p q n k m l
+left-out-before f (Ok a) e o p q n k m l is left whole = absurd is
+left-out-before f (Err x) e o p q n k m l is left whole = λ s out. whole s (left (sym is ∙ out))
+
+pub both-second : {A B P : Type 0} (f : A → B → P) (q : ℕ → Option B) (o : Option A) (n i : ℕ) → i ≡ n → q i ≡ None → both f o (q n) ≡ None
+both-second f q o n i after none = ap (λ t. both f o (q t)) (sym after) ∙ ap (both f o) none ∙ both-none f o
+
+pub walk-left : {A P : Type 0} {put : A → P → P} {made : List A} {whole rest : Option P} {n k m l : ℕ} → Walk put made whole rest n k m l → rest ≡ None → whole ≡ None
+walk-left {put = put} {made = made} w none = w.is ∙ ap (option_map (λ r. chained r (map put made))) none
+
+pub is_not : {b : Bool} {P : Type 0} → IsTrue b ↔ P → b ≡ false → P → ⊥
+is_not {b = true} e h p = cc
+is_not {b = false} e h p = let k = e.1 p in cc
+
+pub ruleset leaves = (both-none, three-none-second, three-none-third, four-none-second, four-none-third, four-none-fourth, comprehension-none, generator-none)

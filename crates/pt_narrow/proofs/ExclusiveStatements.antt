@@ -16,7 +16,7 @@ use Rattle.pt_narrow.specs.StatementNarrow.{narrow_as, narrow_assigned, narrow_b
 use Rattle.pt_narrow.specs.Ways.{three}
 use Rattle.pt_narrow.proofs.Exclusive.{fours, law_exp, law_opt, law_params, law_target, law_targets, one, threes, two}
 
-law_place : (n : ℕ) (e : Exp) → is_some (narrow_place n e) ≡ is_clean (faults_place e)
+pub law_place : (n : ℕ) (e : Exp) → is_some (narrow_place n e) ≡ is_clean (faults_place e)
 law_place n (W.name l x) = refl
 law_place n (W.attribute l a x) = one (λ o. T.attribute_at l o x) (narrow_exp n a) ∙ law_exp n a
 law_place n (W.item l a i) = two (T.item_at l) (narrow_exp n a) (narrow_exp (n + blocks_exp a) i) (faults_exp a) (faults_exp i) (law_exp n a) (law_exp (n + blocks_exp a) i)

@@ -23,7 +23,7 @@ is_base-plain (open_node.Named l x d) m r = refl
 is_base-plain (open_node.WideArgument::Spread l d) m r = refl
 is_base-plain (open_node.SpreadNamed l d) m r = refl
 
-is_base-many : (g h : WideArgument) (gs : List WideArgument) → is_base (args (g ∷ h ∷ gs)) ≡ false
+pub is_base-many : (g h : WideArgument) (gs : List WideArgument) → is_base (args (g ∷ h ∷ gs)) ≡ false
 is_base-many g h gs =
     ap (λ (f : Args → Args). is_base (f (args (h ∷ gs)))) (argument_of-is g) ∙
     ap (λ (f : Args → Args). is_base (argument_plain (opened-WideArgument g) (f (args gs)))) (argument_of-is h) ∙

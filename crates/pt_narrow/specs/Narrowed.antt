@@ -1,5 +1,5 @@
 -- What code makes of a part of a wide tree: the part of the language that it is.
-use Rattle.std.specs.Prelude.{◌≡◌, ℕ, ◌+◌, List, map, Option, Some, option_map, Result, Ok, Err}
+use Rattle.std.specs.Prelude.{◌≡◌, ℕ, ◌+◌, List, map, Option, Some, None, option_map, Result, Ok, Err}
 use Rattle.pt_tree.specs.declared.expression.Argument.{Argument}
 use Rattle.pt_tree.specs.declared.expression.Clause.{Clause}
 use Rattle.pt_tree.specs.declared.expression.Comparison.{Comparison}
@@ -22,6 +22,7 @@ use Rattle.pt_wide.specs.Fold as V
 use Rattle.pt_wide.specs.Syntax as W
 use Rattle.pt_narrow.specs.declared.stars.Stars.{Stars}
 use Rattle.pt_narrow.specs.declared.unnarrowed.Unnarrowed.{Unnarrowed}
+use Rattle.pt_narrow.specs.declared.unnarrowed.Unnarrowed.TheVariants.{LeftOut}
 use Rattle.pt_narrow.specs.Blocks.{blocks_all, blocks_exp}
 use Rattle.pt_narrow.specs.Narrow.{Pair, narrow_bare, narrow_exp, narrow_target, narrow_targets, pair}
 
@@ -30,9 +31,13 @@ pub record Made {P : Type 0} (narrow : Option P) (part : P) (before count now : 
   pub is : narrow ≡ Some part
   pub after : now ≡ before + count
 
+-- where a part is left out, it is not in the language; want of memory says nothing of it
+abbrev pub Left : {P : Type 0} → Unnarrowed → (narrow : Option P) → Type 0
+Left e o = e ≡ LeftOut → o ≡ None
+
 abbrev pub Makes : {A P : Type 0} → (A → P) → Result A Unnarrowed → (narrow : Option P) → (before count now : ℕ) → Type 0
 Makes f (Ok a) o n k m = Made o (f a) n k m
-Makes f (Err e) o n k m = Unit {0}
+Makes f (Err e) o n k m = Left e o
 
 -- the part is put before those behind it, whatever they are, and behind it so many blocks have started
 pub record Put {R P : Type 0} (put : P → P) (narrow rest : R → Option P) (before : ℕ) (count : R → ℕ) (now : ℕ) (left : R → ℕ) : Type 0 where
@@ -41,7 +46,7 @@ pub record Put {R P : Type 0} (put : P → P) (narrow rest : R → Option P) (be
 
 abbrev pub Puts : {A R P : Type 0} → (A → P → P) → Result A Unnarrowed → (narrow rest : R → Option P) → (before : ℕ) → (count : R → ℕ) → (now : ℕ) → (left : R → ℕ) → Type 0
 Puts f (Ok a) o p n k m l = Put (f a) o p n k m l
-Puts f (Err e) o p n k m l = Unit {0}
+Puts f (Err e) o p n k m l = (r : _) → Left e (o r)
 
 -- of an expression
 abbrev pub MakesExp : Result Expr Unnarrowed → (before : ℕ) → W.Exp → (now : ℕ) → Type 0
@@ -117,3 +122,29 @@ MakesBareTarget r l n s e m = Makes F.target_of r (narrow_bare_target l n s e) n
 
 abbrev pub MakesTargets : Result (List Target) Unnarrowed → (before : ℕ) → Stars → W.Exps → (now : ℕ) → Type 0
 MakesTargets r n s es m = Makes tgts_of r (narrow_targets n s es) n (blocks_all es) m
+
+-- what a function makes of the kinds that it knows; of the others, what the function behind it does
+abbrev pub narrow_comprehension : (line before : ℕ) → W.Exp → Option T.Exp
+narrow_comprehension l n (W.comprehension m form e cs) = narrow_bare l n (W.comprehension m form e cs)
+narrow_comprehension l n (W.dict_comprehension m g cs) = narrow_exp n (W.dict_comprehension m g cs)
+narrow_comprehension l n e = None
+
+abbrev pub narrow_choice : (line before : ℕ) → W.Exp → Option T.Exp
+narrow_choice l n (W.and m a es) = narrow_exp n (W.and m a es)
+narrow_choice l n (W.or m a es) = narrow_exp n (W.or m a es)
+narrow_choice l n (W.conditional m c a b) = narrow_exp n (W.conditional m c a b)
+narrow_choice l n (W.call m f args) = narrow_exp n (W.call m f args)
+narrow_choice l n (W.lambda m ps e) = narrow_exp n (W.lambda m ps e)
+narrow_choice l n (W.yield m v) = narrow_exp n (W.yield m v)
+narrow_choice l n (W.yield_from m e) = narrow_exp n (W.yield_from m e)
+narrow_choice l n e = narrow_comprehension l n e
+
+abbrev pub narrow_operation : (line before : ℕ) → W.Exp → Option T.Exp
+narrow_operation l n (W.attribute m a x) = narrow_exp n (W.attribute m a x)
+narrow_operation l n (W.item m a i) = narrow_exp n (W.item m a i)
+narrow_operation l n (W.slice m a b c) = narrow_exp n (W.slice m a b c)
+narrow_operation l n (W.unary m o a) = narrow_exp n (W.unary m o a)
+narrow_operation l n (W.not_of m a) = narrow_exp n (W.not_of m a)
+narrow_operation l n (W.binary m o a b) = narrow_exp n (W.binary m o a b)
+narrow_operation l n (W.compare m a o b r) = narrow_exp n (W.compare m a o b r)
+narrow_operation l n e = narrow_choice l n e

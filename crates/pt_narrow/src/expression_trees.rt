@@ -1,10 +1,10 @@
 //! The trees of the language that expressions, and what stands in a target's place, are (Language
 //! Reference 6, 7.2). A tree is copied node by node, and its blocks are counted on the way.
 
-ghost use Rattle.std.specs.Prelude.{◌≡◌, Some, IfOk};
-ghost use Rattle.pt_narrow.specs.Blocks.{blocks_all, blocks_args, blocks_clauses, blocks_entries, blocks_entry, blocks_formals, blocks_links, blocks_opt, blocks_params, blocks_pieces};
+ghost use Rattle.std.specs.Prelude.{◌≡◌, Some, None, IfErr, IfOk};
+ghost use Rattle.pt_narrow.specs.Blocks.{blocks_all, blocks_args, blocks_clauses, blocks_entries, blocks_entry, blocks_exp, blocks_formals, blocks_links, blocks_opt, blocks_params, blocks_pieces};
 ghost use Rattle.pt_narrow.specs.Narrow.{narrow_all, narrow_args, narrow_clauses, narrow_entries, narrow_formals, narrow_links, narrow_operator, narrow_opt, narrow_pair, narrow_params, narrow_pieces};
-ghost use Rattle.pt_narrow.specs.Narrowed.{Makes, MakesBare, MakesExp, MakesTarget, MakesBareTarget, MakesTargets, Puts, args_of, clauses_of, entries_of, exps_of, formals_of, links_of, pair_of, pieces_of, put_clause, wide_args, wide_clauses, wide_entries, wide_exps, wide_formals, wide_links, wide_pieces};
+ghost use Rattle.pt_narrow.specs.Narrowed.{Makes, MakesBare, MakesExp, MakesTarget, MakesBareTarget, MakesTargets, Puts, args_of, clauses_of, entries_of, exps_of, formals_of, links_of, narrow_choice, narrow_comprehension, narrow_operation, pair_of, pieces_of, put_clause, wide_args, wide_clauses, wide_entries, wide_exps, wide_formals, wide_links, wide_pieces};
 ghost use Rattle.pt_tree.specs.Fold as T;
 ghost use Rattle.pt_wide.specs.Fold as W;
 
@@ -103,7 +103,7 @@ fn bare(n: &mut Narrower, start: Line, e: &WideExpr) -> Result<Expr, Unnarrowed>
 /// A primary behind an atom, or an operation (Language Reference 6.3 to 6.10).
 #[cycle(trees)]
 fn operation(n: &mut Narrower, start: Line, e: &WideExpr) -> Result<Expr, Unnarrowed>
-    ensures { MakesBare result start.0 n.old (W.exp_of e.now) n.new }
+    ensures { Makes T.exp_of result (narrow_operation start.0 n.old (W.exp_of e.now)) n.old (blocks_exp (W.exp_of e.now)) n.new }
 {
     let line = e.line;
     match &e.node {
@@ -193,7 +193,7 @@ fn operation(n: &mut Narrower, start: Line, e: &WideExpr) -> Result<Expr, Unnarr
 /// 6.14).
 #[cycle(trees)]
 fn choice(n: &mut Narrower, start: Line, e: &WideExpr) -> Result<Expr, Unnarrowed>
-    ensures { MakesBare result start.0 n.old (W.exp_of e.now) n.new }
+    ensures { Makes T.exp_of result (narrow_choice start.0 n.old (W.exp_of e.now)) n.old (blocks_exp (W.exp_of e.now)) n.new }
 {
     let line = e.line;
     match &e.node {
@@ -278,7 +278,7 @@ fn choice(n: &mut Narrower, start: Line, e: &WideExpr) -> Result<Expr, Unnarrowe
 /// A comprehension (Language Reference 6.2.4). What is left is a star, which is left out here.
 #[cycle(trees)]
 fn comprehension(n: &mut Narrower, start: Line, e: &WideExpr) -> Result<Expr, Unnarrowed>
-    ensures { MakesBare result start.0 n.old (W.exp_of e.now) n.new }
+    ensures { Makes T.exp_of result (narrow_comprehension start.0 n.old (W.exp_of e.now)) n.old (blocks_exp (W.exp_of e.now)) n.new }
 {
     let line = e.line;
     match &e.node {
@@ -343,7 +343,8 @@ fn comprehension(n: &mut Narrower, start: Line, e: &WideExpr) -> Result<Expr, Un
 }
 
 fn plain_operator(operator: WideBinOp) -> Result<BinOp, Unnarrowed>
-    ensures { IfOk result (λ plain. narrow_operator operator ≡ Some plain) }
+    ensures ok { IfOk result (λ plain. narrow_operator operator ≡ Some plain) }
+    ensures err { IfErr result (λ _. narrow_operator operator ≡ None) }
 {
     match operator {
         WideBinOp::Plain(operator) => Ok(operator),

@@ -14,6 +14,7 @@ use crate::fault::Fault;
 use crate::faults::first_fault_of_expr;
 use crate::narrower::Narrower;
 use crate::narrowing::Narrowing;
+use crate::unnarrowed::Unnarrowed;
 use pt_tree::Expr;
 use pt_wide::WideExpr;
 use std::alloc::Global;
@@ -40,6 +41,7 @@ pub fn narrow_expr(alloc: Global, e: &WideExpr) -> Result<Expr, Narrowing>
     let mut narrower = Narrower::new(alloc);
     match expression(&mut narrower, e) {
         Ok(tree) => Ok(tree),
-        Err(_) => Err(Narrowing::Memory),
+        Err(Unnarrowed::LeftOut) => unreachable!(),
+        Err(Unnarrowed::Memory) => Err(Narrowing::Memory),
     }
 }

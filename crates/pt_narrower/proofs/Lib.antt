@@ -1,1 +1,2 @@
 pub mod StatementBuilding
+pub mod OtherStatements

@@ -1,6 +1,6 @@
 -- Statements that are made of their parts.
 use Rattle.std.proofs.Common.{◌≡◌, ◌∙◌, ap, sym, refl, subst, ℕ, ◌+◌, ◌≤◌, length, List, [], ◌∷◌, map, Option, None, Some, option_map, Bool, true, false, arith}
-use Rattle.std.specs.Prelude.{◌↔◌, IsTrue, slice_get}
+use Rattle.std.specs.Prelude.{◌<◌, ◌↔◌, IsTrue, if◌then◌else◌, is_some, slice_get}
 use Rattle.pt_base.specs.declared.numbers.Line.{Line}
 use Rattle.pt_tree.proofs.StatementFolds.{branch_of-parts, handler_of-parts}
 use Rattle.pt_tree.specs.declared.expression.Expr.{Expr}
@@ -22,11 +22,16 @@ use Rattle.pt_narrow.specs.Blocks.{blocks_all, blocks_exp}
 use Rattle.pt_narrow.specs.Narrow.{narrow_exp, narrow_place}
 use Rattle.pt_narrow.specs.Narrowed.{Made, wide_args, wide_exps}
 use Rattle.pt_narrow.specs.StatementBlocks.{blocks_stm}
-use Rattle.pt_narrow.specs.StatementNarrow.{narrow_assigned, narrow_stm}
+use Rattle.pt_narrow.specs.StatementNarrow.{narrow_assigned, narrow_base, narrow_stm, only_base}
+use Rattle.pt_narrow.specs.StatementFaults.{is_base}
 use Rattle.pt_narrow.specs.Ways.{both, three, four}
+use Rattle.pt_narrow.proofs.OtherStatements.{is_base-many}
 
 pub at-made-stm : {t : T.Stm} {n m : ℕ} {s d : W.Stm} → s ≡ d → Made (narrow_stm n d) t n (blocks_stm d) m → Made (narrow_stm n s) t n (blocks_stm s) m
 at-made-stm {t} {n} {m} is h = subst (λ x. Made (narrow_stm n x) t n (blocks_stm x) m) (sym is) h
+
+pub at-made-by : (q : W.Stm → Option T.Stm) {t : T.Stm} {n m : ℕ} {s d : W.Stm} → s ≡ d → Made (q d) t n (blocks_stm d) m → Made (q s) t n (blocks_stm s) m
+at-made-by q {t} {n} {m} is h = subst (λ x. Made (q x) t n (blocks_stm x) m) (sym is) h
 
 pub at-made-place : {p : T.Place} {n m : ℕ} {e d : W.Exp} → e ≡ d → Made (narrow_place n d) p n (blocks_exp d) m → Made (narrow_place n e) p n (blocks_exp e) m
 at-made-place {p} {n} {m} is h = subst (λ x. Made (narrow_place n x) p n (blocks_exp x) m) (sym is) h
@@ -45,10 +50,6 @@ none-before a = omega arith
 
 pub none-behind : (a : ℕ) → a + 0 ≡ a
 none-behind a = omega arith
-
-pub is_not : {b : Bool} {P : Type 0} → IsTrue b ↔ P → b ≡ false → P → ⊥
-is_not {b = true} e h p = cc
-is_not {b = false} e h p = let k = e.1 p in cc
 
 pub is_so : {b : Bool} {P : Type 0} → IsTrue b ↔ P → b ≡ true → P
 is_so e h = e.0 h
@@ -95,3 +96,21 @@ branch-made l e body r = branch_of-parts (roll-Branch record { line = l; test = 
 
 pub handler-made : (l : Line) (e : Option Expr) (x : Option (List ℕ)) (body : List Stmt) (r : T.Handlers) → handler_of (roll-Handler record { line = l; class = e; name = x; body = body }) r ≡ T.handler l.0 (opt_exp e) x (stms_of body) r
 handler-made l e x body r = handler_of-parts (roll-Handler record { line = l; class = e; name = x; body = body }) r ∙ rw out-roll-Handler
+
+pub not-some : {P : Type 0} (o : Option P) → is_some o ≡ false → o ≡ None
+not-some None none = refl
+not-some (Some x) none = cc
+
+-- what is no base leaves none
+pub base-left : (before : ℕ) (args : W.Args) → is_base args ≡ false → narrow_base before args ≡ None
+base-left n args wrong = ap (λ (b : Bool). if b then only_base n args else None) wrong
+
+pub many-bases : (gs : List WideArgument) → 1 < length gs → is_base (wide_args gs) ≡ false
+many-bases [] many = absurd (omega arith)
+many-bases (g ∷ []) many = absurd (omega arith)
+many-bases (g ∷ h ∷ gs) many = is_base-many g h gs
+
+pub one-argument : (gs : List WideArgument) (g : WideArgument) → Some g ≡ slice_get gs 0 → length gs ≤ 1 → wide_args gs ≡ V.argument_of g W.no_args
+one-argument [] g is few = cc
+one-argument (h ∷ []) g is few = let same : h ≡ g = cc in ap (λ (x : WideArgument). V.argument_of x W.no_args) same
+one-argument (h ∷ k ∷ gs) g is few = absurd (omega arith)

@@ -5,7 +5,7 @@ ghost use Rattle.std.specs.Prelude.{◌≡◌};
 ghost use Rattle.pt_narrow.specs.Narrowed.{Makes, Puts};
 ghost use Rattle.pt_narrow.specs.StatementBlocks.{blocks_branches, blocks_handlers, blocks_stms};
 ghost use Rattle.pt_narrow.specs.StatementNarrow.{narrow_branches, narrow_handlers, narrow_stms};
-ghost use Rattle.pt_narrower.specs.StatementsNarrowed.{MakesStm, branches_of, handlers_of, wide_branches, wide_handlers};
+ghost use Rattle.pt_narrower.specs.StatementsNarrowed.{MakesBy, MakesStm, branches_of, handlers_of, narrow_classed, narrow_defined, narrow_guarded, narrow_iterated, narrow_repeated, narrow_tried, wide_branches, wide_handlers};
 ghost use Rattle.pt_tree.specs.StatementFold as T;
 ghost use Rattle.pt_wide.specs.StatementFold as W;
 
@@ -115,7 +115,7 @@ fn statement(n: &mut Narrower, s: &WideStmt) -> Result<Stmt, Unnarrowed>
 /// `while` (Language Reference 8.2).
 #[cycle(blocks)]
 fn repeated(n: &mut Narrower, s: &WideStmt) -> Result<Stmt, Unnarrowed>
-    ensures { MakesStm result n.old (W.stm_of s.now) n.new }
+    ensures { MakesBy narrow_repeated result n.old (W.stm_of s.now) n.new }
 {
     let line = s.line;
     match &s.node {
@@ -136,7 +136,7 @@ fn repeated(n: &mut Narrower, s: &WideStmt) -> Result<Stmt, Unnarrowed>
 /// `for` (Language Reference 8.3).
 #[cycle(blocks)]
 fn iterated(n: &mut Narrower, s: &WideStmt) -> Result<Stmt, Unnarrowed>
-    ensures { MakesStm result n.old (W.stm_of s.now) n.new }
+    ensures { MakesBy narrow_iterated result n.old (W.stm_of s.now) n.new }
 {
     let line = s.line;
     match &s.node {
@@ -159,7 +159,7 @@ fn iterated(n: &mut Narrower, s: &WideStmt) -> Result<Stmt, Unnarrowed>
 /// `try` (Language Reference 8.4).
 #[cycle(blocks)]
 fn tried(n: &mut Narrower, s: &WideStmt) -> Result<Stmt, Unnarrowed>
-    ensures { MakesStm result n.old (W.stm_of s.now) n.new }
+    ensures { MakesBy narrow_tried result n.old (W.stm_of s.now) n.new }
 {
     let line = s.line;
     match &s.node {
@@ -190,7 +190,7 @@ fn tried(n: &mut Narrower, s: &WideStmt) -> Result<Stmt, Unnarrowed>
 /// `with` (Language Reference 8.5).
 #[cycle(blocks)]
 fn guarded(n: &mut Narrower, s: &WideStmt) -> Result<Stmt, Unnarrowed>
-    ensures { MakesStm result n.old (W.stm_of s.now) n.new }
+    ensures { MakesBy narrow_guarded result n.old (W.stm_of s.now) n.new }
 {
     let line = s.line;
     match &s.node {
@@ -209,7 +209,7 @@ fn guarded(n: &mut Narrower, s: &WideStmt) -> Result<Stmt, Unnarrowed>
 /// A function (Language Reference 8.7).
 #[cycle(blocks)]
 fn defined(n: &mut Narrower, s: &WideStmt) -> Result<Stmt, Unnarrowed>
-    ensures { MakesStm result n.old (W.stm_of s.now) n.new }
+    ensures { MakesBy narrow_defined result n.old (W.stm_of s.now) n.new }
 {
     let line = s.line;
     match &s.node {
@@ -238,7 +238,7 @@ fn defined(n: &mut Narrower, s: &WideStmt) -> Result<Stmt, Unnarrowed>
 /// A class (Language Reference 8.8).
 #[cycle(blocks)]
 fn classed(n: &mut Narrower, s: &WideStmt) -> Result<Stmt, Unnarrowed>
-    ensures { MakesStm result n.old (W.stm_of s.now) n.new }
+    ensures { MakesBy narrow_classed result n.old (W.stm_of s.now) n.new }
 {
     let line = s.line;
     match &s.node {

@@ -1,6 +1,6 @@
 //! Tests of what the language keeps of a wide statement (Language Reference 8.4, 8.8).
 
-ghost use Rattle.std.specs.Prelude.{◌≡◌, ◌≤◌, false, length, IfOk};
+ghost use Rattle.std.specs.Prelude.{◌≡◌, ◌<◌, ◌≤◌, length, IfErr, IfOk, is_err};
 ghost use Rattle.pt_narrow.specs.StatementFaults.{is_generator as is_generator_of};
 ghost use Rattle.pt_wide.specs.Fold.{exp_of};
 
@@ -9,7 +9,8 @@ use pt_wide::{WideArgument, WideExpr};
 
 /// One argument at most.
 pub fn only_one(values: &[WideArgument]) -> Result<(), Unnarrowed>
-    ensures { IfOk result (λ _. length values.now ≤ 1) }
+    ensures ok { IfOk result (λ _. length values.now ≤ 1) }
+    ensures err { IfErr result (λ _. 1 < length values.now) }
 {
     if values.len() > 1 {
         Err(Unnarrowed::LeftOut)
@@ -20,7 +21,7 @@ pub fn only_one(values: &[WideArgument]) -> Result<(), Unnarrowed>
 
 /// An argument that isn't a generator expression without brackets of its own.
 pub fn no_generator(e: &WideExpr) -> Result<(), Unnarrowed>
-    ensures { IfOk result (λ _. is_generator_of (exp_of e.now) ≡ false) }
+    ensures { is_generator_of (exp_of e.now) ≡ is_err result }
 {
     if is_generator(e) {
         Err(Unnarrowed::LeftOut)
@@ -31,7 +32,7 @@ pub fn no_generator(e: &WideExpr) -> Result<(), Unnarrowed>
 
 /// `except` without a `*`.
 pub fn without_star(star: bool) -> Result<(), Unnarrowed>
-    ensures { IfOk result (λ _. star ≡ false) }
+    ensures { star ≡ is_err result }
 {
     if star {
         Err(Unnarrowed::LeftOut)

@@ -9,7 +9,7 @@ ghost use Rattle.pt_tree.specs.StatementFold.{script_of};
 ghost use Rattle.pt_wide.specs.StatementFold.{script_of as wide_script_of};
 
 use crate::block_trees::statements;
-use pt_narrow::{Narrower, Narrowing, first_fault, told};
+use pt_narrow::{Narrower, Narrowing, Unnarrowed, first_fault, told};
 use pt_tree::Script;
 use pt_wide::WideScript;
 use std::alloc::Global;
@@ -26,6 +26,7 @@ pub fn narrow(alloc: Global, script: &WideScript) -> Result<Script, Narrowing>
     let mut narrower = Narrower::new(alloc);
     match statements(&mut narrower, script.body.as_slice()) {
         Ok(body) => Ok(Script { body }),
-        Err(_) => Err(Narrowing::Memory),
+        Err(Unnarrowed::LeftOut) => unreachable!(),
+        Err(Unnarrowed::Memory) => Err(Narrowing::Memory),
     }
 }

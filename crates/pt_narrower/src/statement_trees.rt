@@ -1,13 +1,13 @@
 //! The trees of the language that simple statements, and the parts of compound ones, are (Language
 //! Reference 7, 8).
 
-ghost use Rattle.std.specs.Prelude.{◌≡◌, Some, IfOk, option_map};
+ghost use Rattle.std.specs.Prelude.{◌≡◌, Some, IfErr, IfOk, option_map};
 ghost use Rattle.pt_narrow.specs.Blocks.{blocks_all, blocks_args, blocks_exp, blocks_opt, blocks_params};
 ghost use Rattle.pt_narrow.specs.Narrow.{narrow_exp, narrow_opt, narrow_params, narrow_place};
-ghost use Rattle.pt_narrow.specs.Narrowed.{Makes, MakesExp, MakesTarget, tgts_of, wide_args, wide_exps};
+ghost use Rattle.pt_narrow.specs.Narrowed.{Left, Makes, MakesExp, MakesTarget, tgts_of, wide_args, wide_exps};
 ghost use Rattle.pt_narrow.specs.StatementBlocks.{blocks_decorators, blocks_items};
 ghost use Rattle.pt_narrow.specs.StatementNarrow.{narrow_as, narrow_assigned, narrow_base, narrow_decorators, narrow_from, narrow_items};
-ghost use Rattle.pt_narrower.specs.StatementsNarrowed.{MakesStm};
+ghost use Rattle.pt_narrower.specs.StatementsNarrowed.{MakesBy, narrow_annotated, narrow_assignment, narrow_augmented, narrow_checked, narrow_leaf, narrow_simple};
 ghost use Rattle.pt_tree.specs.Fold as T;
 ghost use Rattle.pt_tree.specs.StatementFold as TS;
 ghost use Rattle.pt_tree.specs.Syntax as P;
@@ -154,7 +154,8 @@ fn bound(n: &mut Narrower, e: &Option<WideExpr>) -> Result<Option<Target>, Unnar
 
 /// The names that are imported from an origin with no dots before it.
 fn imported(n: &Narrower, dots: u32, names: &Option<Seq<Alias>>) -> Result<Seq<Alias>, Unnarrowed>
-    ensures { IfOk result (λ xs. (l : _) (m : _) → narrow_from l dots m names.now ≡ Some (P.import_from l m xs)) }
+    ensures ok { IfOk result (λ xs. (l : _) (m : _) → narrow_from l dots m names.now ≡ Some (P.import_from l m xs)) }
+    ensures err { IfErr result (λ e. (l : _) (m : _) → Left e (narrow_from l dots m names.now)) }
 {
     if dots > 0 {
         return Err(Unnarrowed::LeftOut);
@@ -182,7 +183,9 @@ pub fn base(n: &mut Narrower, values: &[WideArgument]) -> Result<Option<Expr>, U
                     let value = expression(n, value)?;
                     Ok(Some(value))
                 }
-                _ => Err(Unnarrowed::LeftOut),
+                WideArgument::Named { .. } => Err(Unnarrowed::LeftOut),
+                WideArgument::Spread { .. } => Err(Unnarrowed::LeftOut),
+                WideArgument::SpreadNamed { .. } => Err(Unnarrowed::LeftOut),
             }
         }
     }
@@ -221,7 +224,7 @@ pub fn entered(n: &mut Narrower, items: &[WideItem]) -> Result<Seq<WithItem>, Un
 
 /// `target += value` and the like, or what comes behind (Language Reference 7.2.1).
 fn augmented(n: &mut Narrower, s: &WideStmt) -> Result<Stmt, Unnarrowed>
-    ensures { MakesStm result n.old (WS.stm_of s.now) n.new }
+    ensures { MakesBy narrow_augmented result n.old (WS.stm_of s.now) n.new }
 {
     let line = s.line;
     match &s.node {
@@ -247,7 +250,7 @@ fn augmented(n: &mut Narrower, s: &WideStmt) -> Result<Stmt, Unnarrowed>
 
 /// `target: annotation = value`, or what comes behind (Language Reference 7.2.2).
 fn annotated(n: &mut Narrower, s: &WideStmt) -> Result<Stmt, Unnarrowed>
-    ensures { MakesStm result n.old (WS.stm_of s.now) n.new }
+    ensures { MakesBy narrow_annotated result n.old (WS.stm_of s.now) n.new }
 {
     let line = s.line;
     match &s.node {
@@ -274,7 +277,7 @@ fn annotated(n: &mut Narrower, s: &WideStmt) -> Result<Stmt, Unnarrowed>
 
 /// `assert` or `raise` (Language Reference 7.3, 7.8).
 fn checked(n: &mut Narrower, s: &WideStmt) -> Result<Stmt, Unnarrowed>
-    ensures { MakesStm result n.old (WS.stm_of s.now) n.new }
+    ensures { MakesBy narrow_checked result n.old (WS.stm_of s.now) n.new }
 {
     let line = s.line;
     match &s.node {
@@ -303,7 +306,7 @@ fn checked(n: &mut Narrower, s: &WideStmt) -> Result<Stmt, Unnarrowed>
 
 /// `del` or `return` (Language Reference 7.5, 7.6).
 fn simple(n: &mut Narrower, s: &WideStmt) -> Result<Stmt, Unnarrowed>
-    ensures { MakesStm result n.old (WS.stm_of s.now) n.new }
+    ensures { MakesBy narrow_simple result n.old (WS.stm_of s.now) n.new }
 {
     let line = s.line;
     match &s.node {
@@ -327,7 +330,7 @@ fn simple(n: &mut Narrower, s: &WideStmt) -> Result<Stmt, Unnarrowed>
 
 /// A statement with neither an expression nor a target (Language Reference 7).
 fn leaf(n: &mut Narrower, s: &WideStmt) -> Result<Stmt, Unnarrowed>
-    ensures { MakesStm result n.old (WS.stm_of s.now) n.new }
+    ensures { MakesBy narrow_leaf result n.old (WS.stm_of s.now) n.new }
 {
     let line = s.line;
     match &s.node {
@@ -386,7 +389,7 @@ fn leaf(n: &mut Narrower, s: &WideStmt) -> Result<Stmt, Unnarrowed>
 
 /// `targets = value`, or an expression whose value is dropped (Language Reference 7.1, 7.2).
 pub fn assignment(n: &mut Narrower, s: &WideStmt) -> Result<Stmt, Unnarrowed>
-    ensures { MakesStm result n.old (WS.stm_of s.now) n.new }
+    ensures { MakesBy narrow_assignment result n.old (WS.stm_of s.now) n.new }
 {
     let line = s.line;
     match &s.node {
