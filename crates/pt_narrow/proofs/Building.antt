@@ -187,14 +187,8 @@ at-node r line n m e d is h = subst (λ x. MakesBare r line n x m) (sym is) h
 pub at-target : (r : Result Target Unnarrowed) (line n : ℕ) (s : Stars) (m : ℕ) (e d : W.Exp) → e ≡ d → MakesBareTarget r line n s d m → MakesBareTarget r line n s e m
 at-target r line n s m e d is h = subst (λ x. MakesBareTarget r line n s x m) (sym is) h
 
-pub at-made-in : (q : W.Exp → Option T.Exp) {t : T.Exp} {n m : ℕ} {e d : W.Exp} → e ≡ d → Made (q d) t n (blocks_exp d) m → Made (q e) t n (blocks_exp e) m
-at-made-in q {t} {n} {m} is h = subst (λ x. Made (q x) t n (blocks_exp x) m) (sym is) h
-
-pub at-made : (line : ℕ) {t : T.Exp} {n m : ℕ} {e d : W.Exp} → e ≡ d → Made (narrow_bare line n d) t n (blocks_exp d) m → Made (narrow_bare line n e) t n (blocks_exp e) m
-at-made line {t} {n} {m} is h = subst (λ x. Made (narrow_bare line n x) t n (blocks_exp x) m) (sym is) h
-
-pub at-made-target : (line : ℕ) (s : Stars) {t : T.Tgt} {n m : ℕ} {e d : W.Exp} → e ≡ d → Made (narrow_bare_target line n s d) t n (blocks_exp d) m → Made (narrow_bare_target line n s e) t n (blocks_exp e) m
-at-made-target line s {t} {n} {m} is h = subst (λ x. Made (narrow_bare_target line n s x) t n (blocks_exp x) m) (sym is) h
+pub at-made : {P : Type 0} (q : W.Exp → Option P) {t : P} {n m : ℕ} {e d : W.Exp} → e ≡ d → Made (q d) t n (blocks_exp d) m → Made (q e) t n (blocks_exp e) m
+at-made q {t} {n} {m} is h = subst (λ x. Made (q x) t n (blocks_exp x) m) (sym is) h
 
 -- a list from a place on, at which an item stands
 pub left-at : {X : Type 0} (xs : List X) (i : ℕ) (x : X) → i < length xs → x ≡ get_or xs i x → drop i xs ≡ x ∷ drop (i + 1) xs

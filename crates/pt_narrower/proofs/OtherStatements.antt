@@ -16,7 +16,7 @@ use Rattle.pt_wide.specs.declared.statement.WideStmtNode.{WideStmtNode, WideStmt
 use Rattle.pt_wide.specs.declared.statement.WideStmtNode.TheOpen as open_node
 use Rattle.pt_wide.specs.declared.statement.WideStmtNode.TheVariants as node
 use Rattle.pt_wide.specs.Syntax.{Branches, Handlers, Stm}
-use Rattle.pt_wide.specs.StatementFold.{WideStmtNode-P, branch_of, handler_of, statement_plain, stm_node_of, stm_of}
+use Rattle.pt_wide.specs.StatementFold.{branch_of, handler_of, statement_plain, stm_node_of, stm_of}
 use Rattle.pt_narrow.specs.StatementNarrow.{narrow_stm}
 use Rattle.pt_narrower.specs.StatementsNarrowed.{narrow_annotated, narrow_assignment, narrow_augmented, narrow_checked, narrow_classed, narrow_defined, narrow_guarded, narrow_iterated, narrow_leaf, narrow_repeated, narrow_simple, narrow_tried}
 

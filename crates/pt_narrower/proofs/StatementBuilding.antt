@@ -18,8 +18,8 @@ use Rattle.pt_wide.specs.declared.expression.WideArgument.TheVariants as argumen
 use Rattle.pt_wide.specs.declared.expression.WideExpr.{WideExpr}
 use Rattle.pt_wide.specs.Fold as V
 use Rattle.pt_wide.specs.Syntax as W
-use Rattle.pt_narrow.specs.Blocks.{blocks_all, blocks_exp}
-use Rattle.pt_narrow.specs.Narrow.{narrow_exp, narrow_place}
+use Rattle.pt_narrow.specs.Blocks.{blocks_all}
+use Rattle.pt_narrow.specs.Narrow.{narrow_exp}
 use Rattle.pt_narrow.specs.Narrowed.{Made, wide_args, wide_exps}
 use Rattle.pt_narrow.specs.StatementBlocks.{blocks_stm}
 use Rattle.pt_narrow.specs.StatementNarrow.{narrow_assigned, narrow_base, narrow_stm, only_base}
@@ -27,14 +27,8 @@ use Rattle.pt_narrow.specs.StatementFaults.{is_base}
 use Rattle.pt_narrow.specs.Ways.{both, three, four}
 use Rattle.pt_narrow.proofs.OtherStatements.{is_base-many}
 
-pub at-made-stm : {t : T.Stm} {n m : ℕ} {s d : W.Stm} → s ≡ d → Made (narrow_stm n d) t n (blocks_stm d) m → Made (narrow_stm n s) t n (blocks_stm s) m
-at-made-stm {t} {n} {m} is h = subst (λ x. Made (narrow_stm n x) t n (blocks_stm x) m) (sym is) h
-
-pub at-made-by : (q : W.Stm → Option T.Stm) {t : T.Stm} {n m : ℕ} {s d : W.Stm} → s ≡ d → Made (q d) t n (blocks_stm d) m → Made (q s) t n (blocks_stm s) m
-at-made-by q {t} {n} {m} is h = subst (λ x. Made (q x) t n (blocks_stm x) m) (sym is) h
-
-pub at-made-place : {p : T.Place} {n m : ℕ} {e d : W.Exp} → e ≡ d → Made (narrow_place n d) p n (blocks_exp d) m → Made (narrow_place n e) p n (blocks_exp e) m
-at-made-place {p} {n} {m} is h = subst (λ x. Made (narrow_place n x) p n (blocks_exp x) m) (sym is) h
+pub at-made-stm : (q : W.Stm → Option T.Stm) {t : T.Stm} {n m : ℕ} {s d : W.Stm} → s ≡ d → Made (q d) t n (blocks_stm d) m → Made (q s) t n (blocks_stm s) m
+at-made-stm q {t} {n} {m} is h = subst (λ x. Made (q x) t n (blocks_stm x) m) (sym is) h
 
 -- an assignment has a target
 pub assign-is : (n l : ℕ) (ts : W.Exps) (e : W.Exp) → (ts ≡ W.no_exps → ⊥) → narrow_stm n (W.assign l ts e) ≡ both (T.assign l) (narrow_assigned n ts) (narrow_exp (n + blocks_all ts) e)

@@ -10,7 +10,7 @@ use Rattle.pt_wide.specs.declared.expression.WideParameter.{out-WideParameter}
 use Rattle.pt_wide.specs.declared.expression.WideParameters.{out-WideParameters}
 use Rattle.pt_wide.specs.Fold as V
 use Rattle.pt_wide.specs.Syntax as W
-use Rattle.pt_narrow.specs.Blocks.{blocks_all, blocks_args, blocks_clauses, blocks_entries, blocks_entry, blocks_exp, blocks_formals, blocks_links, blocks_opt, blocks_params, blocks_pieces}
+use Rattle.pt_narrow.specs.Blocks.{blocks_all, blocks_args, blocks_clauses, blocks_entries, blocks_exp, blocks_formals, blocks_links, blocks_params, blocks_pieces}
 use Rattle.pt_narrow.specs.Narrow as N
 use Rattle.pt_narrow.specs.Narrow.{generator, narrow_all, narrow_args, narrow_bare, narrow_clauses, narrow_entries, narrow_exp, narrow_formals, narrow_links, narrow_opt, narrow_pair, narrow_params, narrow_pieces, narrow_target, narrow_targets}
 use Rattle.pt_narrow.specs.Narrowed.{clauses_of, formals_of, links_of, narrow_bare_target, narrow_choice, narrow_comprehension, narrow_operation, pair_of, pieces_of, wide_args, wide_clauses, wide_entries, wide_exps, wide_formals, wide_links, wide_pieces}
@@ -18,74 +18,74 @@ use Rattle.pt_narrow.specs.Targets.{alone, are_targets, behind_item, is_inside_t
 use Rattle.pt_narrow.specs.Ways.{both, three}
 use Rattle.pt_narrow.proofs.Bare.{field-bare, parenthesized-bare}
 use Rattle.pt_narrow.proofs.Others.{bare-other, choice-other, comprehension-other, operation-other, target-left}
-use Rattle.pt_narrow.proofs.Building.{at-made-in, both-second, leaves, left-out, left-out-before, walk-left, at-made, at-made-entry, at-made-params, at-made-target, at-node, at-target, bare-is, bare-target-is, both-is, clause-made, clauses-chained, exps-chained, formal-made, left-at, left-none, made-back, made-behind, made-comprehension, made-generator, made-is, made-none, made-one, made-start, made-three, made-two, no-form, one-form, option-same-at, parameters-made, parenthesized-target, put-beside, put-both, put-four, put-is, put-literal, put-three, same-narrow, targets-chained, walk-begin, walk-end, walk-step}
+use Rattle.pt_narrow.proofs.Building.{both-second, leaves, left-out, left-out-before, walk-left, at-made, at-made-entry, at-made-params, at-node, at-target, bare-is, bare-target-is, both-is, clause-made, clauses-chained, exps-chained, formal-made, left-at, left-none, made-back, made-behind, made-comprehension, made-generator, made-is, made-none, made-one, made-start, made-three, made-two, no-form, one-form, option-same-at, parameters-made, parenthesized-target, put-beside, put-both, put-four, put-is, put-literal, put-three, same-narrow, targets-chained, walk-begin, walk-end, walk-step}
 use Rattle.pt_narrow.proofs.expression_trees.+trees.Goals as goal
 
 pub bare-returns-in_ok-constant-in-Constant : goal.bare-returns-in_ok-constant-in-Constant
-bare-returns-in_ok-constant-in-Constant t c = at-made _ (wide.exp_of-Constant c.args.e.now _ c.in-Constant.is) (made-is refl (tree.exp_of-Constant _ _ refl ∙ ap (λ k. P.constant c.args.e.now.line.0 k) c.in_ok-constant-in-Constant.ensures) refl (made-none refl))
+bare-returns-in_ok-constant-in-Constant t c = at-made (narrow_bare c.args.start.0 c.args.n.now) (wide.exp_of-Constant c.args.e.now _ c.in-Constant.is) (made-is refl (tree.exp_of-Constant _ _ refl ∙ ap (λ k. P.constant c.args.e.now.line.0 k) c.in_ok-constant-in-Constant.ensures) refl (made-none refl))
 
 pub bare-returns-in_ok-name-in-Name : goal.bare-returns-in_ok-name-in-Name
-bare-returns-in_ok-name-in-Name t c = at-made _ (wide.exp_of-Name c.args.e.now _ c.in-Name.is) (made-is refl (tree.exp_of-Name _ _ refl ∙ ap (λ x. P.name c.args.e.now.line.0 x) c.in_ok-name-in-Name.ensures) refl (made-none refl))
+bare-returns-in_ok-name-in-Name t c = at-made (narrow_bare c.args.start.0 c.args.n.now) (wide.exp_of-Name c.args.e.now _ c.in-Name.is) (made-is refl (tree.exp_of-Name _ _ refl ∙ ap (λ x. P.name c.args.e.now.line.0 x) c.in_ok-name-in-Name.ensures) refl (made-none refl))
 
 pub bare-returns-in_ok-parts-in-Joined : goal.bare-returns-in_ok-parts-in-Joined
-bare-returns-in_ok-parts-in-Joined t c = at-made _ (wide.exp_of-Joined c.args.e.now _ (c.in-Joined.is ∙ rw c.as_slice.ensures)) (made-is refl (tree.exp_of-Joined _ _ refl) refl (made-one (P.joined c.args.e.now.line.0) c.in_ok-parts-in-Joined.ensures))
+bare-returns-in_ok-parts-in-Joined t c = at-made (narrow_bare c.args.start.0 c.args.n.now) (wide.exp_of-Joined c.args.e.now _ (c.in-Joined.is ∙ rw c.as_slice.ensures)) (made-is refl (tree.exp_of-Joined _ _ refl) refl (made-one (P.joined c.args.e.now.line.0) c.in_ok-parts-in-Joined.ensures))
 
 pub bare-returns-in-Parenthesized : goal.bare-returns-in-Parenthesized
 bare-returns-in-Parenthesized t c = at-node c.bare.result c.args.start.0 c.args.n.now c.bare.new.n _ _ (wide.exp_of-Parenthesized c.args.e.now _ (c.in-Parenthesized.is ∙ rw c.get.ensures)) (same-narrow T.exp_of c.bare.result (narrow_bare c.args.e.now.line.0 c.args.n.now (V.exp_of c.get.result.now)) _ c.args.n.now (blocks_exp (V.exp_of c.get.result.now)) c.bare.new.n (parenthesized-bare c.args.n.now c.args.e.now.line.0 (V.exp_of c.get.result.now)) c.bare.ensures)
 
 pub bare-returns-in_ok-items-in-Tuple : goal.bare-returns-in_ok-items-in-Tuple
-bare-returns-in_ok-items-in-Tuple t c = at-made _ (wide.exp_of-Tuple c.args.e.now _ (c.in-Tuple.is ∙ rw c.as_slice-in-Tuple.ensures)) (made-is refl (tree.exp_of-Tuple _ _ refl) refl (made-one (P.tuple c.args.start.0) c.in_ok-items-in-Tuple.ensures))
+bare-returns-in_ok-items-in-Tuple t c = at-made (narrow_bare c.args.start.0 c.args.n.now) (wide.exp_of-Tuple c.args.e.now _ (c.in-Tuple.is ∙ rw c.as_slice-in-Tuple.ensures)) (made-is refl (tree.exp_of-Tuple _ _ refl) refl (made-one (P.tuple c.args.start.0) c.in_ok-items-in-Tuple.ensures))
 
 pub bare-returns-in_ok-items-in-List : goal.bare-returns-in_ok-items-in-List
-bare-returns-in_ok-items-in-List t c = at-made _ (wide.exp_of-List c.args.e.now _ (c.in-List.is ∙ rw c.as_slice-in-List.ensures)) (made-is refl (tree.exp_of-List _ _ refl) refl (made-one (P.list c.args.e.now.line.0) c.in_ok-items-in-List.ensures))
+bare-returns-in_ok-items-in-List t c = at-made (narrow_bare c.args.start.0 c.args.n.now) (wide.exp_of-List c.args.e.now _ (c.in-List.is ∙ rw c.as_slice-in-List.ensures)) (made-is refl (tree.exp_of-List _ _ refl) refl (made-one (P.list c.args.e.now.line.0) c.in_ok-items-in-List.ensures))
 
 pub bare-returns-in_ok-items-in-Set : goal.bare-returns-in_ok-items-in-Set
-bare-returns-in_ok-items-in-Set t c = at-made _ (wide.exp_of-Set c.args.e.now _ (c.in-Set.is ∙ rw c.as_slice-in-Set.ensures)) (made-is refl (tree.exp_of-Set _ _ refl) refl (made-one (P.set c.args.e.now.line.0) c.in_ok-items-in-Set.ensures))
+bare-returns-in_ok-items-in-Set t c = at-made (narrow_bare c.args.start.0 c.args.n.now) (wide.exp_of-Set c.args.e.now _ (c.in-Set.is ∙ rw c.as_slice-in-Set.ensures)) (made-is refl (tree.exp_of-Set _ _ refl) refl (made-one (P.set c.args.e.now.line.0) c.in_ok-items-in-Set.ensures))
 
 pub bare-returns-in_ok-items-in-Dict : goal.bare-returns-in_ok-items-in-Dict
-bare-returns-in_ok-items-in-Dict t c = at-made _ (wide.exp_of-Dict c.args.e.now _ (c.in-Dict.is ∙ rw c.as_slice-in-Dict.ensures)) (made-is refl (tree.exp_of-Dict _ _ refl) refl (made-one (P.dict c.args.e.now.line.0) c.in_ok-items-in-Dict.ensures))
+bare-returns-in_ok-items-in-Dict t c = at-made (narrow_bare c.args.start.0 c.args.n.now) (wide.exp_of-Dict c.args.e.now _ (c.in-Dict.is ∙ rw c.as_slice-in-Dict.ensures)) (made-is refl (tree.exp_of-Dict _ _ refl) refl (made-one (P.dict c.args.e.now.line.0) c.in_ok-items-in-Dict.ensures))
 
 pub operation-returns-in_ok-name-in-Attribute : goal.operation-returns-in_ok-name-in-Attribute
-operation-returns-in_ok-name-in-Attribute t c = at-made-in (narrow_operation c.args.start.0 c.args.n.now) (wide.exp_of-Attribute c.args.e.now _ _ (c.in-Attribute.is ∙ rw c.get.ensures)) (made-is refl (tree.exp_of-Attribute _ _ _ refl ∙ ap (λ x. P.attribute c.args.e.now.line.0 (T.exp_of c.in_ok-object-in-Attribute.object) x) c.in_ok-name-in-Attribute.ensures) refl (made-one (λ o. P.attribute c.args.e.now.line.0 o c.in-Attribute.name) c.in_ok-object-in-Attribute.ensures))
+operation-returns-in_ok-name-in-Attribute t c = at-made (narrow_operation c.args.start.0 c.args.n.now) (wide.exp_of-Attribute c.args.e.now _ _ (c.in-Attribute.is ∙ rw c.get.ensures)) (made-is refl (tree.exp_of-Attribute _ _ _ refl ∙ ap (λ x. P.attribute c.args.e.now.line.0 (T.exp_of c.in_ok-object-in-Attribute.object) x) c.in_ok-name-in-Attribute.ensures) refl (made-one (λ o. P.attribute c.args.e.now.line.0 o c.in-Attribute.name) c.in_ok-object-in-Attribute.ensures))
 
 pub operation-returns-in_ok-index-in-Item : goal.operation-returns-in_ok-index-in-Item
-operation-returns-in_ok-index-in-Item t c = at-made-in (narrow_operation c.args.start.0 c.args.n.now) (wide.exp_of-Item c.args.e.now _ _ (c.in-Item.is ∙ rw (c.get-in-Item.ensures, c.get-in-Item-2.ensures))) (made-is refl (tree.exp_of-Item _ _ _ refl) refl (made-two (P.item c.args.e.now.line.0) (λ m. narrow_exp m (V.exp_of c.get-in-Item-2.result.now)) c.in_ok-object-in-Item.ensures c.in_ok-index-in-Item.ensures))
+operation-returns-in_ok-index-in-Item t c = at-made (narrow_operation c.args.start.0 c.args.n.now) (wide.exp_of-Item c.args.e.now _ _ (c.in-Item.is ∙ rw (c.get-in-Item.ensures, c.get-in-Item-2.ensures))) (made-is refl (tree.exp_of-Item _ _ _ refl) refl (made-two (P.item c.args.e.now.line.0) (λ m. narrow_exp m (V.exp_of c.get-in-Item-2.result.now)) c.in_ok-object-in-Item.ensures c.in_ok-index-in-Item.ensures))
 
 pub operation-returns-in_ok-step-in-Slice : goal.operation-returns-in_ok-step-in-Slice
-operation-returns-in_ok-step-in-Slice t c = at-made-in (narrow_operation c.args.start.0 c.args.n.now) (wide.exp_of-Slice c.args.e.now _ _ _ c.in-Slice.is) (made-is refl (tree.exp_of-Slice _ _ _ _ refl) refl (made-three (P.slice c.args.e.now.line.0) (λ m. narrow_opt m (V.opt_exp c.in-Slice.stop)) (λ m. narrow_opt m (V.opt_exp c.in-Slice.step)) c.in_ok-start-in-Slice.ensures c.in_ok-stop-in-Slice.ensures c.in_ok-step-in-Slice.ensures))
+operation-returns-in_ok-step-in-Slice t c = at-made (narrow_operation c.args.start.0 c.args.n.now) (wide.exp_of-Slice c.args.e.now _ _ _ c.in-Slice.is) (made-is refl (tree.exp_of-Slice _ _ _ _ refl) refl (made-three (P.slice c.args.e.now.line.0) (λ m. narrow_opt m (V.opt_exp c.in-Slice.stop)) (λ m. narrow_opt m (V.opt_exp c.in-Slice.step)) c.in_ok-start-in-Slice.ensures c.in_ok-stop-in-Slice.ensures c.in_ok-step-in-Slice.ensures))
 
 pub operation-returns-in_ok-operand-in-Unary : goal.operation-returns-in_ok-operand-in-Unary
-operation-returns-in_ok-operand-in-Unary t c = at-made-in (narrow_operation c.args.start.0 c.args.n.now) (wide.exp_of-Unary c.args.e.now _ _ (c.in-Unary.is ∙ rw c.get-in-Unary.ensures)) (made-is refl (tree.exp_of-Unary _ _ _ refl) refl (made-one (P.unary c.args.e.now.line.0 c.in-Unary.operator) c.in_ok-operand-in-Unary.ensures))
+operation-returns-in_ok-operand-in-Unary t c = at-made (narrow_operation c.args.start.0 c.args.n.now) (wide.exp_of-Unary c.args.e.now _ _ (c.in-Unary.is ∙ rw c.get-in-Unary.ensures)) (made-is refl (tree.exp_of-Unary _ _ _ refl) refl (made-one (P.unary c.args.e.now.line.0 c.in-Unary.operator) c.in_ok-operand-in-Unary.ensures))
 
 pub operation-returns-in_ok-operand-in-Not : goal.operation-returns-in_ok-operand-in-Not
-operation-returns-in_ok-operand-in-Not t c = at-made-in (narrow_operation c.args.start.0 c.args.n.now) (wide.exp_of-Not c.args.e.now _ (c.in-Not.is ∙ rw c.get-in-Not.ensures)) (made-is refl (tree.exp_of-Not _ _ refl) refl (made-one (P.not_of c.args.e.now.line.0) c.in_ok-operand-in-Not.ensures))
+operation-returns-in_ok-operand-in-Not t c = at-made (narrow_operation c.args.start.0 c.args.n.now) (wide.exp_of-Not c.args.e.now _ (c.in-Not.is ∙ rw c.get-in-Not.ensures)) (made-is refl (tree.exp_of-Not _ _ refl) refl (made-one (P.not_of c.args.e.now.line.0) c.in_ok-operand-in-Not.ensures))
 
 pub operation-returns-in_ok-right-in-Binary : goal.operation-returns-in_ok-right-in-Binary
-operation-returns-in_ok-right-in-Binary t c = at-made-in (narrow_operation c.args.start.0 c.args.n.now) (wide.exp_of-Binary c.args.e.now _ _ _ (c.in-Binary.is ∙ rw (c.get-in-Binary.ensures, c.get-in-Binary-2.ensures))) (made-is (ap (λ o. three (P.binary c.args.e.now.line.0) o (narrow_exp c.args.n.now (V.exp_of c.get-in-Binary.result.now)) (narrow_exp (c.args.n.now + blocks_exp (V.exp_of c.get-in-Binary.result.now)) (V.exp_of c.get-in-Binary-2.result.now))) c.in_ok-operator-in-Binary.ensures.ok) (tree.exp_of-Binary _ _ _ _ refl) refl (made-two (P.binary c.args.e.now.line.0 c.in_ok-operator-in-Binary.operator) (λ m. narrow_exp m (V.exp_of c.get-in-Binary-2.result.now)) c.in_ok-left-in-Binary.ensures c.in_ok-right-in-Binary.ensures))
+operation-returns-in_ok-right-in-Binary t c = at-made (narrow_operation c.args.start.0 c.args.n.now) (wide.exp_of-Binary c.args.e.now _ _ _ (c.in-Binary.is ∙ rw (c.get-in-Binary.ensures, c.get-in-Binary-2.ensures))) (made-is (ap (λ o. three (P.binary c.args.e.now.line.0) o (narrow_exp c.args.n.now (V.exp_of c.get-in-Binary.result.now)) (narrow_exp (c.args.n.now + blocks_exp (V.exp_of c.get-in-Binary.result.now)) (V.exp_of c.get-in-Binary-2.result.now))) c.in_ok-operator-in-Binary.ensures.ok) (tree.exp_of-Binary _ _ _ _ refl) refl (made-two (P.binary c.args.e.now.line.0 c.in_ok-operator-in-Binary.operator) (λ m. narrow_exp m (V.exp_of c.get-in-Binary-2.result.now)) c.in_ok-left-in-Binary.ensures c.in_ok-right-in-Binary.ensures))
 
 pub operation-returns-in_ok-rest-in-Compare : goal.operation-returns-in_ok-rest-in-Compare
-operation-returns-in_ok-rest-in-Compare t c = at-made-in (narrow_operation c.args.start.0 c.args.n.now) (wide.exp_of-Compare c.args.e.now _ _ _ _ (c.in-Compare.is ∙ rw (c.get-in-Compare.ensures, c.get-in-Compare-2.ensures, c.as_slice.ensures))) (made-is refl (tree.exp_of-Compare _ _ _ _ _ refl) refl (made-three (λ x y. P.compare c.args.e.now.line.0 x c.in-Compare.operator y) (λ m. narrow_exp m (V.exp_of c.get-in-Compare-2.result.now)) (λ m. narrow_links m (wide_links c.as_slice.result.now)) c.in_ok-left-in-Compare.ensures c.in_ok-right-in-Compare.ensures c.in_ok-rest-in-Compare.ensures))
+operation-returns-in_ok-rest-in-Compare t c = at-made (narrow_operation c.args.start.0 c.args.n.now) (wide.exp_of-Compare c.args.e.now _ _ _ _ (c.in-Compare.is ∙ rw (c.get-in-Compare.ensures, c.get-in-Compare-2.ensures, c.as_slice.ensures))) (made-is refl (tree.exp_of-Compare _ _ _ _ _ refl) refl (made-three (λ x y. P.compare c.args.e.now.line.0 x c.in-Compare.operator y) (λ m. narrow_exp m (V.exp_of c.get-in-Compare-2.result.now)) (λ m. narrow_links m (wide_links c.as_slice.result.now)) c.in_ok-left-in-Compare.ensures c.in_ok-right-in-Compare.ensures c.in_ok-rest-in-Compare.ensures))
 
 pub choice-returns-in_ok-rest-in-And : goal.choice-returns-in_ok-rest-in-And
-choice-returns-in_ok-rest-in-And t c = at-made-in (narrow_choice c.args.start.0 c.args.n.now) (wide.exp_of-And c.args.e.now _ _ (c.in-And.is ∙ rw (c.get.ensures, c.as_slice.ensures))) (made-is refl (tree.exp_of-And _ _ _ refl) refl (made-two (P.and c.args.e.now.line.0) (λ m. narrow_all m (wide_exps c.as_slice.result.now)) c.in_ok-first-in-And.ensures c.in_ok-rest-in-And.ensures))
+choice-returns-in_ok-rest-in-And t c = at-made (narrow_choice c.args.start.0 c.args.n.now) (wide.exp_of-And c.args.e.now _ _ (c.in-And.is ∙ rw (c.get.ensures, c.as_slice.ensures))) (made-is refl (tree.exp_of-And _ _ _ refl) refl (made-two (P.and c.args.e.now.line.0) (λ m. narrow_all m (wide_exps c.as_slice.result.now)) c.in_ok-first-in-And.ensures c.in_ok-rest-in-And.ensures))
 
 pub choice-returns-in_ok-rest-in-Or : goal.choice-returns-in_ok-rest-in-Or
-choice-returns-in_ok-rest-in-Or t c = at-made-in (narrow_choice c.args.start.0 c.args.n.now) (wide.exp_of-Or c.args.e.now _ _ (c.in-Or.is ∙ rw (c.get-in-Or.ensures, c.as_slice-in-Or.ensures))) (made-is refl (tree.exp_of-Or _ _ _ refl) refl (made-two (P.or c.args.e.now.line.0) (λ m. narrow_all m (wide_exps c.as_slice-in-Or.result.now)) c.in_ok-first-in-Or.ensures c.in_ok-rest-in-Or.ensures))
+choice-returns-in_ok-rest-in-Or t c = at-made (narrow_choice c.args.start.0 c.args.n.now) (wide.exp_of-Or c.args.e.now _ _ (c.in-Or.is ∙ rw (c.get-in-Or.ensures, c.as_slice-in-Or.ensures))) (made-is refl (tree.exp_of-Or _ _ _ refl) refl (made-two (P.or c.args.e.now.line.0) (λ m. narrow_all m (wide_exps c.as_slice-in-Or.result.now)) c.in_ok-first-in-Or.ensures c.in_ok-rest-in-Or.ensures))
 
 pub choice-returns-in_ok-otherwise-in-Conditional : goal.choice-returns-in_ok-otherwise-in-Conditional
-choice-returns-in_ok-otherwise-in-Conditional t c = at-made-in (narrow_choice c.args.start.0 c.args.n.now) (wide.exp_of-Conditional c.args.e.now _ _ _ (c.in-Conditional.is ∙ rw (c.get-in-Conditional.ensures, c.get-in-Conditional-2.ensures, c.get-in-Conditional-3.ensures))) (made-is refl (tree.exp_of-Conditional _ _ _ _ refl) refl (made-three (λ x y. P.conditional c.args.e.now.line.0 y x) (λ m. narrow_exp m (V.exp_of c.get-in-Conditional-2.result.now)) (λ m. narrow_exp m (V.exp_of c.get-in-Conditional-3.result.now)) c.in_ok-body-in-Conditional.ensures c.in_ok-test-in-Conditional.ensures c.in_ok-otherwise-in-Conditional.ensures))
+choice-returns-in_ok-otherwise-in-Conditional t c = at-made (narrow_choice c.args.start.0 c.args.n.now) (wide.exp_of-Conditional c.args.e.now _ _ _ (c.in-Conditional.is ∙ rw (c.get-in-Conditional.ensures, c.get-in-Conditional-2.ensures, c.get-in-Conditional-3.ensures))) (made-is refl (tree.exp_of-Conditional _ _ _ _ refl) refl (made-three (λ x y. P.conditional c.args.e.now.line.0 y x) (λ m. narrow_exp m (V.exp_of c.get-in-Conditional-2.result.now)) (λ m. narrow_exp m (V.exp_of c.get-in-Conditional-3.result.now)) c.in_ok-body-in-Conditional.ensures c.in_ok-test-in-Conditional.ensures c.in_ok-otherwise-in-Conditional.ensures))
 
 pub choice-returns-in_ok-arguments-in-Call : goal.choice-returns-in_ok-arguments-in-Call
-choice-returns-in_ok-arguments-in-Call t c = at-made-in (narrow_choice c.args.start.0 c.args.n.now) (wide.exp_of-Call c.args.e.now _ _ (c.in-Call.is ∙ rw (c.get-in-Call.ensures, c.as_slice-in-Call.ensures))) (made-is refl (tree.exp_of-Call _ _ _ refl) refl (made-two (P.call c.args.e.now.line.0) (λ m. narrow_args m (wide_args c.as_slice-in-Call.result.now)) c.in_ok-callee-in-Call.ensures c.in_ok-arguments-in-Call.ensures))
+choice-returns-in_ok-arguments-in-Call t c = at-made (narrow_choice c.args.start.0 c.args.n.now) (wide.exp_of-Call c.args.e.now _ _ (c.in-Call.is ∙ rw (c.get-in-Call.ensures, c.as_slice-in-Call.ensures))) (made-is refl (tree.exp_of-Call _ _ _ refl) refl (made-two (P.call c.args.e.now.line.0) (λ m. narrow_args m (wide_args c.as_slice-in-Call.result.now)) c.in_ok-callee-in-Call.ensures c.in_ok-arguments-in-Call.ensures))
 
 pub choice-returns-in_ok-body-in-Lambda : goal.choice-returns-in_ok-body-in-Lambda
-choice-returns-in_ok-body-in-Lambda t c = at-made-in (narrow_choice c.args.start.0 c.args.n.now) (wide.exp_of-Lambda c.args.e.now _ _ (c.in-Lambda.is ∙ rw c.get-in-Lambda.ensures)) (made-is refl (tree.exp_of-Lambda _ _ _ _ refl ∙ ap (λ b. P.lambda c.args.e.now.line.0 b (T.parameters_of c.in_ok-parameters-in-Lambda.parameters) (T.exp_of c.in_ok-body-in-Lambda.body)) c.in_ok-block-in-Lambda.ensures.number) (one-form (blocks_params (V.parameters_of c.in-Lambda.names)) (blocks_exp (V.exp_of c.get-in-Lambda.result.now))) (made-start (λ i. both (P.lambda c.args.e.now.line.0 c.args.n.now) (narrow_params i (V.parameters_of c.in-Lambda.names)) (narrow_exp (i + blocks_params (V.parameters_of c.in-Lambda.names)) (V.exp_of c.get-in-Lambda.result.now))) c.in_ok-block-in-Lambda.ensures.started (made-two (P.lambda c.args.e.now.line.0 c.args.n.now) (λ m. narrow_exp m (V.exp_of c.get-in-Lambda.result.now)) c.in_ok-parameters-in-Lambda.ensures c.in_ok-body-in-Lambda.ensures)))
+choice-returns-in_ok-body-in-Lambda t c = at-made (narrow_choice c.args.start.0 c.args.n.now) (wide.exp_of-Lambda c.args.e.now _ _ (c.in-Lambda.is ∙ rw c.get-in-Lambda.ensures)) (made-is refl (tree.exp_of-Lambda _ _ _ _ refl ∙ ap (λ b. P.lambda c.args.e.now.line.0 b (T.parameters_of c.in_ok-parameters-in-Lambda.parameters) (T.exp_of c.in_ok-body-in-Lambda.body)) c.in_ok-block-in-Lambda.ensures.number) (one-form (blocks_params (V.parameters_of c.in-Lambda.names)) (blocks_exp (V.exp_of c.get-in-Lambda.result.now))) (made-start (λ i. both (P.lambda c.args.e.now.line.0 c.args.n.now) (narrow_params i (V.parameters_of c.in-Lambda.names)) (narrow_exp (i + blocks_params (V.parameters_of c.in-Lambda.names)) (V.exp_of c.get-in-Lambda.result.now))) c.in_ok-block-in-Lambda.ensures.started (made-two (P.lambda c.args.e.now.line.0 c.args.n.now) (λ m. narrow_exp m (V.exp_of c.get-in-Lambda.result.now)) c.in_ok-parameters-in-Lambda.ensures c.in_ok-body-in-Lambda.ensures)))
 
 pub choice-returns-in_ok-value-in-Yield : goal.choice-returns-in_ok-value-in-Yield
-choice-returns-in_ok-value-in-Yield t c = at-made-in (narrow_choice c.args.start.0 c.args.n.now) (wide.exp_of-Yield c.args.e.now _ c.in-Yield.is) (made-is refl (tree.exp_of-Yield _ _ refl) refl (made-one (P.yield c.args.e.now.line.0) c.in_ok-value-in-Yield.ensures))
+choice-returns-in_ok-value-in-Yield t c = at-made (narrow_choice c.args.start.0 c.args.n.now) (wide.exp_of-Yield c.args.e.now _ c.in-Yield.is) (made-is refl (tree.exp_of-Yield _ _ refl) refl (made-one (P.yield c.args.e.now.line.0) c.in_ok-value-in-Yield.ensures))
 
 pub choice-returns-in_ok-iterable-in-YieldFrom : goal.choice-returns-in_ok-iterable-in-YieldFrom
-choice-returns-in_ok-iterable-in-YieldFrom t c = at-made-in (narrow_choice c.args.start.0 c.args.n.now) (wide.exp_of-YieldFrom c.args.e.now _ (c.in-YieldFrom.is ∙ rw c.get-in-YieldFrom.ensures)) (made-is refl (tree.exp_of-YieldFrom _ _ refl) refl (made-one (P.yield_from c.args.e.now.line.0) c.in_ok-iterable-in-YieldFrom.ensures))
+choice-returns-in_ok-iterable-in-YieldFrom t c = at-made (narrow_choice c.args.start.0 c.args.n.now) (wide.exp_of-YieldFrom c.args.e.now _ (c.in-YieldFrom.is ∙ rw c.get-in-YieldFrom.ensures)) (made-is refl (tree.exp_of-YieldFrom _ _ refl) refl (made-one (P.yield_from c.args.e.now.line.0) c.in_ok-iterable-in-YieldFrom.ensures))
 
 pub expression-returns : goal.expression-returns
 expression-returns t c = same-narrow T.exp_of c.bare.result (narrow_bare c.args.e.now.line.0 c.args.n.now (V.exp_of c.args.e.now)) (narrow_exp c.args.n.now (V.exp_of c.args.e.now)) c.args.n.now (blocks_exp (V.exp_of c.args.e.now)) c.bare.new.n (sym (bare-is c.args.n.now c.args.e.now)) c.bare.ensures
@@ -104,10 +104,10 @@ pub all-returns : goal.all-returns
 all-returns t c = made-is refl (sym (exps-chained c.loop-item.made)) refl (walk-end P.no_exps c.loop-item.invariant (left-none (λ es. narrow_all c.loop-item.n (wide_exps es)) c.args.items.now c.loop-item.item-index c.loop-item-test.false) (left-none (λ es. blocks_all (wide_exps es)) c.args.items.now c.loop-item.item-index c.loop-item-test.false))
 
 pub comprehension-returns-in_ok-rest-in-List : goal.comprehension-returns-in_ok-rest-in-List
-comprehension-returns-in_ok-rest-in-List t c = at-made-in (narrow_comprehension c.args.start.0 c.args.n.now) (wide.exp_of-Comprehension c.args.e.now form.List c.get.result.now c.get-in-List.result.now c.as_slice.result.now (c.in-Comprehension.is ∙ rw (c.in-List.is, c.get.ensures, c.get-in-List.ensures, c.as_slice.ensures))) (made-is refl (tree.exp_of-ListComprehension _ _ _ _ refl) (no-form (blocks_exp (V.exp_of c.get.result.now)) (blocks_clauses (V.clause_of c.get-in-List.result.now (wide_clauses c.as_slice.result.now)))) (made-comprehension c.args.e.now.line.0 (λ m. narrow_clauses m (V.clause_of c.get-in-List.result.now (wide_clauses c.as_slice.result.now))) c.in_ok-first-in-List.first (clauses_of c.in_ok-rest-in-List.rest) (made-one P.a_list c.in_ok-item-in-List.ensures) (made-behind (wide_clauses c.as_slice.result.now) c.in_ok-first-in-List.ensures c.in_ok-rest-in-List.ensures)))
+comprehension-returns-in_ok-rest-in-List t c = at-made (narrow_comprehension c.args.start.0 c.args.n.now) (wide.exp_of-Comprehension c.args.e.now form.List c.get.result.now c.get-in-List.result.now c.as_slice.result.now (c.in-Comprehension.is ∙ rw (c.in-List.is, c.get.ensures, c.get-in-List.ensures, c.as_slice.ensures))) (made-is refl (tree.exp_of-ListComprehension _ _ _ _ refl) (no-form (blocks_exp (V.exp_of c.get.result.now)) (blocks_clauses (V.clause_of c.get-in-List.result.now (wide_clauses c.as_slice.result.now)))) (made-comprehension c.args.e.now.line.0 (λ m. narrow_clauses m (V.clause_of c.get-in-List.result.now (wide_clauses c.as_slice.result.now))) c.in_ok-first-in-List.first (clauses_of c.in_ok-rest-in-List.rest) (made-one P.a_list c.in_ok-item-in-List.ensures) (made-behind (wide_clauses c.as_slice.result.now) c.in_ok-first-in-List.ensures c.in_ok-rest-in-List.ensures)))
 
 pub comprehension-returns-in_ok-rest-in-Set : goal.comprehension-returns-in_ok-rest-in-Set
-comprehension-returns-in_ok-rest-in-Set t c = at-made-in (narrow_comprehension c.args.start.0 c.args.n.now) (wide.exp_of-Comprehension c.args.e.now form.Set c.get-in-Set.result.now c.get-in-Set-2.result.now c.as_slice-in-Set.result.now (c.in-Comprehension.is ∙ rw (c.in-Set.is, c.get-in-Set.ensures, c.get-in-Set-2.ensures, c.as_slice-in-Set.ensures))) (made-is refl (tree.exp_of-SetComprehension _ _ _ _ refl) (no-form (blocks_exp (V.exp_of c.get-in-Set.result.now)) (blocks_clauses (V.clause_of c.get-in-Set-2.result.now (wide_clauses c.as_slice-in-Set.result.now)))) (made-comprehension c.args.e.now.line.0 (λ m. narrow_clauses m (V.clause_of c.get-in-Set-2.result.now (wide_clauses c.as_slice-in-Set.result.now))) c.in_ok-first-in-Set.first (clauses_of c.in_ok-rest-in-Set.rest) (made-one P.a_set c.in_ok-item-in-Set.ensures) (made-behind (wide_clauses c.as_slice-in-Set.result.now) c.in_ok-first-in-Set.ensures c.in_ok-rest-in-Set.ensures)))
+comprehension-returns-in_ok-rest-in-Set t c = at-made (narrow_comprehension c.args.start.0 c.args.n.now) (wide.exp_of-Comprehension c.args.e.now form.Set c.get-in-Set.result.now c.get-in-Set-2.result.now c.as_slice-in-Set.result.now (c.in-Comprehension.is ∙ rw (c.in-Set.is, c.get-in-Set.ensures, c.get-in-Set-2.ensures, c.as_slice-in-Set.ensures))) (made-is refl (tree.exp_of-SetComprehension _ _ _ _ refl) (no-form (blocks_exp (V.exp_of c.get-in-Set.result.now)) (blocks_clauses (V.clause_of c.get-in-Set-2.result.now (wide_clauses c.as_slice-in-Set.result.now)))) (made-comprehension c.args.e.now.line.0 (λ m. narrow_clauses m (V.clause_of c.get-in-Set-2.result.now (wide_clauses c.as_slice-in-Set.result.now))) c.in_ok-first-in-Set.first (clauses_of c.in_ok-rest-in-Set.rest) (made-one P.a_set c.in_ok-item-in-Set.ensures) (made-behind (wide_clauses c.as_slice-in-Set.result.now) c.in_ok-first-in-Set.ensures c.in_ok-rest-in-Set.ensures)))
 
 pub comprehension-returns-in_ok-rest-in-Generator : goal.comprehension-returns-in_ok-rest-in-Generator
 comprehension-returns-in_ok-rest-in-Generator t c =
@@ -115,7 +115,7 @@ comprehension-returns-in_ok-rest-in-Generator t c =
     let rest = c.in_ok-rest-in-Generator.rest in
     let item = V.exp_of c.get-in-Generator.result.now in
     let behind = V.clause_of c.get-in-Generator-2.result.now (wide_clauses c.as_slice-in-Generator.result.now) in
-    at-made-in (narrow_comprehension c.args.start.0 c.args.n.now) (wide.exp_of-Comprehension c.args.e.now form.Generator c.get-in-Generator.result.now c.get-in-Generator-2.result.now c.as_slice-in-Generator.result.now (c.in-Comprehension.is ∙ rw (c.in-Generator.is, c.get-in-Generator.ensures, c.get-in-Generator-2.ensures, c.as_slice-in-Generator.ensures)))
+    at-made (narrow_comprehension c.args.start.0 c.args.n.now) (wide.exp_of-Comprehension c.args.e.now form.Generator c.get-in-Generator.result.now c.get-in-Generator-2.result.now c.as_slice-in-Generator.result.now (c.in-Comprehension.is ∙ rw (c.in-Generator.is, c.get-in-Generator.ensures, c.get-in-Generator-2.ensures, c.as_slice-in-Generator.ensures)))
     (made-is refl (tree.exp_of-Generator _ _ _ _ _ refl ∙ ap (λ b. P.generator c.args.start.0 b (T.exp_of c.in_ok-item-in-Generator.item) (T.clause_of first).line (T.clause_of first).target (T.clause_of first).iterable (T.behind (T.clause_of first) (map T.clause_of rest))) c.in_ok-block-in-Generator.ensures.number) (one-form (blocks_exp item) (blocks_clauses behind))
     (made-start (λ i. generator c.args.start.0 c.args.n.now (narrow_exp i item) (narrow_clauses (i + blocks_exp item) behind)) c.in_ok-block-in-Generator.ensures.started
     (made-generator c.args.start.0 c.args.n.now (λ m. narrow_clauses m behind) first (clauses_of rest) c.in_ok-item-in-Generator.ensures (made-behind (wide_clauses c.as_slice-in-Generator.result.now) c.in_ok-first-in-Generator.ensures c.in_ok-rest-in-Generator.ensures))))
@@ -128,25 +128,25 @@ comprehension-returns-in_ok-rest-in-DictComprehension t c =
     let first = c.in_ok-first-in-DictComprehension.first in
     let rest = c.in_ok-rest-in-DictComprehension.rest in
     let parts : P.a_dict (T.exp_of key) (T.exp_of value) ≡ N.made (pair_of entry) = ap (λ k. P.a_dict (T.exp_of k) (T.exp_of value)) c.in_ok-key-in-DictComprehension.ensures ∙ ap (λ v. P.a_dict (T.exp_of entry.key) (T.exp_of v)) c.in_ok-value-in-DictComprehension.ensures in
-    at-made-in (narrow_comprehension c.args.start.0 c.args.n.now) (wide.exp_of-DictComprehension c.args.e.now c.get-in-DictComprehension.result.now c.get-in-DictComprehension-2.result.now c.as_slice-in-DictComprehension.result.now (c.in-DictComprehension.is ∙ rw (c.get-in-DictComprehension.ensures, c.get-in-DictComprehension-2.ensures, c.as_slice-in-DictComprehension.ensures)))
+    at-made (narrow_comprehension c.args.start.0 c.args.n.now) (wide.exp_of-DictComprehension c.args.e.now c.get-in-DictComprehension.result.now c.get-in-DictComprehension-2.result.now c.as_slice-in-DictComprehension.result.now (c.in-DictComprehension.is ∙ rw (c.get-in-DictComprehension.ensures, c.get-in-DictComprehension-2.ensures, c.as_slice-in-DictComprehension.ensures)))
     (made-is refl (tree.exp_of-DictComprehension _ _ _ _ _ refl ∙ ap (λ m. P.comprehension c.args.e.now.line.0 m (T.clause_of first).line (T.clause_of first).target (T.clause_of first).iterable (T.behind (T.clause_of first) (map T.clause_of rest))) parts) refl
     (made-comprehension c.args.e.now.line.0 (λ m. narrow_clauses m (V.clause_of c.get-in-DictComprehension-2.result.now (wide_clauses c.as_slice-in-DictComprehension.result.now))) first (clauses_of rest) (made-one N.made c.in_ok-entry-in-DictComprehension.ensures) (made-behind (wide_clauses c.as_slice-in-DictComprehension.result.now) c.in_ok-first-in-DictComprehension.ensures c.in_ok-rest-in-DictComprehension.ensures)))
 
 pub bare_target-returns-in_ok-name-in-Name : goal.bare_target-returns-in_ok-name-in-Name
-bare_target-returns-in_ok-name-in-Name t c = at-made-target c.args.start.0 c.args.stars (wide.exp_of-Name c.args.e.now _ c.in-Name.is) (made-is refl (tree.target_of-Place _ _ refl ∙ ap P.single (tree.place_node_of-Name _ _ _ refl ∙ ap (λ x. P.name_at c.args.e.now.line.0 x) c.in_ok-name-in-Name.ensures)) refl (made-none refl))
+bare_target-returns-in_ok-name-in-Name t c = at-made (narrow_bare_target c.args.start.0 c.args.n.now c.args.stars) (wide.exp_of-Name c.args.e.now _ c.in-Name.is) (made-is refl (tree.target_of-Place _ _ refl ∙ ap P.single (tree.place_node_of-Name _ _ _ refl ∙ ap (λ x. P.name_at c.args.e.now.line.0 x) c.in_ok-name-in-Name.ensures)) refl (made-none refl))
 
 pub bare_target-returns-in_ok-name-in-Attribute : goal.bare_target-returns-in_ok-name-in-Attribute
-bare_target-returns-in_ok-name-in-Attribute t c = at-made-target c.args.start.0 c.args.stars (wide.exp_of-Attribute c.args.e.now _ _ (c.in-Attribute.is ∙ rw c.get.ensures)) (made-is refl (tree.target_of-Place _ _ refl ∙ ap P.single (tree.place_node_of-Attribute _ _ _ _ refl ∙ ap (λ x. P.attribute_at c.args.e.now.line.0 (T.exp_of c.in_ok-object-in-Attribute.object) x) c.in_ok-name-in-Attribute.ensures)) refl (made-one (λ o. P.single (P.attribute_at c.args.e.now.line.0 o c.in-Attribute.name)) c.in_ok-object-in-Attribute.ensures))
+bare_target-returns-in_ok-name-in-Attribute t c = at-made (narrow_bare_target c.args.start.0 c.args.n.now c.args.stars) (wide.exp_of-Attribute c.args.e.now _ _ (c.in-Attribute.is ∙ rw c.get.ensures)) (made-is refl (tree.target_of-Place _ _ refl ∙ ap P.single (tree.place_node_of-Attribute _ _ _ _ refl ∙ ap (λ x. P.attribute_at c.args.e.now.line.0 (T.exp_of c.in_ok-object-in-Attribute.object) x) c.in_ok-name-in-Attribute.ensures)) refl (made-one (λ o. P.single (P.attribute_at c.args.e.now.line.0 o c.in-Attribute.name)) c.in_ok-object-in-Attribute.ensures))
 
 pub bare_target-returns-in_ok-index-in-Item : goal.bare_target-returns-in_ok-index-in-Item
-bare_target-returns-in_ok-index-in-Item t c = at-made-target c.args.start.0 c.args.stars (wide.exp_of-Item c.args.e.now _ _ (c.in-Item.is ∙ rw (c.get-in-Item.ensures, c.get-in-Item-2.ensures))) (made-is refl (tree.target_of-Place _ _ refl ∙ ap P.single (tree.place_node_of-Item _ _ _ _ refl)) refl (made-two (λ o j. P.single (P.item_at c.args.e.now.line.0 o j)) (λ m. narrow_exp m (V.exp_of c.get-in-Item-2.result.now)) c.in_ok-object-in-Item.ensures c.in_ok-index-in-Item.ensures))
+bare_target-returns-in_ok-index-in-Item t c = at-made (narrow_bare_target c.args.start.0 c.args.n.now c.args.stars) (wide.exp_of-Item c.args.e.now _ _ (c.in-Item.is ∙ rw (c.get-in-Item.ensures, c.get-in-Item-2.ensures))) (made-is refl (tree.target_of-Place _ _ refl ∙ ap P.single (tree.place_node_of-Item _ _ _ _ refl)) refl (made-two (λ o j. P.single (P.item_at c.args.e.now.line.0 o j)) (λ m. narrow_exp m (V.exp_of c.get-in-Item-2.result.now)) c.in_ok-object-in-Item.ensures c.in_ok-index-in-Item.ensures))
 
 pub bare_target-returns-in_ok-items-in-Tuple : goal.bare_target-returns-in_ok-items-in-Tuple
 bare_target-returns-in_ok-items-in-Tuple t c =
     let items = wide_exps c.as_slice-in-Tuple.result.now in
     let same = c.as_slice.ensures ∙ sym c.as_slice-in-Tuple.ensures in
     let kept : are_targets items ≡ true = ap (λ es. are_targets (wide_exps es)) (sym same) ∙ c.in_ok-only_targets-in-Tuple.ensures in
-    at-made-target c.args.start.0 c.args.stars (wide.exp_of-Tuple c.args.e.now c.as_slice-in-Tuple.result.now (c.in-Tuple.is ∙ rw c.as_slice-in-Tuple.ensures))
+    at-made (narrow_bare_target c.args.start.0 c.args.n.now c.args.stars) (wide.exp_of-Tuple c.args.e.now c.as_slice-in-Tuple.result.now (c.in-Tuple.is ∙ rw c.as_slice-in-Tuple.ensures))
     (made-is (ap (λ (b : Bool). if b then option_map (P.several c.args.start.0 P.as_tuple) (narrow_targets c.args.n.now (opened c.args.stars) items) else None) kept ∙ ap (λ s. option_map (P.several c.args.start.0 P.as_tuple) (narrow_targets c.args.n.now s items)) (sym c.opened.ensures)) (tree.target_of-Tuple _ _ refl) refl (made-one (P.several c.args.start.0 P.as_tuple) c.in_ok-items-in-Tuple.ensures))
 
 pub bare_target-returns-in_ok-items-in-List : goal.bare_target-returns-in_ok-items-in-List
@@ -154,7 +154,7 @@ bare_target-returns-in_ok-items-in-List t c =
     let items = wide_exps c.as_slice-in-List-2.result.now in
     let same = c.as_slice-in-List.ensures ∙ sym c.as_slice-in-List-2.ensures in
     let kept : are_targets items ≡ true = ap (λ es. are_targets (wide_exps es)) (sym same) ∙ c.in_ok-only_targets-in-List.ensures in
-    at-made-target c.args.start.0 c.args.stars (wide.exp_of-List c.args.e.now c.as_slice-in-List-2.result.now (c.in-List.is ∙ rw c.as_slice-in-List-2.ensures))
+    at-made (narrow_bare_target c.args.start.0 c.args.n.now c.args.stars) (wide.exp_of-List c.args.e.now c.as_slice-in-List-2.result.now (c.in-List.is ∙ rw c.as_slice-in-List-2.ensures))
     (made-is (ap (λ (b : Bool). if b then option_map (P.several c.args.e.now.line.0 P.as_list) (narrow_targets c.args.n.now (opened c.args.stars) items) else None) kept ∙ ap (λ s. option_map (P.several c.args.e.now.line.0 P.as_list) (narrow_targets c.args.n.now s items)) (sym c.opened-in-List.ensures)) (tree.target_of-List _ _ refl) refl (made-one (P.several c.args.e.now.line.0 P.as_list) c.in_ok-items-in-List.ensures))
 
 pub bare_target-returns-in_ok-only_inside-in-Parenthesized : goal.bare_target-returns-in_ok-only_inside-in-Parenthesized
@@ -168,7 +168,7 @@ bare_target-returns-in_ok-only_inside-in-Parenthesized t c =
 pub bare_target-returns-in_ok-item-in-Starred-2 : goal.bare_target-returns-in_ok-item-in-Starred-2
 bare_target-returns-in_ok-item-in-Starred-2 t c =
     let item = V.exp_of c.get-in-Starred.result.now in
-    at-made-target c.args.start.0 c.args.stars (wide.exp_of-Starred c.args.e.now c.get-in-Starred.result.now (c.in-Starred.is ∙ rw c.get-in-Starred.ensures))
+    at-made (narrow_bare_target c.args.start.0 c.args.n.now c.args.stars) (wide.exp_of-Starred c.args.e.now c.get-in-Starred.result.now (c.in-Starred.is ∙ rw c.get-in-Starred.ensures))
     (made-is (ap (λ s. N.if_here s (option_map (P.starred c.args.e.now.line.0) (narrow_target c.args.n.now (alone c.args.stars) item))) c.in_ok-only_here-in-Starred.ensures.ok ∙ ap (λ s. option_map (P.starred c.args.e.now.line.0) (narrow_target c.args.n.now s item)) (sym c.alone-in-Starred.ensures)) (tree.target_of-Starred _ _ refl ∙ ap (λ u. P.starred c.args.e.now.line.0 (T.target_of u)) c.in_ok-item-in-Starred-2.ensures) refl (made-one (P.starred c.args.e.now.line.0) c.in_ok-item-in-Starred.ensures))
 
 pub pieces-loop-part-init : goal.pieces-loop-part-init

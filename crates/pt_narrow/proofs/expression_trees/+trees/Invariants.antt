@@ -1,4 +1,4 @@
-use Rattle.std.proofs.Common.{◌≡◌, drop, map}
+use Rattle.std.proofs.Common.{drop}
 use Rattle.pt_narrow.specs.Blocks.{blocks_all, blocks_args, blocks_clauses, blocks_entries, blocks_formals, blocks_links, blocks_pieces}
 use Rattle.pt_narrow.specs.Narrow.{narrow_all, narrow_args, narrow_clauses, narrow_entries, narrow_formals, narrow_links, narrow_pieces, narrow_targets}
 use Rattle.pt_narrow.specs.Narrowed.{put_clause, wide_args, wide_clauses, wide_entries, wide_exps, wide_formals, wide_links, wide_pieces}

@@ -1,4 +1,4 @@
-use Rattle.std.proofs.Common.{◌≡◌, ◌∙◌, ap, ℕ, Option, Some}
+use Rattle.std.proofs.Common.{◌≡◌, ◌∙◌, ap, Some}
 use Rattle.pt_wide.proofs.Folds.{parameters_of-parts}
 use Rattle.pt_wide.specs.declared.expression.WideParameters.{out-WideParameters}
 use Rattle.pt_wide.specs.Fold.{line_of, parameters_of}

@@ -16,23 +16,23 @@ use Rattle.pt_narrow.specs.StatementNarrow.{narrow_base, narrow_branches, narrow
 use Rattle.pt_narrower.specs.StatementsNarrowed.{narrow_assignment, narrow_classed, narrow_defined, narrow_guarded, narrow_iterated, narrow_repeated, narrow_tried, wide_branches, wide_handlers}
 use Rattle.pt_narrow.proofs.Building.{leaves, same-narrow, both-is, left-at, left-none, made-four, made-is, made-three, made-two, put-is, put-three, walk-end, walk-step}
 use Rattle.pt_narrower.proofs.OtherStatements.{classed-other, defined-other, guarded-other, iterated-other, repeated-other, statement-other, tried-other}
-use Rattle.pt_narrower.proofs.StatementBuilding.{at-made-by, at-made-stm, branch-made, handler-made, made-class, made-def, stms-chained}
+use Rattle.pt_narrower.proofs.StatementBuilding.{at-made-stm, branch-made, handler-made, made-class, made-def, stms-chained}
 use Rattle.pt_narrower.proofs.block_trees.+blocks.Goals as goal
 
 pub statement-returns-in_ok-otherwise-in-If : goal.statement-returns-in_ok-otherwise-in-If
-statement-returns-in_ok-otherwise-in-If t c = at-made-stm (wide.stm_of-If c.args.s.now _ _ (c.in-If.is ∙ rw (c.as_slice.ensures, c.as_slice-in-If.ensures))) (made-is refl (tree.stm_of-If _ _ _ refl) refl (made-two (P.choice c.args.s.now.line.0) (λ m. narrow_stms m (stms_of c.as_slice-in-If.result.now)) c.in_ok-branches-in-If.ensures c.in_ok-otherwise-in-If.ensures))
+statement-returns-in_ok-otherwise-in-If t c = at-made-stm (narrow_stm c.args.n.now) (wide.stm_of-If c.args.s.now _ _ (c.in-If.is ∙ rw (c.as_slice.ensures, c.as_slice-in-If.ensures))) (made-is refl (tree.stm_of-If _ _ _ refl) refl (made-two (P.choice c.args.s.now.line.0) (λ m. narrow_stms m (stms_of c.as_slice-in-If.result.now)) c.in_ok-branches-in-If.ensures c.in_ok-otherwise-in-If.ensures))
 
 pub repeated-returns-in_ok-otherwise-in-While : goal.repeated-returns-in_ok-otherwise-in-While
-repeated-returns-in_ok-otherwise-in-While t c = at-made-by (narrow_repeated c.args.n.now) (wide.stm_of-While c.args.s.now _ _ _ (c.in-While.is ∙ rw (c.as_slice.ensures, c.as_slice-in-While.ensures))) (made-is refl c.while_of.ensures refl (made-three (P.while c.args.s.now.line.0) (λ m. narrow_stms m (stms_of c.as_slice.result.now)) (λ m. narrow_stms m (stms_of c.as_slice-in-While.result.now)) c.in_ok-test-in-While.ensures c.in_ok-body-in-While.ensures c.in_ok-otherwise-in-While.ensures))
+repeated-returns-in_ok-otherwise-in-While t c = at-made-stm (narrow_repeated c.args.n.now) (wide.stm_of-While c.args.s.now _ _ _ (c.in-While.is ∙ rw (c.as_slice.ensures, c.as_slice-in-While.ensures))) (made-is refl c.while_of.ensures refl (made-three (P.while c.args.s.now.line.0) (λ m. narrow_stms m (stms_of c.as_slice.result.now)) (λ m. narrow_stms m (stms_of c.as_slice-in-While.result.now)) c.in_ok-test-in-While.ensures c.in_ok-body-in-While.ensures c.in_ok-otherwise-in-While.ensures))
 
 pub iterated-returns-in_ok-otherwise-in-For : goal.iterated-returns-in_ok-otherwise-in-For
-iterated-returns-in_ok-otherwise-in-For t c = at-made-by (narrow_iterated c.args.n.now) (wide.stm_of-For c.args.s.now _ _ _ _ (c.in-For.is ∙ rw (c.as_slice.ensures, c.as_slice-in-For.ensures))) (made-is refl c.for_of.ensures refl (made-four (P.for c.args.s.now.line.0) (λ m. narrow_exp m (V.exp_of c.in-For.iterable)) (λ m. narrow_stms m (stms_of c.as_slice.result.now)) (λ m. narrow_stms m (stms_of c.as_slice-in-For.result.now)) c.in_ok-target-in-For.ensures c.in_ok-iterable-in-For.ensures c.in_ok-body-in-For.ensures c.in_ok-otherwise-in-For.ensures))
+iterated-returns-in_ok-otherwise-in-For t c = at-made-stm (narrow_iterated c.args.n.now) (wide.stm_of-For c.args.s.now _ _ _ _ (c.in-For.is ∙ rw (c.as_slice.ensures, c.as_slice-in-For.ensures))) (made-is refl c.for_of.ensures refl (made-four (P.for c.args.s.now.line.0) (λ m. narrow_exp m (V.exp_of c.in-For.iterable)) (λ m. narrow_stms m (stms_of c.as_slice.result.now)) (λ m. narrow_stms m (stms_of c.as_slice-in-For.result.now)) c.in_ok-target-in-For.ensures c.in_ok-iterable-in-For.ensures c.in_ok-body-in-For.ensures c.in_ok-otherwise-in-For.ensures))
 
 pub tried-returns-in_ok-finally-in-Try : goal.tried-returns-in_ok-finally-in-Try
-tried-returns-in_ok-finally-in-Try t c = at-made-by (narrow_tried c.args.n.now) (wide.stm_of-Try c.args.s.now _ _ _ _ (c.in-Try.is ∙ rw (c.as_slice.ensures, c.as_slice-in-Try.ensures, c.as_slice-in-Try-2.ensures, c.as_slice-in-Try-3.ensures))) (made-is refl (tree.stm_of-Try _ _ _ _ _ refl) refl (made-four (P.try c.args.s.now.line.0) (λ m. narrow_handlers m (wide_handlers c.as_slice-in-Try.result.now)) (λ m. narrow_stms m (stms_of c.as_slice-in-Try-2.result.now)) (λ m. narrow_stms m (stms_of c.as_slice-in-Try-3.result.now)) c.in_ok-body-in-Try.ensures c.in_ok-handlers-in-Try.ensures c.in_ok-otherwise-in-Try.ensures c.in_ok-finally-in-Try.ensures))
+tried-returns-in_ok-finally-in-Try t c = at-made-stm (narrow_tried c.args.n.now) (wide.stm_of-Try c.args.s.now _ _ _ _ (c.in-Try.is ∙ rw (c.as_slice.ensures, c.as_slice-in-Try.ensures, c.as_slice-in-Try-2.ensures, c.as_slice-in-Try-3.ensures))) (made-is refl (tree.stm_of-Try _ _ _ _ _ refl) refl (made-four (P.try c.args.s.now.line.0) (λ m. narrow_handlers m (wide_handlers c.as_slice-in-Try.result.now)) (λ m. narrow_stms m (stms_of c.as_slice-in-Try-2.result.now)) (λ m. narrow_stms m (stms_of c.as_slice-in-Try-3.result.now)) c.in_ok-body-in-Try.ensures c.in_ok-handlers-in-Try.ensures c.in_ok-otherwise-in-Try.ensures c.in_ok-finally-in-Try.ensures))
 
 pub guarded-returns-in_ok-body-in-With : goal.guarded-returns-in_ok-body-in-With
-guarded-returns-in_ok-body-in-With t c = at-made-by (narrow_guarded c.args.n.now) (wide.stm_of-With c.args.s.now _ _ (c.in-With.is ∙ rw (c.as_slice.ensures, c.as_slice-in-With.ensures))) (made-is refl (tree.stm_of-With _ _ _ refl) refl (made-two (P.with c.args.s.now.line.0) (λ m. narrow_stms m (stms_of c.as_slice-in-With.result.now)) c.in_ok-items-in-With.ensures c.in_ok-body-in-With.ensures))
+guarded-returns-in_ok-body-in-With t c = at-made-stm (narrow_guarded c.args.n.now) (wide.stm_of-With c.args.s.now _ _ (c.in-With.is ∙ rw (c.as_slice.ensures, c.as_slice-in-With.ensures))) (made-is refl (tree.stm_of-With _ _ _ refl) refl (made-two (P.with c.args.s.now.line.0) (λ m. narrow_stms m (stms_of c.as_slice-in-With.result.now)) c.in_ok-items-in-With.ensures c.in_ok-body-in-With.ensures))
 
 pub defined-returns-in_ok-name-in-Def : goal.defined-returns-in_ok-name-in-Def
 defined-returns-in_ok-name-in-Def t c =
@@ -45,7 +45,7 @@ defined-returns-in_ok-name-in-Def t c =
     let parameters = E.parameters_of c.in_ok-parameters-in-Def.parameters in
     let returns = E.opt_exp c.in_ok-returns-in-Def.returns in
     let body = T.stms_of c.in_ok-body-in-Def.body in
-    at-made-by (narrow_defined c.args.n.now) (wide.stm_of-Def c.args.s.now c.as_slice.result.now c.in-Def.def_line c.in-Def.name c.in-Def.names c.in-Def.returns c.as_slice-in-Def.result.now (c.in-Def.is ∙ rw (c.as_slice.ensures, c.as_slice-in-Def.ensures)))
+    at-made-stm (narrow_defined c.args.n.now) (wide.stm_of-Def c.args.s.now c.as_slice.result.now c.in-Def.def_line c.in-Def.name c.in-Def.names c.in-Def.returns c.as_slice-in-Def.result.now (c.in-Def.is ∙ rw (c.as_slice.ensures, c.as_slice-in-Def.ensures)))
     (made-is refl (c.def_of.ensures ∙ ap (λ b. P.def line made at b c.in_ok-name-in-Def.name parameters returns body) (c.in_ok-block-in-Def.ensures.number ∙ c.in_ok-decorators-in-Def.ensures.after) ∙ ap (λ x. P.def line made at (n + blocks_decorators marks) x parameters returns body) c.in_ok-name-in-Def.ensures) refl
     (made-def (λ ds ps r ss. P.def line ds at (n + blocks_decorators marks) c.in-Def.name ps r ss) (λ m. narrow_params m names) (λ m. narrow_opt m (V.opt_exp c.in-Def.returns)) (λ m. narrow_stms m (stms_of c.as_slice-in-Def.result.now)) c.in_ok-decorators-in-Def.ensures c.in_ok-block-in-Def.ensures.started c.in_ok-parameters-in-Def.ensures c.in_ok-returns-in-Def.ensures c.in_ok-body-in-Def.ensures))
 
@@ -58,7 +58,7 @@ classed-returns-in_ok-name-in-Class t c =
     let made = T.decorators_of c.in_ok-decorators-in-Class.decorators in
     let base = E.opt_exp c.in_ok-base-in-Class.base in
     let body = T.stms_of c.in_ok-body-in-Class.body in
-    at-made-by (narrow_classed c.args.n.now) (wide.stm_of-Class c.args.s.now c.as_slice.result.now c.in-Class.class_line c.in-Class.name c.as_slice-in-Class.result.now c.as_slice-in-Class-2.result.now (c.in-Class.is ∙ rw (c.as_slice.ensures, c.as_slice-in-Class.ensures, c.as_slice-in-Class-2.ensures)))
+    at-made-stm (narrow_classed c.args.n.now) (wide.stm_of-Class c.args.s.now c.as_slice.result.now c.in-Class.class_line c.in-Class.name c.as_slice-in-Class.result.now c.as_slice-in-Class-2.result.now (c.in-Class.is ∙ rw (c.as_slice.ensures, c.as_slice-in-Class.ensures, c.as_slice-in-Class-2.ensures)))
     (made-is refl (tree.stm_of-Class _ _ _ _ _ _ _ refl ∙ ap (λ b. P.class line made at b c.in_ok-name-in-Class.name base body) (c.in_ok-block-in-Class.ensures.number ∙ c.in_ok-decorators-in-Class.ensures.after) ∙ ap (λ x. P.class line made at (n + blocks_decorators marks) x base body) c.in_ok-name-in-Class.ensures) refl
     (made-class (λ ds e ss. P.class line ds at (n + blocks_decorators marks) c.in-Class.name e ss) (λ m. narrow_base m (wide_args c.as_slice-in-Class.result.now)) (λ m. narrow_stms m (stms_of c.as_slice-in-Class-2.result.now)) c.in_ok-decorators-in-Class.ensures c.in_ok-block-in-Class.ensures.started c.in_ok-base-in-Class.ensures c.in_ok-body-in-Class.ensures))
 

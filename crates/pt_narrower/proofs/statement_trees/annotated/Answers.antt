@@ -8,13 +8,13 @@ use Rattle.pt_wide.specs.StatementFold.{stm_of}
 use Rattle.pt_narrow.specs.StatementBlocks.{blocks_stm}
 use Rattle.pt_tree.specs.StatementFold as T
 use Rattle.pt_narrow.proofs.Building.{leaves, same-narrow, made-is}
-use Rattle.pt_narrower.proofs.StatementBuilding.{at-made-by, made-beside}
+use Rattle.pt_narrower.proofs.StatementBuilding.{at-made-stm, made-beside}
 use Rattle.pt_narrower.specs.StatementsNarrowed.{narrow_annotated, narrow_checked}
 use Rattle.pt_narrower.proofs.OtherStatements.{annotated-other}
 use Rattle.pt_narrower.proofs.statement_trees.annotated.Goals as goal
 
 pub returns-in_ok-value-in-Annotated : goal.returns-in_ok-value-in-Annotated
-returns-in_ok-value-in-Annotated c = at-made-by (narrow_annotated c.args.n.now) (wide.stm_of-Annotated c.args.s.now _ _ _ c.in-Annotated.is) (made-is refl (tree.stm_of-Annotated _ _ _ _ refl) refl (made-beside (P.annotated c.args.s.now.line.0) (λ m. narrow_exp m (V.exp_of c.in-Annotated.kind)) (λ m. narrow_opt m (V.opt_exp c.in-Annotated.first)) c.in_ok-target-in-Annotated.ensures c.in_ok-annotation-in-Annotated.ensures c.in_ok-value-in-Annotated.ensures))
+returns-in_ok-value-in-Annotated c = at-made-stm (narrow_annotated c.args.n.now) (wide.stm_of-Annotated c.args.s.now _ _ _ c.in-Annotated.is) (made-is refl (tree.stm_of-Annotated _ _ _ _ refl) refl (made-beside (P.annotated c.args.s.now.line.0) (λ m. narrow_exp m (V.exp_of c.in-Annotated.kind)) (λ m. narrow_opt m (V.opt_exp c.in-Annotated.first)) c.in_ok-target-in-Annotated.ensures c.in_ok-annotation-in-Annotated.ensures c.in_ok-value-in-Annotated.ensures))
 
 pub returns-in_err-target-in-Annotated : goal.returns-in_err-target-in-Annotated
 returns-in_err-target-in-Annotated c = grind (arith, leaves, wide.stm_of-Annotated c.args.s.now _ _ _ c.in-Annotated.is)

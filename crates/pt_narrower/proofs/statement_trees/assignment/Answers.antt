@@ -12,7 +12,7 @@ use Rattle.pt_wide.specs.StatementFold.{stm_of}
 use Rattle.pt_narrow.specs.StatementBlocks.{blocks_stm}
 use Rattle.pt_tree.specs.StatementFold as T
 use Rattle.pt_narrow.proofs.Building.{both-second, is_not, leaves, left-out, made-is, made-one, made-two, same-narrow}
-use Rattle.pt_narrower.proofs.StatementBuilding.{assign-is, at-made-by, is_so, none-before, some-exps}
+use Rattle.pt_narrower.proofs.StatementBuilding.{assign-is, at-made-stm, is_so, none-before, some-exps}
 use Rattle.pt_narrower.specs.StatementsNarrowed.{narrow_assignment, narrow_augmented}
 use Rattle.pt_narrower.proofs.OtherStatements.{assignment-other}
 use Rattle.pt_narrower.proofs.statement_trees.assignment.Goals as goal
@@ -22,7 +22,7 @@ returns-then-is_empty c =
     let line = c.args.s.now.line.0 in
     let value = V.exp_of c.in-Assign.last in
     let empty = is_so c.is_empty.ensures c.if-is_empty.true in
-    at-made-by (narrow_assignment c.args.n.now) (wide.stm_of-Assign c.args.s.now c.in-Assign.items c.in-Assign.last c.in-Assign.is)
+    at-made-stm (narrow_assignment c.args.n.now) (wide.stm_of-Assign c.args.s.now c.in-Assign.items c.in-Assign.last c.in-Assign.is)
     (made-is (ap (λ ts. narrow_stm c.args.n.now (W.assign line (wide_exps ts) value)) empty) (tree.stm_of-Expr _ _ refl) (ap (λ ts. blocks_all (wide_exps ts) + blocks_exp value) empty ∙ none-before (blocks_exp value)) (made-one (P.expr line) c.in_ok-dropped-in-Assign.ensures))
 
 pub returns-in_ok-value-in-Assign : goal.returns-in_ok-value-in-Assign
@@ -30,7 +30,7 @@ returns-in_ok-value-in-Assign c =
     let line = c.args.s.now.line.0 in
     let value = V.exp_of c.in-Assign.last in
     let some = some-exps c.as_slice.result.now (λ e. is_not c.is_empty.ensures c.if-is_empty.false (sym c.as_slice.ensures ∙ e)) in
-    at-made-by (narrow_assignment c.args.n.now) (wide.stm_of-Assign c.args.s.now c.as_slice.result.now c.in-Assign.last (c.in-Assign.is ∙ rw c.as_slice.ensures))
+    at-made-stm (narrow_assignment c.args.n.now) (wide.stm_of-Assign c.args.s.now c.as_slice.result.now c.in-Assign.last (c.in-Assign.is ∙ rw c.as_slice.ensures))
     (made-is (assign-is c.args.n.now line (wide_exps c.as_slice.result.now) value some) (tree.stm_of-Assign _ _ _ refl) refl (made-two (P.assign line) (λ m. narrow_exp m value) c.in_ok-targets-in-Assign.ensures c.in_ok-value-in-Assign.ensures))
 
 pub returns-in_err-dropped-in-Assign : goal.returns-in_err-dropped-in-Assign

@@ -8,13 +8,13 @@ use Rattle.pt_wide.specs.StatementFold.{stm_of}
 use Rattle.pt_narrow.specs.StatementBlocks.{blocks_stm}
 use Rattle.pt_tree.specs.StatementFold as T
 use Rattle.pt_narrow.proofs.Building.{leaves, same-narrow, made-is, made-two}
-use Rattle.pt_narrower.proofs.StatementBuilding.{at-made-by}
+use Rattle.pt_narrower.proofs.StatementBuilding.{at-made-stm}
 use Rattle.pt_narrower.specs.StatementsNarrowed.{narrow_annotated, narrow_augmented}
 use Rattle.pt_narrower.proofs.OtherStatements.{augmented-other}
 use Rattle.pt_narrower.proofs.statement_trees.augmented.Goals as goal
 
 pub returns-in_ok-value-in-Augmented : goal.returns-in_ok-value-in-Augmented
-returns-in_ok-value-in-Augmented c = at-made-by (narrow_augmented c.args.n.now) (wide.stm_of-Augmented c.args.s.now _ _ _ c.in-Augmented.is) (made-is refl (tree.stm_of-Augmented _ _ _ _ refl) refl (made-two (λ p e. P.augmented c.args.s.now.line.0 p c.in-Augmented.operator e) (λ m. narrow_exp m (V.exp_of c.in-Augmented.value)) c.in_ok-target-in-Augmented.ensures c.in_ok-value-in-Augmented.ensures))
+returns-in_ok-value-in-Augmented c = at-made-stm (narrow_augmented c.args.n.now) (wide.stm_of-Augmented c.args.s.now _ _ _ c.in-Augmented.is) (made-is refl (tree.stm_of-Augmented _ _ _ _ refl) refl (made-two (λ p e. P.augmented c.args.s.now.line.0 p c.in-Augmented.operator e) (λ m. narrow_exp m (V.exp_of c.in-Augmented.value)) c.in_ok-target-in-Augmented.ensures c.in_ok-value-in-Augmented.ensures))
 
 pub returns-in_err-target-in-Augmented : goal.returns-in_err-target-in-Augmented
 returns-in_err-target-in-Augmented c = grind (arith, leaves, wide.stm_of-Augmented c.args.s.now _ _ _ c.in-Augmented.is)

@@ -1,4 +1,4 @@
-use Rattle.std.proofs.Common.{◌≡◌, ◌∙◌, ◌+◌, ap, arith, refl, Bool, true, false, None, option_map}
+use Rattle.std.proofs.Common.{◌≡◌, ◌∙◌, ap, arith, refl, Bool, true, false, None, option_map}
 use Rattle.std.specs.Prelude.{if◌then◌else◌}
 use Rattle.pt_tree.specs.Syntax as P
 use Rattle.pt_wide.proofs.Folds.{argument_of-Named, argument_of-Spread, argument_of-SpreadNamed}

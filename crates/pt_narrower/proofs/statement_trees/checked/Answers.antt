@@ -8,16 +8,16 @@ use Rattle.pt_wide.specs.StatementFold.{stm_of}
 use Rattle.pt_narrow.specs.StatementBlocks.{blocks_stm}
 use Rattle.pt_tree.specs.StatementFold as T
 use Rattle.pt_narrow.proofs.Building.{leaves, same-narrow, made-is, made-two}
-use Rattle.pt_narrower.proofs.StatementBuilding.{at-made-by}
+use Rattle.pt_narrower.proofs.StatementBuilding.{at-made-stm}
 use Rattle.pt_narrower.specs.StatementsNarrowed.{narrow_checked, narrow_simple}
 use Rattle.pt_narrower.proofs.OtherStatements.{checked-other}
 use Rattle.pt_narrower.proofs.statement_trees.checked.Goals as goal
 
 pub returns-in_ok-message-in-Assert : goal.returns-in_ok-message-in-Assert
-returns-in_ok-message-in-Assert c = at-made-by (narrow_checked c.args.n.now) (wide.stm_of-Assert c.args.s.now _ _ c.in-Assert.is) (made-is refl (tree.stm_of-Assert _ _ _ refl) refl (made-two (P.assert c.args.s.now.line.0) (λ m. narrow_opt m (V.opt_exp c.in-Assert.told)) c.in_ok-test-in-Assert.ensures c.in_ok-message-in-Assert.ensures))
+returns-in_ok-message-in-Assert c = at-made-stm (narrow_checked c.args.n.now) (wide.stm_of-Assert c.args.s.now _ _ c.in-Assert.is) (made-is refl (tree.stm_of-Assert _ _ _ refl) refl (made-two (P.assert c.args.s.now.line.0) (λ m. narrow_opt m (V.opt_exp c.in-Assert.told)) c.in_ok-test-in-Assert.ensures c.in_ok-message-in-Assert.ensures))
 
 pub returns-in_ok-cause-in-Raise : goal.returns-in_ok-cause-in-Raise
-returns-in_ok-cause-in-Raise c = at-made-by (narrow_checked c.args.n.now) (wide.stm_of-Raise c.args.s.now _ _ c.in-Raise.is) (made-is refl (tree.stm_of-Raise _ _ _ refl) refl (made-two (P.raise c.args.s.now.line.0) (λ m. narrow_opt m (V.opt_exp c.in-Raise.cause)) c.in_ok-exception-in-Raise.ensures c.in_ok-cause-in-Raise.ensures))
+returns-in_ok-cause-in-Raise c = at-made-stm (narrow_checked c.args.n.now) (wide.stm_of-Raise c.args.s.now _ _ c.in-Raise.is) (made-is refl (tree.stm_of-Raise _ _ _ refl) refl (made-two (P.raise c.args.s.now.line.0) (λ m. narrow_opt m (V.opt_exp c.in-Raise.cause)) c.in_ok-exception-in-Raise.ensures c.in_ok-cause-in-Raise.ensures))
 
 pub returns-in_err-test-in-Assert : goal.returns-in_err-test-in-Assert
 returns-in_err-test-in-Assert c = grind (arith, leaves, wide.stm_of-Assert c.args.s.now _ _ c.in-Assert.is)

@@ -8,18 +8,18 @@ use Rattle.pt_narrow.specs.Faults.{is_clean}
 use Rattle.pt_narrow.specs.Narrow.{narrow_exp, narrow_place}
 use Rattle.pt_narrow.proofs.ExclusiveStatements.{law_place}
 use Rattle.pt_narrow.proofs.Others.{place-other}
-use Rattle.pt_narrow.proofs.Building.{leaves, made-is, made-none, made-one, made-two}
-use Rattle.pt_narrower.proofs.StatementBuilding.{at-made-place, not-some}
+use Rattle.pt_narrow.proofs.Building.{at-made, leaves, made-is, made-none, made-one, made-two}
+use Rattle.pt_narrower.proofs.StatementBuilding.{not-some}
 use Rattle.pt_narrower.proofs.statement_trees.place.Goals as goal
 
 pub returns-in_ok-name-in-Name : goal.returns-in_ok-name-in-Name
-returns-in_ok-name-in-Name c = at-made-place (wide.exp_of-Name c.args.e.now _ c.in-Name.is) (made-is refl (tree.place_node_of-Name _ _ _ refl ∙ ap (P.name_at c.args.e.now.line.0) c.in_ok-name-in-Name.ensures) refl (made-none refl))
+returns-in_ok-name-in-Name c = at-made (narrow_place c.args.n.now) (wide.exp_of-Name c.args.e.now _ c.in-Name.is) (made-is refl (tree.place_node_of-Name _ _ _ refl ∙ ap (P.name_at c.args.e.now.line.0) c.in_ok-name-in-Name.ensures) refl (made-none refl))
 
 pub returns-in_ok-name-in-Attribute : goal.returns-in_ok-name-in-Attribute
-returns-in_ok-name-in-Attribute c = at-made-place (wide.exp_of-Attribute c.args.e.now _ _ (c.in-Attribute.is ∙ rw c.get.ensures)) (made-is refl (tree.place_node_of-Attribute _ _ _ _ refl ∙ ap (λ x. P.attribute_at c.args.e.now.line.0 (T.exp_of c.in_ok-object-in-Attribute.object) x) c.in_ok-name-in-Attribute.ensures) refl (made-one (λ o. P.attribute_at c.args.e.now.line.0 o c.in-Attribute.name) c.in_ok-object-in-Attribute.ensures))
+returns-in_ok-name-in-Attribute c = at-made (narrow_place c.args.n.now) (wide.exp_of-Attribute c.args.e.now _ _ (c.in-Attribute.is ∙ rw c.get.ensures)) (made-is refl (tree.place_node_of-Attribute _ _ _ _ refl ∙ ap (λ x. P.attribute_at c.args.e.now.line.0 (T.exp_of c.in_ok-object-in-Attribute.object) x) c.in_ok-name-in-Attribute.ensures) refl (made-one (λ o. P.attribute_at c.args.e.now.line.0 o c.in-Attribute.name) c.in_ok-object-in-Attribute.ensures))
 
 pub returns-in_ok-index-in-Item : goal.returns-in_ok-index-in-Item
-returns-in_ok-index-in-Item c = at-made-place (wide.exp_of-Item c.args.e.now _ _ (c.in-Item.is ∙ rw (c.get-in-Item.ensures, c.get-in-Item-2.ensures))) (made-is refl (tree.place_node_of-Item _ _ _ _ refl) refl (made-two (P.item_at c.args.e.now.line.0) (λ m. narrow_exp m (V.exp_of c.get-in-Item-2.result.now)) c.in_ok-object-in-Item.ensures c.in_ok-index-in-Item.ensures))
+returns-in_ok-index-in-Item c = at-made (narrow_place c.args.n.now) (wide.exp_of-Item c.args.e.now _ _ (c.in-Item.is ∙ rw (c.get-in-Item.ensures, c.get-in-Item-2.ensures))) (made-is refl (tree.place_node_of-Item _ _ _ _ refl) refl (made-two (P.item_at c.args.e.now.line.0) (λ m. narrow_exp m (V.exp_of c.get-in-Item-2.result.now)) c.in_ok-object-in-Item.ensures c.in_ok-index-in-Item.ensures))
 
 pub returns-in_err-object-in-Attribute : goal.returns-in_err-object-in-Attribute
 returns-in_err-object-in-Attribute c = grind (arith, leaves, wide.exp_of-Attribute c.args.e.now _ _ c.in-Attribute.is)

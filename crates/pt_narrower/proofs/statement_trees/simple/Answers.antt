@@ -6,16 +6,16 @@ use Rattle.pt_wide.specs.StatementFold.{stm_of}
 use Rattle.pt_narrow.specs.StatementBlocks.{blocks_stm}
 use Rattle.pt_tree.specs.StatementFold as T
 use Rattle.pt_narrow.proofs.Building.{leaves, same-narrow, made-is, made-one}
-use Rattle.pt_narrower.proofs.StatementBuilding.{at-made-by}
+use Rattle.pt_narrower.proofs.StatementBuilding.{at-made-stm}
 use Rattle.pt_narrower.specs.StatementsNarrowed.{narrow_leaf, narrow_simple}
 use Rattle.pt_narrower.proofs.OtherStatements.{simple-other}
 use Rattle.pt_narrower.proofs.statement_trees.simple.Goals as goal
 
 pub returns-in_ok-items-in-Del : goal.returns-in_ok-items-in-Del
-returns-in_ok-items-in-Del c = at-made-by (narrow_simple c.args.n.now) (wide.stm_of-Del c.args.s.now _ (c.in-Del.is ∙ rw c.as_slice.ensures)) (made-is refl (tree.stm_of-Del _ _ refl) refl (made-one (P.del c.args.s.now.line.0) c.in_ok-items-in-Del.ensures))
+returns-in_ok-items-in-Del c = at-made-stm (narrow_simple c.args.n.now) (wide.stm_of-Del c.args.s.now _ (c.in-Del.is ∙ rw c.as_slice.ensures)) (made-is refl (tree.stm_of-Del _ _ refl) refl (made-one (P.del c.args.s.now.line.0) c.in_ok-items-in-Del.ensures))
 
 pub returns-in_ok-answer-in-Return : goal.returns-in_ok-answer-in-Return
-returns-in_ok-answer-in-Return c = at-made-by (narrow_simple c.args.n.now) (wide.stm_of-Return c.args.s.now _ c.in-Return.is) (made-is refl (tree.stm_of-Return _ _ refl) refl (made-one (P.return c.args.s.now.line.0) c.in_ok-answer-in-Return.ensures))
+returns-in_ok-answer-in-Return c = at-made-stm (narrow_simple c.args.n.now) (wide.stm_of-Return c.args.s.now _ c.in-Return.is) (made-is refl (tree.stm_of-Return _ _ refl) refl (made-one (P.return c.args.s.now.line.0) c.in_ok-answer-in-Return.ensures))
 
 pub returns-in_err-items-in-Del : goal.returns-in_err-items-in-Del
 returns-in_err-items-in-Del c = grind (arith, leaves, wide.stm_of-Del c.args.s.now _ c.in-Del.is)
