@@ -21,9 +21,15 @@ def refused():
 
 
 def faults():
-    """Number, line, and script: forms that the language leaves out, and bad targets."""
-    rows = open("faults.txt").read().split("---\n")
-    return [(*map(int, row.split("\n", 1)[0].split()), row.split("\n", 1)[1]) for row in rows if row]
+    """Number, line, reason and script: forms that the language leaves out, and bad targets. A reason is given where
+    CPython's grammar takes the script."""
+    rows = [row.split("\n", 1) for row in open("faults.txt").read().split("---\n") if row]
+    return [(*told(head), script) for head, script in rows]
+
+
+def told(head):
+    number, line, *reason = head.split(" ", 2)
+    return int(number), int(line), reason
 
 
 def is_parsed(script):
@@ -45,8 +51,8 @@ def main():
     for place, script in refused():
         if is_parsed(script) or recogniser.refusal(script) != place:
             wrong.append(script)
-    for number, line, script in faults():
-        if recogniser.refusal(script) is not None:
+    for _, _, reason, script in faults():
+        if recogniser.refusal(script) is not None or bool(reason) != is_parsed(script):
             wrong.append(script)
     for script in scopes.scripts():
         scopes.scopes(script)
