@@ -1,5 +1,5 @@
 -- From the run of a script to the answer for its text.
-use Rattle.std.proofs.Common.{◌≡◌, ℕ, List, Option, Some, None, option_map, sym, subst, refl}
+use Rattle.std.proofs.Common.{◌≡◌, ◌∙◌, ap, ℕ, List, [], Option, None, inl, option_map, sym, subst, refl}
 use Rattle.pt_base.specs.declared.numbers.Line.{Line}
 use Rattle.pt_base.specs.Taken.{Pieces, Takes, TakesFront}
 use Rattle.pt_tree.specs.Syntax.{Stms}
@@ -8,23 +8,29 @@ use Rattle.pt_meaning.specs.Built.{Built, unbuilt_of}
 use Rattle.pt_meaning.specs.declared.value.Value.{Value}
 use Rattle.pt_meaning.specs.Run.{Ending, ended, outside, spent}
 use Rattle.pt_meaning.proofs.BuiltLemmas.{is_built}
-use Rattle.pt_front.specs.Text.{IsScript}
 use Rattle.pt_session.specs.declared.runner.RunEnd.{RunEnd}
 use Rattle.pt_session.specs.declared.runner.RunEnd.TheVariants as run
 use Rattle.pt_session.specs.Running.{IsEnding, Finished, meaning_of as meaning_under}
+use Rattle.pt_prog.specs.declared.end.End.{End}
 use Rattle.pt_prog.specs.declared.end.End.TheVariants as end
+use Rattle.pt_prog.specs.declared.end.Out.TheVariants as out
 use Rattle.pt_prog.specs.Limits.{act_limit}
 use Rattle.pt_prog.specs.RunEnds.{end_of_run}
-use Rattle.pt_prog.specs.Answer.{meaning_of, IsEndOf, IsBuilt, Ran, WroteFront, IsAnsweredFor}
+use Rattle.pt_prog.specs.Answer.{meaning_of, IsEndOf, IsBuilt, IsUnrun, Ran, WroteFront, IsAnsweredFor}
 
 -- where no line is told of a script, all of it is built
-pub built : (script : Stms) (o : Option Line) → option_map (λ (l : Line). l.0) o ≡ unbuilt_of script → ((l : Line) → o ≡ Some l → ⊥) → Built script
-built script None told none = is_built script (sym told)
-built script (Some l) told none = absurd (none l refl)
+pub built : (script : Stms) (o : Option Line) → option_map (λ (l : Line). l.0) o ≡ unbuilt_of script → o ≡ None → Built script
+built script o told none = is_built script (sym told ∙ ap (option_map (λ (l : Line). l.0)) none)
 
-pub built_script : (text : List ℕ) (script : Stms) → IsScript text script → (o : Option Line) → option_map (λ (l : Line). l.0) o ≡ unbuilt_of script
-    → ((l : Line) → o ≡ Some l → ⊥) → IsBuilt text script
-built_script text script is o told none = record { is_script = is; is_built = built script o told none }
+-- nothing is written for a text that isn't run
+pub unrun : (text : List ℕ) (old new : Pieces → Pieces → Type 0) (e : End) → IsUnrun text e → Takes old new [] → IsAnsweredFor text old new e
+unrun text old new (end.Refused error) is took = (is, took)
+unrun text old new (end.Unbuilt line) is took = (is, took)
+unrun text old new end.Memory is took = inl took
+unrun text old new e is took = absurd is
+
+pub unrun_cause : (text : List ℕ) (e : End) → IsUnrun text e → e ≡ end.WriteFault out.Out → ⊥
+unrun_cause text e is fails = subst (IsUnrun text) fails is
 
 is_end : (r : RunEnd) (E : Ending Value) → IsEnding r E → IsEndOf E (end_of_run r)
 is_end run.Done (ended done) i = refl

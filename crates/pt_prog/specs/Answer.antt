@@ -57,6 +57,13 @@ pub record IsUnbuilt (text : List ℕ) (line : ℕ) : Type 0 where
   pub is_script : IsScript text script
   pub is_first : unbuilt_of script ≡ Some line
 
+-- the end of a text that isn't run; want of memory may be told at any time
+abbrev pub IsUnrun : List ℕ → End → Type 0
+IsUnrun text (end.Refused error) = IsRefused text error
+IsUnrun text (end.Unbuilt line) = IsUnbuilt text line.0
+IsUnrun text end.Memory = Unit {0}
+IsUnrun text e = ⊥
+
 -- the text is a built script whose meaning has this end
 pub record Ends (text : List ℕ) (e : End) : Type 0 where
   pub script : Stms

@@ -1,17 +1,19 @@
-ghost use Rattle.std.specs.Prelude.{◌≡◌, ◌≢◌, ◌≤◌, ◌⊎◌, ◌↔◌, [], None, Some, length, Err, IfOk, OnErr};
+ghost use Rattle.std.specs.Prelude.{◌≡◌, ◌≢◌, ◌≤◌, ◌⊎◌, ◌↔◌, [], None, Some, length, Err, IfOk, MatchResult, OnErr};
 ghost use Rattle.std.specs.Option.{option_copied};
 ghost use Rattle.pt_base.specs.Faults.{Rose};
 ghost use Rattle.pt_base.specs.Taken.{Takes, TakesFront};
 ghost use Rattle.pt_base.specs.Told.{IsLacked, IsLonger};
 ghost use Rattle.pt_base.specs.Told.Told.{Holds};
-ghost use Rattle.pt_prog.specs.Answer.{script_named, OfNamed, IsEndFor, IsAnsweredFor, IsAnswered};
+ghost use Rattle.pt_prog.specs.Answer.{script_named, OfNamed, IsBuilt, IsUnrun, IsEndFor, IsAnsweredFor, IsAnswered};
 ghost use Rattle.pt_prog.specs.Limits.{script_limit};
 ghost use Rattle.pt_prog.specs.RunEnds.{end_of_run};
+ghost use Rattle.pt_tree.specs.StatementFold.{script_of};
 
 use crate::end::{End, File, Out};
 use pt_base::{Budget, Shelf, ShelfErr, Sink};
 use pt_front::{FrontErr, front};
 use pt_session::{RunEnd, RunErr, first_unbuilt, run};
+use pt_tree::Script;
 use std::alloc::Global;
 
 /// How many bytes a script may have.
@@ -46,6 +48,22 @@ fn end_of(end: RunEnd) -> End
     }
 }
 
+/// The script that a text is, all of which is built, or the end where there is none to run.
+fn built_script(alloc: Global, text: &[u8]) -> Result<Script, End>
+    requires { length text.now ≤ script_limit }
+    ensures { MatchResult result (λ script. IsBuilt text.now (script_of script)) (IsUnrun text.now) }
+{
+    let script = match front(alloc, text) {
+        Ok((script, _)) => script,
+        Err(FrontErr::Refused(error)) => return Err(End::Refused { error }),
+        Err(FrontErr::Memory) => return Err(End::Memory),
+    };
+    match first_unbuilt(&script) {
+        Some(line) => Err(End::Unbuilt { line }),
+        None => Ok(script),
+    }
+}
+
 /// Answers for the text of a script.
 fn run_text<O: Sink>(alloc: Global, text: &[u8], out: &mut O) -> End
     requires { length text.now ≤ script_limit }
@@ -54,14 +72,10 @@ fn run_text<O: Sink>(alloc: Global, text: &[u8], out: &mut O) -> End
     ensures most { O.most out.new ≡ O.most out.old }
     ensures later { O.faults out.old ≤ O.faults out.new }
 {
-    let script = match front(alloc, text) {
-        Ok((script, _)) => script,
-        Err(FrontErr::Refused(error)) => return End::Refused { error },
-        Err(FrontErr::Memory) => return End::Memory,
+    let script = match built_script(alloc, text) {
+        Ok(script) => script,
+        Err(end) => return end,
     };
-    if let Some(line) = first_unbuilt(&script) {
-        return End::Unbuilt { line };
-    }
     let mut budget = Budget::new(ACT_LIMIT);
     match run(alloc, &script, &mut budget, out) {
         Ok(end) => end_of(end),
