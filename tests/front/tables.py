@@ -24,11 +24,12 @@ def faults():
     """Number, line, reason and script: forms that the language leaves out, and bad targets. A reason is given where
     CPython's grammar takes the script."""
     rows = [row.split("\n", 1) for row in open("faults.txt").read().split("---\n") if row]
-    return [(*told(head), script) for head, script in rows]
+    return [(*heading(head), script) for head, script in rows]
 
 
-def told(head):
-    number, line, *reason = head.split(" ", 2)
+def heading(text):
+    """Number, line, and the reason, if there is one."""
+    number, line, *reason = text.split(" ", 2)
     return int(number), int(line), reason
 
 

@@ -83,7 +83,7 @@ fn quoted(out: &mut String, text: &Text) -> Printed {
     out.push_str("'")
 }
 
-/// Integers other than the least are told by their kind alone.
+/// Integers other than 0, 1 and 2 are told by their kind alone.
 fn constant(out: &mut String, constant: &Constant) -> Printed {
     match constant {
         Constant::None => word(out, "None"),
