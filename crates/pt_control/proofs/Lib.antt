@@ -1,4 +1,3 @@
-pub mod CompletionTable
 pub mod JumpLemmas
 pub mod MarksTree
 pub mod MarksFrames

@@ -4,27 +4,27 @@ use Rattle.pt_tree.specs.declared.act.ActKind.TheVariants as K
 use Rattle.pt_tree.specs.Syntax as S
 use Rattle.pt_tree.specs.Syntax.{Exp, Clauses, Tgt, Tgts, Items, Stms}
 use Rattle.pt_tree.specs.Sizes.{items_size, stms_size}
-use Rattle.pt_control.specs.Turn.{Mark, Variable, variable, Leave, Row, Delegated, returned, resumed, Reply, got, raised}
+use Rattle.pt_control.specs.Turn.{Mark, Variable, variable, Row, Delegated, returned, resumed, Reply, got, raised}
 use Rattle.pt_control.specs.Frames as F
-use Rattle.pt_control.specs.Frames.{raise, normal, by, Nest, no_more, Changed, Way, Wait, Over, Rounds, Control}
-use Rattle.pt_control.specs.Bases.{base, way_base, over_base, around}
+use Rattle.pt_control.specs.Frames.{Abrupt, raise, normal, by, Nest, no_more, Changed, Way, Wait, Over, Rounds, Control}
+use Rattle.pt_control.specs.Bases.{base, way_base, over_base, around, rounds_line}
 use Rattle.pt_control.specs.Expressions.{take_item, target_names, clause_names}
-use Rattle.pt_control.specs.Statements.{all_get, each_gets, count}
+use Rattle.pt_control.specs.Statements.{each_gets, count}
 use Rattle.pt_control.specs.Completions.{complete}
-use Rattle.pt_control.specs.Control.{freshen, store_back, deliver, next_round, take_iter, go, after_value, after_deed, after_leave, after_throw, after_truth, after_iter, after_item, after_entry, after_unpack, after_delegate, left, turn}
+use Rattle.pt_control.specs.Control.{make_anew, store_back, deliver, next_round, take_iter, go, after_value, after_deed, after_leave, after_throw, after_truth, after_iter, after_item, after_entry, after_unpack, after_delegate, turn}
 use Rattle.pt_control.specs.Reached.{Leads}
 use Rattle.pt_control.proofs.MarksTree.{Numbering, Target_in, Targets_in}
-use Rattle.pt_control.proofs.MarksFrames.{store_kind, Nest_in, Way_in, Wait_in, Over_in, Rounds_in, Entry_in, Control_in, Marked}
+use Rattle.pt_control.proofs.MarksFrames.{store_kind, Round_in, Last_in, Nest_in, Way_in, Wait_in, Over_in, Rounds_in, Entry_in, Control_in, Marked}
 use Rattle.pt_control.proofs.MarksBases.{base_in, way_base_in, over_base_in, rounds_base_in}
 use Rattle.pt_control.proofs.MarksExpressions.{no_test, begin_exp_in, next_operand_in, begin_spec_in, begin_clauses_in, take_item_in}
-use Rattle.pt_control.proofs.MarksStatements.{all_get_in, each_gets_in, begin_store_in, begin_stores_in, begin_deletes_in, begin_imports_in, begin_imports_from_in, begin_definition_in, begin_next_in, begin_all_in, begin_branches_in, begin_items_in, begin_tests_in}
-use Rattle.pt_control.proofs.MarksCompletions.{after_note_in, complete_in, let_go_in}
+use Rattle.pt_control.proofs.MarksStatements.{each_gets_in, begin_store_in, begin_assign_in, begin_stores_in, begin_deletes_in, begin_imports_in, begin_imports_from_in, begin_definition_in, begin_next_in, begin_all_in, begin_branches_in, begin_items_in, begin_tests_in}
+use Rattle.pt_control.proofs.MarksCompletions.{complete_in, let_go_in}
 
 module _ (R : Numbering) {V : Type 0} where
-  freshen_in : (xs : List Variable) (f : V → Control V) (c : Control V)
-      → ((v : V) → Control_in R (f v)) → Control_in R c → Control_in R (freshen xs f c)
-  freshen_in [] f c hf hc = hc
-  freshen_in (x ∷ xs) f c hf hc = λ r. after_note_in R _ _ r (freshen_in xs f c hf hc) hf
+  make_anew_in : (xs : List Variable) (l n : ℕ) (i : V) (t : Tgt) (cs : Clauses) (r : Rounds V)
+      → Round_in R (rounds_line r) l n t cs (λ m. Last_in R r m) → Rounds_in R r → Control_in R (make_anew xs l n i t cs r)
+  make_anew_in [] l n i t cs r h hr = ((h.0, no_test R n), h.1, (h.2, (h, hr)), hr)
+  make_anew_in (x ∷ xs) l n i t cs r h hr = ((h, hr), rounds_base_in R r hr)
 
   store_back_in : (to : Changed V) (v : V) (n l : ℕ) (s : Nest V)
       → R.is (store_kind to) l n → Nest_in R s → Control_in R (store_back to v n l s)
@@ -49,9 +49,7 @@ module _ (R : Numbering) {V : Type 0} (null : V) where
     deliver_in v (F.asked l n t f) (h, ht, hf) = ((h, no_test R n), ht, hf, way_base_in R f hf)
     deliver_in v (F.iterated l n o) (h, ho) = ((h, no_test R n), ho)
     deliver_in v (F.built_in l n k i t cs m w) (h, hw) =
-        freshen_in R (map (λ x. variable x (n ∷ around w)) (target_names t ++ clause_names cs)) (λ e. complete null (by (raise e)) (base w))
-        (take_item k n i t cs (F.collecting l n m v w)) (λ e. complete_in R null (by (raise e)) (base w) (base_in R w hw))
-        (take_item_in R null k n i t cs (F.collecting l n m v w) h hw)
+        make_anew_in R (map (λ x. variable x (n ∷ around w)) (target_names t ++ clause_names cs)) k n i t cs (F.collecting l n m v w) h hw
     deliver_in v (F.added_to_list l n made r) (h, hr) = ((h, no_test R n), hr, rounds_base_in R r hr)
     deliver_in v (F.added_to_set l n made r) (h, hr) = ((h, no_test R n), hr, rounds_base_in R r hr)
     deliver_in v (F.keyed l n e made r) (he, h, hr) = begin_exp_in R null e n false _ he (no_test R n) (h, hr)
@@ -59,7 +57,7 @@ module _ (R : Numbering) {V : Type 0} (null : V) where
     deliver_in v (F.item_yielded l n r) (h, hd, hr) = ((h, no_test R n), (hd, hr))
     deliver_in v (F.item_sent l n r) (h, hr) = ((h, no_test R n), hr, rounds_base_in R r hr)
     deliver_in v (F.dropped l n s) (h, hs) = ((h, no_test R n), hs, hs)
-    deliver_in v (F.assigned n ts s) (h, hs) = begin_stores_in R null (all_get v ts) n _ _ (all_get_in R ts v n h) hs (complete_in R null normal s hs)
+    deliver_in v (F.assigned n ts s) (h, hs) = begin_assign_in R null v ts n s _ h hs (complete_in R null normal s hs)
     deliver_in a (F.set_attribute_of l n x v k) (h, hk) = ((h, no_test R n), hk, way_base_in R k hk)
     deliver_in a (F.set_item_of l n i v k) (hi, h, hk) = begin_exp_in R null i n false _ hi (no_test R n) (h, hk)
     deliver_in i (F.set_item_at l n a v k) (h, hk) = ((h, no_test R n), hk, way_base_in R k hk)
@@ -80,7 +78,7 @@ module _ (R : Numbering) {V : Type 0} (null : V) where
     deliver_in m (F.imported l n x xs s) (h, hx, hs) = ((h, no_test R n), (hx, hs), hs)
     deliver_in m (F.imported_origin l n xs s) (h, hs) = begin_imports_from_in R null l n xs m s _ h hs (complete_in R null normal s hs)
     deliver_in v (F.imported_name l n x xs m s) (h, hx, hs) = ((h, no_test R n), (hx, hs), hs)
-    deliver_in c (F.matched l k n e t f) (h, ht, hf) = ((h, no_test R n), ht, hf, way_base_in R f hf)
+    deliver_in c (F.matched l k n e t f) (h, ht, hf) = ((h, no_test R n), ht, hf, (tt, way_base_in R f hf))
     deliver_in v (F.entered l n t is body s) (h, he, hs) = ((h, no_test R n), he, hs)
     deliver_in v (F.decorated k n before S.no_decorators l x what s) (h, hs) = begin_definition_in R null l n x what _ s h hs
     deliver_in v (F.decorated k n before (S.decorator j e r) l x what s) ((he, h), hs) = begin_exp_in R null e n false _ he (no_test R n) (h, hs)
@@ -101,7 +99,7 @@ module _ (R : Numbering) {V : Type 0} (null : V) where
   take_iter_in i (F.clause_over l n t cs r) (h, hr) = take_item_in R null l n i t cs r h hr
   take_iter_in i (F.delegated_over l n w) (h, hw) = ((h, no_test R n), hw)
 
-  go_in : (k : Way V) → Way_in R k → Control_in R (go null k)
+  pub go_in : (k : Way V) → Way_in R k → Control_in R (go null k)
   go_in (F.finished s) h = complete_in R null normal s h
   go_in (F.stms n ss s) (h, hs) = begin_all_in R null ss n s _ h hs (complete_in R null normal s hs)
   go_in (F.branches n bs els s) (h, hs) = begin_branches_in R null bs els n s _ h hs (complete_in R null normal s hs)
@@ -109,6 +107,10 @@ module _ (R : Numbering) {V : Type 0} (null : V) where
   go_in (F.given v w) h = deliver_in v w h
   go_in (F.linked_on l n v o b r w) (hb, h, hr, hw) = begin_exp_in R null b n false _ hb (no_test R n) (h, hr, hw)
   go_in (F.lets_go c s) h = let_go_in R null c s h
+  go_in (F.raises v s) h = complete_in R null (by (raise v)) s h
+  go_in (F.unbinds x c s) h = (h, h)
+  go_in (F.made_anew xs l n i t cs r) (h, hr) = make_anew_in R xs l n i t cs r h hr
+  go_in (F.assigns n v ts s) (h, hs) = begin_assign_in R null v ts n s _ h hs (complete_in R null normal s hs)
   go_in (F.tests k n hds e s) (h, hs) = begin_tests_in R null k hds n e s _ h hs (let_go_in R null (by (raise e)) s hs)
   go_in (F.binding l n x v k s) (h, hk, hs) = ((h, no_test R n), hk, hs)
   go_in (F.stores n st k) (h, hk) = begin_stores_in R null st n k _ h hk (go_in k hk)
@@ -129,8 +131,8 @@ module _ (R : Numbering) {V : Type 0} (null : V) where
   after_deed_in k s (got t) hk hs = go_in k hk
   after_deed_in k s (raised v) hk hs = complete_in R null (by (raise v)) s hs
 
-  after_leave_in : (a : Leave V) (s : Nest V) (r : Reply V (Unit {0})) → Nest_in R s → Control_in R (after_leave null a s r)
-  after_leave_in a s (got t) hs = complete_in R null (by (left null a)) s hs
+  after_leave_in : (a : Abrupt V) (s : Nest V) (r : Reply V (Unit {0})) → Nest_in R s → Control_in R (after_leave null a s r)
+  after_leave_in a s (got t) hs = complete_in R null (by a) s hs
   after_leave_in a s (raised v) hs = complete_in R null (by (raise v)) s hs
 
   after_throw_in : (s : Nest V) (r : Reply V ⊥) → Nest_in R s → Control_in R (after_throw null s r)
@@ -155,8 +157,8 @@ module _ (R : Numbering) {V : Type 0} (null : V) where
   after_entry_in : (l n : ℕ) (t : Option Tgt) (is : Items) (body : Stms) (s : Nest V) (r : Reply V (V × V))
       → Entry_in R l n t is body → Nest_in R s → Control_in R (after_entry null l n t is body s r)
   after_entry_in l n None is body s (got (w, v)) (hi, h) hs =
-      begin_items_in R null is body n (F.withing l (n + items_size is (stms_size body)) w s) _ hi (h, hs)
-      (complete_in R null normal (F.withing l (n + items_size is (stms_size body)) w s) (h, hs))
+      begin_items_in R null is body n (F.withing l (n + items_size is (stms_size body)) w ∷ s) _ hi (h, hs)
+      (complete_in R null normal (F.withing l (n + items_size is (stms_size body)) w ∷ s) (h, hs))
   after_entry_in l n (Some t) is body s (got (w, v)) (ht, (hi, h)) hs = begin_store_in R null t v n _ ht (hi, (h, hs))
   after_entry_in l n None is body s (raised v) h hs = complete_in R null (by (raise v)) s hs
   after_entry_in l n (Some t) is body s (raised v) h hs = complete_in R null (by (raise v)) s hs
@@ -184,5 +186,6 @@ module _ (R : Numbering) {V : Type 0} (null : V) where
   turn_in (F.for_entry m v l n t is body s) d (hm, h, hs) (r, e) = subst (λ u. Control_in R u) e (after_entry_in l n t is body s r h hs)
   turn_in (F.for_unpack m v n ts k s) d (hm, h, hk, hs) (r, e) = subst (λ u. Control_in R u) e (after_unpack_in n ts k s r h hk hs)
   turn_in (F.for_delegate m i s w) d (hm, hw) (r, e) = subst (λ u. Control_in R u) e (after_delegate_in m i w r hm hw)
-  turn_in (F.noting a next) d h (r, e) = subst (λ u. Control_in R u) e (h r)
+  turn_in (F.silently a k s) d (hk, hs) (r, e) = subst (λ u. Control_in R u) e (after_deed_in k s r hk hs)
+  turn_in (F.noting a k s) d (hk, hs) (r, e) = subst (λ u. Control_in R u) e (after_deed_in k s r hk hs)
   turn_in (F.closed x) d h e = absurd e

@@ -13,7 +13,7 @@ use Rattle.pt_control.specs.Bases.{around}
 use Rattle.pt_control.specs.Expressions.{of_exps, of_entries, of_opt, of_pieces, of_args, of_formals, roles, defaulted, begin_exp, begin_defaults, begin_function, next_operand, begin_spec, begin_made, begin_last, begin_clauses, target_names, clause_names}
 use Rattle.pt_control.specs.Statements.{begin_store, begin_stores, count, each_gets}
 use Rattle.pt_control.specs.Control.{deliver, go}
-use Rattle.pt_control.proofs.MarksPaths.{Met, met_to, met_then, stays, fork, Runs, runs_then, runs_to, along, finally, value_runs, deed_runs, true_runs, false_runs, iter_runs, some_runs, none_runs, unpack_runs, delegate_runs, nulls, freshen_reaches}
+use Rattle.pt_control.proofs.MarksPaths.{Met, met_to, met_then, stays, fork, Runs, runs_then, runs_to, along, finally, value_runs, deed_runs, true_runs, false_runs, iter_runs, some_runs, none_runs, unpack_runs, delegate_runs, nulls, anew_reaches}
 
 module _ {V : Type 0} (null : V) where
   -- a spec, given the way through its parts
@@ -77,7 +77,7 @@ module _ {V : Type 0} (null : V) where
         (runs_to null (defaults_run ks l (T.function b (defaulted ps ++ defaulted ks)) [] w 1 (λ m vs. value_runs null) n g _ (value_runs null)) (omega arith))) (omega arith)
     exp_runs (S.comprehension l m k t it cs) n g w =
         runs_to null (runs_then null (exp_runs it n g _) (runs_then null (iter_runs null) (runs_then null (value_runs null)
-        (along null (freshen_reaches null (map (λ x. variable x ((n + size it + 1 + 1) ∷ around w)) (target_names t ++ clause_names cs)) _ _)
+        (along null (anew_reaches null (map (λ x. variable x ((n + size it + 1 + 1) ∷ around w)) (target_names t ++ clause_names cs)) _ _ _ _ _ _)
         (finally null (none_runs null) (met_then null (some_runs null) (met_then null (target_runs t null (n + size it + 1 + 1 + 1) _)
         (clauses_met cs (n + size it + 1 + 1 + 1 + target_size t) _ (made_size m) (λ o q. made_met m l o null q))))))))) (omega arith)
     exp_runs (S.generator l b e k t it cs) n g w = runs_to null (runs_then null (exp_runs it n g _) (runs_then null (iter_runs null) (value_runs null))) (omega arith)

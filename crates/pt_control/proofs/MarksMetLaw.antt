@@ -1,14 +1,13 @@
 -- In a block whose statements can be reached each row is the mark of an act that is met.
-use Rattle.std.proofs.Common.{◌≡◌, ℕ, ◌+◌, ◌<◌, ◌++◌, length, false, refl, sym, ◌∙◌, arith}
+use Rattle.std.proofs.Common.{◌≡◌, ℕ, ◌+◌, ◌<◌, ◌++◌, length, false, refl, sym, ◌∙◌, arith, []}
 use Rattle.std.proofs.lemmas.List.{length-append}
 use Rattle.pt_tree.specs.declared.act.ActKind.TheVariants as K
 use Rattle.pt_tree.specs.Syntax.{Exp, Clauses, Tgt, Stms}
 use Rattle.pt_tree.specs.Sizes.{size, target_size, clauses_size}
 use Rattle.pt_tree.specs.Acts.{act, acts_exp, acts_stms}
 use Rattle.pt_tree.specs.Blocks as B
-use Rattle.pt_tree.specs.Blocks.{Code, acts_of_code, exp_line, function_body}
+use Rattle.pt_tree.specs.Blocks.{Code, acts_of_code, function_body}
 use Rattle.pt_tree.proofs.Counts.{count_exp, count_target, count_clauses, count_stms}
-use Rattle.pt_control.specs.Frames.{outside}
 use Rattle.pt_control.specs.Control.{start, start_lambda, start_generator}
 use Rattle.pt_control.specs.Reached.{Meets, start_code}
 use Rattle.pt_control.specs.Endings.{All_reached, Code_reached}
@@ -18,11 +17,11 @@ use Rattle.pt_control.proofs.MarksMetStatements.{all_met}
 
 module _ {V : Type 0} (null : V) where
   start_met : (ss : Stms) → All_reached ss → Met null (start null ss) 0 (length (acts_stms ss))
-  start_met ss h = met_to null (all_met null ss h 0 outside) (omega (arith, count_stms ss))
+  start_met ss h = met_to null (all_met null ss h 0 []) (omega (arith, count_stms ss))
 
-  lambda_met : (e : Exp) → Met null (start_lambda null e) 0 (length (acts_of_code (B.of_lambda e)))
-  lambda_met e =
-      let many : length (acts_exp e ++ act K.Return (exp_line e)) ≡ size e + 1 = length-append (acts_exp e) (act K.Return (exp_line e)) ∙ omega (arith, count_exp e) in
+  lambda_met : (l : ℕ) (e : Exp) → Met null (start_lambda null l e) 0 (length (acts_of_code (B.of_lambda l e)))
+  lambda_met l e =
+      let many : length (acts_exp e ++ act K.Return l) ≡ size e + 1 = length-append (acts_exp e) (act K.Return l) ∙ omega (arith, count_exp e) in
       let none_before : 0 + size e ≡ size e = omega arith in
       met_to null (met_then null (runs_to null (exp_runs null e 0 false _) none_before) (met_one null refl)) (sym many)
 
@@ -41,7 +40,7 @@ module _ {V : Type 0} (null : V) where
   code_met (B.of_module ss) i h = start_met ss h
   code_met (B.of_function ss) i h = start_met (function_body ss) h
   code_met (B.of_class ss) i h = start_met ss h
-  code_met (B.of_lambda e) i h = lambda_met e
+  code_met (B.of_lambda l e) i h = lambda_met l e
   code_met (B.of_generator l e k t cs) i h = generator_met l e k t cs i
 
   pub rows_are_met : (code : Code) (first : V) → Code_reached code → (n : ℕ) → n < length (acts_of_code code) → Meets null (start_code null code first) n

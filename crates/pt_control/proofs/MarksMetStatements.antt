@@ -10,7 +10,8 @@ use Rattle.pt_control.specs.Turn as T
 use Rattle.pt_control.specs.Turn.{got, mark}
 use Rattle.pt_control.specs.Frames as F
 use Rattle.pt_control.specs.Frames.{raise, normal, by, Completion, Nest, Way, Definition, Decorating, Control}
-use Rattle.pt_control.specs.Statements.{all_get, all_places, begin_stores, begin_delete, begin_deletes, begin_change, begin_imports, begin_imports_from, begin_definition, begin_next, begin_stm, begin_all, begin_branches, begin_items, begin_tests, handler_way, handler_body}
+use Rattle.pt_control.specs.Statements.{all_places, begin_assign, begin_delete, begin_deletes, begin_change, begin_imports, begin_imports_from, begin_definition, begin_next, begin_stm, begin_all, begin_branches, begin_items, begin_tests, handler_way}
+use Rattle.pt_control.specs.Numbers.{handler_body}
 use Rattle.pt_control.specs.Completions.{complete, let_go}
 use Rattle.pt_control.specs.Control.{deliver, go}
 use Rattle.pt_control.specs.Reached.{Reaches, here, then}
@@ -23,9 +24,11 @@ module _ {V : Type 0} (null : V) where
   abbrev Done : Nest V → Control V
   Done s = complete null normal s
 
-  gets_run : (ts : Tgts) (v : V) (n : ℕ) (k : Way V) → Runs null (begin_stores null (all_get v ts) n k (go null k)) n (n + targets_size ts) (go null k)
-  gets_run S.no_targets v n k = stays null
-  gets_run (S.more_targets t ts) v n k = runs_to null (runs_then null (target_runs null t v n _) (gets_run ts v (n + target_size t) k)) (omega arith)
+  gets_run : (ts : Tgts) (v : V) (n : ℕ) (s : Nest V) → Runs null (begin_assign null v ts n s (Done s)) n (n + targets_size ts) (Done s)
+  gets_run S.no_targets v n s = stays null
+  gets_run (S.more_targets t S.no_targets) v n s = runs_to null (target_runs null t v n _) (omega arith)
+  gets_run (S.more_targets t (S.more_targets u ts)) v n s =
+      runs_to null (runs_then null (target_runs null t v n _) (gets_run (S.more_targets u ts) v (n + target_size t) s)) (omega arith)
 
   delete_runs : (p : Place) (n : ℕ) (k : Way V) → Runs null (begin_delete null p n k) n (n + place_size p) (go null k)
   delete_runs (S.name_at l x) n k = deed_runs null
@@ -108,7 +111,7 @@ module _ {V : Type 0} (null : V) where
 
   -- 8.5
   exit_runs : {x : Control V} {l k : ℕ} {s : Nest V}
-      → Reaches null x (Raised null (F.withing l k null s)) ⊎ Reaches null x (Done (F.withing l k null s)) → Runs null x k (k + 1) (Done s)
+      → Reaches null x (Raised null (F.withing l k null ∷ s)) ⊎ Reaches null x (Done (F.withing l k null ∷ s)) → Runs null x k (k + 1) (Done s)
   exit_runs (inl p) = along null p (true_runs null)
   exit_runs (inr p) = along null p (true_runs null)
 
@@ -117,34 +120,34 @@ module _ {V : Type 0} (null : V) where
   items_goes S.no_items l body b n s = b n s
   items_goes (S.with_item k e None r) l body b n s =
       let m = n + size e + 1 in
-      let at = F.withing k (m + items_size r (stms_size body)) null s in
+      let at = F.withing k (m + items_size r (stms_size body)) null ∷ s in
       let x = exit_runs (items_out null r body m at) in
       by_run (runs_to null (runs_then null (exp_runs null e n false _) (runs_then null (entry_runs null)
       (record { met = met_both null (items_goes r l body b m at).met x.met; reaches = x.reaches }))) (omega arith))
   items_goes (S.with_item k e (Some t) r) l body b n s =
       let m = n + size e + 1 + target_size t in
-      let at = F.withing k (m + items_size r (stms_size body)) null s in
+      let at = F.withing k (m + items_size r (stms_size body)) null ∷ s in
       let x = exit_runs (items_out null r body m at) in
       by_run (runs_to null (runs_then null (exp_runs null e n false _) (runs_then null (entry_runs null) (runs_then null (target_runs null t null (n + size e + 1) _)
       (record { met = met_both null (items_goes r l body b m at).met x.met; reaches = x.reaches })))) (omega arith))
 
   -- 8.4.1
-  unbinds : (x : Name) (s : Nest V) → Reaches null (Done (F.naming x s)) (Done s)
-  unbinds x s = then here (got tt, refl)
+  unbinds : (x : Name) (s : Nest V) → Reaches null (Done (F.naming x ∷ s)) (Done s)
+  unbinds x s = then (then here (got tt, refl)) (got tt, refl)
 
   named_goes : (l n : ℕ) (x : Name) (body : Stms) (e : V) (s : Nest V)
-      → Goes (begin_all null body (n + 1 + 1) (F.naming x (F.handling n e s)) (Done (F.naming x (F.handling n e s)))) (n + 1 + 1) (n + 1 + 1 + stms_size body) (All_end body) (Done (F.naming x (F.handling n e s)))
+      → Goes (begin_all null body (n + 1 + 1) (F.naming x ∷ F.handling n e ∷ s) (Done (F.naming x ∷ F.handling n e ∷ s))) (n + 1 + 1) (n + 1 + 1 + stms_size body) (All_end body) (Done (F.naming x ∷ F.handling n e ∷ s))
       → Goes (go null (handler_way null l n (Some x) body e s)) (n + 1) (n + 1 + 1 + stms_size body) (All_end body) (Done s)
   named_goes l n x body e s u = record {
     met = met_then null (deed_runs null) u.met;
-    ends = λ h. reaches_then null (turn_deed (F.stms (n + 1 + 1) body (F.naming x (F.handling n e s)))) (reaches_then null (u.ends h) (unbinds x (F.handling n e s)));
+    ends = λ h. reaches_then null (turn_deed (F.stms (n + 1 + 1) body (F.naming x ∷ F.handling n e ∷ s))) (reaches_then null (u.ends h) (unbinds x (F.handling n e ∷ s)));
   }
 
   way_goes : (l n : ℕ) (x : Option Name) (body : Stms) (e : V) (s : Nest V) → Block_goes body
       → Goes (go null (handler_way null l n x body e s)) (n + 1) (handler_body n x + stms_size body) (All_end body) (Done s)
-  way_goes l n None body e s b = b (n + 1) (F.handling n e s)
+  way_goes l n None body e s b = b (n + 1) (F.handling n e ∷ s)
   way_goes l n (Some x) body e s b =
-      named_goes l n x body e s (b (n + 1 + 1) (F.naming x (F.handling n e s)))
+      named_goes l n x body e s (b (n + 1 + 1) (F.naming x ∷ F.handling n e ∷ s))
 
   abbrev Tests_go : Handlers → Type 0
   Tests_go hds = (k n : ℕ) (e : V) (s : Nest V) (x : Control V) → Goes (begin_tests null k hds n e s x) n (n + handlers_size hds) (A_handler_ends hds) (Done s)
@@ -160,25 +163,25 @@ module _ {V : Type 0} (null : V) where
 
   -- a `try`: its handlers, its `else` part and its `finally` part begin (8.4)
   handlers_met : (body : Stms) (hds : Handlers) (els : Stms) (n k : ℕ) (s : Nest V) → Some_act_before body hds → Tests_go hds
-      → Met null (begin_all null body n (F.guarded k hds els s) (Done (F.guarded k hds els s))) k (k + handlers_size hds)
+      → Met null (begin_all null body n (F.guarded k hds els ∷ s) (Done (F.guarded k hds els ∷ s))) k (k + handlers_size hds)
   handlers_met body S.no_handlers els n k s some t = met_to null (met_none null) (omega arith)
   handlers_met body (S.handler l c x b r) els n k s some t =
-      met_along null (block_raises null body n (F.guarded k (S.handler l c x b r) els s) some) (t k k null s _).met
+      met_along null (block_raises null body n (F.guarded k (S.handler l c x b r) els ∷ s) some) (t k k null s _).met
 
   else_met : (body : Stms) (hds : Handlers) (els : Stms) (n k : ℕ) (s : Nest V) → Block_goes body → Leads_on (All_end body) els → Block_goes els
-      → Met null (begin_all null body n (F.guarded k hds els s) (Done (F.guarded k hds els s))) (k + handlers_size hds) (k + handlers_size hds + stms_size els)
+      → Met null (begin_all null body n (F.guarded k hds els ∷ s) (Done (F.guarded k hds els ∷ s))) (k + handlers_size hds) (k + handlers_size hds + stms_size els)
   else_met body hds S.none n k s b on e = met_to null (met_none null) (omega arith)
   else_met body hds (S.more st ss) n k s b on e =
-      met_along null ((b n (F.guarded k hds (S.more st ss) s)).ends on) (e (k + handlers_size hds) s).met
+      met_along null ((b n (F.guarded k hds (S.more st ss) ∷ s)).ends on) (e (k + handlers_size hds) s).met
 
   -- a completion comes to the `finally` part
-  after_raise : (hds : Handlers) (els : Stms) (k : ℕ) (s : Nest V) → Reaches null (Raised null (F.guarded k hds els s)) (Raised null s)
+  after_raise : (hds : Handlers) (els : Stms) (k : ℕ) (s : Nest V) → Reaches null (Raised null (F.guarded k hds els ∷ s)) (Raised null s)
   after_raise S.no_handlers els k s = here
   after_raise (S.handler l c x b r) els k s = tests_raise k l c x b r k null s _
 
   to_finally : (body : Stms) (hds : Handlers) (els : Stms) (n k : ℕ) (s : Nest V)
-      → (c : Completion V) × Reaches null (begin_all null body n (F.guarded k hds els s) (Done (F.guarded k hds els s))) (complete null c s)
-  to_finally body hds els n k s = elim (all_out null body n (F.guarded k hds els s)) [
+      → (c : Completion V) × Reaches null (begin_all null body n (F.guarded k hds els ∷ s) (Done (F.guarded k hds els ∷ s))) (complete null c s)
+  to_finally body hds els n k s = elim (all_out null body n (F.guarded k hds els ∷ s)) [
     | inl p ↦ (by (raise null), reaches_then null p (after_raise hds els k s))
     | inr u ↦ elim (all_out null els (k + handlers_size hds) s) [
       | inl q ↦ (by (raise null), reaches_then null u.1 q)
@@ -186,20 +189,20 @@ module _ {V : Type 0} (null : V) where
     ]
   ]
 
-  finally_met : (x : Control V) (fin : Stms) (m : ℕ) (s : Nest V) → (c : Completion V) → Reaches null x (complete null c (F.ensuring m fin s)) → Block_goes fin
+  finally_met : (x : Control V) (fin : Stms) (t m : ℕ) (s : Nest V) → (c : Completion V) → Reaches null x (complete null c (F.ensuring t m fin ∷ s)) → Block_goes fin
       → Met null x m (m + stms_size fin)
-  finally_met x S.none m s c p f = met_to null (met_none null) (omega arith)
-  finally_met x (S.more st ss) m s c p f = met_along null p (f m (F.ending m c s)).met
+  finally_met x S.none t m s c p f = met_to null (met_none null) (omega arith)
+  finally_met x (S.more st ss) t m s c p f = met_along null p (f m (F.ending t c ∷ s)).met
 
-  finally_ends : (fin : Stms) (m : ℕ) (s : Nest V) → Block_goes fin → All_end fin → Reaches null (Done (F.ensuring m fin s)) (Done s)
-  finally_ends S.none m s f e = here
-  finally_ends (S.more st ss) m s f e = (f m (F.ending m normal s)).ends e
+  finally_ends : (fin : Stms) (t m : ℕ) (s : Nest V) → Block_goes fin → All_end fin → Reaches null (Done (F.ensuring t m fin ∷ s)) (Done s)
+  finally_ends S.none t m s f e = here
+  finally_ends (S.more st ss) t m s f e = (f m (F.ending t normal ∷ s)).ends e
 
   handlers_end : (body : Stms) (hds : Handlers) (els : Stms) (n k : ℕ) (s : Nest V) → Tests_go hds → 1 ≤ stms_size body → A_handler_ends hds
-      → Reaches null (begin_all null body n (F.guarded k hds els s) (Done (F.guarded k hds els s))) (Done s)
+      → Reaches null (begin_all null body n (F.guarded k hds els ∷ s) (Done (F.guarded k hds els ∷ s))) (Done s)
   handlers_end body S.no_handlers els n k s t some e = absurd e
   handlers_end body (S.handler l c x b r) els n k s t some e =
-      reaches_then null (block_raises null body n (F.guarded k (S.handler l c x b r) els s) some) ((t k k null s _).ends e)
+      reaches_then null (block_raises null body n (F.guarded k (S.handler l c x b r) els ∷ s) some) ((t k k null s _).ends e)
 
   try_goes : (l : ℕ) (body : Stms) (hds : Handlers) (els fin : Stms) → Block_goes body → Tests_go hds → Block_goes els → Block_goes fin
       → Some_act_before body hds → Leads_on (All_end body) els → (n : ℕ) (s : Nest V)
@@ -207,17 +210,17 @@ module _ {V : Type 0} (null : V) where
   try_goes l body hds els fin b t e f some on n s =
       let k = n + 1 + stms_size body in
       let m = k + handlers_size hds + stms_size els in
-      let around = F.ensuring m fin s in
-      let g = b (n + 1) (F.guarded k hds els around) in
+      let around = F.ensuring n m fin ∷ s in
+      let g = b (n + 1) (F.guarded k hds els ∷ around) in
       let p : Runs null (begin_stm null (S.try l body hds els fin) n s (Done s)) n (n + 1) _ = deed_runs null in
       let c = to_finally body hds els (n + 1) k around in
       let parts = met_both null g.met (met_both null (handlers_met body hds els (n + 1) k around some t)
-      (met_both null (else_met body hds els (n + 1) k around b on e) (finally_met _ fin m s c.0 c.1 f))) in
+      (met_both null (else_met body hds els (n + 1) k around b on e) (finally_met _ fin n m s c.0 c.1 f))) in
       record {
         met = met_to null (met_then null p parts) (omega arith);
         ends = λ h. reaches_then null p.reaches (reaches_then null
             (elim h.0 [ inl u ↦ reaches_then null (g.ends u.0) ((e (k + handlers_size hds) around).ends u.1) | inr u ↦ handlers_end body hds els (n + 1) k around t u.0 u.1 ])
-            (finally_ends fin m s f h.1));
+            (finally_ends fin n m s f h.1));
       }
 
   failed_met : (m : Opt) (l n : ℕ) (s : Nest V) → Met null (go null (F.failed l n m s)) n (n + opt_size m + 1)
@@ -237,7 +240,7 @@ module _ {V : Type 0} (null : V) where
   body_at n (Some x) = refl
 
   match_goes : (l k n : ℕ) (x : Option Name) (b : Stms) (r : Handlers) (e v : V) (s : Nest V) → Block_goes b → Tests_go r
-      → Goes (F.for_truth (mark n l false) (T.matches e v) (handler_way null l n x b e s) (F.tests k (handler_body n x + stms_size b) r e s) (F.testing k e s))
+      → Goes (F.for_truth (mark n l false) (T.matches e v) (handler_way null l n x b e s) (F.tests k (handler_body n x + stms_size b) r e s) (F.testing k e ∷ s))
       n (handler_body n x + stms_size b + handlers_size r) (All_end b ⊎ A_handler_ends r) (Done s)
   match_goes l k n x b r e v s hb hr =
       let w = way_goes l n x b e s hb in
@@ -255,7 +258,7 @@ module _ {V : Type 0} (null : V) where
     stm_goes : (st : Stm) → Reached_within st → (n : ℕ) (s : Nest V) → Goes (begin_stm null st n s (Done s)) n (n + stm_size st) (Ends st) (Done s)
     stm_goes (S.expr l e) h n s = by_run (runs_to null (runs_then null (exp_runs null e n false _) (deed_runs null)) (omega arith))
     stm_goes (S.assign l ts e) h n s =
-        by_run (runs_to null (runs_then null (exp_runs null e n false _) (gets_run ts null (n + size e) (F.finished s))) (omega arith))
+        by_run (runs_to null (runs_then null (exp_runs null e n false _) (gets_run ts null (n + size e) s)) (omega arith))
     stm_goes (S.augmented l p o e) h n s = by_run (change_runs l p n o e s)
     stm_goes (S.annotated l p a S.absent) h n s = by_run (deed_runs null)
     stm_goes (S.annotated l p a (S.given e)) h n s =
@@ -285,8 +288,8 @@ module _ {V : Type 0} (null : V) where
         subst (λ c. Goes c n (n + (branches_size bs + stms_size els)) (A_branch_ends bs ⊎ All_end els) (Done s)) (choice_is l bs els n s)
         (branches_go bs hb els (all_go els he) n s)
     stm_goes (S.while l c body els) (hb, he) n s =
-        let p = exp_runs null c n false (F.asked l (n + size c) (F.stms (n + size c + 1) body (F.looping l n c body els s)) (F.stms (n + size c + 1 + stms_size body) els s)) in
-        let b = all_go body hb (n + size c + 1) (F.looping l n c body els s) in
+        let p = exp_runs null c n false (F.asked l (n + size c) (F.stms (n + size c + 1) body (F.looping l n c body els ∷ s)) (F.stms (n + size c + 1 + stms_size body) els s)) in
+        let b = all_go body hb (n + size c + 1) (F.looping l n c body els ∷ s) in
         let e = all_go els he (n + size c + 1 + stms_size body) s in
         record {
           met = met_to null (met_then null p (met_fork null (met_then null (true_runs null) b.met) (false_runs null) e.met)) (omega arith);
@@ -296,7 +299,7 @@ module _ {V : Type 0} (null : V) where
         let m = n + size it + 1 in
         let p = exp_runs null it n false (F.iterated l (n + size it) (F.for_over l m t body els s)) in
         let q : Runs null (deliver null null (F.iterated l (n + size it) (F.for_over l m t body els s))) (n + size it) m (begin_next null l m false null t body els s) = iter_runs null in
-        let b = all_go body hb (m + 1 + target_size t) (F.iterating l m null t body els s) in
+        let b = all_go body hb (m + 1 + target_size t) (F.iterating l m null t body els ∷ s) in
         let e = all_go els he (m + 1 + target_size t + stms_size body) s in
         let r : Runs null (begin_next null l m false null t body els s) m (m + 1) _ = none_runs null in
         record {
@@ -319,9 +322,9 @@ module _ {V : Type 0} (null : V) where
     all_go : (ss : Stms) → All_reached ss → Block_goes ss
     all_go S.none h n s = by_run (stays null)
     all_go (S.more st S.none) (h, on, hs) n s =
-        let g = stm_goes st h n (F.rest (n + stm_size st) S.none s) in record { met = met_to null g.met (omega arith); ends = λ e. g.ends e.0 }
+        let g = stm_goes st h n (F.rest (n + stm_size st) S.none ∷ s) in record { met = met_to null g.met (omega arith); ends = λ e. g.ends e.0 }
     all_go (S.more st (S.more su ss)) (h, on, hs) n s =
-        let g = stm_goes st h n (F.rest (n + stm_size st) (S.more su ss) s) in
+        let g = stm_goes st h n (F.rest (n + stm_size st) (S.more su ss) ∷ s) in
         let r = all_go (S.more su ss) hs (n + stm_size st) s in
         record { met = met_to null (met_both null g.met (met_along null (g.ends on) r.met)) (omega arith); ends = λ e. reaches_then null (g.ends e.0) (r.ends e.1) }
 

@@ -2,13 +2,14 @@
 use Rattle.std.proofs.Common.{◌≡◌, ℕ, ◌+◌, ◌<◌, ◌≤◌, Bool, true, false, Option, Some, None, List, [], ◌∷◌, inl, inr, refl, subst, arith}
 use Rattle.std.proofs.lemmas.Bool.{cases_lt}
 use Rattle.pt_tree.specs.Syntax as S
-use Rattle.pt_tree.specs.Syntax.{Tgt, Tgts, Items, Stms}
+use Rattle.pt_tree.specs.Syntax.{Clauses, Tgt, Tgts, Items, Stms}
 use Rattle.pt_tree.specs.Sizes.{target_size}
 use Rattle.pt_control.specs.Turn.{Variable, Seek, Deed, Test, Row, returned, Reply, got, mark}
 use Rattle.pt_control.specs.Frames as F
-use Rattle.pt_control.specs.Frames.{raise, by, Nest, no_more, Way, Wait, Over, Control}
+use Rattle.pt_control.specs.Frames.{Nest, no_more, Way, Wait, Over, Rounds, Control}
+use Rattle.pt_control.specs.Expressions.{take_item}
 use Rattle.pt_control.specs.Statements.{begin_store, count, each_gets, begin_stores}
-use Rattle.pt_control.specs.Control.{freshen, deliver, go, take_iter, after_entry, turn}
+use Rattle.pt_control.specs.Control.{make_anew, deliver, go, take_iter, after_entry, turn}
 use Rattle.pt_control.specs.Reached.{Leads, Reaches, here, then, IsAt, Meets}
 
 module _ {V : Type 0} (null : V) where
@@ -110,6 +111,7 @@ module _ {V : Type 0} (null : V) where
   pub delegate_runs : {i : V} {r : Reply V V} {w : Wait V} {l n : ℕ} {g : Bool} → Runs (F.for_delegate (mark n l g) i r w) n (n + 1) (deliver null null w)
   delegate_runs = runs_act refl (got (returned null), refl)
 
-  pub freshen_reaches : (xs : List Variable) (f : V → Control V) (c : Control V) → Reaches null (freshen xs f c) c
-  freshen_reaches [] f c = here
-  freshen_reaches (x ∷ xs) f c = reaches_then (then here (got tt, refl)) (freshen_reaches xs f c)
+  pub anew_reaches : (xs : List Variable) (l n : ℕ) (i : V) (t : Tgt) (cs : Clauses) (r : Rounds V)
+      → Reaches null (make_anew xs l n i t cs r) (take_item l n i t cs r)
+  anew_reaches [] l n i t cs r = here
+  anew_reaches (x ∷ xs) l n i t cs r = reaches_then (then here (got tt, refl)) (anew_reaches xs l n i t cs r)

@@ -7,7 +7,7 @@ use Rattle.pt_tree.specs.Sizes.{place_size, deleted_size, all_deleted_size, stm_
 use Rattle.pt_control.specs.Turn as T
 use Rattle.pt_control.specs.Turn.{Operation, Reply, raised}
 use Rattle.pt_control.specs.Frames as F
-use Rattle.pt_control.specs.Frames.{Operand, raise, normal, by, Nest, Way, Wait, Definition, Decorating, Control}
+use Rattle.pt_control.specs.Frames.{Abrupt, Operand, raise, normal, by, Nest, Way, Wait, Definition, Decorating, Control}
 use Rattle.pt_control.specs.Bases.{base, way_base}
 use Rattle.pt_control.specs.Expressions.{begin_exp, begin_defaults, begin_function}
 use Rattle.pt_control.specs.Statements.{places, all_places, begin_delete, begin_deletes, begin_change, begin_definition, begin_stm, begin_all, begin_items}
@@ -46,7 +46,7 @@ module _ {V : Type 0} (null : V) where
   deed_raises : {m : T.Mark} {a : T.Deed V} {k : Way V} {s : Nest V} → Reaches null (F.for_deed m a k s) (Raised s)
   deed_raises = then here (raised null, refl)
 
-  leave_raises : {m : T.Mark} {a : T.Leave V} {s : Nest V} → Reaches null (F.for_leave m a s) (Raised s)
+  leave_raises : {m : T.Mark} {a : Abrupt V} {s : Nest V} → Reaches null (F.for_leave m a s) (Raised s)
   leave_raises = then here (raised null, refl)
 
   throw_raises : {m : T.Mark} {a : T.Throw V} {s : Nest V} → Reaches null (F.for_throw m a s) (Raised s)
@@ -160,7 +160,7 @@ module _ {V : Type 0} (null : V) where
 
     pub all_out : (ss : Stms) (n : ℕ) (s : Nest V) → Out (begin_all null ss n s (complete null normal s)) s (stms_size ss)
     all_out S.none n s = inr (refl, here)
-    all_out (S.more st ss) n s = elim (stm_out st n (F.rest (n + stm_size st) ss s)) [
+    all_out (S.more st ss) n s = elim (stm_out st n (F.rest (n + stm_size st) ss ∷ s)) [
       | inl r ↦ inl r
       | inr u ↦ elim (all_out ss (n + stm_size st) s) [ inl r ↦ inl (reaches_then null u.1 r) | inr v ↦ inr (omega (arith, u.0, v.0), reaches_then null u.1 v.1) ]
     ]

@@ -9,16 +9,12 @@ use Rattle.pt_tree.specs.Sizes.{size, target_size, stm_size, stms_size}
 use Rattle.pt_control.specs.Turn.{Row}
 use Rattle.pt_control.specs.Frames as F
 use Rattle.pt_control.specs.Frames.{Nest, Way, Stores, Definition, Decorating, Control}
-use Rattle.pt_control.specs.Statements.{all_get, count, each_gets, all_places, begin_store, begin_stores, begin_delete, begin_deletes, begin_change, begin_imports, begin_imports_from, begin_definition, begin_test, begin_next, begin_stm, begin_all, begin_branches, begin_items, begin_tests, handler_way, handler_body}
+use Rattle.pt_control.specs.Statements.{count, each_gets, all_places, begin_store, begin_stores, begin_assign, begin_delete, begin_deletes, begin_change, begin_imports, begin_imports_from, begin_definition, begin_test, begin_next, begin_stm, begin_all, begin_branches, begin_items, begin_tests, handler_way}
+use Rattle.pt_control.specs.Numbers.{handler_body}
 use Rattle.pt_control.proofs.MarksTree.{Numbering, Target_in, Targets_in, Delete_in, Deletes_in, Augmented_in, Imports_in, Items_in, Name_in, Stm_in, Stms_in, Branches_in, Handlers_in}
 use Rattle.pt_control.proofs.MarksFrames.{lines, Stores_in, Definition_in, While_in, For_in, Nest_in, Way_in, Control_in}
 use Rattle.pt_control.proofs.MarksBases.{way_base_in}
 use Rattle.pt_control.proofs.MarksExpressions.{no_test, begin_exp_in, begin_function_in}
-
-module _ (R : Numbering) {V : Type 0} where
-  pub all_get_in : (ts : Tgts) (v : V) (n : ℕ) → Targets_in R ts n → Stores_in R (all_get v ts) n
-  all_get_in S.no_targets v n h = h
-  all_get_in (S.more_targets t ts) v n (ht, hs) = (ht, all_get_in ts v (n + target_size t) hs)
 
 pub each_gets_in : (R : Numbering) (V : Type 0) (ts : Tgts) (vs : Row V (count ts)) (n : ℕ) → Targets_in R ts n → Stores_in R (each_gets ts vs) n
 each_gets_in R V S.no_targets u n h = h
@@ -36,6 +32,12 @@ module _ (R : Numbering) {V : Type 0} (null : V) where
       → Stores_in R st n → Way_in R k → Control_in R after → Control_in R (begin_stores null st n k after)
   begin_stores_in F.no_more n k after h hk ha = ha
   begin_stores_in (F.and_store t v st) n k after (ht, hs) hk ha = begin_store_in t v n _ ht (hs, hk)
+
+  pub begin_assign_in : (v : V) (ts : Tgts) (n : ℕ) (s : Nest V) (after : Control V)
+      → Targets_in R ts n → Nest_in R s → Control_in R after → Control_in R (begin_assign null v ts n s after)
+  begin_assign_in v S.no_targets n s after h hs ha = ha
+  begin_assign_in v (S.more_targets t S.no_targets) n s after h hs ha = begin_store_in t v n _ h.0 hs
+  begin_assign_in v (S.more_targets t (S.more_targets u ts)) n s after h hs ha = begin_store_in t v n _ h.0 (h.1, hs)
 
   begin_delete_in : (p : Place) (n : ℕ) (k : Way V) → Delete_in R p n → Way_in R k → Control_in R (begin_delete null p n k)
   begin_delete_in (S.name_at l x) n k h hk = ((h, no_test R n), hk, way_base_in R k hk)
@@ -105,7 +107,7 @@ module _ (R : Numbering) {V : Type 0} (null : V) where
     begin_stm_in (S.while l c body els) n s after h hs ha = begin_test_in l n false c body els s h hs
     begin_stm_in (S.for l t it body els) n s after (hi, h₁, h₂, a, ht, hb, he) hs ha =
         begin_exp_in R null it n false _ hi (no_test R n) (h₁, ((h₂, a, ht, hb, he), hs))
-    begin_stm_in (S.try l body hds els fin) n s after (h, hb, hh, he, hf) hs ha = ((h, no_test R n), (hb, (hh, he, (hf, hs))), hs)
+    begin_stm_in (S.try l body hds els fin) n s after (h, hb, hh, he, hf) hs ha = ((h, no_test R n), (hb, ((hh, he), (hf, hs))), hs)
     begin_stm_in (S.with l S.no_items body) n s after h hs ha = begin_all_in body n s after h hs ha
     begin_stm_in (S.with l (S.with_item k e t r) body) n s after (he, h, ht) hs ha = begin_exp_in R null e n false _ he (no_test R n) (h, ht, hs)
     begin_stm_in (S.def l S.no_decorators k b x ps a body) n s after h hs ha = begin_definition_in k n x (F.a_function b ps) [] s h hs
@@ -135,13 +137,13 @@ module _ (R : Numbering) {V : Type 0} (null : V) where
   handler_in : (l n : ℕ) (x : Option Name) (body : Stms) (r : Handlers) (k : ℕ) (e : V) (s : Nest V)
       → Name_in R l x n (λ o. Stms_in R body o × Handlers_in R r (o + stms_size body)) → Nest_in R s
       → Way_in R (handler_way null l n x body e s) × Way_in R (F.tests k (handler_body n x + stms_size body) r e s)
-  handler_in l n None body r k e s (hb, hr) hs = ((hb, hs), (hr, hs))
-  handler_in l n (Some x) body r k e s (h, (hb, hr)) hs = ((h, (hb, hs), hs), (hr, hs))
+  handler_in l n None body r k e s (hb, hr) hs = ((hb, (tt, hs)), (hr, hs))
+  handler_in l n (Some x) body r k e s (h, (hb, hr)) hs = ((h, (hb, (tt, (tt, hs))), (tt, hs)), (hr, hs))
 
   pub begin_tests_in : (k : ℕ) (hds : Handlers) (n : ℕ) (e : V) (s : Nest V) (after : Control V)
       → Handlers_in R hds n → Nest_in R s → Control_in R after → Control_in R (begin_tests null k hds n e s after)
   begin_tests_in k S.no_handlers n e s after h hs ha = ha
   begin_tests_in k (S.handler l S.absent x body r) n e s after (h, hx) hs ha =
-      let ways = handler_in l n x body r k e s hx hs in ((h, no_test R n), ways.0, ways.1, hs)
+      let ways = handler_in l n x body r k e s hx hs in ((h, no_test R n), ways.0, ways.1, (tt, hs))
   begin_tests_in k (S.handler l (S.given c) x body r) n e s after (hc, (h, hx)) hs ha =
       let ways = handler_in l (n + size c) x body r k e s hx hs in begin_exp_in R null c n false _ hc (no_test R n) (h, ways.0, ways.1)

@@ -1,24 +1,18 @@
 -- The next act of a block, and how each reply goes on.
-use Rattle.std.specs.Prelude.{ℕ, ◌+◌, List, [], ◌∷◌, ◌++◌, Bool, true, false, Option, Some, None, map}
+use Rattle.std.specs.Prelude.{ℕ, suc, ◌+◌, ◌*◌, List, [], ◌∷◌, ◌++◌, length, Bool, true, false, Option, Some, None, map}
 use Rattle.pt_tree.specs.Syntax as S
 use Rattle.pt_tree.specs.Syntax.{Exp, Clauses, Tgt, Tgts, Items, Stms, Name, none}
-use Rattle.pt_tree.specs.Blocks.{exp_line}
 use Rattle.pt_tree.specs.Sizes.{size, target_size, items_size, stms_size}
 use Rattle.pt_control.specs.Turn as T
-use Rattle.pt_control.specs.Turn.{Mark, Variable, variable, mark, operate, yielding, store, set_attribute, set_item, delete_attribute, delete_item, discard, add_to_list, add_to_set, add_to_dict, Leave, returning, breaking, continuing, raising, failing, branch, matches, fresh, seek, deed, leave, throw, test, iter_of, next_of, enter, unpack, delegate, Answer, Row, Delegated, returned, resumed, Reply, got, raised, Turn, act, note, over}
+use Rattle.pt_control.specs.Turn.{Mark, Variable, variable, mark, operate, yielding, store, set_attribute, set_item, delete, delete_attribute, delete_item, discard, add_to_list, add_to_set, add_to_dict, fresh, Leave, returning, jumping, raising, failing, branch, matches, seek, deed, leave, throw, test, iter_of, next_of, enter, unpack, delegate, Answer, Row, Delegated, returned, resumed, Reply, got, raised, Turn, act, note, over}
 use Rattle.pt_control.specs.Frames as F
-use Rattle.pt_control.specs.Frames.{Abrupt, raise, return, break, continue, Completion, normal, by, Nest, outside, Stores, no_more, and_store, Changed, Way, Wait, Over, Rounds, Control, for_value, for_deed, for_leave, for_throw, for_truth, for_iter, for_item, for_entry, for_unpack, for_delegate, noting, closed}
-use Rattle.pt_control.specs.Bases.{base, way_base, over_base, rounds_base, around}
+use Rattle.pt_control.specs.Frames.{Abrupt, raise, return, Completion, normal, by, Nest, no_more, Changed, Way, Wait, Over, Rounds, Control, for_value, for_deed, for_leave, for_throw, for_truth, for_iter, for_item, for_entry, for_unpack, for_delegate, silently, noting, closed}
+use Rattle.pt_control.specs.Bases.{base, way_base, over_base, rounds_base, around, active}
 use Rattle.pt_control.specs.Expressions.{begin_exp, next_operand, begin_spec, begin_clauses, take_item, target_names, clause_names, built_as}
-use Rattle.pt_control.specs.Statements.{begin_store, begin_stores, begin_deletes, begin_imports, begin_imports_from, begin_definition, begin_next, begin_all, begin_branches, begin_items, begin_tests, all_get, each_gets, count, star_of, active}
-use Rattle.pt_control.specs.Completions.{after_note, complete, let_go}
+use Rattle.pt_control.specs.Statements.{begin_store, begin_stores, begin_deletes, begin_imports, begin_imports_from, begin_definition, begin_assign, begin_next, begin_all, begin_branches, begin_items, begin_tests, each_gets, count, star_of}
+use Rattle.pt_control.specs.Completions.{complete, let_go}
 
--- the names of a comprehension are made anew
-abbrev pub freshen : {V : Type 0} → List Variable → (V → Control V) → Control V → Control V
-freshen [] f c = c
-freshen (x ∷ xs) f c = noting (fresh x) (after_note (freshen xs f c) f)
-
--- the nest in which an act stands
+-- the nest in which control stands
 abbrev pub nest_at : {V : Type 0} → Control V → Nest V
 nest_at (for_value m a w) = base w
 nest_at (for_deed m a k s) = s
@@ -30,12 +24,18 @@ nest_at (for_item m i n t k f) = way_base k
 nest_at (for_entry m v l n t is body s) = s
 nest_at (for_unpack m v n ts k s) = s
 nest_at (for_delegate m i r w) = base w
-nest_at (noting a f) = outside
-nest_at (closed e) = outside
+nest_at (silently a k s) = s
+nest_at (noting a k s) = s
+nest_at (closed e) = []
 
--- the exception that is active at an act; one that arises there gets it as its context (8.4, 7.8)
+-- the exception that is active in the block where control stands; one that arises there gets it as its context (8.4, 7.8)
 abbrev pub context_at : {V : Type 0} → Control V → Option V
 context_at c = active (nest_at c)
+
+-- the names of a comprehension are made anew, and then its first item is taken
+abbrev pub make_anew : {V : Type 0} → List Variable → (l n : ℕ) → (iterator : V) → Tgt → Clauses → Rounds V → Control V
+make_anew [] l n i t cs r = take_item l n i t cs r
+make_anew (x ∷ xs) l n i t cs r = silently (fresh x) (F.made_anew xs l n i t cs r) (rounds_base r)
 
 -- where the result of an operator goes back to
 abbrev pub store_back : {V : Type 0} → Changed V → V → (n l : ℕ) → Nest V → Control V
@@ -63,8 +63,7 @@ module _ {V : Type 0} (null : V) where
     deliver v (F.asked l n t f) = for_truth (mark n l false) (branch v) t f (way_base f)
     deliver v (F.iterated l n o) = for_iter (mark n l false) v o
     deliver v (F.built_in l n k i t cs m w) =
-        freshen (map (λ x. variable x (n ∷ around w)) (target_names t ++ clause_names cs)) (λ e. complete null (by (raise e)) (base w))
-        (take_item k n i t cs (F.collecting l n m v w))
+        make_anew (map (λ x. variable x (n ∷ around w)) (target_names t ++ clause_names cs)) k n i t cs (F.collecting l n m v w)
     deliver v (F.added_to_list l n made r) = for_deed (mark n l false) (add_to_list made v) (F.round r) (rounds_base r)
     deliver v (F.added_to_set l n made r) = for_deed (mark n l false) (add_to_set made v) (F.round r) (rounds_base r)
     deliver v (F.keyed l n e made r) = begin_exp null e n false (F.added_to_dict l (n + size e) v made r)
@@ -72,7 +71,7 @@ module _ {V : Type 0} (null : V) where
     deliver v (F.item_yielded l n r) = for_value (mark n l false) (yielding v) (F.item_sent l (n + 1) r)
     deliver v (F.item_sent l n r) = for_deed (mark n l false) (discard v) (F.round r) (rounds_base r)
     deliver v (F.dropped l n s) = for_deed (mark n l false) (discard v) (F.finished s) s
-    deliver v (F.assigned n ts s) = begin_stores null (all_get v ts) n (F.finished s) (complete null normal s)
+    deliver v (F.assigned n ts s) = begin_assign null v ts n s (complete null normal s)
     deliver a (F.set_attribute_of l n x v k) = for_deed (mark n l false) (set_attribute x a v) k (way_base k)
     deliver a (F.set_item_of l n i v k) = begin_exp null i n false (F.set_item_at l (n + size i) a v k)
     deliver i (F.set_item_at l n a v k) = for_deed (mark n l false) (set_item a i v) k (way_base k)
@@ -85,7 +84,7 @@ module _ {V : Type 0} (null : V) where
     deliver v (F.changing l n k to o e s) = begin_exp null e n false (F.changed_by l (n + size e) k to v o s)
     deliver u (F.changed_by l n k to v o s) = for_value (mark n l false) (operate (T.in_place o) (v ∷ u ∷ [])) (F.change_stored (n + 1) k to s)
     deliver v (F.change_stored n k to s) = store_back to v n k s
-    deliver v (F.returned_by l n s) = for_leave (mark n l false) (returning v) s
+    deliver v (F.returned_by l n s) = for_leave (mark n l false) (return v) s
     deliver v (F.thrown l n S.absent s) = for_throw (mark n l false) (raising v None) s
     deliver v (F.thrown l n (S.given c) s) = begin_exp null c n false (F.caused l (n + size c) v s)
     deliver c (F.caused l n v s) = for_throw (mark n l false) (raising v (Some c)) s
@@ -93,7 +92,7 @@ module _ {V : Type 0} (null : V) where
     deliver m (F.imported l n x xs s) = for_deed (mark n l false) (store (variable x []) m) (F.imports l (n + 1) xs s) s
     deliver m (F.imported_origin l n xs s) = begin_imports_from null l n xs m s (complete null normal s)
     deliver v (F.imported_name l n x xs m s) = for_deed (mark n l false) (store (variable x []) v) (F.imports_from l (n + 1) xs m s) s
-    deliver c (F.matched l k n e t f) = for_truth (mark n l false) (matches e c) t f (F.testing k e (way_base f))
+    deliver c (F.matched l k n e t f) = for_truth (mark n l false) (matches e c) t f (F.testing k e ∷ way_base f)
     deliver v (F.entered l n t is body s) = for_entry (mark n l false) v l (n + 1) t is body s
     deliver v (F.decorated k n before S.no_decorators l x what s) = begin_definition null l n x what (record { line = k; value = v } ∷ before) s
     deliver v (F.decorated k n before (S.decorator j e r) l x what s) =
@@ -123,6 +122,10 @@ module _ {V : Type 0} (null : V) where
   go (F.given v w) = deliver v w
   go (F.linked_on l n v o b r w) = begin_exp null b n false (F.compared l (n + size b) v o r w)
   go (F.lets_go c s) = let_go null c s
+  go (F.raises v s) = complete null (by (raise v)) s
+  go (F.unbinds x c s) = silently (delete (variable x [])) (F.lets_go c s) s
+  go (F.made_anew xs l n i t cs r) = make_anew xs l n i t cs r
+  go (F.assigns n v ts s) = begin_assign null v ts n s (complete null normal s)
   go (F.tests k n hs e s) = begin_tests null k hs n e s (let_go null (by (raise e)) s)
   go (F.binding l n x v k s) = for_deed (mark n l false) (store (variable x []) v) k s
   go (F.stores n st k) = begin_stores null st n k (go k)
@@ -143,16 +146,16 @@ module _ {V : Type 0} (null : V) where
   after_deed k s (got t) = go k
   after_deed k s (raised v) = complete null (by (raise v)) s
 
-  abbrev pub left : Leave V → Abrupt V
-  left (returning v) = return v
-  left breaking = break
-  left continuing = continue
+  -- a `break` or `continue` is a jump within its block
+  abbrev pub leave_by : Abrupt V → Leave V
+  leave_by (return v) = returning v
+  leave_by a = jumping
 
-  abbrev pub after_leave : Leave V → Nest V → Reply V (Unit {0}) → Control V
-  after_leave a s (got t) = complete null (by (left a)) s
+  abbrev pub after_leave : Abrupt V → Nest V → Reply V (Unit {0}) → Control V
+  after_leave a s (got t) = complete null (by a) s
   after_leave a s (raised v) = complete null (by (raise v)) s
 
-  -- an act that only raises has no other reply
+  -- what only raises has no other reply
   abbrev pub after_throw : Nest V → Reply V ⊥ → Control V
   after_throw s (got x) = elim x [ ]
   after_throw s (raised v) = complete null (by (raise v)) s
@@ -174,9 +177,9 @@ module _ {V : Type 0} (null : V) where
   -- a context is entered: its exit is due from here on, and its target gets what `__enter__` gave (8.5)
   abbrev pub after_entry : (l n : ℕ) → Option Tgt → Items → (body : Stms) → Nest V → Reply V (V × V) → Control V
   after_entry l n None is body s (got (w, v)) =
-      begin_items null is body n (F.withing l (n + items_size is (stms_size body)) w s) (complete null normal (F.withing l (n + items_size is (stms_size body)) w s))
+      begin_items null is body n (F.withing l (n + items_size is (stms_size body)) w ∷ s) (complete null normal (F.withing l (n + items_size is (stms_size body)) w ∷ s))
   after_entry l n (Some t) is body s (got (w, v)) =
-      begin_store null t v n (F.within_items (n + target_size t) is body (F.withing l (n + target_size t + items_size is (stms_size body)) w s))
+      begin_store null t v n (F.within_items (n + target_size t) is body (F.withing l (n + target_size t + items_size is (stms_size body)) w ∷ s))
   after_entry l n t is body s (raised v) = complete null (by (raise v)) s
 
   abbrev pub after_unpack : (n : ℕ) → (ts : Tgts) → Way V → Nest V → Reply V (Row V (count ts)) → Control V
@@ -189,27 +192,39 @@ module _ {V : Type 0} (null : V) where
   after_delegate m i w (got (resumed r)) = for_delegate m i r w
   after_delegate m i w (raised v) = complete null (by (raise v)) (base w)
 
-  -- the next act, and how each reply goes on
+  -- what comes next, and how each reply goes on
   abbrev pub turn : Control V → Turn (Control V) V
-  turn (for_value m a w) = act m (seek a) (after_value w)
-  turn (for_deed m a k s) = act m (deed a) (after_deed k s)
-  turn (for_leave m a s) = act m (leave a) (after_leave a s)
-  turn (for_throw m a s) = act m (throw a) (after_throw s)
-  turn (for_truth m a t f s) = act m (test a) (after_truth t f s)
-  turn (for_iter m v o) = act m (iter_of v) (after_iter o)
-  turn (for_item m i n t k f) = act m (next_of i) (after_item n t k f)
-  turn (for_entry m v l n t is body s) = act m (enter v) (after_entry l n t is body s)
-  turn (for_unpack m v n ts k s) = act m (unpack v (count ts) (star_of ts)) (after_unpack n ts k s)
-  turn (for_delegate m i r w) = act m (delegate i r) (after_delegate m i w)
-  turn (noting a next) = note a next
+  turn (for_value m a w) = act (Some m) (seek a) (after_value w)
+  turn (for_deed m a k s) = act (Some m) (deed a) (after_deed k s)
+  turn (for_leave m a s) = act (Some m) (leave (leave_by a)) (after_leave a s)
+  turn (for_throw m a s) = act (Some m) (throw a) (after_throw s)
+  turn (for_truth m a t f s) = act (Some m) (test a) (after_truth t f s)
+  turn (for_iter m v o) = act (Some m) (iter_of v) (after_iter o)
+  turn (for_item m i n t k f) = act (Some m) (next_of i) (after_item n t k f)
+  turn (for_entry m v l n t is body s) = act (Some m) (enter v) (after_entry l n t is body s)
+  turn (for_unpack m v n ts k s) = act (Some m) (unpack v (count ts) (star_of ts)) (after_unpack n ts k s)
+  turn (for_delegate m i r w) = act (Some m) (delegate i r) (after_delegate m i w)
+  turn (silently a k s) = act None (deed a) (after_deed k s)
+  turn (noting a k s) = note a (after_deed k s)
   turn (closed e) = over e
+
+  -- how many notes and unmarked asks come before the next act or the end, at most: three for each frame, and one for each name that is made anew
+  abbrev pub most_silent : Control V → ℕ
+  most_silent (silently a (F.made_anew xs l n i t cs r) s) = suc (length xs)
+  most_silent c = 3 * suc (length (nest_at c))
+
+  -- control behind so many of them, where none of them raises
+  abbrev pub unhindered : Control V → (most : ℕ) → Control V
+  unhindered (silently a k s) (suc m) = unhindered (go k) m
+  unhindered (noting a k s) (suc m) = unhindered (go k) m
+  unhindered c m = c
 
   -- a block begins: one of statements, a lambda's, and a generator expression's with its first iterator
   abbrev pub start : Stms → Control V
-  start ss = begin_all null ss 0 outside (complete null normal outside)
+  start ss = begin_all null ss 0 [] (complete null normal [])
 
-  abbrev pub start_lambda : Exp → Control V
-  start_lambda e = begin_exp null e 0 false (F.returned_by (exp_line e) (size e) outside)
+  abbrev pub start_lambda : (l : ℕ) → Exp → Control V
+  start_lambda l e = begin_exp null e 0 false (F.returned_by l (size e) [])
 
   abbrev pub start_generator : (l : ℕ) → (item : Exp) → (for_line : ℕ) → Tgt → Clauses → (iterator : V) → Control V
-  start_generator l e k t cs i = take_item k 0 i t cs (F.generating l e outside)
+  start_generator l e k t cs i = take_item k 0 i t cs (F.generating l e [])

@@ -1,14 +1,16 @@
 pub mod Turn
 pub mod Frames
 pub mod Bases
+pub mod Numbers
 pub mod Expressions
 pub mod Statements
+pub mod CompletionTable
 pub mod Completions
 pub mod Control
 pub mod Events
 pub mod Lines
 pub mod Samples
-pub mod CompletionTable
 pub mod Jump
+pub mod ClosedParts
 pub mod Reached
 pub mod Endings

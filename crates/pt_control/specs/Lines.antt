@@ -2,7 +2,7 @@
 -- ends, which iterator has another item, and which call or item runs a block of its own.
 use Rattle.std.specs.Prelude.{ℕ, ◌+◌, zero, suc, ◌==◌, List, [], ◌∷◌, reverse, Bool, true, false, Option, Some, None, if◌then◌else◌}
 use Rattle.pt_control.specs.Turn as T
-use Rattle.pt_control.specs.Turn.{Mark, Ask, Answer, Row, Seek, seek, deed, leave, throw, test, iter_of, next_of, enter, unpack, delegate, operate, yielding, returned, Reply, got, raised, End, done, gave, left_by, Turn, act, note}
+use Rattle.pt_control.specs.Turn.{Mark, Ask, Answer, Row, Seek, seek, deed, leave, throw, test, iter_of, next_of, enter, unpack, delegate, operate, yielding, returned, Reply, got, raised, End, gave, left_by, Turn, act, note}
 use Rattle.pt_control.specs.Frames.{Control}
 use Rattle.pt_control.specs.Control.{turn}
 
@@ -52,7 +52,7 @@ told m st = record {
   suspended = st.suspended;
   given = st.given;
   acts = st.acts + 1;
-  lines = if m.again then m.line ∷ st.lines else if m.line == st.runs.line then st.lines else m.line ∷ st.lines;
+  lines = if m.is_retest then m.line ∷ st.lines else if m.line == st.runs.line then st.lines else m.line ∷ st.lines;
 }
 
 abbrev zeros : (n : ℕ) → Row ℕ n
@@ -99,7 +99,6 @@ answered (unpack v n star) k st = goes_on (k (got (zeros n))) st
 answered (delegate i r) k st = goes_on (k (got (returned 0))) st
 
 abbrev result : End ℕ → Reply ℕ ℕ
-result done = got 0
 result (gave v) = got v
 result (left_by v) = raised v
 
@@ -113,7 +112,8 @@ closes (for_an_item k l w) e st = record st { runs = block (k (no_item e)) l; wa
 closes nothing e st = st
 
 abbrev next : Turn (Control ℕ) ℕ → State → State
-next (act m a k) st = answered a k (told m st)
+next (act (Some m) a k) st = answered a k (told m st)
+next (act None a k) st = answered a k st
 next (note a k) st = goes_on (k (got tt)) st
 next (T.over e) st = closes st.waits e st
 next t st = st

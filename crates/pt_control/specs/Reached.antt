@@ -1,13 +1,14 @@
 -- Where control begins in a block, what comes from there, and when an act's mark is the row with its number.
-use Rattle.std.specs.Prelude.{ℕ, ◌≡◌, true, List, Some, slice_get}
+use Rattle.std.specs.Prelude.{ℕ, ◌≡◌, true, List, Option, Some, None, slice_get}
 use Rattle.pt_tree.specs.declared.act.ActRow.{ActRow}
 use Rattle.pt_tree.specs.declared.act.ActKind.{ActKind}
 use Rattle.pt_tree.specs.declared.act.ActKind.TheVariants as A
 use Rattle.pt_tree.specs.Blocks as B
 use Rattle.pt_tree.specs.Blocks.{Code, function_body}
 use Rattle.pt_control.specs.Turn as T
-use Rattle.pt_control.specs.Turn.{Mark, Operation, Seek, Deed, Leave, Throw, Test, Ask, Answer, Reply, Turn}
-use Rattle.pt_control.specs.Frames.{Control}
+use Rattle.pt_control.specs.Turn.{Mark, Operation, Seek, Deed, Test, Answer, Reply, Turn}
+use Rattle.pt_control.specs.Frames as F
+use Rattle.pt_control.specs.Frames.{Abrupt, Way, Control}
 use Rattle.pt_control.specs.Control.{turn, start, start_lambda, start_generator}
 
 abbrev pub operation_kind : Operation → ActKind
@@ -40,63 +41,75 @@ seek_kind (T.load x) = A.Load
 seek_kind (T.operate op vs) = operation_kind op
 seek_kind (T.yielding v) = A.Yield
 
-abbrev pub deed_kind : {V : Type 0} → Deed V → ActKind
-deed_kind (T.store x v) = A.Store
-deed_kind (T.set_attribute x a v) = A.SetAttr
-deed_kind (T.set_item a i v) = A.SetItem
-deed_kind (T.delete x) = A.Delete
-deed_kind (T.delete_attribute x a) = A.DelAttr
-deed_kind (T.delete_item a i) = A.DelItem
-deed_kind (T.discard v) = A.Discard
-deed_kind (T.add_to_list made v) = A.Add
-deed_kind (T.add_to_set made v) = A.Add
-deed_kind (T.add_to_dict made k v) = A.Add
-deed_kind T.passing = A.Pass
-deed_kind T.trying = A.Try
+-- a `try` asks for nothing as a `pass` does, and its body follows
+abbrev pub nothing_kind : {V : Type 0} → Way V → ActKind
+nothing_kind (F.finished s) = A.Pass
+nothing_kind k = A.Try
 
-abbrev pub leave_kind : {V : Type 0} → Leave V → ActKind
-leave_kind (T.returning v) = A.Return
-leave_kind T.breaking = A.Break
-leave_kind T.continuing = A.Continue
+abbrev pub deed_kind : {V : Type 0} → Deed V → Way V → ActKind
+deed_kind (T.store x v) k = A.Store
+deed_kind (T.set_attribute x a v) k = A.SetAttr
+deed_kind (T.set_item a i v) k = A.SetItem
+deed_kind (T.delete x) k = A.Delete
+deed_kind (T.delete_attribute x a) k = A.DelAttr
+deed_kind (T.delete_item a i) k = A.DelItem
+deed_kind (T.discard v) k = A.Discard
+deed_kind (T.add_to_list made v) k = A.Add
+deed_kind (T.add_to_set made v) k = A.Add
+deed_kind (T.add_to_dict made j v) k = A.Add
+-- a name is made anew only without a mark
+deed_kind (T.fresh x) k = A.Store
+deed_kind T.nothing k = nothing_kind k
+
+abbrev pub leave_kind : {V : Type 0} → Abrupt V → ActKind
+leave_kind (F.return v) = A.Return
+leave_kind F.break = A.Break
+leave_kind F.continue = A.Continue
+-- a raise is none of the ways that a statement leaves by itself
+leave_kind (F.raise v) = A.Raise
 
 abbrev pub test_kind : {V : Type 0} → Test V → ActKind
 test_kind (T.branch v) = A.Branch
 test_kind (T.matches e c) = A.Match
 test_kind (T.exit_of w r) = A.Exit
 
--- the kind of act that asks so
-abbrev pub kind_of : {V : Type 0} → Ask V → ActKind
-kind_of (T.seek s) = seek_kind s
-kind_of (T.deed d) = deed_kind d
-kind_of (T.leave a) = leave_kind a
-kind_of (T.throw t) = A.Raise
-kind_of (T.test t) = test_kind t
-kind_of (T.iter_of v) = A.Iter
-kind_of (T.next_of i) = A.Next
-kind_of (T.enter v) = A.Enter
-kind_of (T.unpack v n star) = A.Unpack
-kind_of (T.delegate i r) = A.Delegate
+-- the kind of the act that is next, if one is. Some acts of two kinds ask alike, so it shows in what goes on behind them
+abbrev pub kind_of : {V : Type 0} → Control V → Option ActKind
+kind_of (F.for_value m a w) = Some (seek_kind a)
+kind_of (F.for_deed m a k s) = Some (deed_kind a k)
+kind_of (F.for_leave m a s) = Some (leave_kind a)
+kind_of (F.for_throw m a s) = Some A.Raise
+kind_of (F.for_truth m a t f s) = Some (test_kind a)
+kind_of (F.for_iter m v o) = Some A.Iter
+kind_of (F.for_item m i n t k f) = Some A.Next
+kind_of (F.for_entry m v l n t is body s) = Some A.Enter
+kind_of (F.for_unpack m v n ts k s) = Some A.Unpack
+kind_of (F.for_delegate m i r w) = Some A.Delegate
+kind_of c = None
 
 -- a row has the kind and the line of an act, and where a re-test begins with the act, it says so; at the first test of a loop the row says it too
-pub record IsFor (row : ActRow) (kind : ActKind) (m : Mark) : Type 0 where
-  pub same_kind : row.kind ≡ kind
+pub record IsFor (row : ActRow) (kind : Option ActKind) (m : Mark) : Type 0 where
+  pub same_kind : kind ≡ Some row.kind
   pub same_line : row.line.0 ≡ m.line
-  pub says_again : m.again ≡ true → row.again ≡ true
+  pub says_again : m.is_retest ≡ true → row.again ≡ true
+
+abbrev HasRow : {S V : Type 0} → List ActRow → Option ActKind → Turn S V → Type 0
+HasRow rows kind (T.act (Some m) a next) = (row : ActRow) × (slice_get rows m.act ≡ Some row) × IsFor row kind m
+HasRow rows kind t = Unit {0}
 
 -- where an act is next, the row with its number is for it
-abbrev pub IsRow : {S V : Type 0} → List ActRow → Turn S V → Type 0
-IsRow rows (T.act m a next) = (row : ActRow) × (slice_get rows m.act ≡ Some row) × IsFor row (kind_of a) m
-IsRow rows t = Unit {0}
+abbrev pub IsRow : {V : Type 0} → List ActRow → (null : V) → Control V → Type 0
+IsRow rows null c = HasRow rows (kind_of c) (turn null c)
 
 -- where the code of a block begins; a generator expression's has its first iterator
 abbrev pub start_code : {V : Type 0} (null : V) → Code → (first : V) → Control V
 start_code null (B.of_module ss) i = start null ss
 start_code null (B.of_function ss) i = start null (function_body ss)
 start_code null (B.of_class ss) i = start null ss
-start_code null (B.of_lambda e) i = start_lambda null e
+start_code null (B.of_lambda l e) i = start_lambda null l e
 start_code null (B.of_generator l e k t cs) i = start_generator null l e k t cs i
 
--- by some reply to an act or a note, a state comes next
+-- by some reply to an ask or a note, a state comes next
 abbrev pub Leads : {S V : Type 0} → Turn S V → S → Type 0
 Leads {V = V} (T.act m a next) s = (r : Reply V (Answer V a)) × (next r ≡ s)
 Leads {V = V} (T.note a next) s = (r : Reply V (Unit {0})) × (next r ≡ s)
@@ -110,7 +123,7 @@ pub data Reaches {V : Type 0} (null : V) (c : Control V) : Control V → Type 0 
 
 -- an act with this number is next
 abbrev pub IsAt : {S V : Type 0} → Turn S V → ℕ → Type 0
-IsAt (T.act m a next) n = m.act ≡ n
+IsAt (T.act (Some m) a next) n = m.act ≡ n
 IsAt t n = ⊥
 
 -- with some replies an act with this number comes
