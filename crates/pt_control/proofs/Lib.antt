@@ -1,4 +1,5 @@
 pub mod JumpLemmas
+pub mod PartsApart
 pub mod MarksTree
 pub mod MarksFrames
 pub mod MarksBases

@@ -8,6 +8,7 @@ pub mod CompletionTable
 pub mod Completions
 pub mod Control
 pub mod Events
+pub mod LineEvents
 pub mod Lines
 pub mod Samples
 pub mod Jump

@@ -4,6 +4,7 @@ ghost use Rattle.std.specs.Prelude.{◌≡◌, ◌<◌, ℕ, List, [], ◌∷◌
 ghost use Rattle.pt_tree.specs.Blocks.{Code, acts_of_code};
 ghost use Rattle.pt_tree.specs.Syntax.{Name, Stms, absent, global, handler, more, no_handlers, none, pass, return, try};
 ghost use Rattle.pt_control.specs.Bases.{way_base};
+ghost use Rattle.pt_control.specs.ClosedParts.{All_apart, parts_of};
 ghost use Rattle.pt_control.specs.Completions.{complete, end_of, follow};
 ghost use Rattle.pt_control.specs.CompletionTable.{onward, row};
 ghost use Rattle.pt_control.specs.Control.{go, turn};
@@ -67,4 +68,10 @@ pub fn completions_go_the_ways_of_the_table<V>()
 #[tactic(auto, using(crate::proofs::JumpLemmas::jump_lands))]
 pub fn a_permitted_jump_lands<V>()
     ensures { (code : Code) (line : ℕ) (place : Nest V) (t : Target) → on_line line (starts_of code) ≡ Some t → verdict (parts place) (parts t.within) ≡ permitted → Landing t place }
+{}
+
+/// Within a block no two closed parts are the same, whatever acts they have.
+#[tactic(auto, using(crate::proofs::PartsApart::parts_apart))]
+pub fn no_two_parts_are_the_same()
+    ensures { (block : Stms) → All_apart (parts_of block 0) }
 {}
