@@ -32,6 +32,7 @@ module _ (R : Numbering) {V : Type 0} where
 
     pub base_in : (w : Wait V) → Wait_in R w → Nest_in R (base w)
     base_in (F.operands l n op before behind w) h = base_in w h.1
+    base_in (F.celled l n g op before behind w) h = base_in w h.2
     base_in (F.yielded l n w) h = base_in w h.1
     base_in (F.formatted l n c sp w) h = base_in w h.1
     base_in (F.comparing l n o b r w) h = base_in w h.3

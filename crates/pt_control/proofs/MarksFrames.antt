@@ -106,6 +106,7 @@ module _ (R : Numbering) where
 
     pub Wait_in : {V : Type 0} → Wait V → Type 0
     Wait_in (F.operands l n op before behind w) = Operands_in behind n (λ m. R.is (operation_kind op) l m) × Wait_in w
+    Wait_in (F.celled l n g op before behind w) = R.is (operation_kind op) l n × (g ≡ true → R.again n) × Wait_in w
     Wait_in (F.yielded l n w) = R.is K.Yield l n × Wait_in w
     Wait_in (F.formatted l n c sp w) = Pieces_in R sp n (λ m. Spec_end R sp l n m) × Wait_in w
     Wait_in (F.comparing l n o b r w) = Exp_in R b n × R.is K.Compare l (n + size b) × Links_in R l r (n + size b + 1) × Wait_in w
@@ -176,6 +177,7 @@ module _ (R : Numbering) where
   Control_in (F.for_entry m v l n t is body s) = Marked m K.Enter × Entry_in l n t is body × Nest_in s
   Control_in (F.for_unpack m v n ts k s) = Marked m K.Unpack × Targets_in R ts n × Way_in k × Nest_in s
   Control_in (F.for_delegate m i r w) = Marked m K.Delegate × Wait_in w
-  Control_in (F.silently a k s) = Way_in k × Nest_in s
+  Control_in (F.silent_value a w) = Wait_in w
+  Control_in (F.silent_deed a k s) = Way_in k × Nest_in s
   Control_in (F.noting a k s) = Way_in k × Nest_in s
   Control_in (F.closed e) = Unit {0}

@@ -30,6 +30,7 @@ abbrev mutual
 
   pub base : {V : Type 0} → Wait V → Nest V
   base (F.operands l n op before behind w) = base w
+  base (F.celled l n g op before behind w) = base w
   base (F.yielded l n w) = base w
   base (F.formatted l n c sp w) = base w
   base (F.comparing l n o b r w) = base w
@@ -98,6 +99,7 @@ abbrev mutual
 
   pub around : {V : Type 0} → Wait V → List ℕ
   around (F.operands l n op before behind w) = around w
+  around (F.celled l n g op before behind w) = around w
   around (F.yielded l n w) = around w
   around (F.formatted l n c sp w) = around w
   around (F.comparing l n o b r w) = around w

@@ -2,7 +2,7 @@
 -- events; what depends on the values, and the start and the end of a block, is told outside of control. Of an ask without a mark nothing is told.
 use Rattle.std.specs.Prelude.{ℕ, List, [], ◌∷◌, true, Option, Some, None}
 use Rattle.pt_control.specs.Turn as T
-use Rattle.pt_control.specs.Turn.{Ask, Answer, Role, seek, leave, throw, test, next_of, Note, raised_again, Reply, got, raised, Turn}
+use Rattle.pt_control.specs.Turn.{Ask, Answer, Around, Role, seek, leave, throw, test, next_of, Note, raised_again, Reply, got, raised, Turn}
 use Rattle.pt_control.specs.Frames.{Control}
 use Rattle.pt_control.specs.Control.{turn, most_silent, unhindered}
 
@@ -47,5 +47,5 @@ number_of (T.act (Some m) a k) = Some m.act
 number_of t = None
 
 -- the act that comes next if nothing is raised; none where the block ends
-abbrev pub destination : {V : Type 0} → (null : V) → Control V → Option ℕ
-destination null c = number_of (turn null (unhindered null c (most_silent null c)))
+abbrev pub destination : {V : Type 0} → (A : Around V) → Control V → Option ℕ
+destination A c = number_of (turn A (unhindered A c (most_silent A c)))

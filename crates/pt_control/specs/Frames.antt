@@ -1,6 +1,6 @@
 -- What goes on behind an act: nests of statements, values that are due, and comprehensions, over any type V of values. In each frame n numbers
 -- the first act of what is left, and l is a line.
-use Rattle.std.specs.Prelude.{ℕ, List, Option}
+use Rattle.std.specs.Prelude.{ℕ, List, Bool, Option}
 use Rattle.pt_base.specs.declared.operators.BinOp.{BinOp}
 use Rattle.pt_base.specs.declared.operators.CompareOp.{CompareOp}
 use Rattle.pt_tree.specs.declared.expression.Conversion.{Conversion}
@@ -119,6 +119,8 @@ mutual
   pub data Wait (V : Type 0) : Type 0 where
     -- an operand is due: those before it, the last first, and those behind it
     operands : (l n : ℕ) (op : Operation) (before : List V) (behind : List Operand) → Wait V → Wait V
+    -- a cell is due that the block of an operation takes along, behind the operands, the last first
+    celled : (l n : ℕ) (is_retest : Bool) (op : Operation) (before : List V) (behind : List Variable) → Wait V → Wait V
     yielded : (l n : ℕ) → Wait V → Wait V
     -- the value of a replacement field is due
     formatted : (l n : ℕ) (conversion : Option Conversion) (spec : Pieces) → Wait V → Wait V
@@ -189,7 +191,7 @@ mutual
     generating : (l : ℕ) (item : Exp) → Nest V → Rounds V
     round_of : (l n : ℕ) (iterator : V) (t : Tgt) (cs : Clauses) → Rounds V → Rounds V
 
--- what is next, with what waits for it: an act with its mark, a deed without one, a note, or the end
+-- what is next, with what waits for it: an act with its mark, an ask without one, a note, or the end
 pub data Control (V : Type 0) : Type 0 where
   for_value : Mark → Seek V → Wait V → Control V
   for_deed : Mark → Deed V → Way V → Nest V → Control V
@@ -201,6 +203,7 @@ pub data Control (V : Type 0) : Type 0 where
   for_entry : Mark → V → (l n : ℕ) (t : Option Tgt) (is : Items) (body : Stms) → Nest V → Control V
   for_unpack : Mark → V → (n : ℕ) (ts : Tgts) → Way V → Nest V → Control V
   for_delegate : Mark → (iterator : V) → (sent : Reply V V) → Wait V → Control V
-  silently : Deed V → Way V → Nest V → Control V
+  silent_value : Seek V → Wait V → Control V
+  silent_deed : Deed V → Way V → Nest V → Control V
   noting : Note V → Way V → Nest V → Control V
   closed : End V → Control V

@@ -2,17 +2,21 @@
 -- ends, which iterator has another item, what is raised, and which call or item runs a block of its own.
 use Rattle.std.specs.Prelude.{ℕ, ◌+◌, zero, suc, List, [], ◌∷◌, reverse, Bool, true, false, Option, Some, None, if◌then◌else◌}
 use Rattle.pt_control.specs.Turn as T
-use Rattle.pt_control.specs.Turn.{Mark, Ask, Answer, Row, Seek, seek, deed, leave, throw, test, iter_of, next_of, enter, unpack, delegate, operate, yielding, returned, Reply, got, raised, End, gave, left_by, Turn, act, note}
+use Rattle.pt_control.specs.Turn.{Mark, Around, Ask, Answer, Row, Seek, seek, deed, leave, throw, test, iter_of, next_of, enter, unpack, delegate, operate, yielding, returned, Reply, got, raised, End, gave, left_by, Turn, act, note}
 use Rattle.pt_control.specs.Frames.{Control}
 use Rattle.pt_control.specs.Control.{turn}
 use Rattle.pt_control.specs.LineEvents.{is_told}
+
+-- every name is spelled as it is written and no cells are taken along
+abbrev pub numbers : Around ℕ
+numbers = record { null = 0; variable = λ within x. record { scope = T.local; name = x }; spelled = λ x. x; captured = λ block. [] }
 
 pub data Given : Type 0 where
   -- the truth of a test
   truth : Bool → Given
   -- whether there is another item
   item : Bool → Given
-  -- the exception of a `raise`
+  -- the exception of a `raise`, or of a tool at a test
   throws : ℕ → Given
   -- a call has a value at once
   value : Given
@@ -69,6 +73,7 @@ called gs k st = goes_on (k (got 0)) st
 
 abbrev tested : List Given → (Reply ℕ Bool → Control ℕ) → State → State
 tested (truth b ∷ gs) k st = record st { runs = block (k (got b)) st.runs.line; given = gs }
+tested (throws v ∷ gs) k st = record st { runs = block (k (raised v)) st.runs.line; given = gs }
 tested gs k st = goes_on (k (got false)) st
 
 abbrev resumed_by : Option Block → (Reply ℕ (Option ℕ) → Control ℕ) → State → State
@@ -127,7 +132,7 @@ next t st = st
 
 abbrev run : (steps : ℕ) → State → State
 run zero st = st
-run (suc n) st = run n (next (turn 0 st.runs.control) st)
+run (suc n) st = run n (next (turn numbers st.runs.control) st)
 
 abbrev state : Control ℕ → List Given → State
 state c gs = record { runs = block c None; waits = nothing; suspended = None; given = gs; lines = []; acts = 0 }

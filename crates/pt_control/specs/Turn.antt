@@ -17,14 +17,28 @@ pub record Mark : Type 0 where
 abbrev pub mark : (act line : ℕ) → Bool → Mark
 mark n l g = record { act = n; line = l; is_retest = g }
 
--- a name in a block, with the comprehensions around it, the innermost first, each by the number of its first Next
--- (Language Reference 6.2.4: the targets of a comprehension are names of their own)
-pub record Variable : Type 0 where
-  pub name : Name
-  pub within : List ℕ
+-- how a name of a block is found (Language Reference 4.2.2): a name of the function alone, one that blocks in it read too, one of a function
+-- around, one of the module or a builtin, or one of a class body
+pub data Scope : Type 0 where
+  local : Scope
+  cell : Scope
+  free : Scope
+  global : Scope
+  of_class : Scope
 
-abbrev pub variable : Name → List ℕ → Variable
-variable x rs = record { name = x; within = rs }
+-- a name of a block, found so and spelled as private names are (6.2.1)
+pub record Variable : Type 0 where
+  pub scope : Scope
+  pub name : Name
+
+-- what a block's control depends on beside its tree: the value None; the variable that a name is, within the comprehensions around it, the
+-- innermost first, each by the number of its first Next (6.2.4: the targets of a comprehension are names of their own); how a name is spelled;
+-- and the variables whose cells a block in it takes along
+pub record Around (V : Type 0) : Type 0 where
+  pub null : V
+  pub variable : (within : List ℕ) → Name → Variable
+  pub spelled : Name → Name
+  pub captured : (block : ℕ) → List Variable
 
 -- how an argument is passed (Language Reference 6.3.4)
 pub data Role : Type 0 where
@@ -59,7 +73,7 @@ pub data Operation : Type 0 where
   -- what is called, and the arguments
   call : List Role → Operation
   -- a function of a block (6.14, 8.7), with the defaults of the parameters of these names; a class of a block (8.8), with its base; a
-  -- generator expression of a block (6.2.8), with its first iterator
+  -- generator expression of a block (6.2.8), with its first iterator; behind them each has the cells that the block takes along
   function : (block : ℕ) → List Name → Operation
   class : (block : ℕ) → Operation
   generator : (block : ℕ) → Operation
@@ -74,6 +88,8 @@ pub data Seek (V : Type 0) : Type 0 where
   operate : Operation → (operands : List V) → Seek V
   -- 6.2.9
   yielding : V → Seek V
+  -- the cell of a variable, for a block that takes it along (4.2.2)
+  cell_of : Variable → Seek V
 
 -- what asks for none
 pub data Deed (V : Type 0) : Type 0 where

@@ -13,27 +13,27 @@ ghost use Rattle.pt_control.specs.Frames.{Completion, Control, Frame, Nest, Way,
 ghost use Rattle.pt_control.specs.Jump.{Target, Landing, on_line, starts_of, jump, lands, parts, verdict, permitted};
 ghost use Rattle.pt_control.specs.Reached.{IsRow, Meets, Reaches, start_code};
 ghost use Rattle.pt_control.specs.Samples.{counting, generating, jumping, nested_body};
-ghost use Rattle.pt_control.specs.Turn.{move, stuck};
+ghost use Rattle.pt_control.specs.Turn.{Around, move, stuck};
 
 /// Control always knows what is next: an ask, a note, or the end of the block.
 pub fn turns_are_never_stuck<V>()
-    ensures never_stuck { (null : V) (c : Control V) → turn null c ≡ stuck → ⊥ }
-    ensures never_moves { (null : V) (c d : Control V) → turn null c ≡ move d → ⊥ }
+    ensures never_stuck { (A : Around V) (c : Control V) → turn A c ≡ stuck → ⊥ }
+    ensures never_moves { (A : Around V) (c d : Control V) → turn A c ≡ move d → ⊥ }
 {}
 
 /// Whatever the replies, each act that control comes to in a block has the kind and the line of the
 /// block's row with its number, and a re-test begins with it only where the row says so.
 #[tactic(auto, using(crate::proofs::MarksLaw::marks_are_rows))]
 pub fn each_mark_is_its_row<V>()
-    ensures { (null : V) (code : Code) (first : V) (c : Control V) → Reaches null (start_code null code first) c → IsRow (acts_of_code code) null c }
+    ensures { (A : Around V) (code : Code) (first : V) (c : Control V) → Reaches A (start_code A code first) c → IsRow (acts_of_code code) A c }
 {}
 
 /// From where a jump lands too, whatever the replies, and from a raise that comes before the target's
 /// statement begins, each act has the kind and the line of the block's row with its number.
 #[tactic(auto, using(crate::proofs::MarksJumps::marks_behind_jumps, crate::proofs::MarksJumps::marks_behind_raises))]
 pub fn each_mark_behind_a_jump_is_its_row<V>()
-    ensures goes { (null : V) (code : Code) (place : Nest V) (line : ℕ) (k : Way V) (d : Control V) → jump code place line ≡ lands k → Reaches null (go null k) d → IsRow (acts_of_code code) null d }
-    ensures raised { (null : V) (code : Code) (place : Nest V) (line : ℕ) (k : Way V) (v : V) (d : Control V) → jump code place line ≡ lands k → Reaches null (complete null (by (raise v)) (way_base k)) d → IsRow (acts_of_code code) null d }
+    ensures goes { (A : Around V) (code : Code) (place : Nest V) (line : ℕ) (k : Way V) (d : Control V) → jump code place line ≡ lands k → Reaches A (go A k) d → IsRow (acts_of_code code) A d }
+    ensures raised { (A : Around V) (code : Code) (place : Nest V) (line : ℕ) (k : Way V) (v : V) (d : Control V) → jump code place line ≡ lands k → Reaches A (complete A (by (raise v)) (way_base k)) d → IsRow (acts_of_code code) A d }
 {}
 
 /// In a block where each statement can be reached, as far as the forms of statements tell, each row
@@ -41,7 +41,7 @@ pub fn each_mark_behind_a_jump_is_its_row<V>()
 /// expression each row always is.
 #[tactic(auto, using(crate::proofs::MarksMetLaw::rows_are_met))]
 pub fn each_row_is_met<V>()
-    ensures { (null : V) (code : Code) (first : V) → Code_reached code → (n : ℕ) → n < length (acts_of_code code) → Meets null (start_code null code first) n }
+    ensures { (A : Around V) (code : Code) (first : V) → Code_reached code → (n : ℕ) → n < length (acts_of_code code) → Meets A (start_code A code first) n }
 {}
 
 /// Statements that can be reached, and two that cannot: one behind a `return`, and a handler of a
@@ -59,8 +59,8 @@ pub fn statements_are_reached()
 /// A completion that leaves a block closes it, and one that is passed to a frame goes the way of the
 /// table's row.
 pub fn completions_go_the_ways_of_the_table<V>()
-    ensures leaves { (null : V) (c : Completion V) → complete null c [] ≡ closed (end_of null c) }
-    ensures goes_on { (null : V) (c : Completion V) (f : Frame V) (s : Nest V) → complete null c (f ∷ s) ≡ follow null (row c f) s (complete null (onward (row c f)) s) }
+    ensures leaves { (A : Around V) (c : Completion V) → complete A c [] ≡ closed (end_of A c) }
+    ensures goes_on { (A : Around V) (c : Completion V) (f : Frame V) (s : Nest V) → complete A c (f ∷ s) ≡ follow A (row c f) s (complete A (onward (row c f)) s) }
 {}
 
 /// Behind a permitted jump there is a nest of the shape that the target has by the syntax, and each

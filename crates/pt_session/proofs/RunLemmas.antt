@@ -9,7 +9,7 @@ use Rattle.pt_base.specs.declared.what.What.TheVariants.{Feature}
 use Rattle.pt_tree.specs.declared.expression.Constant.{Constant}
 use Rattle.pt_tree.specs.declared.expression.Constant.TheVariants as constant
 use Rattle.pt_control.specs.Turn as T
-use Rattle.pt_control.specs.Turn.{Ask, Seek, Deed, Operation, Role, Variable, seek, deed, Answer, Reply, End, gave, Turn, act, over, const, load, operate, store, discard}
+use Rattle.pt_control.specs.Turn.{Ask, Seek, Deed, Operation, Role, Scope, Variable, seek, deed, Answer, Reply, End, gave, Turn, act, over, const, load, operate, store, discard}
 use Rattle.pt_meaning.specs.declared.value.Value.{Value}
 use Rattle.pt_meaning.specs.declared.value.Value.TheVariants as value
 use Rattle.pt_meaning.specs.Run.{Outcome, goes, leaves, Ending, ended, outside, spent, on_outcome}
@@ -56,9 +56,9 @@ valued_on constant.None w r w' e = absurd (cc)
 valued_on (constant.Bool b) w r w' e = absurd (cc)
 valued_on constant.Ellipsis w r w' e = absurd (cc)
 
-named_on : (ns : List ℕ) (x : List ℕ) (w : World) (r : Reply Value Value) (w' : World) → named ns x w ≡ goes r w' → Grows w w'
-named_on [] x w r w' e = stays w w' (given_on _ w r w' e)
-named_on (n ∷ ns) x w r w' e = absurd (cc)
+named_on : (s : Scope) (x : List ℕ) (w : World) (r : Reply Value Value) (w' : World) → named s x w ≡ goes r w' → Grows w w'
+named_on T.global x w r w' e = stays w w' (given_on _ w r w' e)
+named_on s x w r w' e = absurd (cc)
 
 plain_on : (b : Bool) (f : Value) (vs : List Value) (w : World) (r : Reply Value Value) (w' : World) → (if b then called f vs w else leaves Feature) ≡ goes r w' → Grows w w'
 plain_on true f vs w r w' e = called_on f vs w r w' e
@@ -71,17 +71,18 @@ operated_on o vs w r w' e = absurd (cc)
 
 sought_on : (a : Seek Value) (w : World) (r : Reply Value Value) (w' : World) → sought a w ≡ goes r w' → Grows w w'
 sought_on (const k) w r w' e = valued_on k w r w' e
-sought_on (load x) w r w' e = named_on x.within x.name w r w' e
+sought_on (load x) w r w' e = named_on x.scope x.name w r w' e
 sought_on (operate o vs) w r w' e = operated_on o vs w r w' e
 sought_on (T.yielding v) w r w' e = absurd (cc)
+sought_on (T.cell_of x) w r w' e = absurd (cc)
 
 -- binding a name writes nothing
-bound_on : (ns : List ℕ) (x : List ℕ) (v : Value) (w : World) (r : Reply Value (Unit {0})) (w' : World) → H.bound ns x v w ≡ goes r w' → Grows w w'
-bound_on [] x v w r w' e = ([], ap (λ u. u.written) (sym (same_goes _ r _ w' e).1) ∙ sym (append-nil w.written))
-bound_on (n ∷ ns) x v w r w' e = absurd (cc)
+bound_on : (s : Scope) (x : List ℕ) (v : Value) (w : World) (r : Reply Value (Unit {0})) (w' : World) → H.bound s x v w ≡ goes r w' → Grows w w'
+bound_on T.global x v w r w' e = ([], ap (λ u. u.written) (sym (same_goes _ r _ w' e).1) ∙ sym (append-nil w.written))
+bound_on s x v w r w' e = absurd (cc)
 
 deed_on : (a : Deed Value) (w : World) (r : Reply Value (Unit {0})) (w' : World) → done_by a w ≡ goes r w' → Grows w w'
-deed_on (store x v) w r w' e = bound_on x.within x.name v w r w' e
+deed_on (store x v) w r w' e = bound_on x.scope x.name v w r w' e
 deed_on (discard v) w r w' e = stays w w' (same_goes _ r w w' e).1
 deed_on a w r w' e = absurd (cc)
 

@@ -3,7 +3,7 @@ use Rattle.std.specs.Prelude.{◌≡◌, ℕ, zero, suc, ◌==◌, List, [], ◌
 use Rattle.pt_base.specs.declared.what.What.{What}
 use Rattle.pt_tree.specs.Syntax.{Stms}
 use Rattle.pt_control.specs.Turn as T
-use Rattle.pt_control.specs.Turn.{Mark, variable, Role, const, load, operate, store, discard, Ask, Answer, seek, deed, Reply, got, raised, End, gave, left_by, Turn, act, over, stuck}
+use Rattle.pt_control.specs.Turn.{Mark, Variable, Role, const, load, operate, store, discard, Ask, Answer, seek, deed, Reply, got, raised, End, gave, left_by, Turn, act, over, stuck}
 use Rattle.pt_meaning.specs.Run.{goes, leaves, Host, Ending, ended, outside, spent, meaning}
 use Rattle.pt_session.specs.View as view
 use Rattle.pt_session.specs.View.{Op, Ins, Laid}
@@ -26,11 +26,15 @@ abbrev pub all_plain : ℕ → List Role
 all_plain zero = []
 all_plain (suc n) = T.positional ∷ all_plain n
 
+-- a name of the module
+abbrev pub of_module : (x : List ℕ) → Variable
+of_module x = record { scope = T.global; name = x }
+
 -- an operation takes its slots and asks; it is stuck where one is missing
 abbrev pub do_op : {V : Type 0} → Op → Ins → List V → Turn (State V) V
 do_op (view.const k) i ss = act (Some i.mark) (seek (const k)) (after_value i ss)
-do_op (view.load x) i ss = act (Some i.mark) (seek (load (variable x []))) (after_value i ss)
-do_op (view.store x) i (v ∷ ss) = act (Some i.mark) (deed (store (variable x []) v)) (after_deed i ss)
+do_op (view.load x) i ss = act (Some i.mark) (seek (load (of_module x))) (after_value i ss)
+do_op (view.store x) i (v ∷ ss) = act (Some i.mark) (deed (store (of_module x) v)) (after_deed i ss)
 do_op view.pop i (v ∷ ss) = act (Some i.mark) (deed (discard v)) (after_deed i ss)
 do_op (view.binary o) i (b ∷ a ∷ ss) = act (Some i.mark) (seek (operate (T.binary o) (a ∷ b ∷ []))) (after_value i ss)
 do_op (view.call (suc zero)) i (a ∷ f ∷ ss) = act (Some i.mark) (seek (operate (T.call (all_plain 1)) (f ∷ a ∷ []))) (after_value i ss)
