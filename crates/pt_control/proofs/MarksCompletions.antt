@@ -67,21 +67,21 @@ module _ (R : Numbering) {V : Type 0} where
   within_in [] s h hs = hs
   within_in (f ∷ fs) s (h, r) hs = (h, within_in fs s r hs)
 
-module _ (R : Numbering) {V : Type 0} (A : Around V) where
-  follow_in : (w : Follows V) (s : Nest V) (k : Control V) → Follows_in R w → Nest_in R s → Control_in R k → Control_in R (follow A w s k)
+module _ (R : Numbering) {V : Type 0} (block : Around V) where
+  follow_in : (w : Follows V) (s : Nest V) (k : Control V) → Follows_in R w → Nest_in R s → Control_in R k → Control_in R (follow block w s k)
   follow_in (P.outwards c) s k h hs hk = hk
   follow_in (P.lets_go c) s k h hs hk = pass_on_in R c s k hs hk
-  follow_in (P.begins n ss within c) s k (h, hw) hs hk = begin_all_in R A ss n (within ++ s) _ h (within_in R within s hw hs) (pass_on_in R c s k hs hk)
-  follow_in (P.tests_again l n c body els) s k h hs hk = begin_test_in R A l n _ c body els s h hs
-  follow_in (P.takes_next l n i t body els) s k h hs hk = begin_next_in R A l n _ i t body els s h hs
-  follow_in (P.tries n hds v) s k h hs hk = begin_tests_in R A n hds n v s _ h hs (pass_on_in R (by (raise v)) s k hs hk)
+  follow_in (P.begins n ss within c) s k (h, hw) hs hk = begin_all_in R block ss n (within ++ s) _ h (within_in R within s hw hs) (pass_on_in R c s k hs hk)
+  follow_in (P.tests_again l n c body els) s k h hs hk = begin_test_in R block l n _ c body els s h hs
+  follow_in (P.takes_next l n i t body els) s k h hs hk = begin_next_in R block l n _ i t body els s h hs
+  follow_in (P.tries n hds v) s k h hs hk = begin_tests_in R block n hds n v s _ h hs (pass_on_in R (by (raise v)) s k hs hk)
   follow_in (P.unbinds x c) s k h hs hk = (hs, hs)
   follow_in (P.exits l n w c) s k h hs hk = ((h, no_test R n), hs, hs, (tt, hs))
 
-  pub complete_in : (c : Completion V) (s : Nest V) → Nest_in R s → Control_in R (complete A c s)
+  pub complete_in : (c : Completion V) (s : Nest V) → Nest_in R s → Control_in R (complete block c s)
   complete_in c [] h = tt
   complete_in c (f ∷ s) (h, hs) =
-      follow_in (row c f) s (complete A (onward (row c f)) s) (row_in R c f h) hs (complete_in (onward (row c f)) s hs)
+      follow_in (row c f) s (complete block (onward (row c f)) s) (row_in R c f h) hs (complete_in (onward (row c f)) s hs)
 
-  pub let_go_in : (c : Completion V) (s : Nest V) → Nest_in R s → Control_in R (let_go A c s)
+  pub let_go_in : (c : Completion V) (s : Nest V) → Nest_in R s → Control_in R (let_go block c s)
   let_go_in c s h = pass_on_in R c s _ h (complete_in c s h)

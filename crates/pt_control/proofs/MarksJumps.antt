@@ -162,15 +162,15 @@ module _ (code : Code) {V : Type 0} (line : ℕ) (p : Nest V) where
   jump_in : (k : Way V) → jump code p line ≡ lands k → Way_in R k
   jump_in k e = target_in (on_line line (starts_of code)) k refl e
 
-pub marks_behind_jumps : {V : Type 0} (A : Around V) (code : Code) (p : Nest V) (line : ℕ) (k : Way V) (d : Control V)
-    → jump code p line ≡ lands k → Reaches A (go A k) d → IsRow (acts_of_code code) A d
-marks_behind_jumps A code p line k d jumped reached =
+pub marks_behind_jumps : {V : Type 0} (block : Around V) (code : Code) (p : Nest V) (line : ℕ) (k : Way V) (d : Control V)
+    → jump code p line ≡ lands k → Reaches block (go block k) d → IsRow (acts_of_code code) block d
+marks_behind_jumps block code p line k d jumped reached =
     let R = numbering (acts_of_code code) in
-    next_row (acts_of_code code) A d (reaches_in R A _ d (go_in R A k (jump_in code line p k jumped)) reached)
+    next_row (acts_of_code code) block d (reaches_in R block _ d (go_in R block k (jump_in code line p k jumped)) reached)
 
-pub marks_behind_raises : {V : Type 0} (A : Around V) (code : Code) (p : Nest V) (line : ℕ) (k : Way V) (v : V) (d : Control V)
-    → jump code p line ≡ lands k → Reaches A (complete A (by (raise v)) (way_base k)) d → IsRow (acts_of_code code) A d
-marks_behind_raises A code p line k v d jumped reached =
+pub marks_behind_raises : {V : Type 0} (block : Around V) (code : Code) (p : Nest V) (line : ℕ) (k : Way V) (v : V) (d : Control V)
+    → jump code p line ≡ lands k → Reaches block (complete block (by (raise v)) (way_base k)) d → IsRow (acts_of_code code) block d
+marks_behind_raises block code p line k v d jumped reached =
     let R = numbering (acts_of_code code) in
-    next_row (acts_of_code code) A d
-    (reaches_in R A _ d (complete_in R A (by (raise v)) (way_base k) (way_base_in R k (jump_in code line p k jumped))) reached)
+    next_row (acts_of_code code) block d
+    (reaches_in R block _ d (complete_in R block (by (raise v)) (way_base k) (way_base_in R k (jump_in code line p k jumped))) reached)

@@ -21,22 +21,22 @@ abbrev pub pass_on : {V : Type 0} → Completion V → Nest V → (after : Contr
 pass_on (by (raise v)) s after = noting (raised_again v) (F.raises v s) s
 pass_on c s after = after
 
-module _ {V : Type 0} (A : Around V) where
+module _ {V : Type 0} (block : Around V) where
   -- how a block ends that a completion leaves
   abbrev pub end_of : Completion V → End V
   end_of (by (raise v)) = left_by v
   end_of (by (return v)) = gave v
-  end_of c = gave A.null
+  end_of c = gave block.null
 
   -- what follows, in the nest around the frame; `after` is where the completion that goes on comes to
   abbrev pub follow : Follows V → Nest V → (after : Control V) → Control V
   follow (T.outwards c) s after = after
   follow (T.lets_go c) s after = pass_on c s after
-  follow (T.begins n ss within c) s after = begin_all A ss n (within ++ s) (pass_on c s after)
-  follow (T.tests_again l n c body els) s after = begin_test A l n true c body els s
-  follow (T.takes_next l n i t body els) s after = begin_next A l n true i t body els s
-  follow (T.tries n hs v) s after = begin_tests A n hs n v s (pass_on (by (raise v)) s after)
-  follow (T.unbinds x c) s after = silent_deed (store (A.variable [] x) A.null) (F.unbinds x c s) s
+  follow (T.begins n ss within c) s after = begin_all block ss n (within ++ s) (pass_on c s after)
+  follow (T.tests_again l n c body els) s after = begin_test block l n true c body els s
+  follow (T.takes_next l n i t body els) s after = begin_next block l n true i t body els s
+  follow (T.tries n hs v) s after = begin_tests block n hs n v s (pass_on (by (raise v)) s after)
+  follow (T.unbinds x c) s after = silent_deed (store (block.variable [] x) block.null) (F.unbinds x c s) s
   follow (T.exits l n w c) s after =
       for_truth (mark n l false) (exit_of w (raise_of c)) (F.lets_go (swallowed c) s) (F.lets_go c s) (exiting n w c ∷ s)
 

@@ -47,5 +47,5 @@ number_of (T.act (Some m) a k) = Some m.act
 number_of t = None
 
 -- the act that comes next if nothing is raised; none where the block ends
-abbrev pub destination : {V : Type 0} → (A : Around V) → Control V → Option ℕ
-destination A c = number_of (turn A (unhindered A c (most_silent A c)))
+abbrev pub destination : {V : Type 0} → (block : Around V) → Control V → Option ℕ
+destination block c = number_of (turn block (unhindered block c (most_silent block c)))

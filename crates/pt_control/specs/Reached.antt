@@ -100,16 +100,16 @@ HasRow rows kind (T.act (Some m) a next) = (row : ActRow) × (slice_get rows m.a
 HasRow rows kind t = Unit {0}
 
 -- where an act is next, the row with its number is for it
-abbrev pub IsRow : {V : Type 0} → List ActRow → (A : Around V) → Control V → Type 0
-IsRow rows A c = HasRow rows (kind_of c) (turn A c)
+abbrev pub IsRow : {V : Type 0} → List ActRow → (block : Around V) → Control V → Type 0
+IsRow rows block c = HasRow rows (kind_of c) (turn block c)
 
 -- where the code of a block begins; a generator expression's has its first iterator
-abbrev pub start_code : {V : Type 0} (A : Around V) → Code → (first : V) → Control V
-start_code A (B.of_module ss) i = start A ss
-start_code A (B.of_function ss) i = start A (function_body ss)
-start_code A (B.of_class ss) i = start A ss
-start_code A (B.of_lambda l e) i = start_lambda A l e
-start_code A (B.of_generator l e k t cs) i = start_generator A l e k t cs i
+abbrev pub start_code : {V : Type 0} (block : Around V) → Code → (first : V) → Control V
+start_code block (B.of_module ss) i = start block ss
+start_code block (B.of_function ss) i = start block (function_body ss)
+start_code block (B.of_class ss) i = start block ss
+start_code block (B.of_lambda l e) i = start_lambda block l e
+start_code block (B.of_generator l e k t cs) i = start_generator block l e k t cs i
 
 -- by some reply to an ask or a note, a state comes next
 abbrev pub Leads : {S V : Type 0} → Turn S V → S → Type 0
@@ -119,9 +119,9 @@ Leads (T.move t) s = t ≡ s
 Leads t s = ⊥
 
 -- by turns, each with any reply
-pub data Reaches {V : Type 0} (A : Around V) (c : Control V) : Control V → Type 0 where
-  here : Reaches A c c
-  then : {d e : Control V} → Reaches A c d → Leads (turn A d) e → Reaches A c e
+pub data Reaches {V : Type 0} (block : Around V) (c : Control V) : Control V → Type 0 where
+  here : Reaches block c c
+  then : {d e : Control V} → Reaches block c d → Leads (turn block d) e → Reaches block c e
 
 -- an act with this number is next
 abbrev pub IsAt : {S V : Type 0} → Turn S V → ℕ → Type 0
@@ -129,5 +129,5 @@ IsAt (T.act (Some m) a next) n = m.act ≡ n
 IsAt t n = ⊥
 
 -- with some replies an act with this number comes
-abbrev pub Meets : {V : Type 0} (A : Around V) → Control V → ℕ → Type 0
-Meets {V = V} A c n = (d : Control V) × Reaches A c d × IsAt (turn A d) n
+abbrev pub Meets : {V : Type 0} (block : Around V) → Control V → ℕ → Type 0
+Meets {V = V} block c n = (d : Control V) × Reaches block c d × IsAt (turn block d) n

@@ -48,12 +48,12 @@ name_or x (Some y) = y
 abbrev pub bound_name : Alias → Name
 bound_name a = name_or a.name a.alias
 
-module _ {V : Type 0} (A : Around V) where
+module _ {V : Type 0} (block : Around V) where
   -- a value goes to a target, and then on
   abbrev pub begin_store : Tgt → V → (n : ℕ) → Way V → Control V
-  begin_store (S.single (S.name_at l x)) v n k = for_deed (mark n l false) (store (A.variable (around_way k) x) v) k (way_base k)
-  begin_store (S.single (S.attribute_at l a x)) v n k = begin_exp A a n false (F.set_attribute_of l (n + size a) x v k)
-  begin_store (S.single (S.item_at l a i)) v n k = begin_exp A a n false (F.set_item_of l (n + size a) i v k)
+  begin_store (S.single (S.name_at l x)) v n k = for_deed (mark n l false) (store (block.variable (around_way k) x) v) k (way_base k)
+  begin_store (S.single (S.attribute_at l a x)) v n k = begin_exp block a n false (F.set_attribute_of l (n + size a) x v k)
+  begin_store (S.single (S.item_at l a i)) v n k = begin_exp block a n false (F.set_item_of l (n + size a) i v k)
   begin_store (S.several l f ts) v n k = for_unpack (mark n l false) v (n + 1) ts k (way_base k)
   begin_store (S.starred l t) v n k = begin_store t v n k
 
@@ -69,9 +69,9 @@ module _ {V : Type 0} (A : Around V) where
 
   -- 7.5
   abbrev pub begin_delete : Place → (n : ℕ) → Way V → Control V
-  begin_delete (S.name_at l x) n k = for_deed (mark n l false) (delete (A.variable [] x)) k (way_base k)
-  begin_delete (S.attribute_at l a x) n k = begin_exp A a n false (F.delete_attribute_of l (n + size a) x k)
-  begin_delete (S.item_at l a i) n k = begin_exp A a n false (F.delete_item_of l (n + size a) i k)
+  begin_delete (S.name_at l x) n k = for_deed (mark n l false) (delete (block.variable [] x)) k (way_base k)
+  begin_delete (S.attribute_at l a x) n k = begin_exp block a n false (F.delete_attribute_of l (n + size a) x k)
+  begin_delete (S.item_at l a i) n k = begin_exp block a n false (F.delete_item_of l (n + size a) i k)
 
   abbrev pub begin_deletes : List Place → (n : ℕ) → Nest V → (after : Control V) → Control V
   begin_deletes [] n s after = after
@@ -79,31 +79,31 @@ module _ {V : Type 0} (A : Around V) where
 
   -- 7.2.1: a target is evaluated once, its present value before the other operand
   abbrev pub begin_change : (l : ℕ) → Place → (n : ℕ) → BinOp → Exp → Nest V → Control V
-  begin_change l (S.name_at k x) n o e s = for_value (mark n k false) (load (A.variable [] x)) (F.changing l (n + 1) k (F.a_name x) o e s)
-  begin_change l (S.attribute_at k a x) n o e s = begin_exp A a n false (F.change_attribute_of l (n + size a) k x o e s)
-  begin_change l (S.item_at k a i) n o e s = begin_exp A a n false (F.change_item_of l (n + size a) k i o e s)
+  begin_change l (S.name_at k x) n o e s = for_value (mark n k false) (load (block.variable [] x)) (F.changing l (n + 1) k (F.a_name x) o e s)
+  begin_change l (S.attribute_at k a x) n o e s = begin_exp block a n false (F.change_attribute_of l (n + size a) k x o e s)
+  begin_change l (S.item_at k a i) n o e s = begin_exp block a n false (F.change_item_of l (n + size a) k i o e s)
 
   -- 7.11
   abbrev pub begin_imports : (l n : ℕ) → List Alias → Nest V → (after : Control V) → Control V
   begin_imports l n [] s after = after
-  begin_imports l n (a ∷ as') s after = for_value (mark n l false) (operate (T.import (A.spelled a.name)) []) (F.imported l (n + 1) (bound_name a) as' s)
+  begin_imports l n (a ∷ as') s after = for_value (mark n l false) (operate (T.import (block.spelled a.name)) []) (F.imported l (n + 1) (bound_name a) as' s)
 
   abbrev pub begin_imports_from : (l n : ℕ) → List Alias → (origin : V) → Nest V → (after : Control V) → Control V
   begin_imports_from l n [] m s after = after
   begin_imports_from l n (a ∷ as') m s after =
-      for_value (mark n l false) (operate (T.import_name (A.spelled a.name)) (m ∷ [])) (F.imported_name l (n + 1) (bound_name a) as' m s)
+      for_value (mark n l false) (operate (T.import_name (block.spelled a.name)) (m ∷ [])) (F.imported_name l (n + 1) (bound_name a) as' m s)
 
   -- 8.7, 8.8: what is decorated is made behind the decorators, which are then called, the last first
   abbrev pub begin_definition : (l n : ℕ) → Name → Definition → List (Decorating V) → Nest V → Control V
-  begin_definition l n x (a_function b ps) calls s = begin_function A b ps l n (F.defined l (n + params_size ps + 1) x calls s)
-  begin_definition l n x (a_class b S.absent) calls s = begin_operation A (A.captured b) l n false (T.class b) (A.null ∷ []) (F.defined l (n + 1) x calls s)
+  begin_definition l n x (a_function b ps) calls s = begin_function block b ps l n (F.defined l (n + params_size ps + 1) x calls s)
+  begin_definition l n x (a_class b S.absent) calls s = begin_operation block (block.captured b) l n false (T.class b) (block.null ∷ []) (F.defined l (n + 1) x calls s)
   begin_definition l n x (a_class b (S.given e)) calls s =
-      begin_exp A e n false (F.operands l (n + size e) (T.class b) [] [] (F.defined l (n + size e + 1) x calls s))
+      begin_exp block e n false (F.operands l (n + size e) (T.class b) [] [] (F.defined l (n + size e + 1) x calls s))
 
   -- 8.2: the test of a `while`
   abbrev pub begin_test : (l n : ℕ) → (is_retest : Bool) → Exp → (body els : Stms) → Nest V → Control V
   begin_test l n g c body els s =
-      begin_exp A c n g
+      begin_exp block c n g
       (F.asked l (n + size c) (F.stms (tested_body n c) body (F.looping l n c body els ∷ s)) (F.stms (behind_body n c body) els s))
 
   -- 8.3: the next item of a `for`
@@ -114,38 +114,38 @@ module _ {V : Type 0} (A : Around V) where
   abbrev mutual
     -- a statement begins in a nest; where it has no act, control goes on with `after`
     pub begin_stm : Stm → (n : ℕ) → Nest V → (after : Control V) → Control V
-    begin_stm (S.expr l e) n s after = begin_exp A e n false (F.dropped l (n + size e) s)
-    begin_stm (S.assign l ts e) n s after = begin_exp A e n false (F.assigned (n + size e) ts s)
+    begin_stm (S.expr l e) n s after = begin_exp block e n false (F.dropped l (n + size e) s)
+    begin_stm (S.assign l ts e) n s after = begin_exp block e n false (F.assigned (n + size e) ts s)
     begin_stm (S.augmented l p o e) n s after = begin_change l p n o e s
     begin_stm (S.annotated l p a S.absent) n s after = for_deed (mark n l false) nothing (F.finished s) s
-    begin_stm (S.annotated l p a (S.given e)) n s after = begin_exp A e n false (F.assigned (n + size e) (S.more_targets (S.single p) S.no_targets) s)
-    begin_stm (S.assert l c m) n s after = begin_exp A c n false (F.asked l (n + size c) (F.finished s) (F.failed l (n + size c + 1) m s))
+    begin_stm (S.annotated l p a (S.given e)) n s after = begin_exp block e n false (F.assigned (n + size e) (S.more_targets (S.single p) S.no_targets) s)
+    begin_stm (S.assert l c m) n s after = begin_exp block c n false (F.asked l (n + size c) (F.finished s) (F.failed l (n + size c + 1) m s))
     begin_stm (S.pass l) n s after = for_deed (mark n l false) nothing (F.finished s) s
     begin_stm (S.del l ts) n s after = begin_deletes (all_places ts) n s after
-    begin_stm (S.return l S.absent) n s after = for_leave (mark n l false) (return A.null) s
-    begin_stm (S.return l (S.given e)) n s after = begin_exp A e n false (F.returned_by l (n + size e) s)
-    begin_stm (S.raise l e c) n s after = begin_exp A e n false (F.thrown l (n + size e) c s)
+    begin_stm (S.return l S.absent) n s after = for_leave (mark n l false) (return block.null) s
+    begin_stm (S.return l (S.given e)) n s after = begin_exp block e n false (F.returned_by l (n + size e) s)
+    begin_stm (S.raise l e c) n s after = begin_exp block e n false (F.thrown l (n + size e) c s)
     begin_stm (S.raise_again l) n s after = for_throw (mark n l false) raising_again s
     begin_stm (S.break l) n s after = for_leave (mark n l false) break s
     begin_stm (S.continue l) n s after = for_leave (mark n l false) continue s
     begin_stm (S.import l xs) n s after = begin_imports l n xs s after
-    begin_stm (S.import_from l m xs) n s after = for_value (mark n l false) (operate (T.import (A.spelled m)) []) (F.imported_origin l (n + 1) xs s)
+    begin_stm (S.import_from l m xs) n s after = for_value (mark n l false) (operate (T.import (block.spelled m)) []) (F.imported_origin l (n + 1) xs s)
     begin_stm (S.global l xs) n s after = after
     begin_stm (S.nonlocal l xs) n s after = after
     begin_stm (S.choice l S.no_branches els) n s after = begin_all els n s after
     begin_stm (S.choice l (S.branch k c body r) els) n s after =
-        begin_exp A c n false (F.asked k (n + size c) (F.stms (tested_body n c) body s) (F.branches (behind_body n c body) r els s))
+        begin_exp block c n false (F.asked k (n + size c) (F.stms (tested_body n c) body s) (F.branches (behind_body n c body) r els s))
     begin_stm (S.while l c body els) n s after = begin_test l n false c body els s
-    begin_stm (S.for l t it body els) n s after = begin_exp A it n false (F.iterated l (n + size it) (F.for_over l (n + size it + 1) t body els s))
+    begin_stm (S.for l t it body els) n s after = begin_exp block it n false (F.iterated l (n + size it) (F.for_over l (n + size it + 1) t body els s))
     begin_stm (S.try l body hs els fin) n s after =
         for_deed (mark n l false) nothing
         (F.stms (n + 1) body (F.guarded (try_handlers n body) hs els ∷ F.ensuring n (try_finally n body hs els) fin ∷ s)) s
     begin_stm (S.with l S.no_items body) n s after = begin_all body n s after
-    begin_stm (S.with l (S.with_item k e t r) body) n s after = begin_exp A e n false (F.entered k (n + size e) t r body s)
+    begin_stm (S.with l (S.with_item k e t r) body) n s after = begin_exp block e n false (F.entered k (n + size e) t r body s)
     begin_stm (S.def l S.no_decorators k b x ps a body) n s after = begin_definition k n x (a_function b ps) [] s
-    begin_stm (S.def l (S.decorator j e r) k b x ps a body) n s after = begin_exp A e n false (F.decorated j (n + size e) [] r k x (a_function b ps) s)
+    begin_stm (S.def l (S.decorator j e r) k b x ps a body) n s after = begin_exp block e n false (F.decorated j (n + size e) [] r k x (a_function b ps) s)
     begin_stm (S.class l S.no_decorators k b x base body) n s after = begin_definition k n x (a_class b base) [] s
-    begin_stm (S.class l (S.decorator j e r) k b x base body) n s after = begin_exp A e n false (F.decorated j (n + size e) [] r k x (a_class b base) s)
+    begin_stm (S.class l (S.decorator j e r) k b x base body) n s after = begin_exp block e n false (F.decorated j (n + size e) [] r k x (a_class b base) s)
     begin_stm (S.docstring l) n s after = after
 
     -- statements begin, each in front of the rest
@@ -157,12 +157,12 @@ module _ {V : Type 0} (A : Around V) where
   abbrev pub begin_branches : Branches → (els : Stms) → (n : ℕ) → Nest V → (after : Control V) → Control V
   begin_branches S.no_branches els n s after = begin_all els n s after
   begin_branches (S.branch k c body r) els n s after =
-      begin_exp A c n false (F.asked k (n + size c) (F.stms (tested_body n c) body s) (F.branches (behind_body n c body) r els s))
+      begin_exp block c n false (F.asked k (n + size c) (F.stms (tested_body n c) body s) (F.branches (behind_body n c body) r els s))
 
   -- 8.5: the next item of a `with`, or its body
   abbrev pub begin_items : Items → (body : Stms) → (n : ℕ) → Nest V → (after : Control V) → Control V
   begin_items S.no_items body n s after = begin_all body n s after
-  begin_items (S.with_item k e t r) body n s after = begin_exp A e n false (F.entered k (n + size e) t r body s)
+  begin_items (S.with_item k e t r) body n s after = begin_exp block e n false (F.entered k (n + size e) t r body s)
 
   -- 8.4.1: a handler binds its name, if it has one, and runs; n numbers its Match
   abbrev pub handler_way : (l n : ℕ) → Option Name → (body : Stms) → (exception : V) → Nest V → Way V
@@ -173,7 +173,7 @@ module _ {V : Type 0} (A : Around V) where
   abbrev pub begin_tests : (k : ℕ) → Handlers → (n : ℕ) → (exception : V) → Nest V → (none_left : Control V) → Control V
   begin_tests k S.no_handlers n e s none_left = none_left
   begin_tests k (S.handler l S.absent x body r) n e s none_left =
-      for_truth (mark n l false) (T.matches e A.null) (handler_way l n x body e s) (F.tests k (handler_body n x + stms_size body) r e s) (F.testing k e ∷ s)
+      for_truth (mark n l false) (T.matches e block.null) (handler_way l n x body e s) (F.tests k (handler_body n x + stms_size body) r e s) (F.testing k e ∷ s)
   begin_tests k (S.handler l (S.given c) x body r) n e s none_left =
-      begin_exp A c n false
+      begin_exp block c n false
       (F.matched l k (n + size c) e (handler_way l (n + size c) x body e s) (F.tests k (handler_body (n + size c) x + stms_size body) r e s))

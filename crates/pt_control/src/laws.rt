@@ -17,23 +17,23 @@ ghost use Rattle.pt_control.specs.Turn.{Around, move, stuck};
 
 /// Control always knows what is next: an ask, a note, or the end of the block.
 pub fn turns_are_never_stuck<V>()
-    ensures never_stuck { (A : Around V) (c : Control V) → turn A c ≡ stuck → ⊥ }
-    ensures never_moves { (A : Around V) (c d : Control V) → turn A c ≡ move d → ⊥ }
+    ensures never_stuck { (block : Around V) (c : Control V) → turn block c ≡ stuck → ⊥ }
+    ensures never_moves { (block : Around V) (c d : Control V) → turn block c ≡ move d → ⊥ }
 {}
 
 /// Whatever the replies, each act that control comes to in a block has the kind and the line of the
 /// block's row with its number, and a re-test begins with it only where the row says so.
 #[tactic(auto, using(crate::proofs::MarksLaw::marks_are_rows))]
 pub fn each_mark_is_its_row<V>()
-    ensures { (A : Around V) (code : Code) (first : V) (c : Control V) → Reaches A (start_code A code first) c → IsRow (acts_of_code code) A c }
+    ensures { (block : Around V) (code : Code) (first : V) (c : Control V) → Reaches block (start_code block code first) c → IsRow (acts_of_code code) block c }
 {}
 
 /// From where a jump lands too, whatever the replies, and from a raise that comes before the target's
 /// statement begins, each act has the kind and the line of the block's row with its number.
 #[tactic(auto, using(crate::proofs::MarksJumps::marks_behind_jumps, crate::proofs::MarksJumps::marks_behind_raises))]
 pub fn each_mark_behind_a_jump_is_its_row<V>()
-    ensures goes { (A : Around V) (code : Code) (place : Nest V) (line : ℕ) (k : Way V) (d : Control V) → jump code place line ≡ lands k → Reaches A (go A k) d → IsRow (acts_of_code code) A d }
-    ensures raised { (A : Around V) (code : Code) (place : Nest V) (line : ℕ) (k : Way V) (v : V) (d : Control V) → jump code place line ≡ lands k → Reaches A (complete A (by (raise v)) (way_base k)) d → IsRow (acts_of_code code) A d }
+    ensures goes { (block : Around V) (code : Code) (place : Nest V) (line : ℕ) (k : Way V) (d : Control V) → jump code place line ≡ lands k → Reaches block (go block k) d → IsRow (acts_of_code code) block d }
+    ensures raised { (block : Around V) (code : Code) (place : Nest V) (line : ℕ) (k : Way V) (v : V) (d : Control V) → jump code place line ≡ lands k → Reaches block (complete block (by (raise v)) (way_base k)) d → IsRow (acts_of_code code) block d }
 {}
 
 /// In a block where each statement can be reached, as far as the forms of statements tell, each row
@@ -41,7 +41,7 @@ pub fn each_mark_behind_a_jump_is_its_row<V>()
 /// expression each row always is.
 #[tactic(auto, using(crate::proofs::MarksMetLaw::rows_are_met))]
 pub fn each_row_is_met<V>()
-    ensures { (A : Around V) (code : Code) (first : V) → Code_reached code → (n : ℕ) → n < length (acts_of_code code) → Meets A (start_code A code first) n }
+    ensures { (block : Around V) (code : Code) (first : V) → Code_reached code → (n : ℕ) → n < length (acts_of_code code) → Meets block (start_code block code first) n }
 {}
 
 /// Statements that can be reached, and two that cannot: one behind a `return`, and a handler of a
@@ -56,11 +56,11 @@ pub fn statements_are_reached()
     ensures nothing_to_catch { (l : ℕ) (xs : List Name) → All_reached (more (try l (more (global l xs) none) (handler l absent None none no_handlers) none none) none) → ⊥ }
 {}
 
-/// A completion that leaves a block closes it, and one that is passed to a frame goes the way of the
+/// block completion that leaves a block closes it, and one that is passed to a frame goes the way of the
 /// table's row.
 pub fn completions_go_the_ways_of_the_table<V>()
-    ensures leaves { (A : Around V) (c : Completion V) → complete A c [] ≡ closed (end_of A c) }
-    ensures goes_on { (A : Around V) (c : Completion V) (f : Frame V) (s : Nest V) → complete A c (f ∷ s) ≡ follow A (row c f) s (complete A (onward (row c f)) s) }
+    ensures leaves { (block : Around V) (c : Completion V) → complete block c [] ≡ closed (end_of block c) }
+    ensures goes_on { (block : Around V) (c : Completion V) (f : Frame V) (s : Nest V) → complete block c (f ∷ s) ≡ follow block (row c f) s (complete block (onward (row c f)) s) }
 {}
 
 /// Behind a permitted jump there is a nest of the shape that the target has by the syntax, and each
