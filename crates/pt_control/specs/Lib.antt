@@ -15,3 +15,4 @@ pub mod Jump
 pub mod ClosedParts
 pub mod Reached
 pub mod Endings
+pub mod Laws
