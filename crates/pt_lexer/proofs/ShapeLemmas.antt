@@ -13,6 +13,7 @@ use Rattle.pt_literals.specs.declared.strings.Delimiter.{Delimiter}
 use Rattle.pt_literals.specs.declared.strings.StringKind.{StringKind}
 use Rattle.pt_literals.specs.declared.strings.StringKind.TheVariants.{Plain, Raw, Bytes, Format, RawFormat}
 use Rattle.pt_lexer.specs.declared.token.Column.{Column}
+use Rattle.pt_base.specs.declared.failure.Failure.{Failure}
 use Rattle.pt_literals.specs.declared.token.LexErr.{LexErr}
 use Rattle.pt_literals.specs.declared.token.Lexeme.{Lexeme}
 use Rattle.pt_literals.specs.declared.token.Token.{Token}
@@ -224,6 +225,6 @@ lines_rise {end = end} p (full {stop = stop} {w = w} {ws = ws} {ks = ks} b t a d
 tokens_well : (bytes : List ℕ) (all : List Token) → IsTokens bytes all → IsWellFormed all 0 false × PlacesRise 0 all
 tokens_well bytes all l = (lines_well l, lines_rise 0 l (rises_whole bytes) (omega arith))
 
-pub shape_of : (bytes : List ℕ) (r : Result (List Token) LexErr) → Exact bytes r → IfOk r (λ all. IsWellFormed all 0 false × PlacesRise 0 all)
+pub shape_of : (bytes : List ℕ) (r : Result (List Token) (Failure LexErr)) → Exact bytes r → IfOk r (λ all. IsWellFormed all 0 false × PlacesRise 0 all)
 shape_of bytes (Ok all) h = tokens_well bytes all h
 shape_of bytes (Err e) h = tt
