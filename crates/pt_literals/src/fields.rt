@@ -1,10 +1,10 @@
 ghost use Rattle.std.specs.Prelude.{◌≡◌, IfOk, MatchResult};
 ghost use Rattle.pt_base.specs.Failures.{IfRefused};
-ghost use Rattle.pt_literals.specs.Literals.{IsBegun, faulty, known, or_else, goes_on_name as name_goes_on, is_name_a as names_a, begins_by as begins_with, conversion as conversion_of, field_sign as field_sign_of, field_sign_at as field_sign_begun, is_brace as brace_char, is_single as single_brace, brace_in_text as text_brace, brace_in_spec as spec_brace, text_at as text_begun, spec_at as spec_begun, number_at as number_begun, string_at as string_begun, literal as literal_in, sign as sign_of};
+ghost use Rattle.pt_literals.specs.Literals.{IsBegun, faulty, known, or_else, goes_on_name as name_goes_on, begins_line_end as line_end_begins, is_name_a as names_a, begins_by as begins_with, conversion as conversion_of, field_sign as field_sign_of, field_sign_at as field_sign_begun, is_brace as brace_char, is_single as single_brace, brace_in_text as text_brace, brace_in_spec as spec_brace, text_at as text_begun, spec_at as spec_begun, number_at as number_begun, string_at as string_begun, literal as literal_in, sign as sign_of};
 
 use crate::literals::string_at;
 use crate::numbers::number_at;
-use crate::source::{first_spot, goes_on_name_char, is_blank_char};
+use crate::source::{ends_line_char, first_spot, goes_on_name_char, is_blank_char};
 use crate::strings::behind_closing;
 use crate::{Begun, Delimiter, LexErr, Lexeme, Mode, Part, Spot, TokenKind};
 use pt_base::{Failure, Memory, Text};
@@ -20,13 +20,32 @@ fn goes_on_name(text: &[Spot]) -> bool
     }
 }
 
-/// Whether the name `a` stands here, maybe behind blanks.
+/// Whether a line ends here.
+fn begins_line_end(text: &[Spot]) -> bool
+    ensures { result ≡ line_end_begins text.now }
+{
+    match first_spot(text) {
+        Some((spot, _)) => ends_line_char(spot.char),
+        None => false,
+    }
+}
+
+/// Whether the name `a` stands here, maybe behind what may stand between words in brackets.
 fn is_name_a(text: &[Spot]) -> bool
     ensures { result ≡ names_a text.now }
 {
+    let mut in_comment = false;
     let mut rest = text;
     while let Some((spot, behind)) = first_spot(rest) {
-        if !is_blank_char(spot.char) {
+        if in_comment {
+            in_comment = !ends_line_char(spot.char);
+        } else if spot.char == '#' {
+            in_comment = true;
+        } else if spot.char == '\\' {
+            if !begins_line_end(behind) {
+                return false;
+            }
+        } else if !is_blank_char(spot.char) && !ends_line_char(spot.char) {
             return spot.char == 'a' && !goes_on_name(behind);
         }
         rest = behind;
