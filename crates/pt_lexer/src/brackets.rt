@@ -1,6 +1,6 @@
-ghost use Rattle.std.specs.Prelude.{◌≡◌, [], ◌∷◌, ◌↔◌, IsTrue, length, map, Ok, Err, IfOk, MatchResult, Some, None};
+ghost use Rattle.std.specs.Prelude.{◌≡◌, [], ◌∷◌, ◌↔◌, IsTrue, length, map, Ok, Err, IfOk, MatchResult, OnOk, Some, None};
 ghost use Rattle.pt_lexer.specs.Words.{is_listed};
-ghost use Rattle.pt_lexer.specs.Lines.{nest, opens, closes, is_excluded, same_bracket, shut as shut_by, mode_behind as behind_mode, mode_in as mode_inside, opened_by, turned_by_sign, turned_in_words, is_sign as is_sign_by, ends_string as ends_string_by, turned_in_field, turned_in_text, left_open, field_in_spec as spec_field, turned_in_spec, turned};
+ghost use Rattle.pt_lexer.specs.Lines.{nest, opens, closes, is_excluded, same_bracket, shut as shut_by, mode_behind as behind_mode, mode_in as mode_inside, opened_by, turned_by_sign, turned_in_words, is_sign as is_sign_by, ends_string as ends_string_by, turned_in_field, turned_in_text, is_spec as is_spec_mode, as_brackets, field_in_spec as spec_field, turned_in_spec, turned};
 ghost use Rattle.pt_base.specs.Failures.{IfRefused};
 ghost use Rattle.pt_lexer.specs.Faults.{outermost as outermost_line, line_of_mode as mode_line, string_line};
 
@@ -235,20 +235,30 @@ fn turn_in_text(
     Ok(Mode::Text(string))
 }
 
-/// Ends a string in a format spec, and leaves the brace of the field open as a bracket like others.
-fn leave_open(opened: &mut Stack<Opening>) -> Result<Mode, Memory>
-    ensures { IfOk result (λ m. left_open opened.old ≡ nest m opened.new) }
+/// Whether the mode is that of a format spec.
+fn is_spec(mode: Mode) -> bool
+    ensures { result ≡ is_spec_mode mode }
+{
+    matches!(mode, Mode::Spec(_))
+}
+
+/// Ends a string in a format spec: the brace of the field stays open as a bracket like others, and
+/// so does the brace of the field in whose spec it stands.
+fn leave_open(opened: &mut Stack<Opening>) -> Result<(), Memory>
+    ensures { OnOk result (opened.new ≡ as_brackets opened.old) }
 {
     let Some(last) = opened.pop() else {
-        return Ok(Mode::Words);
+        return Ok(());
     };
+    if is_spec(last.mode) {
+        leave_open(opened)?;
+    }
     let mode = mode_in(opened)?;
     opened.push(Opening {
         bracket: last.bracket,
         line: last.line,
         mode,
-    })?;
-    Ok(Mode::Words)
+    })
 }
 
 /// A field in a format spec.
@@ -279,7 +289,8 @@ fn turn_in_spec(
         (IfRefused (λ e. turned_in_spec field opened.old word.now line ≡ Err e)) }
 {
     if ends_string(word) {
-        return Ok(leave_open(opened)?);
+        leave_open(opened)?;
+        return Ok(Mode::Words);
     }
     if is_sign(word, "{") {
         return field_in_spec(field, opened, line);

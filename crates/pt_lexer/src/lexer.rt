@@ -9,7 +9,7 @@ ghost use Rattle.pt_lexer.specs.Words.{NoWord};
 ghost use Rattle.pt_lexer.specs.Columns.{AreRising};
 ghost use Rattle.pt_base.specs.Failures.{IfRefused};
 ghost use Rattle.pt_lexer.specs.Faults.{or_line, left_open_by as open_by, line_of_part as part_line, broken_off as breaks_off, string_line, Fails, Refused, IsTokens, IsRefused};
-ghost use Rattle.pt_lexer.specs.Shape.{IsWellFormed, PlacesRise};
+ghost use Rattle.pt_lexer.specs.Shape.{IsWellFormed, PlacesRise, StringsEnd};
 ghost use Rattle.pt_lexer.specs.Progress.{DepthOrWord, FailsWith, WordsRead, Begins, FirstFault, ReadsLine, Rises, TextRead};
 
 use crate::brackets::{outermost, turn};
@@ -343,8 +343,9 @@ pub fn tokens(alloc: Global, bytes: &[u8]) -> Result<Seq<Token>, Failure<LexErr>
     requires { length bytes.now < 2 ^ 31 }
     ensures exact { MatchResult result (IsTokens bytes.now) (IfRefused (IsRefused bytes.now)) }
 
-    // INDENTs and DEDENTs balance, each line ends with NEWLINE, END is last, and places rise.
-    ensures shape { IfOk result (λ all. IsWellFormed all 0 false × PlacesRise 0 all) }
+    // INDENTs and DEDENTs balance, each line ends with NEWLINE, END is last, each FSTART has one FEND,
+    // and places rise.
+    ensures shape { IfOk result (λ all. IsWellFormed all 0 false × StringsEnd all 0 × PlacesRise 0 all) }
 
     // A text has at most one list of tokens, none where it is refused, and one refusal.
     ensures one_list { (all : List Lexed) → IsTokens bytes.now all → MatchResult result (λ found. found ≡ all) (λ e. e ≡ failure.Memory) }
