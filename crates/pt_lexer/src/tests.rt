@@ -1,5 +1,5 @@
 use crate::{LexErr, Token, TokenKind, tokens};
-use pt_base::Line;
+use pt_base::{Failure, Line};
 use std::alloc::{AllocError, Global};
 use std::process::Abort;
 use std::test::Fail;
@@ -543,7 +543,10 @@ fn tokens_stand_at_their_bytes_and_lines(rt: HostRuntime) -> Result<(), Fail> {
 
 fn refused(rt: &impl Abort, alloc: Global, bytes: &[u8]) -> Option<LexErr> {
     assert!(rt; bytes.len() < 100000);
-    tokens(alloc, bytes).err()
+    match tokens(alloc, bytes) {
+        Err(Failure::Refused(reason)) => Some(reason),
+        _ => None,
+    }
 }
 
 #[test]
