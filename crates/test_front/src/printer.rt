@@ -1,41 +1,11 @@
 //! Trees of expressions as lists in parentheses.
 
-use pt_base::{BinOp, Boxed, CompareOp, Line, Text, UnOp};
+use crate::words::{Printed, close, open, word};
+use pt_base::{BinOp, Boxed, CompareOp, Text, UnOp};
 use pt_tree::{
     Argument, Clause, Comparison, Constant, Conversion, Entry, Expr, ExprNode, NamedParameter,
     Parameter, Parameters, Piece, PlaceNode, Target, TargetNode,
 };
-use std::alloc::AllocError;
-
-type Printed = Result<(), AllocError>;
-
-/// Begins a list with its name.
-pub fn open(out: &mut String, name: &str) -> Printed {
-    out.push_str(" (")?;
-    out.push_str(name)
-}
-
-pub fn close(out: &mut String) -> Printed {
-    out.push_str(")")
-}
-
-pub fn word(out: &mut String, text: &str) -> Printed {
-    out.push_str(" ")?;
-    out.push_str(text)
-}
-
-/// The last two digits of a line's number.
-pub fn at(out: &mut String, line: Line) -> Printed {
-    let line = line.0 % 100;
-    write!(out, " {}{}", line / 10, line % 10)
-}
-
-pub fn renamed(out: &mut String, name: &Option<Text>) -> Printed {
-    match name {
-        Some(name) => word(out, name.as_str()),
-        None => word(out, "-"),
-    }
-}
 
 pub fn sign_of(operator: BinOp) -> &'static str {
     match operator {
@@ -455,4 +425,10 @@ pub fn given(out: &mut String, value: &Option<Expr>) -> Printed {
         Some(value) => expression(out, value),
         None => word(out, "-"),
     }
+}
+
+/// An expression, and how many tokens stand before its end.
+pub fn expression_to(out: &mut String, e: &Expr, end: usize) -> Printed {
+    expression(out, e)?;
+    write!(out, " {end}")
 }

@@ -1,13 +1,9 @@
 //! Trees of statements as lists in parentheses, each behind the last two digits of its line.
 
-use crate::printer::{
-    at, close, expression, given, open, parameters, place, renamed, sign_of, target, targets, word,
-};
+use crate::printer::{expression, given, parameters, place, sign_of, target, targets};
+use crate::words::{Printed, at, close, open, renamed, word};
 use pt_base::{Line, Text};
 use pt_tree::{Alias, Branch, Decorator, Handler, Script, Stmt, StmtNode, WithItem};
-use std::alloc::AllocError;
-
-type Printed = Result<(), AllocError>;
 
 fn aliases(out: &mut String, names: &[Alias]) -> Printed {
     for name in names {
