@@ -1,6 +1,6 @@
 use Rattle.std.proofs.Common.{◌+◌, ◌-◌, ◌<◌, ◌≤◌, ℕ, map}
 use Rattle.std.specs.Prelude.{length, slice_index}
-use Rattle.leaf_bench.proofs.rises.Given as goal
+use Rattle.bench_leaves.proofs.rises.Given as goal
 
 abbrev pub invariant-loop-i : goal.invariant-loop-i
 invariant-loop-i l = record {

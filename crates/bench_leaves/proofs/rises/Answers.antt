@@ -1,6 +1,6 @@
 use Rattle.std.proofs.Common.{arith}
-use Rattle.leaf_bench.proofs.Rising.{one_more}
-use Rattle.leaf_bench.proofs.rises.Goals as goal
+use Rattle.bench_leaves.proofs.Rising.{one_more}
+use Rattle.bench_leaves.proofs.rises.Goals as goal
 
 pub loop-i-preserved : goal.loop-i-preserved
 loop-i-preserved c = record {
