@@ -5,9 +5,9 @@
 mod acts;
 mod escapes;
 mod kind;
-mod names;
 mod printer;
 mod rows;
+mod scopes;
 mod statements;
 mod tokens;
 mod wide;
@@ -38,30 +38,36 @@ fn timed(rt: &HostRuntime, kind: Kind, name: &str) -> io::Result<()> {
     }
 }
 
-/// Does the same with each kind and file that the words tell.
+/// Tells what a kind asks of a file. The answer is whether it could.
+fn is_told(rt: &HostRuntime, is_timed: bool, kind: Kind, name: &str) -> bool {
+    if is_timed {
+        timed(rt, kind, name).is_ok()
+    } else {
+        table(rt, kind, name).is_ok()
+    }
+}
+
 fn main(rt: HostRuntime) -> ExitCode {
     let Ok(args) = env::args(&rt) else {
         return ExitCode::from(1);
     };
-    let mut told: Option<Kind> = None;
     let mut is_timed = false;
+    let mut asked: Option<Kind> = None;
     for word in args.skip(1) {
-        match told {
-            None => match word.as_str() {
-                "time" => is_timed = true,
-                name => told = Kind::named(name),
-            },
+        match asked {
             Some(kind) => {
-                let done = if is_timed {
-                    timed(&rt, kind, word.as_str())
-                } else {
-                    table(&rt, kind, word.as_str())
-                };
-                if done.is_err() {
+                if !is_told(&rt, is_timed, kind, word.as_str()) {
                     return ExitCode::from(1);
                 }
-                told = None;
+                asked = None;
             }
+            None => match word.as_str() {
+                "time" => is_timed = true,
+                name => match Kind::named(name) {
+                    Some(kind) => asked = Some(kind),
+                    None => return ExitCode::from(1),
+                },
+            },
         }
     }
     ExitCode::from(0)

@@ -3,7 +3,7 @@
 use crate::acts::acts_of;
 use crate::escapes::text_of;
 use crate::kind::Kind;
-use crate::names::scopes_of;
+use crate::scopes::scopes_of;
 use crate::tokens::{places, spelled};
 use crate::words::{Printed, word};
 use crate::{printer, statements, wide};
@@ -66,25 +66,23 @@ fn part(out: &mut String, alloc: Global, words: &[Token], at: usize) -> Printed 
     }
 }
 
-/// What the tokens of a row are: its first word is a number where a part is asked for.
-fn of_tokens(out: &mut String, alloc: Global, kind: Kind, row: &str) -> Printed {
-    let (at, row) = match kind {
-        Kind::Part => row.split_once(" ").unwrap_or(("", row)),
-        _ => ("", row),
-    };
+/// What is answered of tokens; a part begins with the token of a number.
+fn of_tokens(out: &mut String, alloc: Global, kind: Kind, at: usize, words: &[Token]) -> Printed {
+    match kind {
+        Kind::Places => places(out, words),
+        Kind::Expression => wide_part(out, alloc, words, Part::Whole),
+        Kind::Target => wide_part(out, alloc, words, Part::Target),
+        Kind::Script => whole_script(out, alloc, words),
+        Kind::Part => part(out, alloc, words, at),
+        _ => spelled(out, words),
+    }
+}
+
+/// What is answered of a text that stands on a line.
+fn of_line(out: &mut String, alloc: Global, kind: Kind, at: usize, row: &str) -> Printed {
     let text = text_of(alloc, row)?;
     match tokens_of(alloc, text.as_slice()) {
-        Ok(words) => {
-            let words = words.as_slice();
-            match kind {
-                Kind::Places => places(out, words),
-                Kind::Expression => wide_part(out, alloc, words, Part::Whole),
-                Kind::Target => wide_part(out, alloc, words, Part::Target),
-                Kind::Script => whole_script(out, alloc, words),
-                Kind::Part => part(out, alloc, words, at.parse::<usize>().unwrap_or(0)),
-                _ => spelled(out, words),
-            }
-        }
+        Ok(words) => of_tokens(out, alloc, kind, at, words.as_slice()),
         Err(error) => refusal(out, error),
     }
 }
@@ -122,13 +120,17 @@ fn scopes(out: &mut String, alloc: Global, text: &str) -> Printed {
     }
 }
 
-/// What is answered of a row.
+/// What is answered of a row. That of a part begins with a number.
 pub fn answer(out: &mut String, alloc: Global, kind: Kind, row: &str) -> Printed {
     match kind {
         Kind::Tree => tree(out, alloc, row.as_bytes()),
         Kind::Acts => act_table(out, alloc, row.as_bytes()),
         Kind::Scopes => scopes(out, alloc, row),
-        _ => of_tokens(out, alloc, kind, row),
+        Kind::Part => {
+            let (at, row) = row.split_once(" ").unwrap_or(("", row));
+            of_line(out, alloc, kind, at.parse::<usize>().unwrap_or(0), row)
+        }
+        _ => of_line(out, alloc, kind, 0, row),
     }
 }
 
