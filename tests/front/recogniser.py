@@ -100,12 +100,14 @@ def closure(items, sets, place):
 def is_next(symbol, kind):
     if symbol.startswith('"'):
         return kind == ("SIGN", symbol[1:-1])
+    if symbol == "CONVERSION":
+        return kind in (("NAME", "r"), ("NAME", "s"))
     return kind[0] == symbol
 
 
-def recognise(kinds):
-    """The number of the first token with which no script goes on, or None; and whether all are a script."""
-    sets = [closure({("script", a, 0, 0) for a in rules["script"]}, [], 0)]
+def recognise(kinds, goal="script"):
+    """The number of the first token with which nothing goes on, or of all tokens; and whether those before it are the goal."""
+    sets = [closure({(goal, a, 0, 0) for a in rules[goal]}, [], 0)]
     for place, kind in enumerate(kinds):
         moved = {
             (name, body, dot + 1, start)
@@ -113,9 +115,9 @@ def recognise(kinds):
             if dot < len(body) and body[dot] not in rules and is_next(body[dot], kind)
         }
         if not moved:
-            return place, False
+            break
         sets.append(closure(moved, sets, place + 1))
-    return None, any(n == "script" and dot == len(b) and start == 0 for n, b, dot, start in sets[-1])
+    return len(sets) - 1, any(n == goal and dot == len(b) and start == 0 for n, b, dot, start in sets[-1])
 
 
 def tokens(text):
@@ -131,7 +133,7 @@ def tokens(text):
     found = []
     for each in tokenize.generate_tokens(io.StringIO(text).readline):
         name = token.tok_name[each.type]
-        if name in ("COMMENT", "NL", "ENCODING"):
+        if name in ("COMMENT", "NL", "ENCODING") or name == "FSTRING_MIDDLE" and not each.string:
             continue
         if name == "NAME":
             kind = ("SIGN" if each.string in keyword.kwlist else "NAME", each.string)
@@ -147,7 +149,17 @@ def tokens(text):
 def refusal(text):
     """None for a script of the wide grammar; else the byte place at which it is refused."""
     found = tokens(text)
-    place, whole = recognise([kind for kind, _ in found])
+    count, whole = recognise([kind for kind, _ in found])
     if whole:
         return None
-    return found[-1 if place is None else place][1]
+    return found[min(count, len(found) - 1)][1]
+
+
+def first(text, goal):
+    """How many tokens the longest goal at the front of a text has, and the text of these; or the byte place with which none
+    goes on."""
+    found = tokens(text)
+    count, whole = recognise([kind for kind, _ in found], goal)
+    if whole:
+        return count, text.encode()[: found[count][1]].decode()
+    return found[min(count, len(found) - 1)][1], None
