@@ -12,6 +12,6 @@ pub use laws::{
 };
 pub use rows::{
     a_bare_raise_is_followed, a_jump_to_no_act_is_followed, a_part_without_acts_is_not_entered,
-    a_raise_at_a_match_is_followed, a_raise_that_goes_on_is_followed, jumps_are_followed, lines_of_calls_are_followed,
-    scripts_are_followed,
+    a_raise_at_a_match_is_followed, a_raise_that_goes_on_is_followed, jumps_are_followed,
+    lines_of_calls_are_followed, scripts_are_followed,
 };
