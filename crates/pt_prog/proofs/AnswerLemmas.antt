@@ -3,7 +3,7 @@ use Rattle.std.proofs.Common.{◌≡◌, ◌∙◌, ap, ℕ, List, [], Option, N
 use Rattle.pt_base.specs.declared.numbers.Line.{Line}
 use Rattle.pt_base.specs.Taken.{Pieces, Takes, TakesFront}
 use Rattle.pt_tree.specs.Syntax.{Stms}
-use Rattle.pt_control.specs.Turn.{done, gave, left_by}
+use Rattle.pt_control.specs.Turn.{gave, left_by}
 use Rattle.pt_meaning.specs.Built.{Built, unbuilt_of}
 use Rattle.pt_meaning.specs.declared.value.Value.{Value}
 use Rattle.pt_meaning.specs.Run.{Ending, ended, outside, spent}
@@ -32,22 +32,18 @@ pub unrun_cause : (text : List ℕ) (e : End) → IsUnrun text e → e ≡ end.W
 unrun_cause text e is fails = subst (IsUnrun text) fails is
 
 is_end : (r : RunEnd) (E : Ending Value) → IsEnding r E → IsEndOf E (end_of_run r)
-is_end run.Done (ended done) i = refl
-is_end run.Done (ended (gave v)) i = absurd i
+is_end run.Done (ended (gave v)) i = refl
 is_end run.Done (ended (left_by v)) i = absurd i
 is_end run.Done (outside what line) i = absurd i
 is_end run.Done spent i = absurd i
-is_end run.Raised (ended done) i = absurd i
 is_end run.Raised (ended (gave v)) i = absurd i
 is_end run.Raised (ended (left_by v)) i = refl
 is_end run.Raised (outside what line) i = absurd i
 is_end run.Raised spent i = absurd i
-is_end (run.Outside what line) (ended done) i = absurd i
 is_end (run.Outside what line) (ended (gave v)) i = absurd i
 is_end (run.Outside what line) (ended (left_by v)) i = absurd i
 is_end (run.Outside what line) (outside what' line') i = λ k. end.Outside (sym i.0 k) (record { 0 = sym i.1 k })
 is_end (run.Outside what line) spent i = absurd i
-is_end run.Spent (ended done) i = absurd i
 is_end run.Spent (ended (gave v)) i = absurd i
 is_end run.Spent (ended (left_by v)) i = absurd i
 is_end run.Spent (outside what line) i = absurd i

@@ -1,7 +1,7 @@
 -- A text says one end at most.
 use Rattle.std.proofs.Common.{◌≡◌, ℕ, List, Some, refl, sym, ap, ◌∙◌, subst}
 use Rattle.pt_tree.specs.Syntax.{Stms}
-use Rattle.pt_control.specs.Turn.{done, gave, left_by}
+use Rattle.pt_control.specs.Turn.{gave, left_by}
 use Rattle.pt_meaning.specs.declared.value.Value.{Value}
 use Rattle.pt_meaning.specs.Built.{Built, unbuilt_of}
 use Rattle.pt_meaning.specs.Run.{Ending, ended, outside, spent}
@@ -34,9 +34,8 @@ says text (end.WriteFault which) i = absurd i
 says text end.Memory i = absurd i
 
 one_end : (E : Ending Value) (e f : End) → IsEndOf E e → IsEndOf E f → e ≡ f
-one_end (ended done) e f i j = i ∙ sym j
 one_end (ended (left_by v)) e f i j = i ∙ sym j
-one_end (ended (gave v)) e f i j = absurd i
+one_end (ended (gave v)) e f i j = i ∙ sym j
 one_end (outside what line) e f i j = i ∙ sym j
 one_end spent e f i j = i ∙ sym j
 
