@@ -30,6 +30,3 @@ pub use sink::{MemSink, Sink, SinkErr};
 pub use stack::Stack;
 pub use text::Text;
 pub use what::What;
-
-#[cfg(test)]
-mod tests;

@@ -1,6 +1,6 @@
 //! Each call that takes memory, run with ample memory, and the objects of the outside in memory.
 
-use super::*;
+use pt_base::*;
 use std::test::Fail;
 
 #[test]

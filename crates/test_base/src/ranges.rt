@@ -1,7 +1,7 @@
 ghost use Rattle.std.specs.Prelude.{◌≡◌, false};
 
-use crate::*;
 use pt_base::{ActNo, Line, Pc};
+use pt_ranges::*;
 use std::test::Fail;
 
 fn mark(pc: u32, act: u32, line: u32) -> ActMark
