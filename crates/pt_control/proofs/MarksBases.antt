@@ -15,6 +15,10 @@ module _ (R : Numbering) {V : Type 0} where
     way_base_in (F.given v w) h = base_in w h
     way_base_in (F.linked_on l n v o b r w) h = base_in w h.3
     way_base_in (F.lets_go c s) h = h
+    way_base_in (F.raises v s) h = h
+    way_base_in (F.unbinds x c s) h = h
+    way_base_in (F.made_anew xs l n i t cs r) h = rounds_base_in r h.1
+    way_base_in (F.assigns n v ts s) h = h.1
     way_base_in (F.tests k n hs e s) h = h.1
     way_base_in (F.binding l n x v k s) h = h.2
     way_base_in (F.stores n st k) h = way_base_in k h.1
@@ -28,6 +32,7 @@ module _ (R : Numbering) {V : Type 0} where
 
     pub base_in : (w : Wait V) → Wait_in R w → Nest_in R (base w)
     base_in (F.operands l n op before behind w) h = base_in w h.1
+    base_in (F.celled l n g op before behind w) h = base_in w h.2
     base_in (F.yielded l n w) h = base_in w h.1
     base_in (F.formatted l n c sp w) h = base_in w h.1
     base_in (F.comparing l n o b r w) h = base_in w h.3
@@ -65,7 +70,7 @@ module _ (R : Numbering) {V : Type 0} where
     base_in (F.imported l n x xs s) h = h.2
     base_in (F.imported_origin l n xs s) h = h.1
     base_in (F.imported_name l n x xs m s) h = h.2
-    base_in (F.matched l k n e t f) h = way_base_in f h.2
+    base_in (F.matched l k n e t f) h = (tt, way_base_in f h.2)
     base_in (F.entered l n t is body s) h = h.2
     base_in (F.decorated dl n before behind l x what s) h = h.1
     base_in (F.defined l n x calls s) h = h.1

@@ -1,12 +1,12 @@
 -- What goes on behind an act: nests of statements, values that are due, and comprehensions, over any type V of values. In each frame n numbers
 -- the first act of what is left, and l is a line.
-use Rattle.std.specs.Prelude.{ℕ, List, Option}
+use Rattle.std.specs.Prelude.{ℕ, List, Bool, Option}
 use Rattle.pt_base.specs.declared.operators.BinOp.{BinOp}
 use Rattle.pt_base.specs.declared.operators.CompareOp.{CompareOp}
 use Rattle.pt_tree.specs.declared.expression.Conversion.{Conversion}
 use Rattle.pt_tree.specs.declared.statement.Alias.{Alias}
 use Rattle.pt_tree.specs.Syntax.{Name, Exp, Exps, Opt, Pieces, Links, Made, Clauses, Place, Tgt, Tgts, Params, Decorators, Items, Stms, Branches, Handlers}
-use Rattle.pt_control.specs.Turn.{Mark, Operation, Seek, Deed, Leave, Throw, Test, Note, Reply, End}
+use Rattle.pt_control.specs.Turn.{Mark, Variable, Operation, Seek, Deed, Throw, Test, Note, Reply, End}
 
 -- how a statement is left before its end
 pub data Abrupt (V : Type 0) : Type 0 where
@@ -19,28 +19,31 @@ pub data Completion (V : Type 0) : Type 0 where
   normal : Completion V
   by : Abrupt V → Completion V
 
--- what goes on once a statement is complete, the innermost frame first
-pub data Nest (V : Type 0) : Type 0 where
-  outside : Nest V
-  rest : (n : ℕ) (ss : Stms) → Nest V → Nest V
+-- what goes on once a statement is complete, one step outwards
+pub data Frame (V : Type 0) : Type 0 where
+  rest : (n : ℕ) (ss : Stms) → Frame V
   -- the body of a `while`; n numbers its test
-  looping : (l n : ℕ) (test : Exp) (body els : Stms) → Nest V → Nest V
+  looping : (l n : ℕ) (test : Exp) (body els : Stms) → Frame V
   -- a `for` from its first Next on, with its iterator; n numbers Next
-  iterating : (l n : ℕ) (iterator : V) (t : Tgt) (body els : Stms) → Nest V → Nest V
+  iterating : (l n : ℕ) (iterator : V) (t : Tgt) (body els : Stms) → Frame V
   -- a `try` body; n numbers the handlers
-  guarded : (n : ℕ) (hs : Handlers) (els : Stms) → Nest V → Nest V
+  guarded : (n : ℕ) (hs : Handlers) (els : Stms) → Frame V
   -- the tests of handlers, n being the first one's, or the handler whose Match is n, with the exception
-  testing : (n : ℕ) (exception : V) → Nest V → Nest V
-  handling : (n : ℕ) (exception : V) → Nest V → Nest V
+  testing : (n : ℕ) (exception : V) → Frame V
+  handling : (n : ℕ) (exception : V) → Frame V
   -- a handler that has bound a name
-  naming : (x : Name) → Nest V → Nest V
-  -- any part of a `try` that has a `finally` part; n numbers that part
-  ensuring : (n : ℕ) (finally : Stms) → Nest V → Nest V
-  -- a `finally` part with the completion that it holds
-  ending : (n : ℕ) (held : Completion V) → Nest V → Nest V
+  naming : (x : Name) → Frame V
+  -- any part of a `try` that has a `finally` part; tried is the number of Try, n numbers that part
+  ensuring : (tried n : ℕ) (finally : Stms) → Frame V
+  -- the `finally` part of the `try` with this Try, with the completion that it holds
+  ending : (tried : ℕ) (held : Completion V) → Frame V
   -- the body of a `with`, and its exit that is due; n numbers Exit
-  withing : (l n : ℕ) (exit : V) → Nest V → Nest V
-  exiting : (n : ℕ) (exit : V) (held : Completion V) → Nest V → Nest V
+  withing : (l n : ℕ) (exit : V) → Frame V
+  exiting : (n : ℕ) (exit : V) (held : Completion V) → Frame V
+
+-- what goes on once a statement is complete, the innermost frame first
+abbrev pub Nest : Type 0 → Type 0
+Nest V = List (Frame V)
 
 -- an operand that is left to evaluate, with the line of an act of its own
 pub data Operand : Type 0 where
@@ -85,13 +88,21 @@ mutual
     given : V → Wait V → Way V
     -- the next comparison of a chain
     linked_on : (l n : ℕ) (left : V) (operator : CompareOp) (right : Exp) (r : Links) → Wait V → Way V
-    -- a held completion goes on
+    -- a held completion goes on, a raise with a note before it
     lets_go : Completion V → Nest V → Way V
+    -- a raise goes on
+    raises : (exception : V) → Nest V → Way V
+    -- a name is deleted whose handler ends, and what ended it goes on
+    unbinds : (x : Name) (held : Completion V) → Nest V → Way V
+    -- names of a comprehension are made anew, and its first item is taken
+    made_anew : (xs : List Variable) (l n : ℕ) (iterator : V) (t : Tgt) (cs : Clauses) → Rounds V → Way V
     -- the handlers that are left, k being the first one's first act
     tests : (k n : ℕ) (hs : Handlers) (exception : V) → Nest V → Way V
     -- a name is bound, in a nest, and then
     binding : (l n : ℕ) (x : Name) (v : V) → Way V → Nest V → Way V
     stores : (n : ℕ) (st : Stores V) → Way V → Way V
+    -- the targets of an assignment that are left, all for one value
+    assigns : (n : ℕ) (v : V) (ts : Tgts) → Nest V → Way V
     deletes : (n : ℕ) (ps : List Place) → Nest V → Way V
     imports : (l n : ℕ) (xs : List Alias) → Nest V → Way V
     imports_from : (l n : ℕ) (xs : List Alias) (origin : V) → Nest V → Way V
@@ -108,6 +119,8 @@ mutual
   pub data Wait (V : Type 0) : Type 0 where
     -- an operand is due: those before it, the last first, and those behind it
     operands : (l n : ℕ) (op : Operation) (before : List V) (behind : List Operand) → Wait V → Wait V
+    -- a cell is due that the block of an operation takes along, behind the operands, the last first
+    celled : (l n : ℕ) (is_retest : Bool) (op : Operation) (before : List V) (behind : List Variable) → Wait V → Wait V
     yielded : (l n : ℕ) → Wait V → Wait V
     -- the value of a replacement field is due
     formatted : (l n : ℕ) (conversion : Option Conversion) (spec : Pieces) → Wait V → Wait V
@@ -178,11 +191,11 @@ mutual
     generating : (l : ℕ) (item : Exp) → Nest V → Rounds V
     round_of : (l n : ℕ) (iterator : V) (t : Tgt) (cs : Clauses) → Rounds V → Rounds V
 
--- an act that is next, with what waits for it, or the end
+-- what is next, with what waits for it: an act with its mark, an ask without one, a note, or the end
 pub data Control (V : Type 0) : Type 0 where
   for_value : Mark → Seek V → Wait V → Control V
   for_deed : Mark → Deed V → Way V → Nest V → Control V
-  for_leave : Mark → Leave V → Nest V → Control V
+  for_leave : Mark → Abrupt V → Nest V → Control V
   for_throw : Mark → Throw V → Nest V → Control V
   for_truth : Mark → Test V → (if_true if_false : Way V) → Nest V → Control V
   for_iter : Mark → V → Over V → Control V
@@ -190,5 +203,7 @@ pub data Control (V : Type 0) : Type 0 where
   for_entry : Mark → V → (l n : ℕ) (t : Option Tgt) (is : Items) (body : Stms) → Nest V → Control V
   for_unpack : Mark → V → (n : ℕ) (ts : Tgts) → Way V → Nest V → Control V
   for_delegate : Mark → (iterator : V) → (sent : Reply V V) → Wait V → Control V
-  noting : Note V → (Reply V (Unit {0}) → Control V) → Control V
+  silent_value : Seek V → Wait V → Control V
+  silent_deed : Deed V → Way V → Nest V → Control V
+  noting : Note V → Way V → Nest V → Control V
   closed : End V → Control V

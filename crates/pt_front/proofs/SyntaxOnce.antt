@@ -15,15 +15,15 @@ use Rattle.pt_grammar.specs.Lexemes.{Lexeme, lexemes, line_at}
 use Rattle.pt_grammar.specs.declared.part.Part.TheVariants.{Whole}
 use Rattle.pt_expr.specs.Answers.{part_of, place_at}
 use Rattle.pt_parser.specs.Script.{a_script, IsNone}
-use Rattle.pt_narrow.specs.Faults.{Fault, bad_target, excluded, faults_exp, is_clean}
-use Rattle.pt_narrow.specs.StatementFaults.{faults_stms}
-use Rattle.pt_narrow.specs.Narrow.{narrow_exp}
-use Rattle.pt_narrow.specs.StatementNarrow.{narrow_script}
-use Rattle.pt_narrow.specs.Told.{IsTold, no_memory, told_target, told_excluded}
-use Rattle.pt_narrow.specs.declared.narrowing.Narrowing.{Narrowing}
-use Rattle.pt_narrow.specs.declared.narrowing.Narrowing.TheVariants as narrowing
-use Rattle.pt_narrow.proofs.Exclusive.{law_exp}
-use Rattle.pt_narrow.proofs.ExclusiveStatements.{law_stms}
+use Rattle.pt_refine_expr.specs.Faults.{Fault, bad_target, excluded, faults_exp, is_clean}
+use Rattle.pt_refine_expr.specs.StatementFaults.{faults_stms}
+use Rattle.pt_refine_expr.specs.Narrow.{narrow_exp}
+use Rattle.pt_refine_expr.specs.StatementNarrow.{narrow_script}
+use Rattle.pt_refine_expr.specs.Told.{IsTold, no_memory, told_target, told_excluded}
+use Rattle.pt_refine_expr.specs.declared.narrowing.Narrowing.{Narrowing}
+use Rattle.pt_refine_expr.specs.declared.narrowing.Narrowing.TheVariants as narrowing
+use Rattle.pt_refine_expr.proofs.Exclusive.{law_exp}
+use Rattle.pt_refine_expr.proofs.ExclusiveStatements.{law_stms}
 use Rattle.pt_front.specs.declared.syntax.SyntaxErr.{SyntaxErr}
 use Rattle.pt_front.specs.declared.syntax.SyntaxErr.TheVariants.{Unexpected, BadTarget, Excluded, Limit, Memory}
 use Rattle.pt_front.specs.Syntax.{of_narrowing, AreWide, AreScript, HaveFault, AreNoScript, BeginWide, IsExpr, HasFault, IsNoExpr}

@@ -11,13 +11,13 @@ use Rattle.pt_expr.specs.Answers.{part_of, Answers}
 use Rattle.pt_expr.specs.declared.front.ParseErr.{ParseErr}
 use Rattle.pt_expr.specs.declared.front.ParseErr.TheVariants as parse
 use Rattle.pt_parser.specs.Script.{a_script, ScriptAnswers}
-use Rattle.pt_narrow.specs.Faults.{faults_exp}
-use Rattle.pt_narrow.specs.StatementFaults.{faults_stms}
-use Rattle.pt_narrow.specs.Narrow.{narrow_exp}
-use Rattle.pt_narrow.specs.StatementNarrow.{narrow_script}
-use Rattle.pt_narrow.specs.Told.{IsTold}
-use Rattle.pt_narrow.specs.declared.narrowing.Narrowing.{Narrowing}
-use Rattle.pt_narrow.specs.declared.narrowing.Narrowing.TheVariants as narrowing
+use Rattle.pt_refine_expr.specs.Faults.{faults_exp}
+use Rattle.pt_refine_expr.specs.StatementFaults.{faults_stms}
+use Rattle.pt_refine_expr.specs.Narrow.{narrow_exp}
+use Rattle.pt_refine_expr.specs.StatementNarrow.{narrow_script}
+use Rattle.pt_refine_expr.specs.Told.{IsTold}
+use Rattle.pt_refine_expr.specs.declared.narrowing.Narrowing.{Narrowing}
+use Rattle.pt_refine_expr.specs.declared.narrowing.Narrowing.TheVariants as narrowing
 use Rattle.pt_front.specs.declared.syntax.SyntaxErr.{SyntaxErr}
 use Rattle.pt_front.specs.declared.syntax.SyntaxErr.TheVariants.{Unexpected, BadTarget, Excluded, Limit, Memory}
 

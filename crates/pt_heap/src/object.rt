@@ -2,7 +2,7 @@ use crate::{Binding, Dict, Str, Value};
 use pt_base::{BlockId, FrameNo, Line, ObjId, Seq, Text};
 
 /// A range of integers (Library Reference, "Ranges").
-#[derive(Clone, Copy, Debug, PartialEq, Eq)]
+#[derive(Clone, Copy, Debug)]
 pub struct Range {
     pub start: i128,
     pub stop: i128,
@@ -10,7 +10,7 @@ pub struct Range {
 }
 
 /// The index of a subscript by a slice (Language Reference 6.3.3).
-#[derive(Clone, Copy, Debug, PartialEq, Eq)]
+#[derive(Clone, Copy, Debug)]
 pub struct Slice {
     pub start: Value,
     pub stop: Value,
@@ -18,7 +18,7 @@ pub struct Slice {
 }
 
 /// An iterator over an object (Library Reference, "Iterator Types").
-#[derive(Clone, Copy, Debug, PartialEq, Eq)]
+#[derive(Clone, Copy, Debug)]
 pub struct Cursor {
     /// What it goes over. Once it has come to the end it goes over nothing.
     pub over: Option<ObjId>,
@@ -29,7 +29,7 @@ pub struct Cursor {
 }
 
 /// What a view of a dictionary shows of its entries.
-#[derive(Clone, Copy, Debug, PartialEq, Eq)]
+#[derive(Clone, Copy, Debug)]
 pub enum Part {
     Keys,
     Values,
@@ -37,7 +37,7 @@ pub enum Part {
 }
 
 /// A view of a dictionary (Library Reference, "Dictionary view objects").
-#[derive(Clone, Copy, Debug, PartialEq, Eq)]
+#[derive(Clone, Copy, Debug)]
 pub struct DictView {
     pub part: Part,
     pub dict: ObjId,
@@ -56,14 +56,14 @@ pub struct Function {
 }
 
 /// A function with the object that it is a method of (Language Reference 3.2.8.2).
-#[derive(Clone, Copy, Debug, PartialEq, Eq)]
+#[derive(Clone, Copy, Debug)]
 pub struct Method {
     pub function: Value,
     pub receiver: Value,
 }
 
 /// A function that is built in, by its number, or a method of a value.
-#[derive(Clone, Copy, Debug, PartialEq, Eq)]
+#[derive(Clone, Copy, Debug)]
 pub struct Builtin {
     pub number: u32,
     pub receiver: Option<Value>,
@@ -87,7 +87,7 @@ pub struct Instance {
 }
 
 /// A visible frame that an exception came through, and the line on which it stood there.
-#[derive(Clone, Copy, Debug, PartialEq, Eq)]
+#[derive(Clone, Copy, Debug)]
 pub struct TraceEntry {
     pub frame: FrameNo,
     pub block: BlockId,
@@ -108,7 +108,7 @@ pub struct Error {
 }
 
 /// A module that is built in.
-#[derive(Clone, Copy, Debug, PartialEq, Eq)]
+#[derive(Clone, Copy, Debug)]
 pub enum Module {
     Sys,
     Monitoring,
@@ -117,7 +117,7 @@ pub enum Module {
 }
 
 /// What `super` gives (Library Reference, `super`).
-#[derive(Clone, Copy, Debug, PartialEq, Eq)]
+#[derive(Clone, Copy, Debug)]
 pub struct Super {
     pub class: ObjId,
     pub receiver: Value,

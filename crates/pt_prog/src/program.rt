@@ -122,6 +122,3 @@ pub fn top<F: Shelf, O: Sink, L: Sink>(
         Err(ShelfErr::Memory) => End::Memory,
     }
 }
-
-#[cfg(test)]
-mod tests;

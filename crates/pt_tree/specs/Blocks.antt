@@ -14,7 +14,7 @@ pub data Code : Type 0 where
   of_module : Stms → Code
   of_function : Stms → Code
   of_class : Stms → Code
-  of_lambda : Exp → Code
+  of_lambda : (line : ℕ) → Exp → Code
   -- the first iterable is evaluated where the generator is made
   of_generator : (line : ℕ) (item : Exp) (for_line : ℕ) (target : Tgt) (more : Clauses) → Code
 
@@ -22,31 +22,6 @@ pub record Block : Type 0 where
   pub name : Name
   pub first_line : ℕ
   pub code : Code
-
-abbrev pub exp_line : Exp → ℕ
-exp_line (S.constant l k) = l
-exp_line (S.name l x) = l
-exp_line (S.joined l ps) = l
-exp_line (S.tuple l es) = l
-exp_line (S.list l es) = l
-exp_line (S.set l es) = l
-exp_line (S.dict l es) = l
-exp_line (S.attribute l a x) = l
-exp_line (S.item l a i) = l
-exp_line (S.slice l a b c) = l
-exp_line (S.unary l o a) = l
-exp_line (S.not_of l a) = l
-exp_line (S.binary l o a b) = l
-exp_line (S.compare l a o b r) = l
-exp_line (S.and l a es) = l
-exp_line (S.or l a es) = l
-exp_line (S.conditional l c a b) = l
-exp_line (S.call l f args) = l
-exp_line (S.lambda l b ps e) = l
-exp_line (S.comprehension l m fl t it cs) = l
-exp_line (S.generator l b e fl t it cs) = l
-exp_line (S.yield l v) = l
-exp_line (S.yield_from l e) = l
 
 abbrev pub is_text : Constant → Bool
 is_text constant.None = false
@@ -72,7 +47,8 @@ abbrev pub acts_of_code : Code → List ActRow
 acts_of_code (of_module ss) = acts_stms ss
 acts_of_code (of_function ss) = acts_stms (function_body ss)
 acts_of_code (of_class ss) = acts_stms ss
-acts_of_code (of_lambda e) = acts_exp e ++ act A.Return (exp_line e)
+-- a lambda returns its body on its own line
+acts_of_code (of_lambda l e) = acts_exp e ++ act A.Return l
 acts_of_code (of_generator l e fl t cs) = act A.Next fl ++ acts_target t ++ acts_clauses l cs ++ acts_exp e ++ act A.Yield l ++ act A.Discard l
 
 abbrev pub acts_of : Block → List ActRow
@@ -106,7 +82,7 @@ abbrev mutual
   blocks_exp (S.or l a es) = blocks_exp a ++ blocks_all es
   blocks_exp (S.conditional l c a b) = blocks_exp a ++ blocks_exp c ++ blocks_exp b
   blocks_exp (S.call l f args) = blocks_exp f ++ blocks_args args
-  blocks_exp (S.lambda l b ps e) = block (codes "<lambda>") l (of_lambda e) ++ blocks_params ps ++ blocks_exp e
+  blocks_exp (S.lambda l b ps e) = block (codes "<lambda>") l (of_lambda l e) ++ blocks_params ps ++ blocks_exp e
   blocks_exp (S.comprehension l m fl t it cs) = blocks_made m ++ blocks_target t ++ blocks_exp it ++ blocks_clauses cs
   blocks_exp (S.generator l b e fl t it cs) = block (codes "<genexpr>") l (of_generator l e fl t cs) ++ blocks_exp e ++ blocks_target t ++ blocks_exp it ++ blocks_clauses cs
   blocks_exp (S.yield l v) = blocks_opt v
