@@ -6,6 +6,7 @@ mod boxed;
 mod budget;
 mod calls;
 mod dup;
+mod failure;
 mod memory;
 mod numbers;
 mod operators;
@@ -20,6 +21,7 @@ mod what;
 pub use boxed::Boxed;
 pub use budget::Budget;
 pub use dup::Dup;
+pub use failure::Failure;
 pub use memory::Memory;
 pub use numbers::{ActNo, BlockId, FrameNo, Line, ObjId, Pc};
 pub use operators::{BinOp, CompareOp, UnOp};
@@ -30,6 +32,3 @@ pub use sink::{MemSink, Sink, SinkErr};
 pub use stack::Stack;
 pub use text::Text;
 pub use what::What;
-
-#[cfg(test)]
-mod tests;

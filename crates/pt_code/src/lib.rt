@@ -8,8 +8,6 @@ mod lists;
 mod parts;
 mod reading;
 mod refusing;
-#[cfg(test)]
-mod tests;
 mod view;
 mod writing;
 

@@ -8,8 +8,6 @@ mod names;
 mod reading;
 mod rows;
 mod table;
-#[cfg(test)]
-mod tests;
 mod writing;
 
 pub use effects::Effect;

@@ -7,7 +7,6 @@ use Rattle.pt_control.specs.Turn.{gave, left_by}
 use Rattle.pt_meaning.specs.Built.{Built, unbuilt_of}
 use Rattle.pt_meaning.specs.declared.value.Value.{Value}
 use Rattle.pt_meaning.specs.Run.{Ending, ended, outside, spent}
-use Rattle.pt_meaning.proofs.BuiltLemmas.{is_built}
 use Rattle.pt_session.specs.declared.runner.RunEnd.{RunEnd}
 use Rattle.pt_session.specs.declared.runner.RunEnd.TheVariants as run
 use Rattle.pt_session.specs.Running.{IsEnding, Finished, meaning_of as meaning_under}
@@ -20,7 +19,7 @@ use Rattle.pt_prog.specs.Answer.{meaning_of, IsEndOf, IsBuilt, IsUnrun, Ran, Wro
 
 -- where no line is told of a script, all of it is built
 pub built : (script : Stms) (o : Option Line) → option_map (λ (l : Line). l.0) o ≡ unbuilt_of script → o ≡ None → Built script
-built script o told none = is_built script (sym told ∙ ap (option_map (λ (l : Line). l.0)) none)
+built script o told none = sym told ∙ ap (option_map (λ (l : Line). l.0)) none
 
 -- nothing is written for a text that isn't run
 pub unrun : (text : List ℕ) (old new : Pieces → Pieces → Type 0) (e : End) → IsUnrun text e → Takes old new [] → IsAnsweredFor text old new e

@@ -5,7 +5,7 @@ use Rattle.pt_control.specs.Turn.{gave, left_by}
 use Rattle.pt_meaning.specs.declared.value.Value.{Value}
 use Rattle.pt_meaning.specs.Built.{Built, unbuilt_of}
 use Rattle.pt_meaning.specs.Run.{Ending, ended, outside, spent}
-use Rattle.pt_meaning.proofs.BuiltLemmas.{never_both as built_or_unbuilt}
+use Rattle.pt_meaning.proofs.BuiltLemmas.{told}
 use Rattle.pt_base.specs.declared.numbers.Line.{Line}
 use Rattle.pt_front.specs.Text.{IsRefused}
 use Rattle.pt_front.specs.declared.refusal.Refusal.{Refusal}
@@ -47,7 +47,9 @@ module _ (text : List ℕ) where
       let line : k.0 ≡ l.0 = cc in λ i. end.Unbuilt (record { 0 = line i })
 
   not_both : (k : ℕ) (e : End) → IsUnbuilt text k → Ends text e → ⊥
-  not_both k e u r = built_or_unbuilt u.script k (subst Built (one_script text r.script u.script r.is.is_script u.is_script) r.is.is_built) u.is_first
+  not_both k e u r =
+      let built : Built u.script = subst Built (one_script text r.script u.script r.is.is_script u.is_script) r.is.is_built in
+      told (sym u.is_first ∙ built)
 
   said_once : (e f : End) → Says text e → Says text f → e ≡ f
   said_once e f (refused q x i) (refused r y j) = i ∙ ap (λ r. end.Refused r) (one_refusal text q r x y) ∙ sym j

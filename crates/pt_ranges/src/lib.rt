@@ -7,6 +7,3 @@ mod lines;
 
 pub use handlers::{Handler, HandlerTable};
 pub use lines::{ActMark, LineTable};
-
-#[cfg(test)]
-mod tests;
