@@ -1,6 +1,7 @@
 -- What laws say of control, whatever the replies.
 use Rattle.std.specs.Prelude.{◌≡◌, ℕ, ◌<◌, [], ◌∷◌, Some, length}
 use Rattle.pt_tree.specs.Blocks.{Code, acts_of_code}
+use Rattle.pt_tree.specs.Syntax.{Stms}
 use Rattle.pt_control.specs.Turn.{Around}
 use Rattle.pt_control.specs.Frames.{by, raise, Completion, Frame, Nest, Way, Control, closed}
 use Rattle.pt_control.specs.Bases.{way_base}
@@ -8,7 +9,8 @@ use Rattle.pt_control.specs.CompletionTable.{row, onward}
 use Rattle.pt_control.specs.Completions.{end_of, follow, complete}
 use Rattle.pt_control.specs.Control.{go}
 use Rattle.pt_control.specs.Endings.{Code_reached}
-use Rattle.pt_control.specs.Jump.{Target, starts_of, on_line, parts, verdict, permitted, Landing, jump, lands}
+use Rattle.pt_control.specs.ClosedParts.{parts_of, Among}
+use Rattle.pt_control.specs.Jump.{Target, starts, starts_of, on_line, parts, verdict, permitted, Landing, jump, lands}
 use Rattle.pt_control.specs.Reached.{IsRow, Reaches, Meets, start_code}
 
 module _ {V : Type 0} where
@@ -41,3 +43,7 @@ module _ {V : Type 0} where
   -- where the jump to a line is permitted, it lands
   abbrev pub LandsPermitted : Code → (line : ℕ) → (place : Nest V) → Type 0
   LandsPermitted code l p = (t : Target) → on_line l (starts_of code) ≡ Some t → verdict (parts p) (parts t.within) ≡ permitted → Landing t p
+
+-- the statement that a line's first one is lies in parts of its block alone
+abbrev pub LiesInParts : Stms → (line : ℕ) → Type 0
+LiesInParts ss l = (t : Target) → on_line l (starts ss 0 []) ≡ Some t → Among (parts t.within) (parts_of ss 0)

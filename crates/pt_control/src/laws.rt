@@ -7,7 +7,7 @@ ghost use Rattle.pt_control.specs.ClosedParts.{All_apart, parts_of};
 ghost use Rattle.pt_control.specs.Control.{turn};
 ghost use Rattle.pt_control.specs.Endings.{All_reached};
 ghost use Rattle.pt_control.specs.Frames.{Completion, Control, Frame, Nest};
-ghost use Rattle.pt_control.specs.Laws.{ClosesBy, LandsByRows, LandsPermitted, MeetsAllRows, RaisesByRows, StartsByRows, TakesOff};
+ghost use Rattle.pt_control.specs.Laws.{ClosesBy, LandsByRows, LandsPermitted, LiesInParts, MeetsAllRows, RaisesByRows, StartsByRows, TakesOff};
 ghost use Rattle.pt_control.specs.Samples.{counting, generating, jumping, nested_body};
 ghost use Rattle.pt_control.specs.Turn.{Around, move, stuck};
 
@@ -66,8 +66,10 @@ pub fn a_permitted_jump_lands<V>()
     ensures { (code : Code) (line : ℕ) (place : Nest V) → LandsPermitted code line place }
 {}
 
-/// Within a block no two closed parts are the same, whatever acts they have.
-#[tactic(auto, using(crate::proofs::PartsApart::parts_apart))]
+/// Within a block no two closed parts are the same, whatever acts they have, and a statement lies in
+/// parts of its block alone.
+#[tactic(auto, using(crate::proofs::PartsApart::parts_apart, crate::proofs::PartsAmong::targets_among))]
 pub fn no_two_parts_are_the_same()
-    ensures { (block : Stms) → All_apart (parts_of block 0) }
+    ensures apart { (block : Stms) → All_apart (parts_of block 0) }
+    ensures of_block { (block : Stms) (line : ℕ) → LiesInParts block line }
 {}
