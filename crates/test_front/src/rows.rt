@@ -8,9 +8,9 @@ use crate::tokens::{places, spelled};
 use crate::words::{Printed, word};
 use crate::{printer, statements, wide};
 use pt_acts::acts;
-use pt_base::Seq;
-use pt_expr::wide as wide_expr;
-use pt_front::{FrontErr, SyntaxErr, front, parse_expr, parse_script};
+use pt_base::{Failure, Seq};
+use pt_expr::{ParseErr, wide as wide_expr};
+use pt_front::{Refusal, SyntaxErr, front, parse_expr, parse_script};
 use pt_grammar::Part;
 use pt_lexer::{Token, tokens};
 use pt_parser::wide_script;
@@ -20,38 +20,50 @@ use std::alloc::Global;
 /// The size that a text stays below, in bytes.
 const LIMIT: usize = 1 << 31;
 
-fn refusal(out: &mut String, error: FrontErr) -> Printed {
-    match error {
-        FrontErr::Refused(refusal) => write!(out, " {} {}", refusal.number(), refusal.place()),
-        FrontErr::Memory => word(out, "memory"),
+fn refusal(out: &mut String, failure: Failure<Refusal>) -> Printed {
+    match failure {
+        Failure::Refused(refusal) => write!(out, " {} {}", refusal.number(), refusal.place()),
+        Failure::Memory => word(out, "memory"),
     }
 }
 
 /// The tokens of a text; a longer one than the front end reads is told as want of memory.
-fn tokens_of(alloc: Global, text: &[u8]) -> Result<Seq<Token>, FrontErr> {
+fn tokens_of(alloc: Global, text: &[u8]) -> Result<Seq<Token>, Failure<Refusal>> {
     if text.len() >= LIMIT {
-        return Err(FrontErr::Memory);
+        return Err(Failure::Memory);
     }
-    Ok(tokens(alloc, text)?)
+    match tokens(alloc, text) {
+        Ok(words) => Ok(words),
+        Err(failure) => Err(failure.map_refused(Refusal::from)),
+    }
 }
 
-fn script_of(alloc: Global, text: &[u8]) -> Result<Script, FrontErr> {
+fn script_of(alloc: Global, text: &[u8]) -> Result<Script, Failure<Refusal>> {
     let words = tokens_of(alloc, text)?;
-    Ok(parse_script(alloc, words.as_slice())?)
+    match parse_script(alloc, words.as_slice()) {
+        Ok(script) => Ok(script),
+        Err(failure) => Err(failure.map_refused(Refusal::from)),
+    }
+}
+
+/// Why the readers take no tokens.
+fn unread(out: &mut String, failure: Failure<ParseErr>) -> Printed {
+    let failure = failure.map_refused(SyntaxErr::from);
+    refusal(out, failure.map_refused(Refusal::from))
 }
 
 /// The expression of the wide grammar with which tokens begin, or what may stand in a target's place.
 fn wide_part(out: &mut String, alloc: Global, words: &[Token], part: Part) -> Printed {
     match wide_expr(alloc, words, 0, part) {
         Ok((e, end)) => wide::expression(out, &e, end),
-        Err(error) => refusal(out, FrontErr::from(SyntaxErr::from(error))),
+        Err(failure) => unread(out, failure),
     }
 }
 
 fn whole_script(out: &mut String, alloc: Global, words: &[Token]) -> Printed {
     match wide_script(alloc, words) {
         Ok(_) => word(out, "script"),
-        Err(error) => refusal(out, FrontErr::from(SyntaxErr::from(error))),
+        Err(failure) => unread(out, failure),
     }
 }
 
@@ -62,7 +74,7 @@ fn part(out: &mut String, alloc: Global, words: &[Token], at: usize) -> Printed 
     }
     match parse_expr(alloc, words, at) {
         Ok((e, end)) => printer::expression_to(out, &e, end),
-        Err(error) => refusal(out, FrontErr::from(error)),
+        Err(failure) => refusal(out, failure.map_refused(Refusal::from)),
     }
 }
 
@@ -83,7 +95,7 @@ fn of_line(out: &mut String, alloc: Global, kind: Kind, at: usize, row: &str) ->
     let text = text_of(alloc, row)?;
     match tokens_of(alloc, text.as_slice()) {
         Ok(words) => of_tokens(out, alloc, kind, at, words.as_slice()),
-        Err(error) => refusal(out, error),
+        Err(failure) => refusal(out, failure),
     }
 }
 
@@ -91,7 +103,7 @@ fn of_line(out: &mut String, alloc: Global, kind: Kind, at: usize, row: &str) ->
 fn tree(out: &mut String, alloc: Global, text: &[u8]) -> Printed {
     match script_of(alloc, text) {
         Ok(script) => statements::script(out, &script),
-        Err(error) => refusal(out, error),
+        Err(failure) => refusal(out, failure),
     }
 }
 
@@ -102,7 +114,7 @@ fn act_table(out: &mut String, alloc: Global, text: &[u8]) -> Printed {
             Ok(table) => acts_of(out, &table),
             Err(_) => word(out, "memory"),
         },
-        Err(error) => refusal(out, error),
+        Err(failure) => refusal(out, failure),
     }
 }
 
@@ -116,7 +128,7 @@ fn scopes(out: &mut String, alloc: Global, text: &str) -> Printed {
             Some((names, _)) => scopes_of(out, &scopes, names.strip_prefix("#").unwrap_or("")),
             None => Ok(()),
         },
-        Err(error) => refusal(out, error),
+        Err(failure) => refusal(out, failure),
     }
 }
 
