@@ -9,7 +9,7 @@ use crate::words::{Printed, word};
 use crate::{printer, statements, wide};
 use pt_acts::acts;
 use pt_base::{Failure, Seq};
-use pt_expr::{ParseErr, wide as wide_expr};
+use pt_expr::wide as wide_expr;
 use pt_front::{Refusal, SyntaxErr, front, parse_expr, parse_script};
 use pt_grammar::Part;
 use pt_lexer::{Token, tokens};
@@ -27,43 +27,35 @@ fn refusal(out: &mut String, failure: Failure<Refusal>) -> Printed {
     }
 }
 
+fn syntax_refusal(out: &mut String, failure: Failure<SyntaxErr>) -> Printed {
+    refusal(out, failure.map_refused(Refusal::from))
+}
+
 /// The tokens of a text; a longer one than the front end reads is told as want of memory.
 fn tokens_of(alloc: Global, text: &[u8]) -> Result<Seq<Token>, Failure<Refusal>> {
     if text.len() >= LIMIT {
         return Err(Failure::Memory);
     }
-    match tokens(alloc, text) {
-        Ok(words) => Ok(words),
-        Err(failure) => Err(failure.map_refused(Refusal::from)),
-    }
+    tokens(alloc, text).map_err(|failure| failure.map_refused(Refusal::from))
 }
 
 fn script_of(alloc: Global, text: &[u8]) -> Result<Script, Failure<Refusal>> {
     let words = tokens_of(alloc, text)?;
-    match parse_script(alloc, words.as_slice()) {
-        Ok(script) => Ok(script),
-        Err(failure) => Err(failure.map_refused(Refusal::from)),
-    }
-}
-
-/// Why the readers take no tokens.
-fn unread(out: &mut String, failure: Failure<ParseErr>) -> Printed {
-    let failure = failure.map_refused(SyntaxErr::from);
-    refusal(out, failure.map_refused(Refusal::from))
+    parse_script(alloc, words.as_slice()).map_err(|failure| failure.map_refused(Refusal::from))
 }
 
 /// The expression of the wide grammar with which tokens begin, or what may stand in a target's place.
 fn wide_part(out: &mut String, alloc: Global, words: &[Token], part: Part) -> Printed {
     match wide_expr(alloc, words, 0, part) {
         Ok((e, end)) => wide::expression(out, &e, end),
-        Err(failure) => unread(out, failure),
+        Err(failure) => syntax_refusal(out, failure.map_refused(SyntaxErr::from)),
     }
 }
 
 fn whole_script(out: &mut String, alloc: Global, words: &[Token]) -> Printed {
     match wide_script(alloc, words) {
         Ok(_) => word(out, "script"),
-        Err(failure) => unread(out, failure),
+        Err(failure) => syntax_refusal(out, failure.map_refused(SyntaxErr::from)),
     }
 }
 
@@ -74,7 +66,7 @@ fn part(out: &mut String, alloc: Global, words: &[Token], at: usize) -> Printed 
     }
     match parse_expr(alloc, words, at) {
         Ok((e, end)) => printer::expression_to(out, &e, end),
-        Err(failure) => refusal(out, failure.map_refused(Refusal::from)),
+        Err(failure) => syntax_refusal(out, failure),
     }
 }
 
@@ -95,7 +87,7 @@ fn of_line(out: &mut String, alloc: Global, kind: Kind, at: usize, row: &str) ->
     let text = text_of(alloc, row)?;
     match tokens_of(alloc, text.as_slice()) {
         Ok(words) => of_tokens(out, alloc, kind, at, words.as_slice()),
-        Err(failure) => refusal(out, failure),
+        Err(error) => refusal(out, error),
     }
 }
 
@@ -103,7 +95,7 @@ fn of_line(out: &mut String, alloc: Global, kind: Kind, at: usize, row: &str) ->
 fn tree(out: &mut String, alloc: Global, text: &[u8]) -> Printed {
     match script_of(alloc, text) {
         Ok(script) => statements::script(out, &script),
-        Err(failure) => refusal(out, failure),
+        Err(error) => refusal(out, error),
     }
 }
 
@@ -114,7 +106,7 @@ fn act_table(out: &mut String, alloc: Global, text: &[u8]) -> Printed {
             Ok(table) => acts_of(out, &table),
             Err(_) => word(out, "memory"),
         },
-        Err(failure) => refusal(out, failure),
+        Err(error) => refusal(out, error),
     }
 }
 
@@ -128,7 +120,7 @@ fn scopes(out: &mut String, alloc: Global, text: &str) -> Printed {
             Some((names, _)) => scopes_of(out, &scopes, names.strip_prefix("#").unwrap_or("")),
             None => Ok(()),
         },
-        Err(failure) => refusal(out, failure),
+        Err(error) => refusal(out, error),
     }
 }
 
