@@ -1,4 +1,4 @@
-"""Times a program on files of 1 MiB of several shapes, and of twice the size.
+"""Times the front end on files of 1 MiB of several shapes, and of twice the size.
 
 Each is run five times. What is printed: the median time beyond that of an empty file, the greatest
 memory, and the ratio of the times.
@@ -12,7 +12,8 @@ import tempfile
 import time
 from pathlib import Path
 
-CRATES = Path(__file__).resolve().parent.parent / "crates"
+CRATE = Path(__file__).resolve().parent.parent / "crates" / "test_front"
+PROGRAM = CRATE / "out" / "test_front"
 MEBIBYTE = 1 << 20
 RUNS = 5
 
@@ -53,22 +54,25 @@ def run(words):
     return statistics.median(r[0] for r in rows), max(r[1] for r in rows)
 
 
-def main(crate, shapes):
-    """Builds the crate's program and times it on texts of these shapes."""
-    folder = CRATES / crate
-    program = folder / "out" / crate
-    build = subprocess.run(["rt", "run", "--", folder / "data" / "a.py"], cwd=folder, capture_output=True, text=True)
-    if build.returncode != 0:
-        sys.exit(build.stdout + build.stderr)
+def build():
+    built = subprocess.run(["rt", "run"], cwd=CRATE, capture_output=True, text=True)
+    if built.returncode != 0:
+        sys.exit(built.stdout + built.stderr)
+
+
+def main(kind, shapes):
+    """Times what is read of texts of these shapes: their tokens or trees."""
+    build()
     with tempfile.TemporaryDirectory() as files:
         path = Path(files, "script")
+        words = [PROGRAM, "time", kind, path]
         path.write_text("")
-        start, _ = run([program, path])
+        start, _ = run(words)
         for name, shape in shapes.items():
             times = []
             for size, twice in [(MEBIBYTE, ""), (2 * MEBIBYTE, " twice")]:
                 path.write_text(shape(size))
-                seconds, memory = run([program, path])
+                seconds, memory = run(words)
                 times.append(seconds - start)
                 print(f"{name + twice:26} {seconds - start:7.3f} s  {memory:8} KiB")
             print(f"{name + ' ratio':26} {times[1] / times[0]:7.2f}")

@@ -1,4 +1,4 @@
-"""The wide grammar as productions, and the first token with which no script goes on.
+"""The cover grammar as docs/LANGUAGE.md has it, and the first token with which no script goes on.
 
 An Earley recogniser: it has nothing in common with the readers of the project, so that the places
 of refusals in the tables beside it are told by the grammar alone. Tokens are CPython's.
@@ -8,70 +8,12 @@ import keyword
 import re
 import token
 import tokenize
+from pathlib import Path
 
-PRODUCTIONS = r'''
-script    = { stmt } END
-block     = simples | NEWLINE INDENT stmt { stmt } DEDENT
-simples   = simple { ";" simple } [ ";" ] NEWLINE
-stmt      = compound | simples
-simple    = "pass" | "break" | "continue" | "return" [ exprs ]
-          | "raise" [ expr [ "from" expr ] ] | "global" names | "nonlocal" names
-          | "del" targets | "assert" expr [ "," expr ]
-          | "import" NAME [ "as" NAME ] { "," NAME [ "as" NAME ] }
-          | "from" { dots } NAME "import" ( imps | "(" imps [ "," ] ")" | "*" )
-          | target ":" expr [ "=" value ]
-          | target AUGMENT value
-          | { targets "=" } value
-dots      = "." | "..."
-imps      = NAME [ "as" NAME ] { "," NAME [ "as" NAME ] }
-names     = NAME { "," NAME }
-value     = exprs | yielding
-yielding  = "yield" "from" expr | "yield" [ exprs ]
-exprs     = item { "," item } [ "," ]
-item      = expr | "*" bor
-targets   = starred { "," starred } [ "," ]
-starred   = [ "*" ] target
-target    = bor
-compound  = "if" expr ":" block { "elif" expr ":" block } [ "else" ":" block ]
-          | "while" expr ":" block [ "else" ":" block ]
-          | "for" targets "in" exprs ":" block [ "else" ":" block ]
-          | "try" ":" block ( handlers [ "else" ":" block ] [ "finally" ":" block ] | "finally" ":" block )
-          | "with" ( "(" items [ "," ] ")" | items ) ":" block
-          | decorators "def" NAME "(" [ params ] ")" [ "->" expr ] ":" block
-          | decorators "class" NAME [ "(" [ args ] ")" ] ":" block
-handlers  = handler { handler } [ "except" [ "*" ] ":" block ] | "except" [ "*" ] ":" block
-handler   = "except" [ "*" ] expr [ "as" NAME ] ":" block
-items     = expr [ "as" target ] { "," expr [ "as" target ] }
-decorators= { "@" expr NEWLINE }
-expr      = or [ "if" or "else" expr ] | "lambda" [ plainparams ] ":" expr
-or        = and { "or" and }
-and       = not { "and" not }
-not       = "not" not | comp
-comp      = bor { ( "<" | ">" | "==" | ">=" | "<=" | "!=" | "in" | "not" "in" | "is" | "is" "not" ) bor }
-bor       = xor { "|" xor }
-xor       = band { "^" band }
-band      = shift { "&" shift }
-shift     = sum { ( "<<" | ">>" ) sum }
-sum       = term { ( "+" | "-" ) term }
-term      = factor { ( "*" | "/" | "//" | "%" | "@" ) factor }
-factor    = ( "+" | "-" | "~" ) factor | primary [ "**" factor ]
-primary   = atom { "." NAME | "(" [ args ] ")" | "[" index "]" }
-index     = slice | exprs
-slice     = [ expr ] ":" [ expr ] [ ":" [ expr ] ]
-atom      = NAME | INT | strings | "None" | "True" | "False" | "..."
-          | "(" [ exprs | yielding | expr clauses ] ")"
-          | "[" [ exprs | expr clauses ] "]"
-          | "{" [ pair { "," pair } [ "," ] | pair clauses | exprs | expr clauses ] "}"
-pair      = expr ":" expr | "**" bor
-clauses   = clause { clause }
-clause    = "for" targets "in" or { "if" or }
-strings   = string { string }
-string    = STRING | FSTART { FTEXT | field } FEND
-field     = "{" ( exprs | yielding ) [ "!" NAME ] [ ":" { FTEXT | inner } ] "}"
-inner     = "{" ( exprs | yielding ) [ "!" NAME ] [ ":" { FTEXT } ] "}"
-'''
+PAGE = Path(__file__).resolve().parents[2] / "docs" / "LANGUAGE.md"
 
-AUGMENTS = ["+=", "-=", "*=", "/=", "//=", "%=", "**=", "&=", "|=", "^=", "<<=", ">>="]
+# The productions of lists of parameters.
+PARAMETERS = ("params", "slashed", "defaults", "ending", "stars", "keywords")
 
 rules = {}
 
@@ -108,69 +50,20 @@ def alternatives(words, at, end, name):
 
 
 def read_productions():
-    parts = re.split(r"^([a-z]+)\s*=", PRODUCTIONS, flags=re.M)[1:]
+    """The grammar of the page. What begins with `plain` is a list of parameters without annotations, as of a lambda."""
+    page = re.search(r"```ebnf\n(.*?)```", PAGE.read_text(), flags=re.S)[1]
+    parts = re.split(r"^([a-z]+)\s*=", page, flags=re.M)[1:]
     for name, body in zip(parts[::2], parts[1::2]):
         words = re.findall(r'"[^"]*"|[A-Za-z_]+|[{}\[\]()|]', body)
         add(name, alternatives(words, 0, None, name)[0])
-
-
-def read_arguments():
-    """Behind NAME = no positional argument stands, and behind ** no positional one and no *."""
-    kinds = {
-        "positional": ("expr",),
-        "spread": ('"*"', "expr"),
-        "named": ("NAME", '"="', "expr"),
-        "spread_named": ('"**"', "expr"),
-    }
-    add("args", [("args0",), ("expr", "clauses")])
-    for state in (0, 1, 2):
-        allowed = [k for k in kinds if not (k == "positional" and state > 0 or k == "spread" and state > 1)]
-        after = {"positional": 0, "spread": state, "named": max(state, 1), "spread_named": 2}
-        add(f"args{state}", [kinds[k] + (f"behind{after[k]}",) for k in allowed])
-        add(f"behind{state}", [(), ('","',), ('","', f"args{state}")])
-
-
-def read_parameters(name, annotated):
-    """Plain parameters, those with defaults behind those without; `/` once among them; then `*`, keyword-only ones, `**`."""
-    annotation = name + "annotation"
-    add(annotation, [('":"', "expr"), ()] if annotated else [()])
-    default = ('"="', "expr")
-
-    def behind(state):
-        return name + "behind" + state
-
-    def items(state):
-        if state == "only":
-            return [
-                ("NAME", annotation, behind("only")),
-                ("NAME", annotation) + default + (behind("only"),),
-                ('"**"', "NAME", behind("end")),
-            ]
-        slashed = state[-1]
-        found = [
-            ("NAME", annotation) + default + (behind("late" + slashed),),
-            ('"*"', "NAME", behind("only")),
-            ('"*"', behind("only")),
-            ('"**"', "NAME", behind("end")),
-        ]
-        if state.startswith("early"):
-            found.append(("NAME", annotation, behind(state)))
-        return found
-
-    add(name, items("early0"))
-    for state in ("early0", "early1", "late0", "late1", "only"):
-        more = [('","',) + item for item in items(state)]
-        if state.endswith("0"):
-            more.append(('","', '"/"', behind(state[:-1] + "1")))
-        add(behind(state), [(), ('","',)] + more)
-    add(behind("end"), [(), ('","',)])
+        if name == "param":
+            add("plain" + name, [("NAME",)])
+        elif name in PARAMETERS:
+            plain = ["plain" + word if word in ("param", *PARAMETERS) else word for word in words]
+            add("plain" + name, alternatives(plain, 0, None, name)[0])
 
 
 read_productions()
-read_arguments()
-read_parameters("params", True)
-read_parameters("plainparams", False)
-add("AUGMENT", [(f'"{sign}"',) for sign in AUGMENTS])
 
 empty = set()
 while True:
@@ -207,12 +100,14 @@ def closure(items, sets, place):
 def is_next(symbol, kind):
     if symbol.startswith('"'):
         return kind == ("SIGN", symbol[1:-1])
+    if symbol == "CONVERSION":
+        return kind in (("NAME", "r"), ("NAME", "s"))
     return kind[0] == symbol
 
 
-def recognise(kinds):
-    """The number of the first token with which no script goes on, or None; and whether all are a script."""
-    sets = [closure({("script", a, 0, 0) for a in rules["script"]}, [], 0)]
+def recognise(kinds, goal="script"):
+    """The number of the first token with which nothing goes on, or of all tokens; and whether those before it are the goal."""
+    sets = [closure({(goal, a, 0, 0) for a in rules[goal]}, [], 0)]
     for place, kind in enumerate(kinds):
         moved = {
             (name, body, dot + 1, start)
@@ -220,9 +115,9 @@ def recognise(kinds):
             if dot < len(body) and body[dot] not in rules and is_next(body[dot], kind)
         }
         if not moved:
-            return place, False
+            break
         sets.append(closure(moved, sets, place + 1))
-    return None, any(n == "script" and dot == len(b) and start == 0 for n, b, dot, start in sets[-1])
+    return len(sets) - 1, any(n == goal and dot == len(b) and start == 0 for n, b, dot, start in sets[-1])
 
 
 def tokens(text):
@@ -238,7 +133,7 @@ def tokens(text):
     found = []
     for each in tokenize.generate_tokens(io.StringIO(text).readline):
         name = token.tok_name[each.type]
-        if name in ("COMMENT", "NL", "ENCODING"):
+        if name in ("COMMENT", "NL", "ENCODING") or name == "FSTRING_MIDDLE" and not each.string:
             continue
         if name == "NAME":
             kind = ("SIGN" if each.string in keyword.kwlist else "NAME", each.string)
@@ -254,7 +149,17 @@ def tokens(text):
 def refusal(text):
     """None for a script of the wide grammar; else the byte place at which it is refused."""
     found = tokens(text)
-    place, whole = recognise([kind for kind, _ in found])
+    count, whole = recognise([kind for kind, _ in found])
     if whole:
         return None
-    return found[-1 if place is None else place][1]
+    return found[min(count, len(found) - 1)][1]
+
+
+def first(text, goal):
+    """How many tokens the longest goal at the front of a text has, and the text of these; or the byte place with which none
+    goes on."""
+    found = tokens(text)
+    count, whole = recognise([kind for kind, _ in found], goal)
+    if whole:
+        return count, text.encode()[: found[count][1]].decode()
+    return found[min(count, len(found) - 1)][1], None

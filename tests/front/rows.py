@@ -1,21 +1,27 @@
-"""Writes what the program front_rows reads, and what it must print: the tables with the answers that they tell, the
-trees that CPython's ast gives, and the scopes that its symtable gives."""
+"""Writes what the program test_front reads, and what it must print: the tables with the answers that they tell, the
+trees that CPython's ast gives with the acts of their blocks, and the scopes that its symtable gives."""
 import io
 import tokenize
 import warnings
 from pathlib import Path
 
+import acts
 import scopes
 import tables
 import trees
 
 warnings.simplefilter("ignore")
 
-CRATE = Path("../../crates/front_rows")
+CRATE = Path("../../crates/test_front")
 
+# kinds of rows that stand on a line each, by the names of their tables
+LINES = ["tokens", "places", "expressions", "targets", "scripts", "parts"]
 
 # words that are no tokens of the language: a text with one is refused for it, before its tokens are read
 EXCLUDED = {":=", "@=", "async", "await"}
+
+# there is no such block
+NO_BLOCK = ("# 3 x\nx = 1\n", " -")
 
 
 def refusal(place, script):
@@ -33,17 +39,23 @@ def queried(script):
 
 
 def main():
-    accepted = [(script, trees.script(script)) for script in tables.accepted()]
-    refused = [(script, refusal(place, script)) for place, script in tables.refused()]
-    faults = [(script, f" {number} {line}") for number, line, _, script in tables.faults()]
-    scoped = [queried(script) for script in scopes.scripts()]
-    files = {"accepted": accepted, "refused": refused, "faults": faults, "scopes": scoped}
+    files = [(name, name, [(text, " " + answer) for answer, text in tables.rows(name)]) for name in LINES]
+    files += [
+        ("trees", "accepted", [(script, trees.script(script)) for script in tables.accepted()]),
+        ("trees", "refused", [(script, refusal(place, script)) for place, script in tables.refused()]),
+        ("trees", "faults", [(script, f" {number} {line}") for number, line, _, script in tables.faults()]),
+        ("acts", "acts", [(script, acts.script(script)) for script in tables.scripts("acts")]),
+        ("scopes", "declarations", [(script, f" {number} {line}") for number, line, _, script in tables.faults("declarations")]),
+        ("scopes", "scopes", [queried(script) for script in scopes.scripts()] + [NO_BLOCK]),
+    ]
     for folder in ("data", ""):
         (CRATE / folder).mkdir(parents=True, exist_ok=True)
-    for name, rows in files.items():
-        (CRATE / "data" / (name + ".txt")).write_text("---\n".join(script for script, _ in rows))
-    (CRATE / "args").write_text("".join(name + ".txt\n" for name in files))
-    (CRATE / "stdout").write_text("".join(answer + "\n" for rows in files.values() for _, answer in rows))
+    for kind, name, rows in files:
+        texts = [text for text, _ in rows]
+        table = "".join(text + "\n" for text in texts) if name in LINES else "---\n".join(texts)
+        (CRATE / "data" / (name + ".txt")).write_text(table)
+    (CRATE / "args").write_text("".join(f"{kind}\n{name}.txt\n" for kind, name, _ in files))
+    (CRATE / "stdout").write_text("".join(answer + "\n" for _, _, rows in files for _, answer in rows))
 
 
 if __name__ == "__main__":

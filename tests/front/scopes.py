@@ -280,6 +280,12 @@ def f(x):
         x = 1
         return x
     return x
+---
+def f():
+    def g():
+        f
+        g
+        print
 '''
 
 AROUND = ["def f():\n", "class C:\n"]

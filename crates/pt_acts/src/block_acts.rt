@@ -58,14 +58,14 @@ impl BlockActs {
         BlockActs::new(rows)
     }
 
-    /// The acts of a lambda, which returns its body.
-    #[tactic(auto, using(crate::proofs::Walk::lines))]
-    pub fn of_lambda(alloc: Global, body: &Expr) -> Result<BlockActs, Memory>
-        ensures { IfOk result (λ b. b ≡ acts_of_code (of_lambda (exp_of body.now))) }
+    /// The acts of a lambda, which returns its body on its own line.
+    #[tactic(auto, using(crate::proofs::Walk::blocks))]
+    pub fn of_lambda(alloc: Global, line: Line, body: &Expr) -> Result<BlockActs, Memory>
+        ensures { IfOk result (λ b. b ≡ acts_of_code (of_lambda line.0 (exp_of body.now))) }
     {
         let mut rows = Seq::new(alloc);
         push_expression(&mut rows, body)?;
-        push_act(&mut rows, ActKind::Return, body.line)?;
+        push_act(&mut rows, ActKind::Return, line)?;
         BlockActs::new(rows)
     }
 

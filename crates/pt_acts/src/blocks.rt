@@ -80,7 +80,7 @@ pub fn collect_expression(alloc: Global, table: &mut Seq<BlockActs>, e: &Expr) -
             body,
             ..
         } => {
-            let acts = BlockActs::of_lambda(alloc, body.get())?;
+            let acts = BlockActs::of_lambda(alloc, e.line, body.get())?;
             table.push(acts)?;
             collect_parameters(alloc, table, parameters)?;
             collect_expression(alloc, table, body.get())

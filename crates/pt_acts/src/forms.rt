@@ -78,7 +78,7 @@ pub fn each_compound_statement_has_its_acts()
     ensures of_class { acts_stm (S.class 1 (S.decorator 1 (e 2) S.no_decorators) 3 0 [] (S.given (e 4)) (p 5)) ≡ row A.Load 2 ∷ row A.Load 4 ∷ row A.Class 3 ∷ row A.Call 1 ∷ row A.Store 3 ∷ [] }
     ensures docstring { acts_stms (function_body documented) ≡ row A.Pass 2 ∷ [] }
     ensures module_text { acts_stms documented ≡ row A.Const 1 ∷ row A.Discard 1 ∷ row A.Pass 2 ∷ [] }
-    ensures lambda_block { acts_of_code (of_lambda (S.not_of 1 (e 2))) ≡ row A.Load 2 ∷ row A.Not 1 ∷ row A.Return 1 ∷ [] }
+    ensures lambda_block { acts_of_code (of_lambda 1 (S.not_of 2 (e 3))) ≡ row A.Load 3 ∷ row A.Not 2 ∷ row A.Return 1 ∷ [] }
     ensures generator_block { acts_of_code (of_generator 1 (e 2) 3 (t 4) (S.only_if (e 5) S.no_clauses)) ≡ row A.Next 3 ∷ row A.Store 4 ∷ row A.Load 5 ∷ row A.Branch 1 ∷ row A.Load 2 ∷ row A.Yield 1 ∷ row A.Discard 1 ∷ [] }
 {}
 

@@ -8,8 +8,6 @@ mod rows;
 mod statement_blocks;
 mod statement_rows;
 mod table;
-#[cfg(test)]
-mod tests;
 
 pub use forms::{
     blocks_stand_in_source_order, each_compound_statement_has_its_acts,

@@ -1,4 +1,5 @@
 pub mod Calls
+pub mod Failures
 pub mod Faults
 pub mod InMemory
 pub mod Spending

@@ -6,9 +6,15 @@ use std::alloc::Global;
 use std::marker::Model;
 
 /// A `String` that contracts see as the list of its bytes, which are UTF-8.
-#[derive(Debug, Drop)]
+#[derive(Debug)]
 pub struct Text {
     inner: String,
+}
+
+impl Drop for Text {
+    fn drop(self) {
+        let Text { inner: _ } = self;
+    }
 }
 
 impl Model for Text {

@@ -1,5 +1,5 @@
-pub mod CompletionTable
 pub mod JumpLemmas
+pub mod PartsApart
 pub mod MarksTree
 pub mod MarksFrames
 pub mod MarksBases

@@ -6,11 +6,11 @@ use Rattle.pt_tree.specs.Syntax as S
 use Rattle.pt_tree.specs.Syntax.{Exp, Exps, Opt, Pieces, Entries, Args, Made, Clauses, Tgt, Params, Formals}
 use Rattle.pt_tree.specs.Sizes.{size, pieces_size, joins}
 use Rattle.pt_control.specs.Turn as T
-use Rattle.pt_control.specs.Turn.{Operation, operate}
+use Rattle.pt_control.specs.Turn.{Variable, Around, Operation}
 use Rattle.pt_control.specs.Frames as F
-use Rattle.pt_control.specs.Frames.{Operand, Wait, Rounds, Control, for_value}
+use Rattle.pt_control.specs.Frames.{Operand, Wait, Rounds, Control}
 use Rattle.pt_control.specs.Bases.{rounds_line}
-use Rattle.pt_control.specs.Expressions.{of_exps, of_entries, of_opt, of_pieces, of_args, of_formals, defaulted, begin_exp, begin_defaults, begin_function, next_operand, begin_spec, begin_made, begin_last, begin_clauses, take_item}
+use Rattle.pt_control.specs.Expressions.{of_exps, of_entries, of_opt, of_pieces, of_args, of_formals, making, cells_of, begin_operation, begin_exp, begin_defaults, begin_function, next_operand, begin_spec, begin_made, begin_last, begin_clauses, take_item}
 use Rattle.pt_control.specs.Reached.{operation_kind}
 use Rattle.pt_control.proofs.MarksTree.{Numbering, Spec_end, Exp_in, Exps_in, Opt_in, Pieces_in, Entries_in, Args_in, Made_in, Clauses_in, Params_in, Formals_in}
 use Rattle.pt_control.proofs.MarksFrames.{Operands_in, Last_in, Round_in, Wait_in, Rounds_in, Control_in}
@@ -72,10 +72,16 @@ module _ (R : Numbering) where
   formals_operands (S.formal l x a S.absent r) behind n End h = formals_operands r behind n End h
   formals_operands (S.formal l x a (S.given d) r) behind n End (hd, h) = (hd, formals_operands r behind (n + size d) End h)
 
-module _ (R : Numbering) {V : Type 0} (null : V) where
+module _ (R : Numbering) {V : Type 0} (block : Around V) where
+  -- an operation behind its asks for cells
+  pub begin_operation_in : (xs : List Variable) (l n : ℕ) (g : Bool) (op : Operation) (vs : List V) (w : Wait V)
+      → R.is (operation_kind op) l n → (g ≡ true → R.again n) → Wait_in R w → Control_in R (begin_operation block xs l n g op vs w)
+  begin_operation_in [] l n g op vs w h a hw = ((h, a), hw)
+  begin_operation_in (x ∷ xs) l n g op vs w h a hw = (h, a, hw)
+
   mutual
     pub begin_exp_in : (e : Exp) (n : ℕ) (g : Bool) (w : Wait V)
-        → Exp_in R e n → (g ≡ true → R.again n) → Wait_in R w → Control_in R (begin_exp null e n g w)
+        → Exp_in R e n → (g ≡ true → R.again n) → Wait_in R w → Control_in R (begin_exp block e n g w)
     begin_exp_in (S.constant l k) n g w h a hw = ((h, a), hw)
     begin_exp_in (S.name l x) n g w h a hw = ((h, a), hw)
     begin_exp_in (S.joined l S.no_pieces) n g w h a hw = ((h, a), hw)
@@ -108,8 +114,8 @@ module _ (R : Numbering) {V : Type 0} (null : V) where
     begin_exp_in (S.conditional l b c d) n g w (hb, h, hc, hd) a hw = begin_exp_in b n g _ hb a (h, (hc, hw), (hd, hw))
     begin_exp_in (S.call l f xs) n g w (hf, hs) a hw = begin_exp_in f n g _ hf a (args_operands R l xs (n + size f) _ hs, hw)
     begin_exp_in (S.lambda l b (S.parameters ps s ks d) e) n g w h a hw =
-        begin_defaults_in ps ks (T.function b (defaulted ps ++ defaulted ks)) l n g w _ h a hw
-        (λ i. begin_defaults_in ks S.no_formals (T.function b (defaulted ps ++ defaulted ks)) l n g w _ i a hw (λ j. ((j, a), hw)))
+        begin_defaults_in ps ks (making block b ps ks) l n g w _ h a hw
+        (λ i. begin_defaults_in ks S.no_formals (making block b ps ks) l n g w _ i a hw (λ j. begin_operation_in (block.captured b) l n g (making block b ps ks) [] w j a hw))
     begin_exp_in (S.comprehension l m k t it cs) n g w (hi, h₁, h₂, h₃, ht, hc) a hw = begin_exp_in it n g _ hi a (h₁, (h₂, (h₃, ht, hc), hw))
     begin_exp_in (S.generator l b e k t it cs) n g w (hi, h₁, h₂) a hw = begin_exp_in it n g _ hi a (h₁, (h₂, hw))
     begin_exp_in (S.yield l S.absent) n g w h a hw = ((h, a), hw)
@@ -120,22 +126,23 @@ module _ (R : Numbering) {V : Type 0} (null : V) where
     begin_defaults_in : (fs behind : Formals) (op : Operation) (l n : ℕ) (g : Bool) (w : Wait V) (after : Control V)
         → Formals_in R fs n (λ m. Formals_in R behind m (λ o. R.is (operation_kind op) l o)) → (g ≡ true → R.again n) → Wait_in R w
         → (Formals_in R behind n (λ o. R.is (operation_kind op) l o) → Control_in R after)
-        → Control_in R (begin_defaults null fs (of_formals behind) op l n g w after)
+        → Control_in R (begin_defaults block fs (of_formals behind) op l n g w after)
     begin_defaults_in S.no_formals behind op l n g w after h a hw go = go h
     begin_defaults_in (S.formal k x b S.absent r) behind op l n g w after h a hw go = begin_defaults_in r behind op l n g w after h a hw go
     begin_defaults_in (S.formal k x b (S.given d) r) behind op l n g w after (hd, h) a hw go =
         begin_exp_in d n g _ hd a (formals_operands R r behind (n + size d) _ h, hw)
 
   pub begin_function_in : (b : ℕ) (ps : Params) (l n : ℕ) (w : Wait V)
-      → Params_in R ps n (λ m. R.is K.Function l m) → Wait_in R w → Control_in R (begin_function null b ps l n w)
+      → Params_in R ps n (λ m. R.is K.Function l m) → Wait_in R w → Control_in R (begin_function block b ps l n w)
   begin_function_in b (S.parameters ps s ks d) l n w h hw =
-      begin_defaults_in ps ks (T.function b (defaulted ps ++ defaulted ks)) l n false w _ h (no_test R n) hw
-      (λ i. begin_defaults_in ks S.no_formals (T.function b (defaulted ps ++ defaulted ks)) l n false w _ i (no_test R n) hw (λ j. ((j, no_test R n), hw)))
+      begin_defaults_in ps ks (making block b ps ks) l n false w _ h (no_test R n) hw
+      (λ i. begin_defaults_in ks S.no_formals (making block b ps ks) l n false w _ i (no_test R n) hw
+      (λ j. begin_operation_in (block.captured b) l n false (making block b ps ks) [] w j (no_test R n) hw))
 
   pub next_operand_in : (os : List Operand) (l n : ℕ) (op : Operation) (vs : List V) (w : Wait V)
-      → Operands_in R os n (λ m. R.is (operation_kind op) l m) → Wait_in R w → Control_in R (next_operand null l n op vs os w)
-  next_operand_in [] l n op vs w h hw = ((h, no_test R n), hw)
-  next_operand_in (F.missing ∷ os) l n op vs w h hw = next_operand_in os l n op (null ∷ vs) w h hw
+      → Operands_in R os n (λ m. R.is (operation_kind op) l m) → Wait_in R w → Control_in R (next_operand block l n op vs os w)
+  next_operand_in [] l n op vs w h hw = begin_operation_in (cells_of block op) l n false op vs w h (no_test R n) hw
+  next_operand_in (F.missing ∷ os) l n op vs w h hw = next_operand_in os l n op (block.null ∷ vs) w h hw
   next_operand_in (F.plain e ∷ os) l n op vs w (he, h) hw = begin_exp_in e n false _ he (no_test R n) (h, hw)
   next_operand_in (F.spread_of k e ∷ os) l n op vs w (he, h, hs) hw = begin_exp_in e n false _ he (no_test R n) (h, (hs, hw))
   next_operand_in (F.spread_named_of k e ∷ os) l n op vs w (he, h, hs) hw = begin_exp_in e n false _ he (no_test R n) (h, (hs, hw))
@@ -143,7 +150,7 @@ module _ (R : Numbering) {V : Type 0} (null : V) where
   next_operand_in (F.field_of k e c sp ∷ os) l n op vs w (he, hp, hs) hw = begin_exp_in e n false _ he (no_test R n) (hp, (hs, hw))
 
   pub begin_spec_in : (sp : Pieces) (l n : ℕ) (c : Option Conversion) (v : V) (w : Wait V)
-      → Pieces_in R sp n (λ m. Spec_end R sp l n m) → Wait_in R w → Control_in R (begin_spec null l n c v sp w)
+      → Pieces_in R sp n (λ m. Spec_end R sp l n m) → Wait_in R w → Control_in R (begin_spec block l n c v sp w)
   begin_spec_in S.no_pieces l n c v w h hw = ((h, no_test R n), hw)
   begin_spec_in (S.literal k t S.no_pieces) l n c v w (h, hs) hw = ((h, no_test R n), (hs, hw))
   begin_spec_in (S.field k e d sp S.no_pieces) l n c v w (he, hp, hs) hw = begin_exp_in e n false _ he (no_test R n) (hp, (hs, hw))
@@ -160,18 +167,18 @@ module _ (R : Numbering) {V : Type 0} (null : V) where
       let both = pieces_and R (S.field j f b q r) (n + size e + pieces_size sp + joins sp + 1) (λ m. R.is K.Join l m) (R.is K.Format l (n + pieces_size (S.field k e d sp (S.field j f b q r)) + 1)) hs in
       begin_exp_in e n false _ he (no_test R n) (hp, (both.0, (both.1, hw)))
 
-  begin_made_in : (m : Made) (l n : ℕ) (v : V) (r : Rounds V) → Made_in R l m n → Rounds_in R r → Control_in R (begin_made null m l n v r)
+  begin_made_in : (m : Made) (l n : ℕ) (v : V) (r : Rounds V) → Made_in R l m n → Rounds_in R r → Control_in R (begin_made block m l n v r)
   begin_made_in (S.a_list e) l n v r (he, h) hr = begin_exp_in e n false _ he (no_test R n) (h, hr)
   begin_made_in (S.a_set e) l n v r (he, h) hr = begin_exp_in e n false _ he (no_test R n) (h, hr)
   begin_made_in (S.a_dict k e) l n v r (hk, he, h) hr = begin_exp_in k n false _ hk (no_test R n) (he, h, hr)
 
-  begin_last_in : (q : Rounds V) (n : ℕ) (r : Rounds V) → Last_in R q n → Rounds_in R r → Control_in R (begin_last null q n r)
+  begin_last_in : (q : Rounds V) (n : ℕ) (r : Rounds V) → Last_in R q n → Rounds_in R r → Control_in R (begin_last block q n r)
   begin_last_in (F.collecting l k m v w) n r h hr = begin_made_in m l n v r h hr
   begin_last_in (F.generating l e s) n r (he, h₁, h₂) hr = begin_exp_in e n false _ he (no_test R n) (h₁, h₂, hr)
   begin_last_in (F.round_of l k i t cs q) n r h hr = begin_last_in q n r h hr
 
   pub begin_clauses_in : (cs : Clauses) (n : ℕ) (r : Rounds V)
-      → Clauses_in R (rounds_line r) cs n (λ m. Last_in R r m) → Rounds_in R r → Control_in R (begin_clauses null cs n r)
+      → Clauses_in R (rounds_line r) cs n (λ m. Last_in R r m) → Rounds_in R r → Control_in R (begin_clauses block cs n r)
   begin_clauses_in S.no_clauses n r h hr = begin_last_in r n r h hr
   begin_clauses_in (S.only_if c cs) n r (hc, h, hs) hr = begin_exp_in c n false _ hc (no_test R n) (h, (hs, hr), hr)
   begin_clauses_in (S.for_each l t it cs) n r (hi, h₁, h₂, ht, hc) hr = begin_exp_in it n false _ hi (no_test R n) (h₁, ((h₂, ht, hc), hr))

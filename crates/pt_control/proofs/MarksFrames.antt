@@ -4,15 +4,15 @@ use Rattle.pt_tree.specs.declared.act.ActKind.{ActKind}
 use Rattle.pt_tree.specs.declared.act.ActKind.TheVariants as K
 use Rattle.pt_tree.specs.Syntax.{Exp, Clauses, Tgt, Items, Stms}
 use Rattle.pt_tree.specs.Sizes.{joins, size, pieces_size, target_size, items_size, stms_size, handlers_size}
-use Rattle.pt_control.specs.Turn.{Mark, Reply}
+use Rattle.pt_control.specs.Turn.{Mark}
 use Rattle.pt_control.specs.Frames as F
-use Rattle.pt_control.specs.Frames.{Nest, Way, Wait, Over, Rounds, Control, Operand, Stores, Changed, Definition, Decorating}
+use Rattle.pt_control.specs.Frames.{Frame, Nest, Way, Wait, Over, Rounds, Control, Operand, Stores, Purpose, Address, Definition, Decorating}
 use Rattle.pt_control.specs.Bases.{rounds_line}
 use Rattle.pt_control.specs.Reached.{operation_kind, seek_kind, deed_kind, leave_kind, test_kind}
 use Rattle.pt_control.proofs.MarksTree.{Numbering, Spec_end, Exp_in, Decisions_in, Opt_in, Pieces_in, Links_in, Made_in, Clauses_in, Target_in, Targets_in, Option_in, Deletes_in, Change_in, Imports_in, Decorators_in, Calls_in, Function_in, Class_in, Items_in, Stms_in, Branches_in, Handlers_in}
 
--- the act that stores what an operator changed
-abbrev pub store_kind : {V : Type 0} → Changed V → ActKind
+-- the act that stores to a place
+abbrev pub store_kind : {V : Type 0} → Address V → ActKind
 store_kind (F.a_name x) = K.Store
 store_kind (F.an_attribute a x) = K.SetAttr
 store_kind (F.an_item a i) = K.SetItem
@@ -53,19 +53,22 @@ module _ (R : Numbering) where
   abbrev pub Entry_in : (l n : ℕ) → Option Tgt → Items → (body : Stms) → Type 0
   Entry_in l n t is body = Option_in R t n (λ m. Items_in R is (stms_size body) (λ o. Stms_in R body o) m × R.is K.Exit l (m + items_size is (stms_size body)))
 
+  abbrev pub Frame_in : {V : Type 0} → Frame V → Type 0
+  Frame_in (F.rest n ss) = Stms_in R ss n
+  Frame_in (F.looping l n c body els) = While_in l n c body els
+  Frame_in (F.iterating l n i t body els) = For_in l n t body els
+  Frame_in (F.guarded n hs els) = Handlers_in R hs n × Stms_in R els (n + handlers_size hs)
+  Frame_in (F.testing n e) = Unit {0}
+  Frame_in (F.handling n e) = Unit {0}
+  Frame_in (F.naming x) = Unit {0}
+  Frame_in (F.ensuring t n fin) = Stms_in R fin n
+  Frame_in (F.ending t held) = Unit {0}
+  Frame_in (F.withing l n w) = R.is K.Exit l n
+  Frame_in (F.exiting n w held) = Unit {0}
+
   abbrev pub Nest_in : {V : Type 0} → Nest V → Type 0
-  Nest_in F.outside = Unit {0}
-  Nest_in (F.rest n ss s) = Stms_in R ss n × Nest_in s
-  Nest_in (F.looping l n c body els s) = While_in l n c body els × Nest_in s
-  Nest_in (F.iterating l n i t body els s) = For_in l n t body els × Nest_in s
-  Nest_in (F.guarded n hs els s) = Handlers_in R hs n × Stms_in R els (n + handlers_size hs) × Nest_in s
-  Nest_in (F.testing n e s) = Nest_in s
-  Nest_in (F.handling n e s) = Nest_in s
-  Nest_in (F.naming x s) = Nest_in s
-  Nest_in (F.ensuring n fin s) = Stms_in R fin n × Nest_in s
-  Nest_in (F.ending n held s) = Nest_in s
-  Nest_in (F.withing l n w s) = R.is K.Exit l n × Nest_in s
-  Nest_in (F.exiting n w held s) = Nest_in s
+  Nest_in [] = Unit {0}
+  Nest_in (f ∷ s) = Frame_in f × Nest_in s
 
   -- from the next item of a comprehension's clause
   abbrev pub Round_in : (l for_line n : ℕ) → Tgt → Clauses → (ℕ → Type 0) → Type 0
@@ -86,6 +89,10 @@ module _ (R : Numbering) where
     Way_in (F.given v w) = Wait_in w
     Way_in (F.linked_on l n v o b r w) = Exp_in R b n × R.is K.Compare l (n + size b) × Links_in R l r (n + size b + 1) × Wait_in w
     Way_in (F.lets_go c s) = Nest_in s
+    Way_in (F.raises v s) = Nest_in s
+    Way_in (F.unbinds x c s) = Nest_in s
+    Way_in (F.made_anew xs l n i t cs r) = Round_in (rounds_line r) l n t cs (λ m. Last_in r m) × Rounds_in r
+    Way_in (F.assigns n v ts s) = Targets_in R ts n × Nest_in s
     Way_in (F.tests k n hs e s) = Handlers_in R hs n × Nest_in s
     Way_in (F.binding l n x v k s) = R.is K.Store l n × Way_in k × Nest_in s
     Way_in (F.stores n st k) = Stores_in st n × Way_in k
@@ -99,6 +106,7 @@ module _ (R : Numbering) where
 
     pub Wait_in : {V : Type 0} → Wait V → Type 0
     Wait_in (F.operands l n op before behind w) = Operands_in behind n (λ m. R.is (operation_kind op) l m) × Wait_in w
+    Wait_in (F.celled l n g op before behind w) = R.is (operation_kind op) l n × (g ≡ true → R.again n) × Wait_in w
     Wait_in (F.yielded l n w) = R.is K.Yield l n × Wait_in w
     Wait_in (F.formatted l n c sp w) = Pieces_in R sp n (λ m. Spec_end R sp l n m) × Wait_in w
     Wait_in (F.comparing l n o b r w) = Exp_in R b n × R.is K.Compare l (n + size b) × Links_in R l r (n + size b + 1) × Wait_in w
@@ -118,15 +126,9 @@ module _ (R : Numbering) where
     Wait_in (F.item_sent l n r) = R.is K.Discard l n × Rounds_in r
     Wait_in (F.dropped l n s) = R.is K.Discard l n × Nest_in s
     Wait_in (F.assigned n ts s) = Targets_in R ts n × Nest_in s
-    Wait_in (F.set_attribute_of l n x v k) = R.is K.SetAttr l n × Way_in k
-    Wait_in (F.set_item_of l n i v k) = Exp_in R i n × R.is K.SetItem l (n + size i) × Way_in k
-    Wait_in (F.set_item_at l n a v k) = R.is K.SetItem l n × Way_in k
-    Wait_in (F.delete_attribute_of l n x k) = R.is K.DelAttr l n × Way_in k
-    Wait_in (F.delete_item_of l n i k) = Exp_in R i n × R.is K.DelItem l (n + size i) × Way_in k
-    Wait_in (F.delete_item_at l n a k) = R.is K.DelItem l n × Way_in k
-    Wait_in (F.change_attribute_of l n k x o e s) = R.is K.Attr k n × Change_in R K.SetAttr l k e (n + 1) × Nest_in s
-    Wait_in (F.change_item_of l n k i o e s) = Exp_in R i n × R.is K.Item k (n + size i) × Change_in R K.SetItem l k e (n + size i + 1) × Nest_in s
-    Wait_in (F.change_item_at l n k a o e s) = R.is K.Item k n × Change_in R K.SetItem l k e (n + 1) × Nest_in s
+    Wait_in (F.of_attribute l n x p) = Purpose_in p K.SetAttr K.DelAttr K.Attr l n
+    Wait_in (F.of_item l n i p) = Exp_in R i n × Purpose_in p K.SetItem K.DelItem K.Item l (n + size i)
+    Wait_in (F.at_item l n a p) = Purpose_in p K.SetItem K.DelItem K.Item l n
     Wait_in (F.changing l n k to o e s) = Change_in R (store_kind to) l k e n × Nest_in s
     Wait_in (F.changed_by l n k to v o s) = R.is K.InPlace l n × R.is (store_kind to) k (n + 1) × Nest_in s
     Wait_in (F.change_stored n k to s) = R.is (store_kind to) k n × Nest_in s
@@ -142,6 +144,12 @@ module _ (R : Numbering) where
     Wait_in (F.decorated k n before behind l x what s) = Decorators_in R behind n (k ∷ lines before) (λ m ks. Definition_in l what m ks) × Nest_in s
     Wait_in (F.defined l n x calls s) = Calls_in R l (lines calls) n × Nest_in s
 
+    -- by the kinds of the acts that store to the place, delete it and take its value
+    pub Purpose_in : {V : Type 0} → Purpose V → (stores deletes takes : ActKind) → (l n : ℕ) → Type 0
+    Purpose_in (F.storing v k) st dl tk l n = R.is st l n × Way_in k
+    Purpose_in (F.deleting k) st dl tk l n = R.is dl l n × Way_in k
+    Purpose_in (F.changing_by j o e s) st dl tk l n = R.is tk l n × Change_in R st j l e (n + 1) × Nest_in s
+
     pub Over_in : {V : Type 0} → Over V → Type 0
     Over_in (F.for_over l n t body els s) = For_in l n t body els × Nest_in s
     Over_in (F.comprehension_over l n k t cs m w) = R.is K.Build l n × Round_in l k (n + 1) t cs (λ o. Made_in R l m o) × Wait_in w
@@ -156,11 +164,11 @@ module _ (R : Numbering) where
 
   -- the act with a mark is of a kind, and where a re-test begins with it, the numbering says so
   abbrev pub Marked : Mark → ActKind → Type 0
-  Marked m k = R.is k m.line m.act × (m.again ≡ true → R.again m.act)
+  Marked m k = R.is k m.line m.act × (m.is_retest ≡ true → R.again m.act)
 
   abbrev pub Control_in : {V : Type 0} → Control V → Type 0
   Control_in (F.for_value m a w) = Marked m (seek_kind a) × Wait_in w
-  Control_in (F.for_deed m a k s) = Marked m (deed_kind a) × Way_in k × Nest_in s
+  Control_in (F.for_deed m a k s) = Marked m (deed_kind a k) × Way_in k × Nest_in s
   Control_in (F.for_leave m a s) = Marked m (leave_kind a) × Nest_in s
   Control_in (F.for_throw m a s) = Marked m K.Raise × Nest_in s
   Control_in (F.for_truth m a t f s) = Marked m (test_kind a) × Way_in t × Way_in f × Nest_in s
@@ -169,5 +177,7 @@ module _ (R : Numbering) where
   Control_in (F.for_entry m v l n t is body s) = Marked m K.Enter × Entry_in l n t is body × Nest_in s
   Control_in (F.for_unpack m v n ts k s) = Marked m K.Unpack × Targets_in R ts n × Way_in k × Nest_in s
   Control_in (F.for_delegate m i r w) = Marked m K.Delegate × Wait_in w
-  Control_in {V = V} (F.noting a next) = (r : Reply V (Unit {0})) → Control_in (next r)
+  Control_in (F.silent_value a w) = Wait_in w
+  Control_in (F.silent_deed a k s) = Way_in k × Nest_in s
+  Control_in (F.noting a k s) = Way_in k × Nest_in s
   Control_in (F.closed e) = Unit {0}

@@ -66,5 +66,5 @@ abbrev pub Code_reached : Code → Type 0
 Code_reached (B.of_module ss) = All_reached ss
 Code_reached (B.of_function ss) = All_reached (function_body ss)
 Code_reached (B.of_class ss) = All_reached ss
-Code_reached (B.of_lambda e) = Unit {0}
+Code_reached (B.of_lambda l e) = Unit {0}
 Code_reached (B.of_generator l e k t cs) = Unit {0}

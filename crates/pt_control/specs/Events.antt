@@ -1,9 +1,10 @@
 -- What is told of an act, of a reply and of a note, by the turn alone (PEP 669; sys.monitoring, "Events"). The line of an act comes before its other
--- events; what depends on the values, and the start and the end of a block, is told outside of control.
+-- events; what depends on the values, and the start and the end of a block, is told outside of control. Of an ask without a mark nothing is told.
 use Rattle.std.specs.Prelude.{ℕ, List, [], ◌∷◌, true, Option, Some, None}
 use Rattle.pt_control.specs.Turn as T
-use Rattle.pt_control.specs.Turn.{Ask, Answer, Role, seek, deed, leave, throw, test, iter_of, next_of, enter, unpack, delegate, Note, unbind, fresh, raised_again, Reply, got, raised, End, Turn, act, note}
-use Rattle.pt_control.specs.Frames.{Control, for_value, for_deed, for_leave, for_throw, for_truth, for_iter, for_item, for_entry, for_unpack, for_delegate, noting, closed}
+use Rattle.pt_control.specs.Turn.{Ask, Answer, Around, Role, seek, leave, throw, test, next_of, Note, raised_again, Reply, got, raised, Turn}
+use Rattle.pt_control.specs.Frames.{Control}
+use Rattle.pt_control.specs.Control.{turn, most_silent, unhindered}
 
 pub data Event (V : Type 0) : Type 0 where
   -- a break or continue
@@ -20,14 +21,13 @@ pub data Event (V : Type 0) : Type 0 where
 
 abbrev pub before : {V : Type 0} → Ask V → List (Event V)
 before (seek (T.operate (T.call rs) (f ∷ vs))) = calls f rs vs ∷ []
-before (leave T.breaking) = jumps ∷ []
-before (leave T.continuing) = jumps ∷ []
+before (leave T.jumping) = jumps ∷ []
 before a = []
 
--- `raise` alone raises the active exception again
-abbrev pub arisen : {V : Type 0} → Ask V → V → Event V
-arisen (throw (T.raising_again (Some e))) v = raises_again v
-arisen a v = raises v
+-- `raise` alone raises the exception again that is active in the run: in this block, or in the newest one around that has one
+abbrev pub arisen : {V : Type 0} → (active : Option V) → Ask V → V → Event V
+arisen (Some e) (throw T.raising_again) v = raises_again v
+arisen active a v = raises v
 
 abbrev pub answered : {V : Type 0} → (a : Ask V) → Answer V a → List (Event V)
 answered (test (T.branch v)) b = branches ∷ []
@@ -35,26 +35,17 @@ answered (test (T.matches e c)) true = handled e ∷ []
 answered (next_of i) o = branches ∷ []
 answered a r = []
 
-abbrev pub after : {V : Type 0} → (a : Ask V) → Reply V (Answer V a) → List (Event V)
-after a (got r) = answered a r
-after a (raised v) = arisen a v ∷ []
+abbrev pub after : {V : Type 0} → (active : Option V) → (a : Ask V) → Reply V (Answer V a) → List (Event V)
+after active a (got r) = answered a r
+after active a (raised v) = arisen active a v ∷ []
 
 abbrev pub at_note : {V : Type 0} → Note V → List (Event V)
 at_note (raised_again v) = raises_again v ∷ []
-at_note (unbind x) = []
-at_note (fresh x) = []
+
+abbrev number_of : {S V : Type 0} → Turn S V → Option ℕ
+number_of (T.act (Some m) a k) = Some m.act
+number_of t = None
 
 -- the act that comes next if nothing is raised; none where the block ends
-abbrev pub destination : {V : Type 0} → Control V → Option ℕ
-destination (for_value m a w) = Some m.act
-destination (for_deed m a k s) = Some m.act
-destination (for_leave m a s) = Some m.act
-destination (for_throw m a s) = Some m.act
-destination (for_truth m a t f s) = Some m.act
-destination (for_iter m v o) = Some m.act
-destination (for_item m i n t k f) = Some m.act
-destination (for_entry m v l n t is body s) = Some m.act
-destination (for_unpack m v n ts k s) = Some m.act
-destination (for_delegate m i r w) = Some m.act
-destination (noting a f) = destination (f (got tt))
-destination (closed e) = None
+abbrev pub destination : {V : Type 0} → (block : Around V) → Control V → Option ℕ
+destination block c = number_of (turn block (unhindered block c (most_silent block c)))

@@ -1,12 +1,12 @@
 -- What goes on behind an act: nests of statements, values that are due, and comprehensions, over any type V of values. In each frame n numbers
 -- the first act of what is left, and l is a line.
-use Rattle.std.specs.Prelude.{ℕ, List, Option}
+use Rattle.std.specs.Prelude.{ℕ, List, Bool, Option}
 use Rattle.pt_base.specs.declared.operators.BinOp.{BinOp}
 use Rattle.pt_base.specs.declared.operators.CompareOp.{CompareOp}
 use Rattle.pt_tree.specs.declared.expression.Conversion.{Conversion}
 use Rattle.pt_tree.specs.declared.statement.Alias.{Alias}
 use Rattle.pt_tree.specs.Syntax.{Name, Exp, Exps, Opt, Pieces, Links, Made, Clauses, Place, Tgt, Tgts, Params, Decorators, Items, Stms, Branches, Handlers}
-use Rattle.pt_control.specs.Turn.{Mark, Operation, Seek, Deed, Leave, Throw, Test, Note, Reply, End}
+use Rattle.pt_control.specs.Turn.{Mark, Variable, Operation, Seek, Deed, Throw, Test, Note, Reply, End}
 
 -- how a statement is left before its end
 pub data Abrupt (V : Type 0) : Type 0 where
@@ -19,28 +19,31 @@ pub data Completion (V : Type 0) : Type 0 where
   normal : Completion V
   by : Abrupt V → Completion V
 
--- what goes on once a statement is complete, the innermost frame first
-pub data Nest (V : Type 0) : Type 0 where
-  outside : Nest V
-  rest : (n : ℕ) (ss : Stms) → Nest V → Nest V
+-- what goes on once a statement is complete, one step outwards
+pub data Frame (V : Type 0) : Type 0 where
+  rest : (n : ℕ) (ss : Stms) → Frame V
   -- the body of a `while`; n numbers its test
-  looping : (l n : ℕ) (test : Exp) (body els : Stms) → Nest V → Nest V
+  looping : (l n : ℕ) (test : Exp) (body els : Stms) → Frame V
   -- a `for` from its first Next on, with its iterator; n numbers Next
-  iterating : (l n : ℕ) (iterator : V) (t : Tgt) (body els : Stms) → Nest V → Nest V
+  iterating : (l n : ℕ) (iterator : V) (t : Tgt) (body els : Stms) → Frame V
   -- a `try` body; n numbers the handlers
-  guarded : (n : ℕ) (hs : Handlers) (els : Stms) → Nest V → Nest V
+  guarded : (n : ℕ) (hs : Handlers) (els : Stms) → Frame V
   -- the tests of handlers, n being the first one's, or the handler whose Match is n, with the exception
-  testing : (n : ℕ) (exception : V) → Nest V → Nest V
-  handling : (n : ℕ) (exception : V) → Nest V → Nest V
+  testing : (n : ℕ) (exception : V) → Frame V
+  handling : (n : ℕ) (exception : V) → Frame V
   -- a handler that has bound a name
-  naming : (x : Name) → Nest V → Nest V
-  -- any part of a `try` that has a `finally` part; n numbers that part
-  ensuring : (n : ℕ) (finally : Stms) → Nest V → Nest V
-  -- a `finally` part with the completion that it holds
-  ending : (n : ℕ) (held : Completion V) → Nest V → Nest V
+  naming : (x : Name) → Frame V
+  -- any part of a `try` that has a `finally` part; tried is the number of Try, n numbers that part
+  ensuring : (tried n : ℕ) (finally : Stms) → Frame V
+  -- the `finally` part of the `try` with this Try, with the completion that it holds
+  ending : (tried : ℕ) (held : Completion V) → Frame V
   -- the body of a `with`, and its exit that is due; n numbers Exit
-  withing : (l n : ℕ) (exit : V) → Nest V → Nest V
-  exiting : (n : ℕ) (exit : V) (held : Completion V) → Nest V → Nest V
+  withing : (l n : ℕ) (exit : V) → Frame V
+  exiting : (n : ℕ) (exit : V) (held : Completion V) → Frame V
+
+-- what goes on once a statement is complete, the innermost frame first
+abbrev pub Nest : Type 0 → Type 0
+Nest V = List (Frame V)
 
 -- an operand that is left to evaluate, with the line of an act of its own
 pub data Operand : Type 0 where
@@ -52,11 +55,11 @@ pub data Operand : Type 0 where
   literal_of : (l : ℕ) (text : List ℕ) → Operand
   field_of : (l : ℕ) → Exp → Option Conversion → (spec : Pieces) → Operand
 
--- where an operator's result goes back to, with its parts evaluated
-pub data Changed (V : Type 0) : Type 0 where
-  a_name : (x : Name) → Changed V
-  an_attribute : (object : V) (x : Name) → Changed V
-  an_item : (object index : V) → Changed V
+-- a place with its parts evaluated
+pub data Address (V : Type 0) : Type 0 where
+  a_name : (x : Name) → Address V
+  an_attribute : (object : V) (x : Name) → Address V
+  an_item : (object index : V) → Address V
 
 -- targets, each with the value that is due to it
 pub data Stores (V : Type 0) : Type 0 where
@@ -85,13 +88,21 @@ mutual
     given : V → Wait V → Way V
     -- the next comparison of a chain
     linked_on : (l n : ℕ) (left : V) (operator : CompareOp) (right : Exp) (r : Links) → Wait V → Way V
-    -- a held completion goes on
+    -- a held completion goes on, a raise with a note before it
     lets_go : Completion V → Nest V → Way V
+    -- a raise goes on
+    raises : (exception : V) → Nest V → Way V
+    -- a name is deleted whose handler ends, and what ended it goes on
+    unbinds : (x : Name) (held : Completion V) → Nest V → Way V
+    -- names of a comprehension are made anew, and its first item is taken
+    made_anew : (xs : List Variable) (l n : ℕ) (iterator : V) (t : Tgt) (cs : Clauses) → Rounds V → Way V
     -- the handlers that are left, k being the first one's first act
     tests : (k n : ℕ) (hs : Handlers) (exception : V) → Nest V → Way V
     -- a name is bound, in a nest, and then
     binding : (l n : ℕ) (x : Name) (v : V) → Way V → Nest V → Way V
     stores : (n : ℕ) (st : Stores V) → Way V → Way V
+    -- the targets of an assignment that are left, all for one value
+    assigns : (n : ℕ) (v : V) (ts : Tgts) → Nest V → Way V
     deletes : (n : ℕ) (ps : List Place) → Nest V → Way V
     imports : (l n : ℕ) (xs : List Alias) → Nest V → Way V
     imports_from : (l n : ℕ) (xs : List Alias) (origin : V) → Nest V → Way V
@@ -108,6 +119,8 @@ mutual
   pub data Wait (V : Type 0) : Type 0 where
     -- an operand is due: those before it, the last first, and those behind it
     operands : (l n : ℕ) (op : Operation) (before : List V) (behind : List Operand) → Wait V → Wait V
+    -- a cell is due that the block of an operation takes along, behind the operands, the last first
+    celled : (l n : ℕ) (is_retest : Bool) (op : Operation) (before : List V) (behind : List Variable) → Wait V → Wait V
     yielded : (l n : ℕ) → Wait V → Wait V
     -- the value of a replacement field is due
     formatted : (l n : ℕ) (conversion : Option Conversion) (spec : Pieces) → Wait V → Wait V
@@ -133,20 +146,14 @@ mutual
     item_sent : (l n : ℕ) → Rounds V → Wait V
     dropped : (l n : ℕ) → Nest V → Wait V
     assigned : (n : ℕ) (ts : Tgts) → Nest V → Wait V
-    -- the object of an attribute target is due; that of an item, and its index
-    set_attribute_of : (l n : ℕ) (x : Name) (v : V) → Way V → Wait V
-    set_item_of : (l n : ℕ) (index : Exp) (v : V) → Way V → Wait V
-    set_item_at : (l n : ℕ) (object v : V) → Way V → Wait V
-    delete_attribute_of : (l n : ℕ) (x : Name) → Way V → Wait V
-    delete_item_of : (l n : ℕ) (index : Exp) → Way V → Wait V
-    delete_item_at : (l n : ℕ) (object : V) → Way V → Wait V
-    -- a target that an operator changes: its object is due, that of an item, its index; its present value, the other operand and the result
-    change_attribute_of : (l n target_line : ℕ) (x : Name) (operator : BinOp) (e : Exp) → Nest V → Wait V
-    change_item_of : (l n target_line : ℕ) (index : Exp) (operator : BinOp) (e : Exp) → Nest V → Wait V
-    change_item_at : (l n target_line : ℕ) (object : V) (operator : BinOp) (e : Exp) → Nest V → Wait V
-    changing : (l n target_line : ℕ) (to : Changed V) (operator : BinOp) (e : Exp) → Nest V → Wait V
-    changed_by : (l n target_line : ℕ) (to : Changed V) (present : V) (operator : BinOp) → Nest V → Wait V
-    change_stored : (n target_line : ℕ) (to : Changed V) → Nest V → Wait V
+    -- the object of an attribute is due, that of an item, and its index; and what the place is for
+    of_attribute : (l n : ℕ) (x : Name) → Purpose V → Wait V
+    of_item : (l n : ℕ) (index : Exp) → Purpose V → Wait V
+    at_item : (l n : ℕ) (object : V) → Purpose V → Wait V
+    -- what an operator changes: its present value is due, the other operand, and the result
+    changing : (l n target_line : ℕ) (to : Address V) (operator : BinOp) (e : Exp) → Nest V → Wait V
+    changed_by : (l n target_line : ℕ) (to : Address V) (present : V) (operator : BinOp) → Nest V → Wait V
+    change_stored : (n target_line : ℕ) (to : Address V) → Nest V → Wait V
     returned_by : (l n : ℕ) → Nest V → Wait V
     -- an exception is due, and its cause
     thrown : (l n : ℕ) (cause : Opt) → Nest V → Wait V
@@ -163,6 +170,12 @@ mutual
     -- what is bound to a name, once the decorators are called, the last first
     defined : (l n : ℕ) (x : Name) (calls : List (Decorating V)) → Nest V → Wait V
 
+  -- what a place is for: it gets a value, it is deleted, or an operator changes it; and what goes on then
+  pub data Purpose (V : Type 0) : Type 0 where
+    storing : V → Way V → Purpose V
+    deleting : Way V → Purpose V
+    changing_by : (l : ℕ) (operator : BinOp) (e : Exp) → Nest V → Purpose V
+
   -- what goes on once an iterator is there
   pub data Over (V : Type 0) : Type 0 where
     for_over : (l n : ℕ) (t : Tgt) (body els : Stms) → Nest V → Over V
@@ -178,11 +191,11 @@ mutual
     generating : (l : ℕ) (item : Exp) → Nest V → Rounds V
     round_of : (l n : ℕ) (iterator : V) (t : Tgt) (cs : Clauses) → Rounds V → Rounds V
 
--- an act that is next, with what waits for it, or the end
+-- what is next, with what waits for it: an act with its mark, an ask without one, a note, or the end
 pub data Control (V : Type 0) : Type 0 where
   for_value : Mark → Seek V → Wait V → Control V
   for_deed : Mark → Deed V → Way V → Nest V → Control V
-  for_leave : Mark → Leave V → Nest V → Control V
+  for_leave : Mark → Abrupt V → Nest V → Control V
   for_throw : Mark → Throw V → Nest V → Control V
   for_truth : Mark → Test V → (if_true if_false : Way V) → Nest V → Control V
   for_iter : Mark → V → Over V → Control V
@@ -190,5 +203,7 @@ pub data Control (V : Type 0) : Type 0 where
   for_entry : Mark → V → (l n : ℕ) (t : Option Tgt) (is : Items) (body : Stms) → Nest V → Control V
   for_unpack : Mark → V → (n : ℕ) (ts : Tgts) → Way V → Nest V → Control V
   for_delegate : Mark → (iterator : V) → (sent : Reply V V) → Wait V → Control V
-  noting : Note V → (Reply V (Unit {0}) → Control V) → Control V
+  silent_value : Seek V → Wait V → Control V
+  silent_deed : Deed V → Way V → Nest V → Control V
+  noting : Note V → Way V → Nest V → Control V
   closed : End V → Control V

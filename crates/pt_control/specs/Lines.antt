@@ -1,16 +1,26 @@
 -- The line events of a run whose answers are given, to follow control by (PEP 626). All values are the number 0; a list says how each test
--- ends, which iterator has another item, and which call or item runs a block of its own.
-use Rattle.std.specs.Prelude.{ℕ, ◌+◌, zero, suc, ◌==◌, List, [], ◌∷◌, reverse, Bool, true, false, Option, Some, None, if◌then◌else◌}
+-- ends, which iterator has another item, what is raised, and which call or item runs a block of its own.
+use Rattle.std.specs.Prelude.{ℕ, ◌+◌, zero, suc, List, [], ◌∷◌, reverse, Bool, true, false, Option, Some, None, if◌then◌else◌}
 use Rattle.pt_control.specs.Turn as T
-use Rattle.pt_control.specs.Turn.{Mark, Ask, Answer, Row, Seek, seek, deed, leave, throw, test, iter_of, next_of, enter, unpack, delegate, operate, yielding, returned, Reply, got, raised, End, done, gave, left_by, Turn, act, note}
+use Rattle.pt_control.specs.Turn.{Mark, Around, Ask, Answer, Row, Seek, seek, deed, leave, throw, test, iter_of, next_of, enter, unpack, delegate, operate, yielding, returned, Reply, got, raised, End, gave, left_by, Turn, act, note}
 use Rattle.pt_control.specs.Frames.{Control}
-use Rattle.pt_control.specs.Control.{turn}
+use Rattle.pt_tree.specs.Blocks.{of_module}
+use Rattle.pt_tree.specs.Syntax.{Stms}
+use Rattle.pt_control.specs.Control.{nest_at, start, turn}
+use Rattle.pt_control.specs.Jump.{Jumped, jump}
+use Rattle.pt_control.specs.LineEvents.{is_told}
+
+-- every name is spelled as it is written and no cells are taken along
+abbrev pub numbers : Around ℕ
+numbers = record { null = 0; variable = λ within x. record { scope = T.local; name = x }; spelled = λ x. x; captured = λ block. [] }
 
 pub data Given : Type 0 where
   -- the truth of a test
   truth : Bool → Given
   -- whether there is another item
   item : Bool → Given
+  -- the exception of a `raise`, or of a tool at a test
+  throws : ℕ → Given
   -- a call has a value at once
   value : Given
   -- a call, or the first item of a generator, runs this block
@@ -18,16 +28,16 @@ pub data Given : Type 0 where
   -- the next item resumes the generator that was suspended
   resumes : Given
 
--- a block that runs, and its current line; 0 before it has one
+-- a block that runs, and its line, if it has one yet
 pub record Block : Type 0 where
   pub control : Control ℕ
-  pub line : ℕ
+  pub line : Option ℕ
 
 -- the blocks that wait, the innermost first, each for a value or for an item
 pub data Waiting : Type 0 where
   nothing : Waiting
-  for_result : (Reply ℕ ℕ → Control ℕ) → (line : ℕ) → Waiting → Waiting
-  for_an_item : (Reply ℕ (Option ℕ) → Control ℕ) → (line : ℕ) → Waiting → Waiting
+  for_result : (Reply ℕ ℕ → Control ℕ) → (line : Option ℕ) → Waiting → Waiting
+  for_an_item : (Reply ℕ (Option ℕ) → Control ℕ) → (line : Option ℕ) → Waiting → Waiting
 
 -- the block that runs, those that wait, the generator that is suspended, what is given, the line events, the last first, and how many acts there were
 pub record State : Type 0 where
@@ -38,21 +48,21 @@ pub record State : Type 0 where
   pub lines : List ℕ
   pub acts : ℕ
 
-abbrev block : Control ℕ → (line : ℕ) → Block
+abbrev block : Control ℕ → (line : Option ℕ) → Block
 block c l = record { control = c; line = l }
 
 abbrev goes_on : Control ℕ → State → State
 goes_on c st = record st { runs = block c st.runs.line }
 
--- an act is told by its line where that has changed, and where a re-test begins
+-- an act gives its frame its line
 abbrev told : Mark → State → State
 told m st = record {
-  runs = block st.runs.control m.line;
+  runs = block st.runs.control (Some m.line);
   waits = st.waits;
   suspended = st.suspended;
   given = st.given;
   acts = st.acts + 1;
-  lines = if m.again then m.line ∷ st.lines else if m.line == st.runs.line then st.lines else m.line ∷ st.lines;
+  lines = if is_told st.runs.line m then m.line ∷ st.lines else st.lines;
 }
 
 abbrev zeros : (n : ℕ) → Row ℕ n
@@ -61,11 +71,12 @@ zeros (suc n) = (0, zeros n)
 
 abbrev called : List Given → (Reply ℕ ℕ → Control ℕ) → State → State
 called (value ∷ gs) k st = record st { runs = block (k (got 0)) st.runs.line; given = gs }
-called (opens c ∷ gs) k st = record st { runs = block c 0; waits = for_result k st.runs.line st.waits; given = gs }
+called (opens c ∷ gs) k st = record st { runs = block c None; waits = for_result k st.runs.line st.waits; given = gs }
 called gs k st = goes_on (k (got 0)) st
 
 abbrev tested : List Given → (Reply ℕ Bool → Control ℕ) → State → State
 tested (truth b ∷ gs) k st = record st { runs = block (k (got b)) st.runs.line; given = gs }
+tested (throws v ∷ gs) k st = record st { runs = block (k (raised v)) st.runs.line; given = gs }
 tested gs k st = goes_on (k (got false)) st
 
 abbrev resumed_by : Option Block → (Reply ℕ (Option ℕ) → Control ℕ) → State → State
@@ -75,9 +86,13 @@ resumed_by None k st = goes_on (k (got None)) st
 abbrev next_item : List Given → (Reply ℕ (Option ℕ) → Control ℕ) → State → State
 next_item (item true ∷ gs) k st = record st { runs = block (k (got (Some 0))) st.runs.line; given = gs }
 next_item (item false ∷ gs) k st = record st { runs = block (k (got None)) st.runs.line; given = gs }
-next_item (opens c ∷ gs) k st = record st { runs = block c 0; waits = for_an_item k st.runs.line st.waits; given = gs }
+next_item (opens c ∷ gs) k st = record st { runs = block c None; waits = for_an_item k st.runs.line st.waits; given = gs }
 next_item (resumes ∷ gs) k st = resumed_by st.suspended k (record st { given = gs })
 next_item gs k st = goes_on (k (got None)) st
+
+abbrev thrown : List Given → (Reply ℕ ⊥ → Control ℕ) → State → State
+thrown (throws v ∷ gs) k st = record st { runs = block (k (raised v)) st.runs.line; given = gs }
+thrown gs k st = goes_on (k (raised 0)) st
 
 -- a yield gives the block that waits its item
 abbrev yields : Waiting → (Reply ℕ ℕ → Control ℕ) → State → State
@@ -90,7 +105,7 @@ answered (seek (yielding v)) k st = yields st.waits k st
 answered (seek s) k st = goes_on (k (got 0)) st
 answered (deed d) k st = goes_on (k (got tt)) st
 answered (leave a) k st = goes_on (k (got tt)) st
-answered (throw a) k st = goes_on (k (raised 0)) st
+answered (throw a) k st = thrown st.given k st
 answered (test a) k st = tested st.given k st
 answered (iter_of v) k st = goes_on (k (got 0)) st
 answered (next_of i) k st = next_item st.given k st
@@ -99,7 +114,6 @@ answered (unpack v n star) k st = goes_on (k (got (zeros n))) st
 answered (delegate i r) k st = goes_on (k (got (returned 0))) st
 
 abbrev result : End ℕ → Reply ℕ ℕ
-result done = got 0
 result (gave v) = got v
 result (left_by v) = raised v
 
@@ -113,25 +127,42 @@ closes (for_an_item k l w) e st = record st { runs = block (k (no_item e)) l; wa
 closes nothing e st = st
 
 abbrev next : Turn (Control ℕ) ℕ → State → State
-next (act m a k) st = answered a k (told m st)
+next (act (Some m) a k) st = answered a k (told m st)
+next (act None a k) st = answered a k st
 next (note a k) st = goes_on (k (got tt)) st
 next (T.over e) st = closes st.waits e st
 next t st = st
 
 abbrev run : (steps : ℕ) → State → State
 run zero st = st
-run (suc n) st = run n (next (turn 0 st.runs.control) st)
+run (suc n) st = run n (next (turn numbers st.runs.control) st)
 
 abbrev state : Control ℕ → List Given → State
-state c gs = record { runs = block c 0; waits = nothing; suspended = None; given = gs; lines = []; acts = 0 }
+state c gs = record { runs = block c None; waits = nothing; suspended = None; given = gs; lines = []; acts = 0 }
 
--- the line events of so many steps from the start of a block, and how many acts they are
-abbrev pub lines_of : (steps : ℕ) → Control ℕ → List Given → List ℕ
-lines_of n c gs = reverse (run n (state c gs)).lines
+-- the line events of a hundred steps, and how many acts they are
+abbrev pub lines_from : Control ℕ → List Given → List ℕ
+lines_from c gs = reverse (run 100 (state c gs)).lines
 
-abbrev pub acts_of : (steps : ℕ) → Control ℕ → List Given → ℕ
-acts_of n c gs = (run n (state c gs)).acts
+abbrev pub acts_from : Control ℕ → List Given → ℕ
+acts_from c gs = (run 100 (state c gs)).acts
 
--- control after so many steps
+-- control behind so many steps
 abbrev pub control_after : (steps : ℕ) → Control ℕ → List Given → Control ℕ
 control_after n c gs = (run n (state c gs)).runs.control
+
+-- what a turn asks, if it is an act
+abbrev pub ask_of : Turn (Control ℕ) ℕ → Option (Ask ℕ)
+ask_of (act (Some m) a k) = Some a
+ask_of t = None
+
+-- of a script from its start
+abbrev pub starts : Stms → Control ℕ
+starts ss = start numbers ss
+
+abbrev pub lines_of : Stms → List Given → List ℕ
+lines_of ss gs = lines_from (starts ss) gs
+
+-- a jump from behind so many steps of it
+abbrev pub jump_after : (steps : ℕ) → Stms → List Given → (line : ℕ) → Jumped ℕ
+jump_after n ss gs l = jump (of_module ss) (nest_at (control_after n (starts ss) gs)) l

@@ -1,4 +1,4 @@
--- The one interface of control: what an act asks of the rest of the machine, how the answer comes back, and what comes next. It is the
+-- The one interface of control: what is asked of the rest of the machine, how the answer comes back, and what comes next. It is the
 -- same for the tree of a script and for its code, over any type V of values. Names, objects and what is written stand in a host outside.
 use Rattle.std.specs.Prelude.{ℕ, zero, suc, List, Bool, Option}
 use Rattle.pt_base.specs.declared.operators.BinOp.{BinOp}
@@ -8,23 +8,37 @@ use Rattle.pt_tree.specs.declared.expression.Constant.{Constant}
 use Rattle.pt_tree.specs.declared.expression.Conversion.{Conversion}
 use Rattle.pt_tree.specs.Syntax.{Name}
 
--- an act's number in its block, its line, and whether a re-test begins with it
+-- an act's number in its block, its line, and whether a re-test begins with it this time
 pub record Mark : Type 0 where
   pub act : ℕ
   pub line : ℕ
-  pub again : Bool
+  pub is_retest : Bool
 
 abbrev pub mark : (act line : ℕ) → Bool → Mark
-mark n l g = record { act = n; line = l; again = g }
+mark n l g = record { act = n; line = l; is_retest = g }
 
--- a name in a block, with the comprehensions around it, the innermost first, each by the number of its first Next
--- (Language Reference 6.2.4: the targets of a comprehension are names of their own)
+-- how a name of a block is found (Language Reference 4.2.2): a name of the function alone, one that blocks in it read too, one of a function
+-- around, one of the module or a builtin, or one of a class body
+pub data Scope : Type 0 where
+  local : Scope
+  cell : Scope
+  free : Scope
+  global : Scope
+  of_class : Scope
+
+-- a name of a block, found so and spelled as private names are (6.2.1)
 pub record Variable : Type 0 where
+  pub scope : Scope
   pub name : Name
-  pub within : List ℕ
 
-abbrev pub variable : Name → List ℕ → Variable
-variable x rs = record { name = x; within = rs }
+-- what a block's control depends on beside its tree: the value None; the variable that a name is, within the comprehensions around it, the
+-- innermost first, each by the number of its first Next (6.2.4: the targets of a comprehension are names of their own); how a name is spelled;
+-- and the variables whose cells a block in it takes along
+pub record Around (V : Type 0) : Type 0 where
+  pub null : V
+  pub variable : (within : List ℕ) → Name → Variable
+  pub spelled : Name → Name
+  pub captured : (block : ℕ) → List Variable
 
 -- how an argument is passed (Language Reference 6.3.4)
 pub data Role : Type 0 where
@@ -59,7 +73,7 @@ pub data Operation : Type 0 where
   -- what is called, and the arguments
   call : List Role → Operation
   -- a function of a block (6.14, 8.7), with the defaults of the parameters of these names; a class of a block (8.8), with its base; a
-  -- generator expression of a block (6.2.8), with its first iterator
+  -- generator expression of a block (6.2.8), with its first iterator; behind them each has the cells that the block takes along
   function : (block : ℕ) → List Name → Operation
   class : (block : ℕ) → Operation
   generator : (block : ℕ) → Operation
@@ -67,15 +81,17 @@ pub data Operation : Type 0 where
   import : Name → Operation
   import_name : Name → Operation
 
--- an act that asks for a value
+-- what asks for a value
 pub data Seek (V : Type 0) : Type 0 where
   const : Constant → Seek V
   load : Variable → Seek V
   operate : Operation → (operands : List V) → Seek V
   -- 6.2.9
   yielding : V → Seek V
+  -- the cell of a variable, for a block that takes it along (4.2.2)
+  cell_of : Variable → Seek V
 
--- an act that asks for none
+-- what asks for none
 pub data Deed (V : Type 0) : Type 0 where
   -- 7.2
   store : Variable → V → Deed V
@@ -91,23 +107,23 @@ pub data Deed (V : Type 0) : Type 0 where
   add_to_list : (made item : V) → Deed V
   add_to_set : (made item : V) → Deed V
   add_to_dict : (made key value : V) → Deed V
+  -- a name of a comprehension is made anew (6.2.4)
+  fresh : Variable → Deed V
   -- 7.4, 8.4
-  passing : Deed V
-  trying : Deed V
+  nothing : Deed V
 
--- an act that leaves where it stands (7.6, 7.9, 7.10)
+-- what leaves where it stands: the block with a value, or a part of it by a `break` or `continue` (7.6, 7.9, 7.10)
 pub data Leave (V : Type 0) : Type 0 where
   returning : V → Leave V
-  breaking : Leave V
-  continuing : Leave V
+  jumping : Leave V
 
--- an act that only raises (7.3, 7.8); `raise` alone has the exception that is active in its block
+-- what only raises (7.3, 7.8); which exception is active, for `raise` alone, the run knows
 pub data Throw (V : Type 0) : Type 0 where
   raising : (exception : V) (cause : Option V) → Throw V
-  raising_again : (active : Option V) → Throw V
+  raising_again : Throw V
   failing : (message : Option V) → Throw V
 
--- an act that asks for a truth
+-- what asks for a truth
 pub data Test (V : Type 0) : Type 0 where
   branch : V → Test V
   -- 8.4.1
@@ -145,7 +161,7 @@ abbrev pub Row : Type 0 → ℕ → Type 0
 Row V zero = Unit {0}
 Row V (suc n) = V × Row V n
 
--- what the answer to an ask is; an act that only raises has none
+-- what the answer to an ask is; what only raises has none
 abbrev pub Answer : (V : Type 0) → Ask V → Type 0
 Answer V (seek s) = V
 Answer V (deed d) = Unit {0}
@@ -158,23 +174,19 @@ Answer V (enter v) = V × V
 Answer V (unpack v n star) = Row V n
 Answer V (delegate i r) = Delegated V
 
--- what happens between acts: a name is unbound as its handler ends (8.4.1), the names of a comprehension are made anew (6.2.4), and a
--- raise goes on that was held or that no handler took
+-- what happens between acts: a raise goes on that was held or that no handler took
 pub data Note (V : Type 0) : Type 0 where
-  unbind : Variable → Note V
-  fresh : Variable → Note V
   raised_again : V → Note V
 
--- how a block ends: at its end, by a `return`, or by an exception that leaves it
+-- how a block ends: with the value that it gives, which is None at its end, or by an exception that leaves it
 pub data End (V : Type 0) : Type 0 where
-  done : End V
   gave : V → End V
   left_by : V → End V
 
--- what comes next in a state: an act with what follows each reply, a note, a move that is neither, or the end; a state is stuck where
--- it lacks what its act takes
+-- what comes next in a state: an ask with what follows each reply, a note, a move that is neither, or the end; a state is stuck where it lacks
+-- what its ask takes. An ask with a mark is an act; one without takes no unit and is told to nobody
 pub data Turn (S V : Type 0) : Type 0 where
-  act : (m : Mark) (a : Ask V) (next : Reply V (Answer V a) → S) → Turn S V
+  act : (m : Option Mark) (a : Ask V) (next : Reply V (Answer V a) → S) → Turn S V
   note : (a : Note V) (next : Reply V (Unit {0}) → S) → Turn S V
   move : S → Turn S V
   over : End V → Turn S V

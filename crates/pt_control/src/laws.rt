@@ -1,37 +1,39 @@
 //! Laws of control, each the contract of a function that does nothing.
 
-ghost use Rattle.std.specs.Prelude.{◌≡◌, ◌<◌, ℕ, List, None, Option, Some, length};
-ghost use Rattle.pt_tree.specs.Acts.{acts_stms};
-ghost use Rattle.pt_tree.specs.Blocks.{Code, acts_of_code};
+ghost use Rattle.std.specs.Prelude.{◌≡◌, ℕ, List, [], ◌∷◌, None, Some};
+ghost use Rattle.pt_tree.specs.Blocks.{Code};
 ghost use Rattle.pt_tree.specs.Syntax.{Name, Stms, absent, global, handler, more, no_handlers, none, pass, return, try};
-ghost use Rattle.pt_control.specs.Completions.{complete};
-ghost use Rattle.pt_control.specs.CompletionTable.{Passes};
+ghost use Rattle.pt_control.specs.ClosedParts.{All_apart, parts_of};
+ghost use Rattle.pt_control.specs.Completions.{complete, end_of, follow};
+ghost use Rattle.pt_control.specs.CompletionTable.{onward, row};
 ghost use Rattle.pt_control.specs.Control.{turn};
 ghost use Rattle.pt_control.specs.Endings.{All_reached, Code_reached};
-ghost use Rattle.pt_control.specs.Frames.{Completion, Control, Nest, outside};
-ghost use Rattle.pt_control.specs.Jump.{Target, Landing, find, jump, lands, parts, verdict, permitted};
-ghost use Rattle.pt_control.specs.Reached.{IsRow, Meets, Reaches, start_code};
+ghost use Rattle.pt_control.specs.Frames.{Completion, Control, Frame, Nest, closed};
+ghost use Rattle.pt_control.specs.Jump.{Target, Landing, on_line, starts_of, parts, verdict, permitted};
+ghost use Rattle.pt_control.specs.Laws.{GoesByRows, LandsByRows, MeetsAllRows, RaisesByRows};
+ghost use Rattle.pt_control.specs.Reached.{start_code};
 ghost use Rattle.pt_control.specs.Samples.{counting, generating, jumping, nested_body};
-ghost use Rattle.pt_control.specs.Turn.{move, stuck};
+ghost use Rattle.pt_control.specs.Turn.{Around, move, stuck};
 
-/// Control always knows what is next: an act, a note, or the end of the block.
+/// Control always knows what is next: an ask, a note, or the end of the block.
 pub fn turns_are_never_stuck<V>()
-    ensures never_stuck { (null : V) (c : Control V) → turn null c ≡ stuck → ⊥ }
-    ensures never_moves { (null : V) (c d : Control V) → turn null c ≡ move d → ⊥ }
+    ensures never_stuck { (block : Around V) (c : Control V) → turn block c ≡ stuck → ⊥ }
+    ensures never_moves { (block : Around V) (c d : Control V) → turn block c ≡ move d → ⊥ }
 {}
 
 /// Whatever the replies, each act that control comes to in a block has the kind and the line of the
 /// block's row with its number, and a re-test begins with it only where the row says so.
 #[tactic(auto, using(crate::proofs::MarksLaw::marks_are_rows))]
 pub fn each_mark_is_its_row<V>()
-    ensures { (null : V) (code : Code) (first : V) (c : Control V) → Reaches null (start_code null code first) c → IsRow (acts_of_code code) (turn null c) }
+    ensures { (block : Around V) (code : Code) (first : V) → GoesByRows code block (start_code block code first) }
 {}
 
-/// From where a jump lands too, whatever the replies, each act has the kind and the line of the
-/// block's row with its number.
-#[tactic(auto, using(crate::proofs::MarksJumps::marks_behind_jumps))]
+/// From where a jump lands too, whatever the replies, and from a raise that comes before the target's
+/// statement begins, each act has the kind and the line of the block's row with its number.
+#[tactic(auto, using(crate::proofs::MarksJumps::marks_behind_jumps, crate::proofs::MarksJumps::marks_behind_raises))]
 pub fn each_mark_behind_a_jump_is_its_row<V>()
-    ensures { (null : V) (block : Stms) (place : Control V) (line : ℕ) (c d : Control V) → jump null block place line ≡ lands c → Reaches null c d → IsRow (acts_stms block) (turn null d) }
+    ensures goes { (block : Around V) (code : Code) (place : Nest V) (line : ℕ) → LandsByRows code block place line }
+    ensures raised { (block : Around V) (code : Code) (place : Nest V) (line : ℕ) → RaisesByRows code block place line }
 {}
 
 /// In a block where each statement can be reached, as far as the forms of statements tell, each row
@@ -39,7 +41,7 @@ pub fn each_mark_behind_a_jump_is_its_row<V>()
 /// expression each row always is.
 #[tactic(auto, using(crate::proofs::MarksMetLaw::rows_are_met))]
 pub fn each_row_is_met<V>()
-    ensures { (null : V) (code : Code) (first : V) → Code_reached code → (n : ℕ) → n < length (acts_of_code code) → Meets null (start_code null code first) n }
+    ensures { (block : Around V) (code : Code) (first : V) → Code_reached code → MeetsAllRows code block (start_code block code first) }
 {}
 
 /// Statements that can be reached, and two that cannot: one behind a `return`, and a handler of a
@@ -54,15 +56,22 @@ pub fn statements_are_reached()
     ensures nothing_to_catch { (l : ℕ) (xs : List Name) → All_reached (more (try l (more (global l xs) none) (handler l absent None none no_handlers) none none) none) → ⊥ }
 {}
 
-/// Every completion that is passed to every nest goes one of the ways of the table.
-#[tactic(auto, using(crate::proofs::CompletionTable::passes))]
+/// A completion that leaves a block closes it, and one that is passed to a frame goes the way of the
+/// table's row.
 pub fn completions_go_the_ways_of_the_table<V>()
-    ensures { (null : V) (c : Completion V) (s : Nest V) → Passes null c s (complete null c s) }
+    ensures leaves { (block : Around V) (c : Completion V) → complete block c [] ≡ closed (end_of block c) }
+    ensures goes_on { (block : Around V) (c : Completion V) (f : Frame V) (s : Nest V) → complete block c (f ∷ s) ≡ follow block (row c f) s (complete block (onward (row c f)) s) }
 {}
 
 /// Behind a permitted jump there is a nest of the shape that the target has by the syntax, and each
-/// of its frames holds what the place of the jump holds for that part.
+/// closed part holds in it what the same part holds at the place of the jump.
 #[tactic(auto, using(crate::proofs::JumpLemmas::jump_lands))]
 pub fn a_permitted_jump_lands<V>()
-    ensures { (block : Stms) (line : ℕ) (place : Nest V) (t : Target) → find block line 0 outside ≡ Some t → verdict (parts place) (parts t.within) ≡ permitted → Landing t place }
+    ensures { (code : Code) (line : ℕ) (place : Nest V) (t : Target) → on_line line (starts_of code) ≡ Some t → verdict (parts place) (parts t.within) ≡ permitted → Landing t place }
+{}
+
+/// Within a block no two closed parts are the same, whatever acts they have.
+#[tactic(auto, using(crate::proofs::PartsApart::parts_apart))]
+pub fn no_two_parts_are_the_same()
+    ensures { (block : Stms) → All_apart (parts_of block 0) }
 {}

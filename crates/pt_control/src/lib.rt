@@ -8,6 +8,10 @@ mod rows;
 pub use laws::{
     a_permitted_jump_lands, completions_go_the_ways_of_the_table,
     each_mark_behind_a_jump_is_its_row, each_mark_is_its_row, each_row_is_met,
-    statements_are_reached, turns_are_never_stuck,
+    no_two_parts_are_the_same, statements_are_reached, turns_are_never_stuck,
 };
-pub use rows::{jumps_are_followed, scripts_are_followed};
+pub use rows::{
+    a_bare_raise_is_followed, a_jump_to_no_act_is_followed, a_part_without_acts_is_not_entered,
+    a_raise_at_a_match_is_followed, a_raise_that_goes_on_is_followed, jumps_are_followed,
+    lines_of_calls_are_followed, scripts_are_followed,
+};

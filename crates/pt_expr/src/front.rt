@@ -12,7 +12,7 @@ ghost use Rattle.pt_grammar.specs.Lexemes.{Lexeme, lexemes};
 ghost use Rattle.pt_expr.specs.Answers.{part_of, Answers, place_at};
 
 use crate::reader::Reader;
-use pt_base::Line;
+use pt_base::{Failure, Line};
 use pt_grammar::Part;
 use pt_grammar::deep::Deep;
 use pt_lexer::Token;
@@ -27,8 +27,6 @@ pub enum ParseErr {
     Unexpected { at: u32 },
     /// With a token on this line something goes on beyond the limits alone.
     Limit { line: Line },
-    /// Memory ran out.
-    Memory,
 }
 
 /// How many nodes of an expression may stand inside one another.
@@ -77,7 +75,7 @@ pub fn wide(
     tokens: &[Token],
     at: usize,
     part: Part,
-) -> Result<(WideExpr, usize), ParseErr>
+) -> Result<(WideExpr, usize), Failure<ParseErr>>
     requires { at ≤ length tokens.now }
     ensures { Answers part tokens.now at result }
 {
@@ -88,13 +86,13 @@ pub fn wide(
     match answer {
         Ok(found) => Ok((found.tree.into_inner(), at + (tokens.len() - left))),
         Err(halt) => match halt {
-            Halt::Unexpected => Err(ParseErr::Unexpected {
+            Halt::Unexpected => Err(Failure::Refused(ParseErr::Unexpected {
                 at: place(tokens, left),
-            }),
-            Halt::Limit => Err(ParseErr::Limit {
+            })),
+            Halt::Limit => Err(Failure::Refused(ParseErr::Limit {
                 line: reader.lexemes.line(),
-            }),
-            Halt::Memory => Err(ParseErr::Memory),
+            })),
+            Halt::Memory => Err(Failure::Memory),
         },
     }
 }

@@ -1,6 +1,7 @@
 -- Tokens are one script or expression, or are none for one reason, and never both.
 use Rattle.std.proofs.Common.{◌≡◌, ◌≢◌, ℕ, List, [], ◌∷◌, length, drop, Some, Bool, true, false, Ok, Err, inl, inr, refl, sym, ap, ◌∙◌, subst}
 use Rattle.std.specs.Prelude.{is_some, ◌+◌, ◌-◌}
+use Rattle.pt_base.specs.declared.failure.Failure.TheVariants.{Refused}
 use Rattle.pt_base.specs.declared.numbers.Line.{Line}
 use Rattle.pt_literals.specs.declared.token.Token.{Token}
 use Rattle.pt_tree.specs.Syntax as T
@@ -15,17 +16,17 @@ use Rattle.pt_grammar.specs.Lexemes.{Lexeme, lexemes, line_at}
 use Rattle.pt_grammar.specs.declared.part.Part.TheVariants.{Whole}
 use Rattle.pt_expr.specs.Answers.{part_of, place_at}
 use Rattle.pt_parser.specs.Script.{a_script, IsNone}
-use Rattle.pt_narrow.specs.Faults.{Fault, bad_target, excluded, faults_exp, is_clean}
-use Rattle.pt_narrow.specs.StatementFaults.{faults_stms}
-use Rattle.pt_narrow.specs.Narrow.{narrow_exp}
-use Rattle.pt_narrow.specs.StatementNarrow.{narrow_script}
-use Rattle.pt_narrow.specs.Told.{IsTold, no_memory, told_target, told_excluded}
-use Rattle.pt_narrow.specs.declared.narrowing.Narrowing.{Narrowing}
-use Rattle.pt_narrow.specs.declared.narrowing.Narrowing.TheVariants as narrowing
-use Rattle.pt_narrow.proofs.Exclusive.{law_exp}
-use Rattle.pt_narrow.proofs.ExclusiveStatements.{law_stms}
+use Rattle.pt_refine_expr.specs.Faults.{Fault, bad_target, excluded, faults_exp, is_clean}
+use Rattle.pt_refine_expr.specs.StatementFaults.{faults_stms}
+use Rattle.pt_refine_expr.specs.Narrow.{narrow_exp}
+use Rattle.pt_refine_expr.specs.StatementNarrow.{narrow_script}
+use Rattle.pt_refine_expr.specs.Told.{IsTold, no_memory, told_target, told_excluded}
+use Rattle.pt_refine_expr.specs.declared.narrowing.Narrowing.{Narrowing}
+use Rattle.pt_refine_expr.specs.declared.narrowing.Narrowing.TheVariants as narrowing
+use Rattle.pt_refine_expr.proofs.Exclusive.{law_exp}
+use Rattle.pt_refine_expr.proofs.ExclusiveStatements.{law_stms}
 use Rattle.pt_front.specs.declared.syntax.SyntaxErr.{SyntaxErr}
-use Rattle.pt_front.specs.declared.syntax.SyntaxErr.TheVariants.{Unexpected, BadTarget, Excluded, Limit, Memory}
+use Rattle.pt_front.specs.declared.syntax.SyntaxErr.TheVariants.{Unexpected, BadTarget, Excluded, Limit}
 use Rattle.pt_front.specs.Syntax.{of_narrowing, AreWide, AreScript, HaveFault, AreNoScript, BeginWide, IsExpr, HasFault, IsNoExpr}
 
 -- what is told of the first of these faults
@@ -57,19 +58,21 @@ module _ {T A : Type 0} (P : Part T A) (ts u v : List T) where
   unexpected_or_limit : Tells P ts u (Err cause.Unexpected) → Tells P ts v (Err cause.Limit) → ⊥
   unexpected_or_limit a b = let e = (one_answer P ts u v (Err cause.Unexpected) (Err cause.Limit) a b (λ k. cc) (λ k. cc)).0 in cc
 
+same : (d e : SyntaxErr) → Refused d ≡ Refused e → d ≡ e
+same d e h = cc
+
 -- why tokens are no script
 data Why (ts : List Token) (e : SyntaxErr) : Type 0 where
   none : (rest : List Lexeme) → IsNone (lexemes ts) rest → e ≡ Unexpected (place_at ts (length rest)) → Why ts e
   over : (rest : List Lexeme) → Tells a_script (lexemes ts) rest (Err cause.Limit) → e ≡ Limit (record { 0 = line_at (next_of rest) }) → Why ts e
-  left_out : (n : Narrowing) → n ≢ narrowing.Memory → HaveFault ts n → e ≡ of_narrowing n → Why ts e
+  left_out : (n : Narrowing) → n ≢ narrowing.Memory → HaveFault ts n → Refused e ≡ of_narrowing n → Why ts e
 
 module _ (ts : List Token) where
-  why : (e : SyntaxErr) → e ≢ Memory → AreNoScript ts e → Why ts e
-  why (Unexpected at) some (rest, is, place) = none rest is (λ k. Unexpected (place k))
-  why (Limit line) some (rest, beyond, l) = over rest beyond (λ k. Limit (record { 0 = l k }))
-  why (BadTarget line) some f = left_out (narrowing.BadTarget line) (λ h. cc) f refl
-  why (Excluded line) some f = left_out (narrowing.Excluded line) (λ h. cc) f refl
-  why Memory some f = absurd (some refl)
+  why : (e : SyntaxErr) → AreNoScript ts e → Why ts e
+  why (Unexpected at) (rest, is, place) = none rest is (λ k. Unexpected (place k))
+  why (Limit line) (rest, beyond, l) = over rest beyond (λ k. Limit (record { 0 = l k }))
+  why (BadTarget line) f = left_out (narrowing.BadTarget line) (λ h. cc) f refl
+  why (Excluded line) f = left_out (narrowing.Excluded line) (λ h. cc) f refl
 
   wide_once : (ss tt' : List W.Stm) → AreWide ts ss → AreWide ts tt' → ss ≡ tt'
   wide_once ss tt' a b = (two_ok a_script (lexemes ts) [] [] ss tt' a b).0
@@ -105,10 +108,10 @@ module _ (ts : List Token) where
   why_once d e (over u a i) (left_out m q g j) = absurd (over_or_wide u g.wide a g.are_wide)
   why_once d e (left_out n p f i) (none v b j) = absurd (none_or_wide v f.wide b f.are_wide)
   why_once d e (left_out n p f i) (over v b j) = absurd (over_or_wide v f.wide b f.are_wide)
-  why_once d e (left_out n p f i) (left_out m q g j) = i ∙ ap of_narrowing (fault_once n m p q f g) ∙ sym j
+  why_once d e (left_out n p f i) (left_out m q g j) = same d e (i ∙ ap of_narrowing (fault_once n m p q f g) ∙ sym j)
 
-  pub one_reason : (d e : SyntaxErr) → AreNoScript ts d → AreNoScript ts e → d ≢ Memory → e ≢ Memory → d ≡ e
-  one_reason d e a b p q = why_once d e (why d p a) (why e q b)
+  pub one_reason : (d e : SyntaxErr) → AreNoScript ts d → AreNoScript ts e → d ≡ e
+  one_reason d e a b = why_once d e (why d a) (why e b)
 
   pub one_script : (s t : T.Stms) → AreScript ts s → AreScript ts t → s ≡ t
   one_script s t a b =
@@ -126,22 +129,21 @@ module _ (ts : List Token) where
   script_or_why s e a (over u b i) = over_or_wide u a.wide b a.are_wide
   script_or_why s e a (left_out n p f i) = script_or_fault s n p a f
 
-  pub script_or_none : (s : T.Stms) (e : SyntaxErr) → AreScript ts s → AreNoScript ts e → e ≢ Memory → ⊥
-  script_or_none s e a b some = script_or_why s e a (why e some b)
+  pub script_or_none : (s : T.Stms) (e : SyntaxErr) → AreScript ts s → AreNoScript ts e → ⊥
+  script_or_none s e a b = script_or_why s e a (why e b)
 
 -- why no expression begins at a place
 data WhyExpr (ts : List Token) (at : ℕ) (e : SyntaxErr) : Type 0 where
   none : (rest : List Lexeme) → Tells (part_of Whole) (lexemes (drop at ts)) rest (Err cause.Unexpected) → e ≡ Unexpected (place_at (drop at ts) (length rest)) → WhyExpr ts at e
   over : (rest : List Lexeme) → Tells (part_of Whole) (lexemes (drop at ts)) rest (Err cause.Limit) → e ≡ Limit (record { 0 = line_at (next_of rest) }) → WhyExpr ts at e
-  left_out : (n : Narrowing) → n ≢ narrowing.Memory → HasFault ts at n → e ≡ of_narrowing n → WhyExpr ts at e
+  left_out : (n : Narrowing) → n ≢ narrowing.Memory → HasFault ts at n → Refused e ≡ of_narrowing n → WhyExpr ts at e
 
 module _ (ts : List Token) (at : ℕ) where
-  why_expr : (e : SyntaxErr) → e ≢ Memory → IsNoExpr ts at e → WhyExpr ts at e
-  why_expr (Unexpected place) some (rest, (is, p)) = none rest is (λ k. Unexpected (p k))
-  why_expr (Limit line) some (rest, (beyond, l)) = over rest beyond (λ k. Limit (record { 0 = l k }))
-  why_expr (BadTarget line) some f = left_out (narrowing.BadTarget line) (λ h. cc) f refl
-  why_expr (Excluded line) some f = left_out (narrowing.Excluded line) (λ h. cc) f refl
-  why_expr Memory some f = absurd (some refl)
+  why_expr : (e : SyntaxErr) → IsNoExpr ts at e → WhyExpr ts at e
+  why_expr (Unexpected place) (rest, (is, p)) = none rest is (λ k. Unexpected (p k))
+  why_expr (Limit line) (rest, (beyond, l)) = over rest beyond (λ k. Limit (record { 0 = l k }))
+  why_expr (BadTarget line) f = left_out (narrowing.BadTarget line) (λ h. cc) f refl
+  why_expr (Excluded line) f = left_out (narrowing.Excluded line) (λ h. cc) f refl
 
   begun_once : (e f : W.Exp) (n m : ℕ) → BeginWide ts at e n → BeginWide ts at f m → (e ≡ f) × (n ≡ m)
   begun_once e f n m a b =
@@ -166,10 +168,10 @@ module _ (ts : List Token) (at : ℕ) where
   why_expr_once d e (over u a i) (left_out m q g j) = absurd (begun_or_err g.wide g.next u cause.Limit (λ h. cc) g.begins a)
   why_expr_once d e (left_out n p f i) (none v b j) = absurd (begun_or_err f.wide f.next v cause.Unexpected (λ h. cc) f.begins b)
   why_expr_once d e (left_out n p f i) (over v b j) = absurd (begun_or_err f.wide f.next v cause.Limit (λ h. cc) f.begins b)
-  why_expr_once d e (left_out n p f i) (left_out m q g j) = i ∙ ap of_narrowing (expr_fault_once n m p q f g) ∙ sym j
+  why_expr_once d e (left_out n p f i) (left_out m q g j) = same d e (i ∙ ap of_narrowing (expr_fault_once n m p q f g) ∙ sym j)
 
-  pub one_expr_reason : (d e : SyntaxErr) → IsNoExpr ts at d → IsNoExpr ts at e → d ≢ Memory → e ≢ Memory → d ≡ e
-  one_expr_reason d e a b p q = why_expr_once d e (why_expr d p a) (why_expr e q b)
+  pub one_expr_reason : (d e : SyntaxErr) → IsNoExpr ts at d → IsNoExpr ts at e → d ≡ e
+  one_expr_reason d e a b = why_expr_once d e (why_expr d a) (why_expr e b)
 
   pub one_expr : (e f : T.Exp) (n m : ℕ) → IsExpr ts at e n → IsExpr ts at f m → (e ≡ f) × (n ≡ m)
   one_expr e f n m a b =
@@ -184,5 +186,5 @@ module _ (ts : List Token) (at : ℕ) where
       let same : is_clean (faults_exp a.wide) ≡ is_clean (faults_exp f.wide) = ap (λ w. is_clean (faults_exp w)) (begun_once a.wide f.wide n f.next a.begins f.begins).0 in
       let bad = told_some _ k f.is_told p in cc
 
-  pub expr_or_none : (x : T.Exp) (n : ℕ) (e : SyntaxErr) → IsExpr ts at x n → IsNoExpr ts at e → e ≢ Memory → ⊥
-  expr_or_none x n e a b some = expr_or_why x n e a (why_expr e some b)
+  pub expr_or_none : (x : T.Exp) (n : ℕ) (e : SyntaxErr) → IsExpr ts at x n → IsNoExpr ts at e → ⊥
+  expr_or_none x n e a b = expr_or_why x n e a (why_expr e b)

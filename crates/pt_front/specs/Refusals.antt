@@ -6,8 +6,6 @@ use Rattle.pt_scopes.specs.declared.scope.ScopeErr.{ScopeErr}
 use Rattle.pt_scopes.specs.declared.scope.ScopeErr.TheVariants as scope
 use Rattle.pt_front.specs.declared.syntax.SyntaxErr.{SyntaxErr}
 use Rattle.pt_front.specs.declared.syntax.SyntaxErr.TheVariants as syntax_err
-use Rattle.pt_front.specs.declared.refusal.FrontErr.{FrontErr}
-use Rattle.pt_front.specs.declared.refusal.FrontErr.TheVariants.{Refused, Memory}
 use Rattle.pt_front.specs.declared.refusal.Refusal.{Refusal}
 use Rattle.pt_front.specs.declared.refusal.Refusal.TheVariants.{NotUtf8, BadIndent, MixedTabs, BadChar, OpenString, BadNumber, OpenBracket, ExcludedToken, TokenLimit, Unexpected, BadTarget, ExcludedForm, TreeLimit, NoBinding, Twice, LateDecl, Outside}
 
@@ -50,28 +48,25 @@ place_of (Twice name line) = line.0
 place_of (LateDecl name line) = line.0
 place_of (Outside line) = line.0
 
-abbrev pub of_lexer : LexErr → FrontErr
-of_lexer (lex.NotUtf8 at) = Refused (NotUtf8 at)
-of_lexer (lex.BadIndent line) = Refused (BadIndent line)
-of_lexer (lex.MixedTabs line) = Refused (MixedTabs line)
-of_lexer (lex.BadChar at) = Refused (BadChar at)
-of_lexer (lex.OpenString line) = Refused (OpenString line)
-of_lexer (lex.BadNumber at) = Refused (BadNumber at)
-of_lexer (lex.OpenBracket line) = Refused (OpenBracket line)
-of_lexer (lex.Excluded line) = Refused (ExcludedToken line)
-of_lexer (lex.Limit line) = Refused (TokenLimit line)
-of_lexer lex.Memory = Memory
+abbrev pub of_lexer : LexErr → Refusal
+of_lexer (lex.NotUtf8 at) = NotUtf8 at
+of_lexer (lex.BadIndent line) = BadIndent line
+of_lexer (lex.MixedTabs line) = MixedTabs line
+of_lexer (lex.BadChar at) = BadChar at
+of_lexer (lex.OpenString line) = OpenString line
+of_lexer (lex.BadNumber at) = BadNumber at
+of_lexer (lex.OpenBracket line) = OpenBracket line
+of_lexer (lex.Excluded line) = ExcludedToken line
+of_lexer (lex.Limit line) = TokenLimit line
 
-abbrev pub of_syntax : SyntaxErr → FrontErr
-of_syntax (syntax_err.Unexpected at) = Refused (Unexpected at)
-of_syntax (syntax_err.BadTarget line) = Refused (BadTarget line)
-of_syntax (syntax_err.Excluded line) = Refused (ExcludedForm line)
-of_syntax (syntax_err.Limit line) = Refused (TreeLimit line)
-of_syntax syntax_err.Memory = Memory
+abbrev pub of_syntax : SyntaxErr → Refusal
+of_syntax (syntax_err.Unexpected at) = Unexpected at
+of_syntax (syntax_err.BadTarget line) = BadTarget line
+of_syntax (syntax_err.Excluded line) = ExcludedForm line
+of_syntax (syntax_err.Limit line) = TreeLimit line
 
-abbrev pub of_scopes : ScopeErr → FrontErr
-of_scopes (scope.NoBinding name line) = Refused (NoBinding name line)
-of_scopes (scope.Twice name line) = Refused (Twice name line)
-of_scopes (scope.LateDecl name line) = Refused (LateDecl name line)
-of_scopes (scope.Outside line) = Refused (Outside line)
-of_scopes scope.Memory = Memory
+abbrev pub of_scopes : ScopeErr → Refusal
+of_scopes (scope.NoBinding name line) = NoBinding name line
+of_scopes (scope.Twice name line) = Twice name line
+of_scopes (scope.LateDecl name line) = LateDecl name line
+of_scopes (scope.Outside line) = Outside line

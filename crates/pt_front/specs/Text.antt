@@ -13,8 +13,6 @@ use Rattle.pt_scopes.specs.declared.scope.ScopeErr.{ScopeErr}
 use Rattle.pt_scopes.specs.declared.scopes.Scopes.{Scopes}
 use Rattle.pt_front.specs.Refusals.{of_lexer, of_syntax, of_scopes}
 use Rattle.pt_front.specs.Syntax.{AreScript, AreNoScript}
-use Rattle.pt_front.specs.declared.refusal.FrontErr.{FrontErr}
-use Rattle.pt_front.specs.declared.refusal.FrontErr.TheVariants.{Refused, Memory}
 use Rattle.pt_front.specs.declared.refusal.Refusal.{Refusal}
 use Rattle.pt_front.specs.declared.syntax.SyntaxErr.{SyntaxErr}
 
@@ -27,17 +25,12 @@ pub record IsScript (text : List ℕ) (script : Stms) : Type 0 where
 
 -- the text is refused: it has no tokens, they are no script, or its names have no scopes
 pub data IsRefused (text : List ℕ) : Refusal → Type 0 where
-  no_tokens : (e : LexErr) (r : Refusal) → HasNoTokens text e → of_lexer e ≡ Refused r → IsRefused text r
-  no_script : (ts : List Token) (e : SyntaxErr) (r : Refusal) → IsTokens text ts → AreNoScript ts e → of_syntax e ≡ Refused r → IsRefused text r
+  no_tokens : (e : LexErr) (r : Refusal) → HasNoTokens text e → of_lexer e ≡ r → IsRefused text r
+  no_script : (ts : List Token) (e : SyntaxErr) (r : Refusal) → IsTokens text ts → AreNoScript ts e → of_syntax e ≡ r → IsRefused text r
   no_scopes : (ts : List Token) (script : Stms) (e : ScopeErr) (r : Refusal) → IsTokens text ts → AreScript ts script
-      → fault_of (places_script script) ≡ Some e → of_scopes e ≡ Refused r → IsRefused text r
+      → fault_of (places_script script) ≡ Some e → of_scopes e ≡ r → IsRefused text r
 
 -- the tree of the text's script, and the scopes of its names
 pub record IsFront (text : List ℕ) (tree : Script) (scopes : Scopes) : Type 0 where
   pub is_script : IsScript text (script_of tree)
   pub is_resolved : IsResolved (places_script (script_of tree)) scopes
-
--- why there is no script; want of memory may be told at any time
-abbrev pub HasNoScript : List ℕ → FrontErr → Type 0
-HasNoScript text (Refused r) = IsRefused text r
-HasNoScript text Memory = Unit {0}

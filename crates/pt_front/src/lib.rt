@@ -9,5 +9,5 @@ mod syntax;
 
 pub use front_end::front;
 pub use laws::{a_text_has_one_answer, tokens_have_one_answer};
-pub use refusal::{FrontErr, Refusal};
+pub use refusal::Refusal;
 pub use syntax::{SyntaxErr, parse_expr, parse_script};

@@ -97,18 +97,11 @@ impl Refusal {
     }
 }
 
-/// Why there is no script of a text.
-#[derive(Debug, Drop)]
-pub enum FrontErr {
-    Refused(Refusal),
-    Memory,
-}
-
-impl From<LexErr> for FrontErr {
-    ghost from_gives = { λ e f. f ≡ of_lexer e };
+impl From<LexErr> for Refusal {
+    ghost from_gives = { λ e r. r ≡ of_lexer e };
 
     fn from(error: LexErr) -> Self {
-        let refusal = match error {
+        match error {
             LexErr::NotUtf8 { at } => Refusal::NotUtf8 { at },
             LexErr::BadIndent { line } => Refusal::BadIndent { line },
             LexErr::MixedTabs { line } => Refusal::MixedTabs { line },
@@ -118,38 +111,32 @@ impl From<LexErr> for FrontErr {
             LexErr::OpenBracket { line } => Refusal::OpenBracket { line },
             LexErr::Excluded { line } => Refusal::ExcludedToken { line },
             LexErr::Limit { line } => Refusal::TokenLimit { line },
-            LexErr::Memory => return FrontErr::Memory,
-        };
-        FrontErr::Refused(refusal)
+        }
     }
 }
 
-impl From<SyntaxErr> for FrontErr {
-    ghost from_gives = { λ e f. f ≡ of_syntax e };
+impl From<SyntaxErr> for Refusal {
+    ghost from_gives = { λ e r. r ≡ of_syntax e };
 
     fn from(error: SyntaxErr) -> Self {
-        let refusal = match error {
+        match error {
             SyntaxErr::Unexpected { at } => Refusal::Unexpected { at },
             SyntaxErr::BadTarget { line } => Refusal::BadTarget { line },
             SyntaxErr::Excluded { line } => Refusal::ExcludedForm { line },
             SyntaxErr::Limit { line } => Refusal::TreeLimit { line },
-            SyntaxErr::Memory => return FrontErr::Memory,
-        };
-        FrontErr::Refused(refusal)
+        }
     }
 }
 
-impl From<ScopeErr> for FrontErr {
-    ghost from_gives = { λ e f. f ≡ of_scopes e };
+impl From<ScopeErr> for Refusal {
+    ghost from_gives = { λ e r. r ≡ of_scopes e };
 
     fn from(error: ScopeErr) -> Self {
-        let refusal = match error {
+        match error {
             ScopeErr::NoBinding { name, line } => Refusal::NoBinding { name, line },
             ScopeErr::Twice { name, line } => Refusal::Twice { name, line },
             ScopeErr::LateDecl { name, line } => Refusal::LateDecl { name, line },
             ScopeErr::Outside { line } => Refusal::Outside { line },
-            ScopeErr::Memory => return FrontErr::Memory,
-        };
-        FrontErr::Refused(refusal)
+        }
     }
 }

@@ -1,17 +1,18 @@
 //! What tokens are in the language (Language Reference 6 to 8).
 
 ghost use Rattle.std.specs.Prelude.{◌≡◌, ◌≤◌, length, MatchResult};
+ghost use Rattle.pt_base.specs.Failures.{IfRefused};
 ghost use Rattle.pt_tree.specs.Fold.{exp_of};
 ghost use Rattle.pt_tree.specs.StatementFold.{script_of};
 ghost use Rattle.pt_front.specs.Syntax.{of_parse, of_narrowing, AreScript, AreNoScript, IsExpr, IsNoExpr};
 
-use pt_base::Line;
+use pt_base::{Failure, Line};
 use pt_expr::{ParseErr, wide};
 use pt_grammar::Part;
 use pt_lexer::Token;
-use pt_narrow::{Narrowing, narrow_expr};
-use pt_narrower::narrow;
 use pt_parser::wide_script;
+use pt_refine_expr::{Narrowing, narrow_expr};
+use pt_refine_script::narrow;
 use pt_tree::{Expr, Script};
 use std::alloc::Global;
 
@@ -26,7 +27,6 @@ pub enum SyntaxErr {
     Excluded { line: Line },
     /// With the token on this line something goes on beyond the limits alone.
     Limit { line: Line },
-    Memory,
 }
 
 impl From<ParseErr> for SyntaxErr {
@@ -36,40 +36,52 @@ impl From<ParseErr> for SyntaxErr {
         match error {
             ParseErr::Unexpected { at } => SyntaxErr::Unexpected { at },
             ParseErr::Limit { line } => SyntaxErr::Limit { line },
-            ParseErr::Memory => SyntaxErr::Memory,
         }
     }
 }
 
-impl From<Narrowing> for SyntaxErr {
-    ghost from_gives = { λ n e. e ≡ of_narrowing n };
-
-    fn from(error: Narrowing) -> Self {
-        match error {
-            Narrowing::BadTarget { line } => SyntaxErr::BadTarget { line },
-            Narrowing::Excluded { line } => SyntaxErr::Excluded { line },
-            Narrowing::Memory => SyntaxErr::Memory,
-        }
+/// Why a tree of the wide grammar is none of the language.
+fn left_out(told: Narrowing) -> Failure<SyntaxErr>
+    ensures { result ≡ of_narrowing told }
+{
+    match told {
+        Narrowing::BadTarget { line } => Failure::Refused(SyntaxErr::BadTarget { line }),
+        Narrowing::Excluded { line } => Failure::Refused(SyntaxErr::Excluded { line }),
+        Narrowing::Memory => Failure::Memory,
     }
 }
 
 /// The script that tokens are, all of them (Language Reference 7, 8). Where they are one of the wide
 /// grammar, the node is told that the language leaves out and that starts first.
-pub fn parse_script(alloc: Global, tokens: &[Token]) -> Result<Script, SyntaxErr>
-    ensures { MatchResult result (λ s. AreScript tokens.now (script_of s)) (AreNoScript tokens.now) }
+pub fn parse_script(alloc: Global, tokens: &[Token]) -> Result<Script, Failure<SyntaxErr>>
+    ensures { MatchResult result (λ s. AreScript tokens.now (script_of s)) (IfRefused (AreNoScript tokens.now)) }
 {
-    let wide = wide_script(alloc, tokens)?;
-    let script = narrow(alloc, &wide)?;
-    Ok(script)
+    let wide = match wide_script(alloc, tokens) {
+        Ok(wide) => wide,
+        Err(failure) => return Err(failure.map_refused(SyntaxErr::from)),
+    };
+    match narrow(alloc, &wide) {
+        Ok(script) => Ok(script),
+        Err(told) => Err(left_out(told)),
+    }
 }
 
 /// The expression with which the tokens from a place on begin, and the place behind it (Language
 /// Reference 6).
-pub fn parse_expr(alloc: Global, tokens: &[Token], at: usize) -> Result<(Expr, usize), SyntaxErr>
+pub fn parse_expr(
+    alloc: Global,
+    tokens: &[Token],
+    at: usize,
+) -> Result<(Expr, usize), Failure<SyntaxErr>>
     requires { at ≤ length tokens.now }
-    ensures { MatchResult result (λ r. IsExpr tokens.now at (exp_of r.0) r.1) (IsNoExpr tokens.now at) }
+    ensures { MatchResult result (λ r. IsExpr tokens.now at (exp_of r.0) r.1) (IfRefused (IsNoExpr tokens.now at)) }
 {
-    let (wide, next) = wide(alloc, tokens, at, Part::Whole)?;
-    let expr = narrow_expr(alloc, &wide)?;
-    Ok((expr, next))
+    let (wide, next) = match wide(alloc, tokens, at, Part::Whole) {
+        Ok(found) => found,
+        Err(failure) => return Err(failure.map_refused(SyntaxErr::from)),
+    };
+    match narrow_expr(alloc, &wide) {
+        Ok(expr) => Ok((expr, next)),
+        Err(told) => Err(left_out(told)),
+    }
 }

@@ -164,7 +164,9 @@ impl Deep {
             ((l : ℕ) (x : List ℕ) → exp_of self.tree ≢ S.name l x)
             (λ n. exp_of self.tree ≡ S.name n.0.0 n.1) }
     {
-        let WideExpr { line, node } = self.tree.into_inner();
+        let tree = self.tree.into_inner();
+        let line = tree.line;
+        let node = tree.into_node();
         match node {
             WideNode::Name(name) => Some((line, name)),
             _ => None,

@@ -23,13 +23,15 @@ use Rattle.pt_literals.specs.declared.token.TokenKind.TheVariants as kind
 use Rattle.pt_literals.specs.Literals.{literal, no_literal, faulty, known, holds}
 use Rattle.pt_lexer.specs.Words.{kind_of_part, NoneSpelt, Longest, Next, plain, begun, string, NoWord}
 use Rattle.pt_lexer.specs.Lines.{at_of, line_of, LineEnd, feed, both, carriage, Stops, at_line_end, at_text_end, Comment, text_ends, line_ends, goes_on, Piece, blank, comment, backslash, inside, Nest, nest, mode_of, opened_of, has_words, outside, Gap, nothing, piece, NoPiece, opens, closes, is_excluded, same_bracket, shut, opened_by, turned_by, turned_in_words, is_sign, ends_string, turned, token, marks, Body, finish, word, column_of, agrees, Turn}
-use Rattle.pt_literals.specs.Refusals.{Caused}
+use Rattle.pt_base.specs.declared.failure.Failure.{Failure}
+use Rattle.pt_base.specs.Failures.{IfRefused}
+use Rattle.pt_base.proofs.FailureLemmas.{if_refused_map}
 use Rattle.pt_lexer.specs.Faults.{outermost, string_line, left_open_by, LiteralFails, at_once, Fails, broken, unclosed, strange, spoilt, wrong, later, Misplaced, off, mixed, too_deep, Faulty, in_words, in_column, below_empty, below_full, number_of, Precedes, Refused, IsMisplaced}
 use Rattle.pt_lexer.specs.Progress.{Rises, DepthOrWord, Begins, IsBeforeLimit, FirstFault, FailsWith, WordsRead, empty_line, full_line, ReadsLine}
 use Rattle.pt_lexer.specs.Columns.{AreRising, Indented}
-use Rattle.pt_lexer.proofs.ReadLemmas.{caused_map, gap_fails, gap_both}
+use Rattle.pt_lexer.proofs.ReadLemmas.{gap_fails, gap_both}
 use Rattle.pt_lexer.proofs.NextLemmas.{next_behind}
-use Rattle.pt_lexer.proofs.LiteralLemmas.{behind_rises, no_or_holds, known_or_holds, literal_fails_once, literal_fails_at, literal_fails_behind, string_fails_behind, faulty_late, literal_late, literal_named}
+use Rattle.pt_lexer.proofs.LiteralLemmas.{behind_rises, no_or_holds, known_or_holds, literal_fails_once, literal_fails_at, literal_fails_behind, string_fails_behind, faulty_late, literal_late}
 use Rattle.pt_lexer.proofs.Fronts.{fault_apart}
 use Rattle.pt_lexer.proofs.Once.{gap_once, next_no_piece, next_some, no_piece_at_end, same_next, turned_once, next_at, empty_stops, well_placed, turn_once, err_here, err_or_ok, same_open, fails_at, words_or_fault, no_word_next, no_word_fault, next_or_fault, fault_no_piece}
 
@@ -156,7 +158,7 @@ fails_once {end = end} {n = n} (later g k t f) (later h m u q) =
 
 -- the numbers of faults of words
 abbrev IsLate : LexErr → Type 0
-IsLate e = (7 ≤ number_of e) × (number_of e ≤ 9)
+IsLate e = 7 ≤ number_of e
 
 -- an answer that is one fault or another
 abbrev ErrBy : (LexErr → Type 0) → Result Nest LexErr → Type 0
@@ -172,15 +174,15 @@ late_shut P [] b l p = p
 late_shut P (x ∷ opened) b l p = by_if (ErrBy P) (same_bracket x.bracket b) tt p
 
 late_opened : (m : Mode) (opened : List Opening) (b : Bracket) (l : Line) → ErrBy IsLate (opened_by m opened b l)
-late_opened m opened b l = by_if (ErrBy IsLate) (nat_lt (length opened) 100) tt (omega arith, omega arith)
+late_opened m opened b l = by_if (ErrBy IsLate) (nat_lt (length opened) 100) tt (omega arith)
 
 late_brackets : (m : Mode) (opened : List Opening) (o c : Option Bracket) (l : Line) → ErrBy IsLate (turned_by m opened o c l)
 late_brackets m opened (Some b) c l = late_opened m opened b l
-late_brackets m opened None (Some b) l = late_shut IsLate opened b l (omega arith, omega arith)
+late_brackets m opened None (Some b) l = late_shut IsLate opened b l (omega arith)
 late_brackets m opened None None l = tt
 
 late_words : (m : Mode) (opened : List Opening) (w : Lexeme) (l : Line) → ErrBy IsLate (turned_in_words m opened w l)
-late_words m opened (Word (kind.Sign x)) l = by_if (ErrBy IsLate) (is_excluded x) (omega arith, omega arith) (late_brackets m opened (opens x) (closes x) l)
+late_words m opened (Word (kind.Sign x)) l = by_if (ErrBy IsLate) (is_excluded x) (omega arith) (late_brackets m opened (opens x) (closes x) l)
 late_words m opened (Word _) l = tt
 late_words m opened (Start d) l = tt
 
@@ -190,8 +192,8 @@ late_turn (nest (mode.Text d) opened) w l = by_if (ErrBy IsLate) (ends_string w)
 late_turn (nest (mode.Field f) opened) w l = by_if (ErrBy IsLate) (is_sign (codes ":") w) tt (late_words (mode.Field f) opened w l)
 late_turn (nest (mode.Spec f) opened) w l =
     by_if (ErrBy IsLate) (ends_string w) tt
-    (by_if (ErrBy IsLate) (is_sign (codes "{") w) (by_if (ErrBy IsLate) f.is_nested (omega arith, omega arith) (late_opened (mode.Spec f) opened Curly l))
-    (by_if (ErrBy IsLate) (is_sign (codes "}") w) (late_shut IsLate opened Curly l (omega arith, omega arith)) tt))
+    (by_if (ErrBy IsLate) (is_sign (codes "{") w) (by_if (ErrBy IsLate) f.is_nested (omega arith) (late_opened (mode.Spec f) opened Curly l))
+    (by_if (ErrBy IsLate) (is_sign (codes "}") w) (late_shut IsLate opened Curly l (omega arith)) tt))
 
 turned_late : (n : Nest) (w : Lexeme) (l : Line) (e : LexErr) → turned n w l ≡ Err e → IsLate e
 turned_late n w l e h = let k = subst (ErrBy IsLate) h (late_turn n w l) in k
@@ -222,32 +224,8 @@ words_number (broken v g w) = inr refl
 words_number {end = end} {n = n} (unclosed v g w o) = inl (open_late (outermost end.line (opened_of n)) (string_line n))
 words_number (strange g p k s) = inl (omega arith)
 words_number (spoilt g f) = literal_late f
-words_number {n = n} (wrong {w = w} {e = e} g k t) = let h = turned_late n w _ e t in inl (omega (arith, h.0))
+words_number {n = n} (wrong {w = w} {e = e} g k t) = let h = turned_late n w _ e t in inl (omega (arith, h))
 words_number (later g k t f) = words_number f
-
-open_named : (l : Line) (o : Option Line) → number_of (left_open_by l o) ≤ 9
-open_named l None = omega arith
-open_named l (Some k) = omega arith
-
--- none of them is want of memory
-words_named : {end : TextEnd} {n : Nest} {ss : List Spot} {e : LexErr} {at : ℕ} → Fails end n ss e at → number_of e ≤ 9
-words_named (broken v g w) = omega arith
-words_named {end = end} {n = n} (unclosed v g w o) = open_named (outermost end.line (opened_of n)) (string_line n)
-words_named (strange g p k s) = omega arith
-words_named (spoilt g f) = literal_named f
-words_named {n = n} (wrong {w = w} {e = e} g k t) = (turned_late n w _ e t).1
-words_named (later g k t f) = words_named f
-
-column_named : {cols : List Column} {k : Column} {line : Line} {e : LexErr} → Misplaced cols k line e → number_of e ≤ 9
-column_named (off n) = omega arith
-column_named (mixed a) = omega arith
-column_named (too_deep t h) = omega arith
-
-pub fault_named : {end : TextEnd} {cols : List Column} {text : List Spot} {e : LexErr} {at : ℕ} → Faulty end cols text e at → number_of e ≤ 9
-fault_named (in_words f) = words_named f
-fault_named (in_column g p s m) = column_named m
-fault_named (below_empty b f) = fault_named f
-fault_named (below_full b t a l f) = fault_named f
 
 -- the same from behind the first gap
 pub fails_from : {end : TextEnd} {n : Nest} {ss first : List Spot} {e : LexErr} {at : ℕ} → Fails end n ss e at → Gap end n ss first → NoPiece end n first → Fails end n first e at
@@ -397,21 +375,21 @@ words_line {end} {text} {first} {stop} {rest} {s} {old} {new} {t0} {t1} {t2} {t3
         }
 
 -- the refusals of a line with words, as the code has them
-pub refused_column : {end : TextEnd} {text first : List Spot} {s : Spot} (cols : List Column) (e : LexErr) → Begins end text first s → Caused e (IsMisplaced cols (column_of text) s.line e) → Caused e (Refused end cols text e)
-refused_column cols e b c = caused_map e (λ m. column_refused cols e b m.wrong m.small m.least) c
+pub refused_column : {end : TextEnd} {text first : List Spot} {s : Spot} (cols : List Column) (failure : Failure LexErr) → Begins end text first s → IfRefused (IsMisplaced cols (column_of text) s.line) failure → IfRefused (Refused end cols text) failure
+refused_column cols failure b c = if_refused_map failure (λ e m. column_refused cols e b m.wrong m.small m.least) c
 
 pub first_refused : {end : TextEnd} {text first : List Spot} {s : Spot} {old new : List Column} {ks : List TokenKind} (e : LexErr) → Begins end text first s → Turn old (column_of text) new ks → agrees (column_of text) old ≡ true
     → 101 < length new → FirstFault end first s e → Refused end old text e
 first_refused {old = old} {new = new} {ks = ks} e b t a l (inl f) = first_word_refused old new ks e b t a (gap_fails b.gap f.0) f.1
 first_refused {end = end} {text = text} {old = old} {new = new} {ks = ks} e b t a l (inr f) = subst (Refused end old text) (sym f.0) (depth_refused old new ks b t a l f.1)
 
-pub refused_depth : {end : TextEnd} {text first : List Spot} {s : Spot} {old new : List Column} {t0 t1 : List Token} (e : LexErr) → Begins end text first s → Indented old new (column_of text) s.at s.line t0 t1 → 101 < length new
-    → Caused e (FirstFault end first s e) → Caused e (Refused end old text e)
-refused_depth e b i l c = caused_map e (λ f. first_refused e b i.turns i.agreed l f) c
+pub refused_depth : {end : TextEnd} {text first : List Spot} {s : Spot} {old new : List Column} {t0 t1 : List Token} (failure : Failure LexErr) → Begins end text first s → Indented old new (column_of text) s.at s.line t0 t1 → 101 < length new
+    → IfRefused (FirstFault end first s) failure → IfRefused (Refused end old text) failure
+refused_depth failure b i l c = if_refused_map failure (λ e f. first_refused e b i.turns i.agreed l f) c
 
-pub refused_words : {end : TextEnd} {text first : List Spot} {s : Spot} {old new : List Column} {t0 t1 : List Token} (e : LexErr) → Begins end text first s → Indented old new (column_of text) s.at s.line t0 t1 → length new ≤ 101
-    → FailsWith end outside first e → Caused e (Refused end old text e)
-refused_words {end} {text} {first} {s} {old} {new} e b i l c = caused_map e (λ f. words_refused old e f.0 (gap_fails b.gap f.1) (λ g t ss h p m. well_placed i.turns i.agreed l m)) c
+pub refused_words : {end : TextEnd} {text first : List Spot} {s : Spot} {old new : List Column} {t0 t1 : List Token} (failure : Failure LexErr) → Begins end text first s → Indented old new (column_of text) s.at s.line t0 t1 → length new ≤ 101
+    → FailsWith end outside first failure → IfRefused (Refused end old text) failure
+refused_words {end} {text} {first} {s} {old} {new} failure b i l c = if_refused_map failure (λ e f. words_refused old e f.0 (gap_fails b.gap f.1) (λ g t ss h p m. well_placed i.turns i.agreed l m)) c
 
 -- the refusal of a text that breaks off before a word
 pub refused_broken : {end : TextEnd} {text first : List Spot} (cols : List Column) → Gap end outside text first → NoPiece end outside first → first ≡ [] → ((rest : List Spot) → Stops end first rest → ⊥) → Refused end cols text (fault.NotUtf8 end.at)
@@ -447,12 +425,12 @@ deep_first {end} {first} {after} {s} {w} {more} b n t =
     let at = at_first b in
     inr (refl, λ f place h. subst (λ x. x < place) at.0 (fault_behind b.rises n (subst (λ l. turned outside w l ≡ Ok more) (sym at.1) t) h))
 
-pub word_first : {end : TextEnd} {first after : List Spot} {s : Spot} {w : Lexeme} (e : LexErr) → Begins end first first s → Next mode.Words first w after → DepthOrWord w s e → Caused e (FirstFault end first s e)
-word_first {end} {first} {after} {s} {w} e b n c = caused_map e go c
+pub word_first : {end : TextEnd} {first after : List Spot} {s : Spot} {w : Lexeme} (failure : Failure LexErr) → Begins end first first s → Next mode.Words first w after → DepthOrWord w s failure → IfRefused (FirstFault end first s) failure
+word_first {end} {first} {after} {s} {w} failure b n c = if_refused_map failure go c
   where
-    go : (turned outside w s.line ≡ Err e) ⊎ ((e ≡ fault.Limit s.line) × ((more : Nest) × (turned outside w s.line ≡ Ok more))) → FirstFault end first s e
-    go (inl t) = wrong_first e b n t
-    go (inr k) = subst (FirstFault end first s) (sym k.0) (deep_first b n k.1.1)
+    go : (e : LexErr) → (turned outside w s.line ≡ Err e) ⊎ ((e ≡ fault.Limit s.line) × ((more : Nest) × (turned outside w s.line ≡ Ok more))) → FirstFault end first s e
+    go e (inl t) = wrong_first e b n t
+    go e (inr k) = subst (FirstFault end first s) (sym k.0) (deep_first b n k.1.1)
 
 -- a line that begins with a number or a string
 pub faulty_first : {end : TextEnd} {first : List Spot} {s : Spot} (e : LexErr) → Begins end first first s → literal mode.Words first ≡ faulty e → FirstFault end first s e
@@ -460,8 +438,8 @@ faulty_first {end} {first} {s} e b h =
     let at = at_first b in
     inl (subst (Fails end outside first e) at.0 (spoilt nothing (at_once h)), subst (λ l. IsBeforeLimit l e) at.1 (faulty_late end mode.Words first e h).1)
 
-pub spoilt_first : {end : TextEnd} {first : List Spot} {s : Spot} (e : LexErr) → Begins end first first s → Caused e (literal mode.Words first ≡ faulty e) → Caused e (FirstFault end first s e)
-spoilt_first e b c = caused_map e (λ h. faulty_first e b h) c
+pub spoilt_first : {end : TextEnd} {first : List Spot} {s : Spot} (failure : Failure LexErr) → Begins end first first s → IfRefused (λ e. literal mode.Words first ≡ faulty e) failure → IfRefused (FirstFault end first s) failure
+spoilt_first failure b c = if_refused_map failure (λ e h. faulty_first e b h) c
 
 pub known_first : {first rest : List Spot} {w : Lexeme} → literal mode.Words first ≡ known w rest → Next mode.Words first w rest
 known_first h = begun h
@@ -506,8 +484,8 @@ plain_first l n = plain l n
 pub indented_at : {old new : List Column} {k l : Column} {at : ℕ} {line : Line} {t0 t1 : List Token} → k ≡ l → Indented old new k at line t0 t1 → Indented old new l at line t0 t1
 indented_at {old} {new} {k} {l} {at} {line} {t0} {t1} e i = subst (λ x. Indented old new x at line t0 t1) e i
 
-pub misplaced_at : (cols : List Column) (k l : Column) (line : Line) (e : LexErr) → k ≡ l → Caused e (IsMisplaced cols k line e) → Caused e (IsMisplaced cols l line e)
-misplaced_at cols k l line e h m = subst (λ x. Caused e (IsMisplaced cols x line e)) h m
+pub misplaced_at : (cols : List Column) (k l : Column) (line : Line) (failure : Failure LexErr) → k ≡ l → IfRefused (IsMisplaced cols k line) failure → IfRefused (IsMisplaced cols l line) failure
+misplaced_at cols k l line failure h m = subst (λ x. IfRefused (IsMisplaced cols x line) failure) h m
 
 -- an empty line
 pub no_words : {end : TextEnd} {text first rest : List Spot} (cols : List Column) (before : List Token) → Gap end outside text first → Stops end first rest → AreRising cols → ReadsLine end cols cols text rest before before

@@ -11,4 +11,5 @@ pub mod FirstLemmas
 pub mod LineLemmas
 pub mod LiteralLemmas
 pub mod StringLemmas
+pub mod StringShape
 pub mod ShapeLemmas

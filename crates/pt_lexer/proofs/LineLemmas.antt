@@ -14,14 +14,17 @@ use Rattle.pt_literals.specs.declared.token.TokenKind.TheVariants as kind
 use Rattle.pt_lexer.specs.Columns.{AreRising}
 use Rattle.pt_literals.specs.Source.{line_at, placed, end_behind, behind_mark, read_chars, end_of, spots_of}
 use Rattle.pt_lexer.specs.Lines.{at_of, token, outside, Stops, at_line_end, at_text_end, nothing, NoPiece, Body, finish, word, closing, Lines, done, empty, full}
-use Rattle.pt_literals.specs.Refusals.{Caused}
+use Rattle.pt_base.specs.declared.failure.Failure.{Failure}
+use Rattle.pt_base.specs.declared.failure.Failure.TheVariants as failures
+use Rattle.pt_base.specs.Failures.{IfRefused}
+use Rattle.pt_base.proofs.FailureLemmas.{if_refused_map}
 use Rattle.pt_lexer.specs.Faults.{below_empty, below_full, number_of, Precedes, Refused, margin, IsTokens, IsRefused}
 use Rattle.pt_lexer.specs.Progress.{Rises, LineRead, empty_line, full_line, ReadsLine, GoesOn, TextRead}
 use Rattle.pt_lexer.proofs.NextLemmas.{next_shorter}
 use Rattle.pt_lexer.proofs.GapLemmas.{stops_within, broken_stop, line_end_shorter}
-use Rattle.pt_lexer.proofs.ReadLemmas.{gap_within, caused_map}
+use Rattle.pt_lexer.proofs.ReadLemmas.{gap_within}
 use Rattle.pt_lexer.proofs.Once.{lines_once, lines_or_fault, body_once, words_or_fault, empty_stops, well_placed, turn_once, empty_or_full, faulty_at, no_piece_at_end}
-use Rattle.pt_lexer.proofs.FirstLemmas.{by_fault, gap_rises, stops_rises, next_rises, refused_broken, fault_named}
+use Rattle.pt_lexer.proofs.FirstLemmas.{by_fault, gap_rises, stops_rises, next_rises, refused_broken}
 
 -- a line takes some of the text, and places still rise behind it
 pub body_rises : (end : TextEnd) {n : _} {text stop rest : List Spot} {ws : List Token} → Body end n text ws stop rest → Rises end text → Rises end rest
@@ -100,8 +103,8 @@ goes_more (s ∷ ss) g n l = goes_one g l
 pub reads_at : {end e : TextEnd} {now after : List Column} {rest behind : List Spot} {new newer : List Token} → end ≡ e → ReadsLine end now after rest behind new newer → ReadsLine e now after rest behind new newer
 reads_at {now = now} {after = after} {rest = rest} {behind = behind} {new = new} {newer = newer} h l = subst (λ x. ReadsLine x now after rest behind new newer) h l
 
-pub refused_at : {end e : TextEnd} {cols now : List Column} {text rest : List Spot} {old new : List Token} (f : LexErr) → end ≡ e → GoesOn e cols now text rest old new → Caused f (Refused end now rest f) → Caused f (Refused e cols text f)
-refused_at {now = now} {rest = rest} f h g c = caused_map f (λ r. g.refuses f (subst (λ x. Refused x now rest f) h r)) c
+pub refused_at : {end e : TextEnd} {cols now : List Column} {text rest : List Spot} {old new : List Token} (failure : Failure LexErr) → end ≡ e → GoesOn e cols now text rest old new → IfRefused (Refused end now rest) failure → IfRefused (Refused e cols text) failure
+refused_at {now = now} {rest = rest} failure h g c = if_refused_map failure (λ f r. g.refuses f (subst (λ x. Refused x now rest f) h r)) c
 
 pub reads_shorter : {end : TextEnd} {now after : List Column} {rest behind : List Spot} {new newer : List Token} → ReadsLine end now after rest behind new newer → rest ≢ [] → length behind < length rest
 reads_shorter l n = line_shorter l.line n
@@ -181,35 +184,15 @@ is_tokens bytes end cols spots text old new s e t m o r =
     (subst (λ x. Lines end cols x new) (t ∙ ap behind_mark s)
     (subst (Lines end cols text) (sym (r.kept ∙ ap (λ x. x ++ r.front) o)) r.lines)))
 
-pub is_refused : (bytes : List ℕ) (end : TextEnd) (cols : List Column) (spots text : List Spot) (e : LexErr) → spots ≡ placed 0 1 0 (read_chars bytes) → end ≡ end_of bytes → text ≡ behind_mark spots → cols ≡ margin
-    → Caused e (Refused end cols text e) → Caused e (IsRefused bytes e)
-is_refused bytes end cols spots text f s e t m c =
-    caused_map f (λ r. subst (λ x. Refused x margin (spots_of bytes) f) e (subst (λ x. Refused end x (spots_of bytes) f) m (subst (λ x. Refused end cols x f) (t ∙ ap behind_mark s) r))) c
+pub is_refused : (bytes : List ℕ) (end : TextEnd) (cols : List Column) (spots text : List Spot) (failure : Failure LexErr) → spots ≡ placed 0 1 0 (read_chars bytes) → end ≡ end_of bytes → text ≡ behind_mark spots → cols ≡ margin
+    → IfRefused (Refused end cols text) failure → IfRefused (IsRefused bytes) failure
+is_refused bytes end cols spots text failure s e t m c =
+    if_refused_map failure (λ f r. subst (λ x. Refused x margin (spots_of bytes) f) e (subst (λ x. Refused end x (spots_of bytes) f) m (subst (λ x. Refused end cols x f) (t ∙ ap behind_mark s) r))) c
 
 -- What the answer is where the text has tokens, and where it is refused.
-memory_or : (e : LexErr) {P : Type 0} → Caused e P → (P → ⊥) → e ≡ fault.Memory
-memory_or fault.Memory c n = refl
-memory_or (fault.NotUtf8 at) c n = absurd (n c)
-memory_or (fault.BadIndent line) c n = absurd (n c)
-memory_or (fault.MixedTabs line) c n = absurd (n c)
-memory_or (fault.BadChar at) c n = absurd (n c)
-memory_or (fault.OpenString line) c n = absurd (n c)
-memory_or (fault.BadNumber at) c n = absurd (n c)
-memory_or (fault.OpenBracket line) c n = absurd (n c)
-memory_or (fault.Excluded line) c n = absurd (n c)
-memory_or (fault.Limit line) c n = absurd (n c)
-
-or_memory : (e : LexErr) {P Q : Type 0} → Caused e P → (P → Q) → Q ⊎ (e ≡ fault.Memory)
-or_memory fault.Memory c f = inr refl
-or_memory (fault.NotUtf8 at) c f = inl (f c)
-or_memory (fault.BadIndent line) c f = inl (f c)
-or_memory (fault.MixedTabs line) c f = inl (f c)
-or_memory (fault.BadChar at) c f = inl (f c)
-or_memory (fault.OpenString line) c f = inl (f c)
-or_memory (fault.BadNumber at) c f = inl (f c)
-or_memory (fault.OpenBracket line) c f = inl (f c)
-or_memory (fault.Excluded line) c f = inl (f c)
-or_memory (fault.Limit line) c f = inl (f c)
+memory_or : (failure : Failure LexErr) {P : LexErr → Type 0} → IfRefused P failure → ((e : LexErr) → P e → ⊥) → failure ≡ failures.Memory
+memory_or failures.Memory c n = refl
+memory_or (failures.Refused e) c n = absurd (n e c)
 
 same_number : (e f : LexErr) → (number_of e < number_of f) ⊎ (e ≡ f) → (number_of f < number_of e) ⊎ (f ≡ e) → e ≡ f
 same_number e f (inr a) b = a
@@ -226,16 +209,13 @@ precede_once e f m n (inr a) (inr b) = same_number e f a.1 b.1
 pub refused_once : (bytes : List ℕ) (e f : LexErr) → IsRefused bytes e → IsRefused bytes f → e ≡ f
 refused_once bytes e f r q = precede_once e f r.at q.at (r.first f q.at q.found) (q.first e r.at r.found)
 
-pub no_memory : (bytes : List ℕ) → IsRefused bytes fault.Memory → ⊥
-no_memory bytes r = let h = fault_named r.found in omega arith
+abbrev pub Exact : List ℕ → Result (List Token) (Failure LexErr) → Type 0
+Exact bytes r = MatchResult r (IsTokens bytes) (IfRefused (IsRefused bytes))
 
-abbrev pub Exact : List ℕ → Result (List Token) LexErr → Type 0
-Exact bytes r = MatchResult r (IsTokens bytes) (λ e. Caused e (IsRefused bytes e))
-
-pub one_list : (bytes : List ℕ) (r : Result (List Token) LexErr) → Exact bytes r → (all : List Token) → IsTokens bytes all → MatchResult r (λ found. found ≡ all) (λ e. e ≡ fault.Memory)
+pub one_list : (bytes : List ℕ) (r : Result (List Token) (Failure LexErr)) → Exact bytes r → (all : List Token) → IsTokens bytes all → MatchResult r (λ found. found ≡ all) (λ e. e ≡ failures.Memory)
 one_list bytes (Ok found) x all h = lines_once x h
-one_list bytes (Err e) x all h = memory_or e x (λ r. lines_or_fault h r.found)
+one_list bytes (Err failure) x all h = memory_or failure x (λ e r. lines_or_fault h r.found)
 
-pub one_refusal : (bytes : List ℕ) (r : Result (List Token) LexErr) → Exact bytes r → (f : LexErr) → IsRefused bytes f → MatchResult r (λ _. ⊥) (λ e. (e ≡ f) ⊎ (e ≡ fault.Memory))
+pub one_refusal : (bytes : List ℕ) (r : Result (List Token) (Failure LexErr)) → Exact bytes r → (f : LexErr) → IsRefused bytes f → MatchResult r (λ _. ⊥) (IfRefused (λ e. e ≡ f))
 one_refusal bytes (Ok found) x f h = lines_or_fault x h.found
-one_refusal bytes (Err e) x f h = or_memory e x (λ r. refused_once bytes e f r h)
+one_refusal bytes (Err failure) x f h = if_refused_map failure (λ e r. refused_once bytes e f r h) x

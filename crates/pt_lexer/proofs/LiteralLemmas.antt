@@ -567,18 +567,18 @@ faulty_late end m (s ∷ ss) e h = let l = subst (LateLiteral s.line) h (late_li
 
 abbrev LatePiece : Piece → Type 0
 LatePiece (takes cs rest) = Unit {0}
-LatePiece (fails e) = (4 ≤ number_of e) × (number_of e ≤ 9)
+LatePiece (fails e) = 4 ≤ number_of e
 
 late_coded : (s : Spot) (n : ℕ) (rest : List Spot) → LatePiece (coded s n rest)
-late_coded s n rest = either LatePiece (nat_lt n 0x110000) (either LatePiece (is_surrogate n) (omega arith, omega arith) tt) (omega arith, omega arith)
+late_coded s n rest = either LatePiece (nat_lt n 0x110000) (either LatePiece (is_surrogate n) (omega arith) tt) (omega arith)
 
 late_hex : (s : Spot) (n : ℕ) (ss : List Spot) → LatePiece (hex s n ss)
-late_hex s n ss = either LatePiece (are_hex n (take n ss)) (late_coded s (value_from 16 0 (take n ss)) (drop n ss)) (omega arith, omega arith)
+late_hex s n ss = either LatePiece (are_hex n (take n ss)) (late_coded s (value_from 16 0 (take n ss)) (drop n ss)) (omega arith)
 
 late_letter : (s t : Spot) (us : List Spot) → LatePiece (by_letter s t us)
 late_letter s t us =
     either LatePiece (t.char == 120) (late_hex s 2 us)
-    (either LatePiece (t.char == 117) (late_hex s 4 us) (either LatePiece (t.char == 85) (late_hex s 8 us) (either LatePiece (t.char == 78) (omega arith, omega arith) tt)))
+    (either LatePiece (t.char == 117) (late_hex s 4 us) (either LatePiece (t.char == 85) (late_hex s 8 us) (either LatePiece (t.char == 78) (omega arith) tt)))
 
 late_escaped : (o : Option ℕ) (s t : Spot) (us : List Spot) → LatePiece (escaped o s t us)
 late_escaped (Some c) s t us = tt
@@ -596,41 +596,24 @@ late_raw f (t ∷ us) = either LatePiece (ends_line t.char) tt (either LatePiece
 late_piece_in : (f : Bool) (d : Delimiter) (s : Spot) (ss : List Spot) → LatePiece (piece_in f d s ss)
 late_piece_in f d s ss =
     either LatePiece (s.char == 92) (either LatePiece d.is_raw (late_raw f ss) (late_escape s ss))
-    (either LatePiece (ends_line s.char) (either LatePiece d.is_triple tt (omega arith, omega arith)) tt)
+    (either LatePiece (ends_line s.char) (either LatePiece d.is_triple tt (omega arith)) tt)
 
 late_piece : (p : Part) (s : Spot) (ss : List Spot) → LatePiece (piece p s ss)
 late_piece (part.Whole d) s ss = late_piece_in false d s ss
 late_piece (part.Text d) s ss = either LatePiece (is_brace s.char) tt (late_piece_in true d s ss)
 late_piece (part.Spec d) s ss = late_piece_in true d s ss
 
-fails_late : (p : Part) (s : Spot) (ss : List Spot) {e : LexErr} → piece p s ss ≡ fails e → (4 ≤ number_of e) × (number_of e ≤ 9)
+fails_late : (p : Part) (s : Spot) (ss : List Spot) {e : LexErr} → piece p s ss ≡ fails e → 4 ≤ number_of e
 fails_late p s ss q = let l = subst LatePiece q (late_piece p s ss) in l
 
 inside_late : {end : TextEnd} {line : Line} {p : Part} {text : List Spot} {e : LexErr} {at : ℕ} → InsideFails end line p text e at → (4 ≤ number_of e) ⊎ (at ≡ end.at)
 inside_late at_text_end = inr refl
-inside_late {p = p} (here {s = s} {ss = ss} c q) = inl (fails_late p s ss q).0
+inside_late {p = p} (here {s = s} {ss = ss} c q) = inl (fails_late p s ss q)
 inside_late (behind c p f) = inside_late f
 
 pub literal_late : {end : TextEnd} {n : Nest} {text : List Spot} {e : LexErr} {at : ℕ} → LiteralFails end n text e at → (4 ≤ number_of e) ⊎ (at ≡ end.at)
 literal_late {end = end} {n = n} (at_once {text = text} {e = e} h) = inl (faulty_late end (mode_of n) text e h).0
 literal_late (in_string h f) = inside_late f
-
--- none of them is want of memory
-broken_named : (end : TextEnd) (line : Line) → number_of (broken_off end line) ≤ 9
-broken_named end line = either (λ e. number_of e ≤ 9) end.is_whole (omega arith) (omega arith)
-
-inside_named : {end : TextEnd} {line : Line} {p : Part} {text : List Spot} {e : LexErr} {at : ℕ} → InsideFails end line p text e at → number_of e ≤ 9
-inside_named {end = end} {line = line} at_text_end = broken_named end line
-inside_named {p = p} (here {s = s} {ss = ss} c q) = (fails_late p s ss q).1
-inside_named (behind c p f) = inside_named f
-
-before_limit_named : {line : Line} {e : LexErr} → IsBeforeLimit line e → number_of e ≤ 9
-before_limit_named (inl h) = omega arith
-before_limit_named (inr h) = subst (λ x. number_of x ≤ 9) (sym h) (omega arith)
-
-pub literal_named : {end : TextEnd} {n : Nest} {text : List Spot} {e : LexErr} {at : ℕ} → LiteralFails end n text e at → number_of e ≤ 9
-literal_named {end = end} {n = n} (at_once {text = text} {e = e} h) = before_limit_named (faulty_late end (mode_of n) text e h).1
-literal_named (in_string h f) = inside_named f
 
 -- characters that begin no literal among words
 abbrev pub may_begin : ℕ → Bool

@@ -17,7 +17,10 @@ use Rattle.pt_literals.specs.declared.token.TokenKind.{TokenKind}
 use Rattle.pt_literals.specs.Literals.{Literal, literal, no_literal, faulty, holds}
 use Rattle.pt_lexer.specs.Words.{kind_of_part, NoneSpelt, Longest, Next, string, NoWord}
 use Rattle.pt_lexer.specs.Lines.{at_of, line_of, token, Stops, at_text_end, Nest, mode_of, opened_of, has_words, outside, Gap, nothing, piece, NoPiece, NoLineStop, turned, kind_of, Body, finish, word}
-use Rattle.pt_literals.specs.Refusals.{Caused}
+use Rattle.pt_base.specs.declared.failure.Failure.{Failure}
+use Rattle.pt_base.specs.declared.failure.Failure.TheVariants.{Refused}
+use Rattle.pt_base.specs.Failures.{IfRefused}
+use Rattle.pt_base.proofs.FailureLemmas.{if_refused_map}
 use Rattle.pt_lexer.specs.Faults.{outermost, or_line, left_open_by, string_line, line_of_part, broken_off, LiteralFails, at_once, in_string, Fails, broken, unclosed, strange, spoilt, wrong, later}
 use Rattle.pt_literals.specs.Literals.{IsBegun}
 use Rattle.pt_lexer.specs.Progress.{IsReading, BreaksOff, StringRead, IsSpoilt, EndsInside, BeginsSpoilt, spoilt_at_once, spoilt_inside, FailsWith, Going, WordsRead}
@@ -75,31 +78,6 @@ pub gap_both : {end : TextEnd} {n : Nest} {text mid rest : List Spot} → Gap en
 gap_both nothing h = h
 gap_both (piece w p g) h = piece w p (gap_both g h)
 
--- an answer with its cause
-pub caused : (e : LexErr) {P : Type 0} → P → Caused e P
-caused fault.Memory p = tt
-caused (fault.NotUtf8 at) p = p
-caused (fault.BadIndent line) p = p
-caused (fault.MixedTabs line) p = p
-caused (fault.BadChar at) p = p
-caused (fault.OpenString line) p = p
-caused (fault.BadNumber at) p = p
-caused (fault.OpenBracket line) p = p
-caused (fault.Excluded line) p = p
-caused (fault.Limit line) p = p
-
-pub caused_map : (e : LexErr) {P Q : Type 0} → (P → Q) → Caused e P → Caused e Q
-caused_map fault.Memory f c = tt
-caused_map (fault.NotUtf8 at) f c = f c
-caused_map (fault.BadIndent line) f c = f c
-caused_map (fault.MixedTabs line) f c = f c
-caused_map (fault.BadChar at) f c = f c
-caused_map (fault.OpenString line) f c = f c
-caused_map (fault.BadNumber at) f c = f c
-caused_map (fault.OpenBracket line) f c = f c
-caused_map (fault.Excluded line) f c = f c
-caused_map (fault.Limit line) f c = f c
-
 -- a fault behind a gap
 pub gap_fails : {end : TextEnd} {n : Nest} {text mid : List Spot} {e : LexErr} {at : ℕ} → Gap end n text mid → Fails end n mid e at → Fails end n text e at
 gap_fails g (broken v h w) = broken v (gap_both g h) w
@@ -110,26 +88,26 @@ gap_fails g (wrong h k t) = wrong (gap_both g h) k t
 gap_fails g (later h k t f) = later (gap_both g h) k t f
 
 pub failed_here : {end : TextEnd} {text rest here : List Spot} {old new : List Token} {n : Nest} (e : LexErr) → Going end text old new n rest → Gap end n rest here → Fails end n here e (at_of end here)
-    → FailsWith end outside text e
-failed_here e g gap f = caused e (_, g.fails e _ (gap_fails gap f))
+    → FailsWith end outside text (Refused e)
+failed_here e g gap f = (_, g.fails e _ (gap_fails gap f))
 
-pub failed_word : {end : TextEnd} {text rest here after : List Spot} {old new : List Token} {n : Nest} {w : Lexeme} (e : LexErr) → Going end text old new n rest → Gap end n rest here → Next (mode_of n) here w after
-    → Caused e (turned n w (line_of end here) ≡ Err e) → FailsWith end outside text e
-failed_word e g gap k c = caused_map e (λ t. (_, g.fails e _ (wrong gap k t))) c
+pub failed_word : {end : TextEnd} {text rest here after : List Spot} {old new : List Token} {n : Nest} {w : Lexeme} (failure : Failure LexErr) → Going end text old new n rest → Gap end n rest here → Next (mode_of n) here w after
+    → IfRefused (λ e. turned n w (line_of end here) ≡ Err e) failure → FailsWith end outside text failure
+failed_word failure g gap k c = if_refused_map failure (λ e t. (_, g.fails e _ (wrong gap k t))) c
 
 literal_fails : {end : TextEnd} {m : Mode} {text : List Spot} {e : LexErr} (n : Nest) → mode_of n ≡ m → BeginsSpoilt end m text e → (at : ℕ) × LiteralFails end n text e at
 literal_fails {end = end} n h (spoilt_at_once {text = text} {e = e} k) = (at_of end text, at_once (subst (λ x. literal x text ≡ faulty e) (sym h) k))
 literal_fails {end = end} n h (spoilt_inside {text = text} {inner = inner} {p = p} {at = at} k f) =
     (at, in_string (subst (λ x. literal x text ≡ holds p inner) (sym h) k) (f (or_line (string_line n) (line_of_part p))))
 
-pub failed_literal : {end : TextEnd} {text rest here : List Spot} {old new : List Token} {n : Nest} (e : LexErr) → Going end text old new n rest → Gap end n rest here → Caused e (BeginsSpoilt end (mode_of n) here e)
-    → FailsWith end outside text e
-failed_literal {n = n} e g gap c = caused_map e (λ b. let f = literal_fails n refl b in (f.0, g.fails e f.0 (spoilt gap f.1))) c
+pub failed_literal : {end : TextEnd} {text rest here : List Spot} {old new : List Token} {n : Nest} (failure : Failure LexErr) → Going end text old new n rest → Gap end n rest here → IfRefused (BeginsSpoilt end (mode_of n) here) failure
+    → FailsWith end outside text failure
+failed_literal {n = n} failure g gap c = if_refused_map failure (λ e b. let f = literal_fails n refl b in (f.0, g.fails e f.0 (spoilt gap f.1))) c
 
 pub failed_end : {end : TextEnd} {text rest here : List Spot} {old new : List Token} {n : Nest} {p : Part} (e : LexErr) → Going end text old new n rest → Gap end n rest here → BreaksOff end (mode_of n) here p
-    → e ≡ broken_off end (or_line (string_line n) (line_of_part p)) → FailsWith end outside text e
+    → e ≡ broken_off end (or_line (string_line n) (line_of_part p)) → FailsWith end outside text (Refused e)
 failed_end {end} {text} {rest} {here} {old} {new} {n} {p} e g gap b h =
-    caused e (end.at, g.fails e end.at (subst (λ x. Fails end n rest x end.at) (sym h) (spoilt gap (in_string b.begins (b.ends (or_line (string_line n) (line_of_part p)))))))
+    (end.at, g.fails e end.at (subst (λ x. Fails end n rest x end.at) (sym h) (spoilt gap (in_string b.begins (b.ends (or_line (string_line n) (line_of_part p)))))))
 
 -- a gap takes some of the text, or nothing
 pub gap_within : {end : TextEnd} {n : Nest} {text rest : List Spot} → Gap end n text rest → length rest ≤ length text
@@ -155,11 +133,11 @@ begun_at l a is = subst (λ x. IsBegun x l) is a
 pub reading_at : (end : TextEnd) (m : Mode) (text : List Spot) {r s : Reading} → IsReading end m text r → r ≡ s → IsReading end m text s
 reading_at end m text a is = subst (IsReading end m text) is a
 
-pub spoilt_literal : (end : TextEnd) (m : Mode) (text : List Spot) (e : LexErr) → Caused e (literal m text ≡ faulty e) → Caused e (BeginsSpoilt end m text e)
-spoilt_literal end m text e c = caused_map e (λ h. spoilt_at_once h) c
+pub spoilt_literal : (end : TextEnd) (m : Mode) (text : List Spot) (failure : Failure LexErr) → IfRefused (λ e. literal m text ≡ faulty e) failure → IfRefused (BeginsSpoilt end m text) failure
+spoilt_literal end m text failure c = if_refused_map failure (λ e h. spoilt_at_once h) c
 
-pub spoilt_string : (end : TextEnd) (m : Mode) (text inner : List Spot) (p : Part) (e : LexErr) → literal m text ≡ holds p inner → Caused e (IsSpoilt end p inner e) → Caused e (BeginsSpoilt end m text e)
-spoilt_string end m text inner p e h c = caused_map e (λ f. spoilt_inside h f.1) c
+pub spoilt_string : (end : TextEnd) (m : Mode) (text inner : List Spot) (p : Part) (failure : Failure LexErr) → literal m text ≡ holds p inner → IfRefused (IsSpoilt end p inner) failure → IfRefused (BeginsSpoilt end m text) failure
+spoilt_string end m text inner p failure h c = if_refused_map failure (λ e f. spoilt_inside h f.1) c
 
 abbrev pub PartAnswer : TextEnd → Part → List Spot → Option (List ℕ × Bor (List Spot)) → Type 0
 PartAnswer end p text o = MatchOption o (EndsInside end p text) (λ r. StringRead p text r.0 r.1.now)
@@ -184,6 +162,6 @@ pub going_on : {end : TextEnd} {text rest mid after : List Spot} {old new newer 
 going_on {end} {text} {rest} {mid} {after} {old} {new} {newer} {n} {more} {line} {t} {k} w g gap q l turns kind is pushed =
     subst (λ x. Going end text old x more after) (sym (pushed ∙ (ap (λ y. new ++ y ∷ []) is ∙ ap (λ y. new ++ token end mid y ∷ []) kind))) (one_more w g gap q (subst (λ x. turned n w x ≡ Ok more) l turns))
 
-pub failed_turn : {end : TextEnd} {text rest here after : List Spot} {old new : List Token} {n : Nest} {line : Line} {w : Lexeme} (e : LexErr) → Going end text old new n rest → Gap end n rest here → Next (mode_of n) here w after
-    → line ≡ line_of end here → Caused e (turned n w line ≡ Err e) → FailsWith end outside text e
-failed_turn {n = n} {w = w} e g gap k l c = failed_word e g gap k (subst (λ x. Caused e (turned n w x ≡ Err e)) l c)
+pub failed_turn : {end : TextEnd} {text rest here after : List Spot} {old new : List Token} {n : Nest} {line : Line} {w : Lexeme} (failure : Failure LexErr) → Going end text old new n rest → Gap end n rest here → Next (mode_of n) here w after
+    → line ≡ line_of end here → IfRefused (λ e. turned n w line ≡ Err e) failure → FailsWith end outside text failure
+failed_turn {n = n} {w = w} failure g gap k l c = failed_word failure g gap k (subst (λ x. IfRefused (λ e. turned n w x ≡ Err e) failure) l c)

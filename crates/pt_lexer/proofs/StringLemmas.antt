@@ -7,11 +7,9 @@ use Rattle.pt_literals.specs.declared.source.TextEnd.{TextEnd}
 use Rattle.pt_literals.specs.declared.strings.Chars.{Chars}
 use Rattle.pt_literals.specs.declared.token.LexErr.{LexErr}
 use Rattle.pt_literals.specs.Strings.{listed, takes, fails, piece, ends, Inside, closed, more}
-use Rattle.pt_literals.specs.Refusals.{Caused}
 use Rattle.pt_lexer.specs.Faults.{broken_off, InsideFails, at_text_end, here, behind}
 use Rattle.pt_lexer.specs.Progress.{StringRead, InString, EndsInside, IsSpoilt}
 use Rattle.pt_lexer.proofs.LiteralLemmas.{piece_behind, behind_shorter}
-use Rattle.pt_lexer.proofs.ReadLemmas.{caused}
 
 pub string_read : {end : TextEnd} {p : Part} {text rest ss after : List Spot} {s : Spot} {value x : List ℕ} → InString end p text rest value → rest ≡ s ∷ ss → ends p s ss ≡ Some after → x ≡ value → StringRead p text x after
 string_read {p = p} {after = after} i r c e = record {
@@ -24,8 +22,8 @@ pub string_ends : {end : TextEnd} {p : Part} {text rest : List Spot} {value : Li
 string_ends {end} {p} {text} {rest} i r line = i.fails line (broken_off end line) end.at (subst (λ x. InsideFails end line p x (broken_off end line) end.at) (sym r) at_text_end)
 
 pub string_spoilt : {end : TextEnd} {p : Part} {text rest ss : List Spot} {s : Spot} {value : List ℕ} (e : LexErr) → InString end p text rest value → rest ≡ s ∷ ss → ends p s ss ≡ None → piece p s ss ≡ fails e
-    → Caused e (IsSpoilt end p text e)
-string_spoilt {end} {p} {text} {rest} {ss} {s} e i r c q = caused e (s.at, λ line. i.fails line e s.at (subst (λ x. InsideFails end line p x e s.at) (sym r) (here c q)))
+    → IsSpoilt end p text e
+string_spoilt {end} {p} {text} {rest} {ss} {s} e i r c q = (s.at, λ line. i.fails line e s.at (subst (λ x. InsideFails end line p x e s.at) (sym r) (here c q)))
 
 pub string_more : {end : TextEnd} {p : Part} {text rest ss mid : List Spot} {s : Spot} {value new : List ℕ} {cs : Chars} → InString end p text rest value → rest ≡ s ∷ ss → ends p s ss ≡ None → piece p s ss ≡ takes cs mid
     → new ≡ value ++ encode_utf8_all (listed cs) → InString end p text mid new

@@ -103,7 +103,6 @@ number_of (fault.BadNumber at) = 6
 number_of (fault.OpenBracket line) = 7
 number_of (fault.Excluded line) = 8
 number_of (fault.Limit line) = 9
-number_of fault.Memory = 10
 
 -- This is wrong with the column of a line, before all else that is.
 pub record IsMisplaced (cols : List Column) (k : Column) (line : Line) (e : LexErr) : Type 0 where

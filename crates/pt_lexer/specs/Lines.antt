@@ -177,10 +177,19 @@ turned_in_text d opened w line =
     else if is_sign (codes "{") w then opened_by (mode.Text d) opened Curly line
     else Ok (nest (mode.Text d) opened)
 
--- Where a string ends in a format spec, the brace of the field is a bracket like others.
-abbrev pub left_open : List Opening → Nest
-left_open [] = outside
-left_open (x ∷ opened) = nest mode.Words (record { bracket = x.bracket; line = x.line; mode = mode_in opened } ∷ opened)
+abbrev pub is_spec : Mode → Bool
+is_spec (mode.Spec f) = true
+is_spec m = false
+
+-- a bracket like others in these
+abbrev pub plain_bracket : Opening → List Opening → List Opening
+plain_bracket x opened = record { bracket = x.bracket; line = x.line; mode = mode_in opened } ∷ opened
+
+-- Where a string ends in a format spec, the brace of the field is a bracket like others, and so is the brace of the field in whose spec it
+-- stands.
+abbrev pub as_brackets : List Opening → List Opening
+as_brackets [] = []
+as_brackets (x ∷ opened) = plain_bracket x (if is_spec x.mode then as_brackets opened else opened)
 
 -- A format spec has fields, and the spec of these has none.
 abbrev pub field_in_spec : Field → List Opening → Line → Result Nest LexErr
@@ -188,7 +197,7 @@ field_in_spec f opened line = if f.is_nested then Err (fault.Excluded line) else
 
 abbrev pub turned_in_spec : Field → List Opening → Lexeme → Line → Result Nest LexErr
 turned_in_spec f opened w line =
-    if ends_string w then Ok (left_open opened)
+    if ends_string w then Ok (nest mode.Words (as_brackets opened))
     else if is_sign (codes "{") w then field_in_spec f opened line
     else if is_sign (codes "}") w then shut opened Curly line
     else Ok (nest (mode.Spec f) opened)

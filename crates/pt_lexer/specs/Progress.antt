@@ -19,7 +19,8 @@ use Rattle.pt_literals.specs.Literals.{faulty, holds, literal}
 use Rattle.pt_literals.specs.Strings.{Inside}
 use Rattle.pt_lexer.specs.Words.{Next, NoWord}
 use Rattle.pt_lexer.specs.Columns.{AreRising}
-use Rattle.pt_literals.specs.Refusals.{Caused}
+use Rattle.pt_base.specs.declared.failure.Failure.{Failure}
+use Rattle.pt_base.specs.Failures.{IfRefused}
 use Rattle.pt_lexer.specs.Faults.{broken_off, InsideFails, Fails, Refused, number_of}
 
 -- Each character stands behind the one before it, and before the end.
@@ -65,8 +66,8 @@ abbrev pub IsSpoilt : TextEnd → Part → List Spot → LexErr → Type 0
 IsSpoilt end p text e = (at : ℕ) × ((line : Line) → InsideFails end line p text e at)
 
 -- The text is refused for its words.
-abbrev pub FailsWith : TextEnd → Nest → List Spot → LexErr → Type 0
-FailsWith end n text e = Caused e ((at : ℕ) × Fails end n text e at)
+abbrev pub FailsWith : TextEnd → Nest → List Spot → Failure LexErr → Type 0
+FailsWith end n text failure = IfRefused (λ e. (at : ℕ) × Fails end n text e at) failure
 
 -- So many words of a line have been read: what follows them is what follows in the line.
 pub record Going (end : TextEnd) (text : List Spot) (old new : List Token) (n : Nest) (rest : List Spot) : Type 0 where
@@ -108,8 +109,8 @@ abbrev pub IsBeforeLimit : Line → LexErr → Type 0
 IsBeforeLimit line e = (number_of e < 9) ⊎ (e ≡ fault.Limit line)
 
 -- what is wrong with a line that opens one block too many: its first word, or else its depth
-abbrev pub DepthOrWord : Lexeme → Spot → LexErr → Type 0
-DepthOrWord w s e = Caused e ((turned outside w s.line ≡ Err e) ⊎ ((e ≡ fault.Limit s.line) × ((more : Nest) × (turned outside w s.line ≡ Ok more))))
+abbrev pub DepthOrWord : Lexeme → Spot → Failure LexErr → Type 0
+DepthOrWord w s failure = IfRefused (λ e. (turned outside w s.line ≡ Err e) ⊎ ((e ≡ fault.Limit s.line) × ((more : Nest) × (turned outside w s.line ≡ Ok more)))) failure
 
 -- The fault of a line's first word, or else one block too many.
 abbrev pub FirstFault : TextEnd → List Spot → Spot → LexErr → Type 0

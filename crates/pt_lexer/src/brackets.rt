@@ -1,11 +1,11 @@
-ghost use Rattle.std.specs.Prelude.{◌≡◌, [], ◌∷◌, ◌↔◌, IsTrue, length, map, Ok, Err, IfOk, MatchResult, Some, None};
+ghost use Rattle.std.specs.Prelude.{◌≡◌, [], ◌∷◌, ◌↔◌, IsTrue, length, map, Ok, Err, IfOk, MatchResult, OnOk, Some, None};
 ghost use Rattle.pt_lexer.specs.Words.{is_listed};
-ghost use Rattle.pt_lexer.specs.Lines.{nest, opens, closes, is_excluded, same_bracket, shut as shut_by, mode_behind as behind_mode, mode_in as mode_inside, opened_by, turned_by_sign, turned_in_words, is_sign as is_sign_by, ends_string as ends_string_by, turned_in_field, turned_in_text, left_open, field_in_spec as spec_field, turned_in_spec, turned};
-ghost use Rattle.pt_literals.specs.Refusals.{Caused};
+ghost use Rattle.pt_lexer.specs.Lines.{nest, opens, closes, is_excluded, same_bracket, shut as shut_by, mode_behind as behind_mode, mode_in as mode_inside, opened_by, turned_by_sign, turned_in_words, is_sign as is_sign_by, ends_string as ends_string_by, turned_in_field, turned_in_text, is_spec as is_spec_mode, as_brackets, field_in_spec as spec_field, turned_in_spec, turned};
+ghost use Rattle.pt_base.specs.Failures.{IfRefused};
 ghost use Rattle.pt_lexer.specs.Faults.{outermost as outermost_line, line_of_mode as mode_line, string_line};
 
 use crate::{Bracket, Delimiter, EXCLUDED, Field, LexErr, Lexeme, Mode, Opening, TokenKind};
-use pt_base::{Line, Memory, Stack, Text};
+use pt_base::{Failure, Line, Memory, Stack, Text};
 
 /// How many brackets may be open.
 const MAX_OPENED: usize = 100;
@@ -72,18 +72,18 @@ fn is_same(a: Bracket, b: Bracket) -> bool
 }
 
 /// Closes the innermost bracket. What is answered is the mode that goes on behind it.
-fn shut(opened: &mut Stack<Opening>, bracket: Bracket, line: Line) -> Result<Mode, LexErr>
+fn shut(opened: &mut Stack<Opening>, bracket: Bracket, line: Line) -> Result<Mode, Failure<LexErr>>
     ensures { MatchResult result
         (λ m. shut_by opened.old bracket line ≡ Ok (nest m opened.new))
-        (λ e. Caused e (shut_by opened.old bracket line ≡ Err e)) }
+        (IfRefused (λ e. shut_by opened.old bracket line ≡ Err e)) }
 {
     let Some(last) = opened.pop() else {
-        return Err(LexErr::OpenBracket { line });
+        return Err(Failure::Refused(LexErr::OpenBracket { line }));
     };
     if is_same(last.bracket, bracket) {
         return Ok(last.mode);
     }
-    Err(LexErr::OpenBracket { line })
+    Err(Failure::Refused(LexErr::OpenBracket { line }))
 }
 
 /// How the text behind an opening bracket is read.
@@ -121,13 +121,13 @@ fn open(
     opened: &mut Stack<Opening>,
     bracket: Bracket,
     line: Line,
-) -> Result<Mode, LexErr>
+) -> Result<Mode, Failure<LexErr>>
     ensures { MatchResult result
         (λ m. opened_by mode opened.old bracket line ≡ Ok (nest m opened.new))
-        (λ e. Caused e (opened_by mode opened.old bracket line ≡ Err e)) }
+        (IfRefused (λ e. opened_by mode opened.old bracket line ≡ Err e)) }
 {
     if opened.len() >= MAX_OPENED {
-        return Err(LexErr::Limit { line });
+        return Err(Failure::Refused(LexErr::Limit { line }));
     }
     opened.push(Opening {
         bracket,
@@ -143,13 +143,13 @@ fn turn_by_sign(
     opened: &mut Stack<Opening>,
     sign: &Text,
     line: Line,
-) -> Result<Mode, LexErr>
+) -> Result<Mode, Failure<LexErr>>
     ensures { MatchResult result
         (λ m. turned_by_sign mode opened.old sign.now line ≡ Ok (nest m opened.new))
-        (λ e. Caused e (turned_by_sign mode opened.old sign.now line ≡ Err e)) }
+        (IfRefused (λ e. turned_by_sign mode opened.old sign.now line ≡ Err e)) }
 {
     if excludes(sign) {
-        return Err(LexErr::Excluded { line });
+        return Err(Failure::Refused(LexErr::Excluded { line }));
     }
     if let Some(bracket) = opening(sign) {
         return open(mode, opened, bracket, line);
@@ -166,10 +166,10 @@ fn turn_in_words(
     opened: &mut Stack<Opening>,
     word: &Lexeme,
     line: Line,
-) -> Result<Mode, LexErr>
+) -> Result<Mode, Failure<LexErr>>
     ensures { MatchResult result
         (λ m. turned_in_words mode opened.old word.now line ≡ Ok (nest m opened.new))
-        (λ e. Caused e (turned_in_words mode opened.old word.now line ≡ Err e)) }
+        (IfRefused (λ e. turned_in_words mode opened.old word.now line ≡ Err e)) }
 {
     match word {
         Lexeme::Start(string) => Ok(Mode::Text(*string)),
@@ -204,10 +204,10 @@ fn turn_in_field(
     opened: &mut Stack<Opening>,
     word: &Lexeme,
     line: Line,
-) -> Result<Mode, LexErr>
+) -> Result<Mode, Failure<LexErr>>
     ensures { MatchResult result
         (λ m. turned_in_field field opened.old word.now line ≡ Ok (nest m opened.new))
-        (λ e. Caused e (turned_in_field field opened.old word.now line ≡ Err e)) }
+        (IfRefused (λ e. turned_in_field field opened.old word.now line ≡ Err e)) }
 {
     if is_sign(word, ":") {
         return Ok(Mode::Spec(field));
@@ -221,10 +221,10 @@ fn turn_in_text(
     opened: &mut Stack<Opening>,
     word: &Lexeme,
     line: Line,
-) -> Result<Mode, LexErr>
+) -> Result<Mode, Failure<LexErr>>
     ensures { MatchResult result
         (λ m. turned_in_text string opened.old word.now line ≡ Ok (nest m opened.new))
-        (λ e. Caused e (turned_in_text string opened.old word.now line ≡ Err e)) }
+        (IfRefused (λ e. turned_in_text string opened.old word.now line ≡ Err e)) }
 {
     if ends_string(word) {
         return Ok(mode_in(opened)?);
@@ -235,30 +235,44 @@ fn turn_in_text(
     Ok(Mode::Text(string))
 }
 
-/// Ends a string in a format spec, and leaves the brace of the field open as a bracket like others.
-fn leave_open(opened: &mut Stack<Opening>) -> Result<Mode, Memory>
-    ensures { IfOk result (λ m. left_open opened.old ≡ nest m opened.new) }
+/// Whether the mode is that of a format spec.
+fn is_spec(mode: Mode) -> bool
+    ensures { result ≡ is_spec_mode mode }
+{
+    matches!(mode, Mode::Spec(_))
+}
+
+/// Ends a string in a format spec: the brace of the field stays open as a bracket like others, and
+/// so does the brace of the field in whose spec it stands.
+fn leave_open(opened: &mut Stack<Opening>) -> Result<(), Memory>
+    ensures { OnOk result (opened.new ≡ as_brackets opened.old) }
 {
     let Some(last) = opened.pop() else {
-        return Ok(Mode::Words);
+        return Ok(());
     };
+    if is_spec(last.mode) {
+        leave_open(opened)?;
+    }
     let mode = mode_in(opened)?;
     opened.push(Opening {
         bracket: last.bracket,
         line: last.line,
         mode,
-    })?;
-    Ok(Mode::Words)
+    })
 }
 
 /// A field in a format spec.
-fn field_in_spec(field: Field, opened: &mut Stack<Opening>, line: Line) -> Result<Mode, LexErr>
+fn field_in_spec(
+    field: Field,
+    opened: &mut Stack<Opening>,
+    line: Line,
+) -> Result<Mode, Failure<LexErr>>
     ensures { MatchResult result
         (λ m. spec_field field opened.old line ≡ Ok (nest m opened.new))
-        (λ e. Caused e (spec_field field opened.old line ≡ Err e)) }
+        (IfRefused (λ e. spec_field field opened.old line ≡ Err e)) }
 {
     if field.is_nested {
-        return Err(LexErr::Excluded { line });
+        return Err(Failure::Refused(LexErr::Excluded { line }));
     }
     open(Mode::Spec(field), opened, Bracket::Curly, line)
 }
@@ -269,13 +283,14 @@ fn turn_in_spec(
     opened: &mut Stack<Opening>,
     word: &Lexeme,
     line: Line,
-) -> Result<Mode, LexErr>
+) -> Result<Mode, Failure<LexErr>>
     ensures { MatchResult result
         (λ m. turned_in_spec field opened.old word.now line ≡ Ok (nest m opened.new))
-        (λ e. Caused e (turned_in_spec field opened.old word.now line ≡ Err e)) }
+        (IfRefused (λ e. turned_in_spec field opened.old word.now line ≡ Err e)) }
 {
     if ends_string(word) {
-        return Ok(leave_open(opened)?);
+        leave_open(opened)?;
+        return Ok(Mode::Words);
     }
     if is_sign(word, "{") {
         return field_in_spec(field, opened, line);
@@ -292,10 +307,10 @@ pub(crate) fn turn(
     opened: &mut Stack<Opening>,
     word: &Lexeme,
     line: Line,
-) -> Result<Mode, LexErr>
+) -> Result<Mode, Failure<LexErr>>
     ensures { MatchResult result
         (λ m. turned (nest mode opened.old) word.now line ≡ Ok (nest m opened.new))
-        (λ e. Caused e (turned (nest mode opened.old) word.now line ≡ Err e)) }
+        (IfRefused (λ e. turned (nest mode opened.old) word.now line ≡ Err e)) }
 {
     match mode {
         Mode::Words => turn_in_words(Mode::Words, opened, word, line),

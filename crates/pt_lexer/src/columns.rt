@@ -1,11 +1,11 @@
 ghost use Rattle.std.specs.Prelude.{◌≡◌, ℕ, ◌<◌, ◌≤◌, ◌^◌, [], ◌∷◌, length, MatchResult};
 ghost use Rattle.pt_lexer.specs.Lines.{behind_blank, column_of as column_at};
 ghost use Rattle.pt_lexer.specs.Columns.{AreRising, Indented};
-ghost use Rattle.pt_literals.specs.Refusals.{Caused};
+ghost use Rattle.pt_base.specs.Failures.{IfRefused};
 ghost use Rattle.pt_lexer.specs.Faults.{IsMisplaced, margin};
 
 use crate::{Column, LexErr, Spot, Token, TokenKind};
-use pt_base::{Seq, Stack};
+use pt_base::{Failure, Seq, Stack};
 use pt_literals::is_blank_char;
 use std::alloc::Global;
 
@@ -63,16 +63,21 @@ impl Columns {
     }
 
     /// Opens a block of this column.
-    fn open(&mut self, column: Column, spot: Spot, tokens: &mut Seq<Token>) -> Result<(), LexErr>
+    fn open(
+        &mut self,
+        column: Column,
+        spot: Spot,
+        tokens: &mut Seq<Token>,
+    ) -> Result<(), Failure<LexErr>>
         requires deeper { self.old.inner.wide < column.wide }
         requires rising { AreRising (self.old.inner ∷ self.old.outer) }
         ensures { MatchResult result
             (λ _. Indented (self.old.inner ∷ self.old.outer) (self.new.inner ∷ self.new.outer) column spot.at spot.line tokens.old tokens.new)
-            (λ e. Caused e (IsMisplaced (self.old.inner ∷ self.old.outer) column spot.line e)) }
+            (IfRefused (IsMisplaced (self.old.inner ∷ self.old.outer) column spot.line)) }
     {
         let line = spot.line;
         if column.narrow <= self.inner.narrow {
-            return Err(LexErr::MixedTabs { line });
+            return Err(Failure::Refused(LexErr::MixedTabs { line }));
         }
         self.outer.push(self.inner)?;
         self.inner = column;
@@ -85,17 +90,22 @@ impl Columns {
     }
 
     /// Closes the blocks that stand further in than this column.
-    fn close(&mut self, column: Column, spot: Spot, tokens: &mut Seq<Token>) -> Result<(), LexErr>
+    fn close(
+        &mut self,
+        column: Column,
+        spot: Spot,
+        tokens: &mut Seq<Token>,
+    ) -> Result<(), Failure<LexErr>>
         requires level { column.wide ≤ self.old.inner.wide }
         requires rising { AreRising (self.old.inner ∷ self.old.outer) }
         ensures { MatchResult result
             (λ _. Indented (self.old.inner ∷ self.old.outer) (self.new.inner ∷ self.new.outer) column spot.at spot.line tokens.old tokens.new)
-            (λ e. Caused e (IsMisplaced (self.old.inner ∷ self.old.outer) column spot.line e)) }
+            (IfRefused (IsMisplaced (self.old.inner ∷ self.old.outer) column spot.line)) }
     {
         let line = spot.line;
         while column.wide < self.inner.wide {
             let Some(outer) = self.outer.pop() else {
-                return Err(LexErr::BadIndent { line });
+                return Err(Failure::Refused(LexErr::BadIndent { line }));
             };
             self.inner = outer;
             tokens.push(Token {
@@ -105,10 +115,10 @@ impl Columns {
             })?;
         }
         if column.wide != self.inner.wide {
-            return Err(LexErr::BadIndent { line });
+            return Err(Failure::Refused(LexErr::BadIndent { line }));
         }
         if column.narrow != self.inner.narrow {
-            return Err(LexErr::MixedTabs { line });
+            return Err(Failure::Refused(LexErr::MixedTabs { line }));
         }
         Ok(())
     }
@@ -119,11 +129,11 @@ impl Columns {
         column: Column,
         spot: Spot,
         tokens: &mut Seq<Token>,
-    ) -> Result<(), LexErr>
+    ) -> Result<(), Failure<LexErr>>
         requires { AreRising (self.old.inner ∷ self.old.outer) }
         ensures { MatchResult result
             (λ _. Indented (self.old.inner ∷ self.old.outer) (self.new.inner ∷ self.new.outer) column spot.at spot.line tokens.old tokens.new)
-            (λ e. Caused e (IsMisplaced (self.old.inner ∷ self.old.outer) column spot.line e)) }
+            (IfRefused (IsMisplaced (self.old.inner ∷ self.old.outer) column spot.line)) }
     {
         if self.inner.wide < column.wide {
             return self.open(column, spot, tokens);

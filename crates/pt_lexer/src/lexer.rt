@@ -1,15 +1,15 @@
 ghost use Rattle.std.specs.Prelude.{◌≡◌, true, false, ℕ, ◌<◌, ◌≤◌, ◌^◌, [], ◌∷◌, ◌++◌, List, length, MatchResult, MatchOption, OnOk, IfOk, ◌⊎◌};
 ghost use Rattle.pt_literals.specs.declared.token.LexErr.{LexErr as Refusal};
-ghost use Rattle.pt_literals.specs.declared.token.LexErr.TheVariants as fault;
+ghost use Rattle.pt_base.specs.declared.failure.Failure.TheVariants as failure;
 ghost use Rattle.pt_literals.specs.declared.token.Token.{Token as Lexed};
 ghost use Rattle.pt_lexer.specs.Lines.{at_of, line_of, token, nest, outside, has_words, kind_of as kind_of_word, Gap, NoPiece, NoLineStop, Stops, closing};
 ghost use Rattle.pt_literals.specs.declared.modes.Mode.TheVariants as mode;
 ghost use Rattle.pt_literals.specs.Literals.{literal as literal_in, no_literal};
 ghost use Rattle.pt_lexer.specs.Words.{NoWord};
 ghost use Rattle.pt_lexer.specs.Columns.{AreRising};
-ghost use Rattle.pt_literals.specs.Refusals.{Caused};
+ghost use Rattle.pt_base.specs.Failures.{IfRefused};
 ghost use Rattle.pt_lexer.specs.Faults.{or_line, left_open_by as open_by, line_of_part as part_line, broken_off as breaks_off, string_line, Fails, Refused, IsTokens, IsRefused};
-ghost use Rattle.pt_lexer.specs.Shape.{IsWellFormed, PlacesRise};
+ghost use Rattle.pt_lexer.specs.Shape.{IsWellFormed, PlacesRise, StringsEnd};
 ghost use Rattle.pt_lexer.specs.Progress.{DepthOrWord, FailsWith, WordsRead, Begins, FirstFault, ReadsLine, Rises, TextRead};
 
 use crate::brackets::{outermost, turn};
@@ -17,7 +17,7 @@ use crate::columns::{Columns, column_of};
 use crate::gaps::{behind_gap, behind_stop};
 use crate::words::{plain_word, word};
 use crate::{Begun, LexErr, Lexeme, Mode, Opening, Part, Reading, Spot, TextEnd, Token, TokenKind};
-use pt_base::{Line, Memory, Seq, Stack};
+use pt_base::{Failure, Line, Memory, Seq, Stack};
 use pt_literals::{behind_byte_order_mark, first_spot, literal, read};
 use std::alloc::Global;
 
@@ -148,38 +148,38 @@ fn begin<'a>(alloc: Global, end: TextEnd, text: &'a [Spot]) -> &'a [Spot]
 
 /// What is wrong with a line whose first word opens one block too many: the word itself, or else
 /// the depth of the line.
-fn too_deep_at(alloc: Global, word: &Lexeme, spot: Spot) -> LexErr
+fn too_deep_at(alloc: Global, word: &Lexeme, spot: Spot) -> Failure<LexErr>
     ensures { DepthOrWord word.now spot result }
 {
     let mut opened = Stack::new(alloc);
     match turn(Mode::Words, &mut opened, word, spot.line) {
         Err(error) => error,
-        Ok(_) => LexErr::Limit { line: spot.line },
+        Ok(_) => Failure::Refused(LexErr::Limit { line: spot.line }),
     }
 }
 
 /// The same where the line begins with no number and no string.
-fn too_deep_plain(alloc: Global, end: TextEnd, first: &[Spot], spot: Spot) -> LexErr
+fn too_deep_plain(alloc: Global, end: TextEnd, first: &[Spot], spot: Spot) -> Failure<LexErr>
     requires begins { Begins end first.now first.now spot }
     requires lacks { literal_in mode.Words first.now ≡ no_literal }
-    ensures { Caused result (FirstFault end first.now spot result) }
+    ensures { IfRefused (FirstFault end first.now spot) result }
 {
     match plain_word(alloc, first) {
-        Err(_) => LexErr::Memory,
-        Ok(None) => LexErr::BadChar { at: spot.at },
+        Err(_) => Failure::Memory,
+        Ok(None) => Failure::Refused(LexErr::BadChar { at: spot.at }),
         Ok(Some((word, _))) => too_deep_at(alloc, &Lexeme::Word(word), spot),
     }
 }
 
 /// What is wrong with a line that opens one block too many: its first word may be at fault too, if
 /// that is found at its first character.
-fn too_deep(alloc: Global, end: TextEnd, first: &[Spot], spot: Spot) -> LexErr
+fn too_deep(alloc: Global, end: TextEnd, first: &[Spot], spot: Spot) -> Failure<LexErr>
     requires begins { Begins end first.now first.now spot }
-    ensures { Caused result (FirstFault end first.now spot result) }
+    ensures { IfRefused (FirstFault end first.now spot) result }
 {
     match literal(alloc, Mode::Words, first) {
         Err(error) => error,
-        Ok(Begun::Holds(..)) => LexErr::Limit { line: spot.line },
+        Ok(Begun::Holds(..)) => Failure::Refused(LexErr::Limit { line: spot.line }),
         Ok(Begun::Known(word, _)) => too_deep_at(alloc, &word, spot),
         Ok(Begun::Nothing) => too_deep_plain(alloc, end, first, spot),
     }
@@ -200,7 +200,7 @@ struct Lexer {
 impl Lexer {
     /// Reads the words of a logical line. What is answered is where it stops, and what stands
     /// behind it.
-    fn words<'a>(&mut self, text: &'a [Spot]) -> Result<(&'a [Spot], &'a [Spot]), LexErr>
+    fn words<'a>(&mut self, text: &'a [Spot]) -> Result<(&'a [Spot], &'a [Spot]), Failure<LexErr>>
         ensures read { MatchResult result
             (λ r. WordsRead self.old.end text.now self.old.tokens self.new.tokens r.0.now r.1.now)
             (FailsWith self.old.end outside text.now) }
@@ -222,8 +222,12 @@ impl Lexer {
                     self.tokens.push(token_at(end, here, kind_of(found)))?;
                     rest = behind;
                 }
-                Reading::Broken(part) => return Err(broken_off(end, mode, opened, part)),
-                Reading::NoneFound => return Err(fault_at(end, mode, opened, here)),
+                Reading::Broken(part) => {
+                    return Err(Failure::Refused(broken_off(end, mode, opened, part)));
+                }
+                Reading::NoneFound => {
+                    return Err(Failure::Refused(fault_at(end, mode, opened, here)));
+                }
             }
         }
     }
@@ -234,14 +238,14 @@ impl Lexer {
         text: &'a [Spot],
         first: &'a [Spot],
         spot: Spot,
-    ) -> Result<&'a [Spot], LexErr>
+    ) -> Result<&'a [Spot], Failure<LexErr>>
         requires begins { Begins self.old.end text.now first.now spot }
         requires rising { AreRising (self.old.columns.inner ∷ self.old.columns.outer) }
         requires short { length text.now < 2 ^ 32 }
         ensures read { MatchResult result
             (λ rest. ReadsLine self.old.end (self.old.columns.inner ∷ self.old.columns.outer) (self.new.columns.inner ∷ self.new.columns.outer)
             text.now rest.now self.old.tokens self.new.tokens)
-            (λ e. Caused e (Refused self.old.end (self.old.columns.inner ∷ self.old.columns.outer) text.now e)) }
+            (IfRefused (Refused self.old.end (self.old.columns.inner ∷ self.old.columns.outer) text.now)) }
         ensures end { self.new.end ≡ self.old.end }
     {
         let end = self.end;
@@ -255,14 +259,14 @@ impl Lexer {
     }
 
     /// Reads a logical line (Language Reference 2.1.1). What is answered stands behind it.
-    fn line<'a>(&mut self, text: &'a [Spot]) -> Result<&'a [Spot], LexErr>
+    fn line<'a>(&mut self, text: &'a [Spot]) -> Result<&'a [Spot], Failure<LexErr>>
         requires rises { Rises self.old.end text.now }
         requires rising { AreRising (self.old.columns.inner ∷ self.old.columns.outer) }
         requires short { length text.now < 2 ^ 32 }
         ensures read { MatchResult result
             (λ rest. ReadsLine self.old.end (self.old.columns.inner ∷ self.old.columns.outer) (self.new.columns.inner ∷ self.new.columns.outer)
             text.now rest.now self.old.tokens self.new.tokens)
-            (λ e. Caused e (Refused self.old.end (self.old.columns.inner ∷ self.old.columns.outer) text.now e)) }
+            (IfRefused (Refused self.old.end (self.old.columns.inner ∷ self.old.columns.outer) text.now)) }
         ensures end { self.new.end ≡ self.old.end }
     {
         let end = self.end;
@@ -271,7 +275,7 @@ impl Lexer {
             return Ok(rest);
         }
         let Some((spot, _)) = first_spot(first) else {
-            return Err(LexErr::NotUtf8 { at: end.at });
+            return Err(Failure::Refused(LexErr::NotUtf8 { at: end.at }));
         };
         self.full_line(text, first, spot)
     }
@@ -294,13 +298,13 @@ impl Lexer {
     }
 
     /// Reads the lines of a text.
-    fn lines(&mut self, text: &[Spot]) -> Result<(), LexErr>
+    fn lines(&mut self, text: &[Spot]) -> Result<(), Failure<LexErr>>
         requires rises { Rises self.old.end text.now }
         requires rising { AreRising (self.old.columns.inner ∷ self.old.columns.outer) }
         requires short { length text.now < 2 ^ 32 }
         ensures { MatchResult result
             (λ _. TextRead self.old.end (self.old.columns.inner ∷ self.old.columns.outer) text.now self.old.tokens self.new.tokens)
-            (λ e. Caused e (Refused self.old.end (self.old.columns.inner ∷ self.old.columns.outer) text.now e)) }
+            (IfRefused (Refused self.old.end (self.old.columns.inner ∷ self.old.columns.outer) text.now)) }
     {
         let end = self.end;
         let mut rest = text;
@@ -308,7 +312,7 @@ impl Lexer {
             rest = self.line(rest)?;
         }
         if !end.is_whole {
-            return Err(LexErr::NotUtf8 { at: end.at });
+            return Err(Failure::Refused(LexErr::NotUtf8 { at: end.at }));
         }
         self.close()?;
         Ok(())
@@ -316,9 +320,9 @@ impl Lexer {
 }
 
 /// Reads a whole text.
-fn lex(alloc: Global, bytes: &[u8]) -> Result<Seq<Token>, LexErr>
+fn lex(alloc: Global, bytes: &[u8]) -> Result<Seq<Token>, Failure<LexErr>>
     requires { length bytes.now < 2 ^ 31 }
-    ensures { MatchResult result (IsTokens bytes.now) (λ e. Caused e (IsRefused bytes.now e)) }
+    ensures { MatchResult result (IsTokens bytes.now) (IfRefused (IsRefused bytes.now)) }
 {
     let source = read(alloc, bytes)?;
     let mut lexer = Lexer {
@@ -334,17 +338,18 @@ fn lex(alloc: Global, bytes: &[u8]) -> Result<Seq<Token>, LexErr>
 /// The tokens of a script's text (Language Reference 2).
 ///
 /// The refusal is the fault that is found first, and of two at one place the one with the smaller
-/// number. An answer that is not `Memory` depends on the text alone.
-pub fn tokens(alloc: Global, bytes: &[u8]) -> Result<Seq<Token>, LexErr>
+/// number. An answer other than want of memory depends on the text alone.
+pub fn tokens(alloc: Global, bytes: &[u8]) -> Result<Seq<Token>, Failure<LexErr>>
     requires { length bytes.now < 2 ^ 31 }
-    ensures exact { MatchResult result (IsTokens bytes.now) (λ e. Caused e (IsRefused bytes.now e)) }
+    ensures exact { MatchResult result (IsTokens bytes.now) (IfRefused (IsRefused bytes.now)) }
 
-    // INDENTs and DEDENTs balance, each line ends with NEWLINE, END is last, and places rise.
-    ensures shape { IfOk result (λ all. IsWellFormed all 0 false × PlacesRise 0 all) }
+    // INDENTs and DEDENTs balance, each line ends with NEWLINE, END is last, each FSTART has one FEND,
+    // and places rise.
+    ensures shape { IfOk result (λ all. IsWellFormed all 0 false × StringsEnd all 0 × PlacesRise 0 all) }
 
     // A text has at most one list of tokens, none where it is refused, and one refusal.
-    ensures one_list { (all : List Lexed) → IsTokens bytes.now all → MatchResult result (λ found. found ≡ all) (λ e. e ≡ fault.Memory) }
-    ensures one_refusal { (f : Refusal) → IsRefused bytes.now f → MatchResult result (λ _. ⊥) (λ e. (e ≡ f) ⊎ (e ≡ fault.Memory)) }
+    ensures one_list { (all : List Lexed) → IsTokens bytes.now all → MatchResult result (λ found. found ≡ all) (λ e. e ≡ failure.Memory) }
+    ensures one_refusal { (f : Refusal) → IsRefused bytes.now f → MatchResult result (λ _. ⊥) (IfRefused (λ e. e ≡ f)) }
 {
     lex(alloc, bytes)
 }

@@ -8,8 +8,6 @@ mod gaps;
 mod laws;
 mod lexer;
 mod parts;
-#[cfg(test)]
-mod tests;
 mod token;
 mod words;
 

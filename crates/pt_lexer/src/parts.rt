@@ -1,10 +1,10 @@
 ghost use Rattle.std.specs.Prelude.{MatchOption, MatchResult};
 ghost use Rattle.pt_literals.specs.declared.source.TextEnd.{TextEnd as End};
-ghost use Rattle.pt_literals.specs.Refusals.{Caused};
+ghost use Rattle.pt_base.specs.Failures.{IfRefused};
 ghost use Rattle.pt_lexer.specs.Progress.{EndsInside, IsSpoilt, StringRead};
 
 use crate::{LexErr, Part, Spot};
-use pt_base::Text;
+use pt_base::{Failure, Text};
 use pt_literals::{behind_end, first_spot, piece, push};
 use std::alloc::Global;
 
@@ -14,10 +14,10 @@ pub(crate) fn string<'a>(
     alloc: Global,
     part: Part,
     text: &'a [Spot],
-) -> Result<Option<(Text, &'a [Spot])>, LexErr>
+) -> Result<Option<(Text, &'a [Spot])>, Failure<LexErr>>
     ensures { (end : End) → MatchResult result
         (λ found. MatchOption found (EndsInside end part text.now) (λ r. StringRead part text.now r.0 r.1.now))
-        (λ e. Caused e (IsSpoilt end part text.now e)) }
+        (IfRefused (IsSpoilt end part text.now)) }
 {
     let mut value = String::new(alloc);
     let mut rest = text;

@@ -1,6 +1,6 @@
 ghost use Rattle.std.specs.Prelude.{◌≡◌, ℕ, ◌+◌, ◌<◌, ◌≤◌, ◌↔◌, ◌&&◌, [], ◌∷◌, List, length, map, take, drop, true, false, nat_le, encode_utf8_all, string_bytes, IsTrue, IfOk, MatchOption, MatchResult};
 ghost use Rattle.pt_literals.specs.declared.source.TextEnd.{TextEnd as End};
-ghost use Rattle.pt_literals.specs.Refusals.{Caused};
+ghost use Rattle.pt_base.specs.Failures.{IfRefused};
 ghost use Rattle.pt_lexer.specs.Progress.{IsReading, BeginsSpoilt};
 ghost use Rattle.std.specs.List.{prefix_len};
 ghost use Rattle.pt_literals.specs.Source.{chars_of};
@@ -9,7 +9,7 @@ ghost use Rattle.pt_lexer.specs.Words.{is_listed, is_operator, is_keyword as key
 
 use crate::parts::string;
 use crate::{Begun, LexErr, Lexeme, Mode, OPERATORS, Part, Reading, Spot, TokenKind};
-use pt_base::{Memory, Text};
+use pt_base::{Failure, Memory, Text};
 use pt_literals::{begins_name, first_spot, goes_on_name_char, literal};
 use pt_tables::keywords;
 use std::alloc::Global;
@@ -215,8 +215,8 @@ fn part_word(part: Part, value: Text) -> TokenKind
 
 /// The word at the front of a text that is read in a mode, and the text behind it (Language
 /// Reference 2.1).
-pub(crate) fn word(alloc: Global, mode: Mode, text: &[Spot]) -> Result<Reading<'_>, LexErr>
-    ensures { (end : End) → MatchResult result (IsReading end mode text.now) (λ e. Caused e (BeginsSpoilt end mode text.now e)) }
+pub(crate) fn word(alloc: Global, mode: Mode, text: &[Spot]) -> Result<Reading<'_>, Failure<LexErr>>
+    ensures { (end : End) → MatchResult result (IsReading end mode text.now) (IfRefused (BeginsSpoilt end mode text.now)) }
 {
     match literal(alloc, mode, text)? {
         Begun::Known(found, rest) => Ok(Reading::Found(found, rest)),

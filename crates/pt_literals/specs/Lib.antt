@@ -1,5 +1,4 @@
 pub mod Literals
 pub mod Numbers
-pub mod Refusals
 pub mod Source
 pub mod Strings

@@ -17,7 +17,7 @@ use Rattle.pt_literals.specs.declared.token.Begun.{Begun}
 use Rattle.pt_literals.specs.declared.token.Begun.TheVariants.{Nothing, Known, Holds}
 use Rattle.pt_literals.specs.declared.token.LexErr.{LexErr}
 use Rattle.pt_literals.specs.declared.token.LexErr.TheVariants as fault
-use Rattle.pt_literals.specs.Source.{is_blank, continues_name}
+use Rattle.pt_literals.specs.Source.{is_blank, ends_line, continues_name}
 use Rattle.pt_literals.specs.Numbers.{are_digits, value_from, radix_of, behind_prefix, digits_len, makes_float, is_fraction}
 
 -- What begins at the front, apart from names, keywords and operators: something that is refused at once; a word that is
@@ -145,20 +145,33 @@ abbrev pub string_at : List Spot → Literal
 string_at [] = no_literal
 string_at (s ∷ ss) = if is_quote s.char then delimited false false s.line s.char ss else string_behind_one s ss
 
--- a name that is `a` alone, maybe behind blanks
 abbrev pub goes_on_name : List Spot → Bool
 goes_on_name [] = false
 goes_on_name (s ∷ ss) = continues_name s.char
 
+abbrev pub begins_line_end : List Spot → Bool
+begins_line_end [] = false
+begins_line_end (s ∷ ss) = ends_line s.char
+
+-- A name that is `a` alone, maybe behind what may stand between words in brackets: blanks, line ends, comments, and joins by a backslash
+-- (Language Reference 2.1.3 to 2.1.6, 2.1.9).
+abbrev pub is_a_behind_gap : (in_comment : Bool) → List Spot → Bool
+is_a_behind_gap b [] = false
+is_a_behind_gap true (s ∷ ss) = is_a_behind_gap (not (ends_line s.char)) ss
+is_a_behind_gap false (s ∷ ss) =
+    if is_blank s.char || ends_line s.char then is_a_behind_gap false ss
+    else if s.char == 35 then is_a_behind_gap true ss
+    else if s.char == 92 then begins_line_end ss && is_a_behind_gap false ss
+    else (s.char == 97) && not (goes_on_name ss)
+
 abbrev pub is_name_a : List Spot → Bool
-is_name_a [] = false
-is_name_a (s ∷ ss) = if is_blank s.char then is_name_a ss else (s.char == 97) && not (goes_on_name ss)
+is_name_a ss = is_a_behind_gap false ss
 
 abbrev pub begins_by : ℕ → List Spot → Bool
 begins_by c [] = false
 begins_by c (s ∷ ss) = s.char == c
 
--- the sign of a conversion; `!a` is left out
+-- the sign of a conversion; `!a` is left out, however it is laid out
 abbrev pub conversion : Spot → List Spot → Literal
 conversion s ss = if is_name_a ss then faulty (fault.Excluded s.line) else known (sign (codes "!")) ss
 

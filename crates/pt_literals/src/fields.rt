@@ -1,13 +1,13 @@
 ghost use Rattle.std.specs.Prelude.{◌≡◌, IfOk, MatchResult};
-ghost use Rattle.pt_literals.specs.Literals.{IsBegun, faulty, known, or_else, goes_on_name as name_goes_on, is_name_a as names_a, begins_by as begins_with, conversion as conversion_of, field_sign as field_sign_of, field_sign_at as field_sign_begun, is_brace as brace_char, is_single as single_brace, brace_in_text as text_brace, brace_in_spec as spec_brace, text_at as text_begun, spec_at as spec_begun, number_at as number_begun, string_at as string_begun, literal as literal_in, sign as sign_of};
-ghost use Rattle.pt_literals.specs.Refusals.{Caused};
+ghost use Rattle.pt_base.specs.Failures.{IfRefused};
+ghost use Rattle.pt_literals.specs.Literals.{IsBegun, faulty, known, or_else, goes_on_name as name_goes_on, begins_line_end as line_end_begins, is_name_a as names_a, begins_by as begins_with, conversion as conversion_of, field_sign as field_sign_of, field_sign_at as field_sign_begun, is_brace as brace_char, is_single as single_brace, brace_in_text as text_brace, brace_in_spec as spec_brace, text_at as text_begun, spec_at as spec_begun, number_at as number_begun, string_at as string_begun, literal as literal_in, sign as sign_of};
 
 use crate::literals::string_at;
 use crate::numbers::number_at;
-use crate::source::{first_spot, goes_on_name_char, is_blank_char};
+use crate::source::{ends_line_char, first_spot, goes_on_name_char, is_blank_char};
 use crate::strings::behind_closing;
 use crate::{Begun, Delimiter, LexErr, Lexeme, Mode, Part, Spot, TokenKind};
-use pt_base::{Memory, Text};
+use pt_base::{Failure, Memory, Text};
 use std::alloc::Global;
 
 /// Whether a name goes on here.
@@ -20,13 +20,32 @@ fn goes_on_name(text: &[Spot]) -> bool
     }
 }
 
-/// Whether the name `a` stands here, maybe behind blanks.
+/// Whether a line ends here.
+fn begins_line_end(text: &[Spot]) -> bool
+    ensures { result ≡ line_end_begins text.now }
+{
+    match first_spot(text) {
+        Some((spot, _)) => ends_line_char(spot.char),
+        None => false,
+    }
+}
+
+/// Whether the name `a` stands here, maybe behind what may stand between words in brackets.
 fn is_name_a(text: &[Spot]) -> bool
     ensures { result ≡ names_a text.now }
 {
+    let mut in_comment = false;
     let mut rest = text;
     while let Some((spot, behind)) = first_spot(rest) {
-        if !is_blank_char(spot.char) {
+        if in_comment {
+            in_comment = !ends_line_char(spot.char);
+        } else if spot.char == '#' {
+            in_comment = true;
+        } else if spot.char == '\\' {
+            if !begins_line_end(behind) {
+                return false;
+            }
+        } else if !is_blank_char(spot.char) && !ends_line_char(spot.char) {
             return spot.char == 'a' && !goes_on_name(behind);
         }
         rest = behind;
@@ -51,18 +70,18 @@ fn sign<'a>(alloc: Global, spelling: &str, rest: &'a [Spot]) -> Result<Begun<'a>
 }
 
 /// The sign of a conversion.
-fn conversion(alloc: Global, spot: Spot, rest: &[Spot]) -> Result<Begun<'_>, LexErr>
-    ensures { MatchResult result (λ b. IsBegun b (conversion_of spot rest.now)) (λ e. Caused e (conversion_of spot rest.now ≡ faulty e)) }
+fn conversion(alloc: Global, spot: Spot, rest: &[Spot]) -> Result<Begun<'_>, Failure<LexErr>>
+    ensures { MatchResult result (λ b. IsBegun b (conversion_of spot rest.now)) (IfRefused (λ e. conversion_of spot rest.now ≡ faulty e)) }
 {
     if is_name_a(rest) {
-        return Err(LexErr::Excluded { line: spot.line });
+        return Err(Failure::Refused(LexErr::Excluded { line: spot.line }));
     }
     Ok(sign(alloc, "!", rest)?)
 }
 
 /// A sign that stands for itself in a field (Language Reference 2.4.3).
-fn field_sign(alloc: Global, spot: Spot, rest: &[Spot]) -> Result<Begun<'_>, LexErr>
-    ensures { MatchResult result (λ b. IsBegun b (field_sign_of spot rest.now)) (λ e. Caused e (field_sign_of spot rest.now ≡ faulty e)) }
+fn field_sign(alloc: Global, spot: Spot, rest: &[Spot]) -> Result<Begun<'_>, Failure<LexErr>>
+    ensures { MatchResult result (λ b. IsBegun b (field_sign_of spot rest.now)) (IfRefused (λ e. field_sign_of spot rest.now ≡ faulty e)) }
 {
     if spot.char == ':' {
         return Ok(sign(alloc, ":", rest)?);
@@ -71,13 +90,13 @@ fn field_sign(alloc: Global, spot: Spot, rest: &[Spot]) -> Result<Begun<'_>, Lex
         return conversion(alloc, spot, rest);
     }
     if spot.char == '=' && !begins_by('=', rest) {
-        return Err(LexErr::Excluded { line: spot.line });
+        return Err(Failure::Refused(LexErr::Excluded { line: spot.line }));
     }
     Ok(Begun::Nothing)
 }
 
-fn field_sign_at(alloc: Global, text: &[Spot]) -> Result<Begun<'_>, LexErr>
-    ensures { MatchResult result (λ b. IsBegun b (field_sign_begun text.now)) (λ e. Caused e (field_sign_begun text.now ≡ faulty e)) }
+fn field_sign_at(alloc: Global, text: &[Spot]) -> Result<Begun<'_>, Failure<LexErr>>
+    ensures { MatchResult result (λ b. IsBegun b (field_sign_begun text.now)) (IfRefused (λ e. field_sign_begun text.now ≡ faulty e)) }
 {
     match first_spot(text) {
         Some((spot, rest)) => field_sign(alloc, spot, rest),
@@ -98,13 +117,13 @@ pub(crate) fn is_single(spot: Spot, rest: &[Spot]) -> bool
     is_brace(spot.char) && !begins_by(spot.char, rest)
 }
 
-fn brace_in_text(alloc: Global, spot: Spot, rest: &[Spot]) -> Result<Begun<'_>, LexErr>
-    ensures { MatchResult result (λ b. IsBegun b (text_brace spot rest.now)) (λ e. Caused e (text_brace spot rest.now ≡ faulty e)) }
+fn brace_in_text(alloc: Global, spot: Spot, rest: &[Spot]) -> Result<Begun<'_>, Failure<LexErr>>
+    ensures { MatchResult result (λ b. IsBegun b (text_brace spot rest.now)) (IfRefused (λ e. text_brace spot rest.now ≡ faulty e)) }
 {
     if spot.char == '{' {
         return Ok(sign(alloc, "{", rest)?);
     }
-    Err(LexErr::OpenBracket { line: spot.line })
+    Err(Failure::Refused(LexErr::OpenBracket { line: spot.line }))
 }
 
 fn brace_in_spec(alloc: Global, spot: Spot, rest: &[Spot]) -> Result<Begun<'_>, Memory>
@@ -117,8 +136,8 @@ fn brace_in_spec(alloc: Global, spot: Spot, rest: &[Spot]) -> Result<Begun<'_>, 
 }
 
 /// What begins in the literal text of an f-string.
-fn text_at(alloc: Global, string: Delimiter, text: &[Spot]) -> Result<Begun<'_>, LexErr>
-    ensures { MatchResult result (λ b. IsBegun b (text_begun string text.now)) (λ e. Caused e (text_begun string text.now ≡ faulty e)) }
+fn text_at(alloc: Global, string: Delimiter, text: &[Spot]) -> Result<Begun<'_>, Failure<LexErr>>
+    ensures { MatchResult result (λ b. IsBegun b (text_begun string text.now)) (IfRefused (λ e. text_begun string text.now ≡ faulty e)) }
 {
     let Some((spot, rest)) = first_spot(text) else {
         return Ok(Begun::Holds(Part::Text(string), text));
@@ -161,13 +180,13 @@ fn number_or_string(text: &[Spot]) -> Result<Begun<'_>, LexErr>
     }
 }
 
-fn in_field(alloc: Global, text: &[Spot]) -> Result<Begun<'_>, LexErr>
+fn in_field(alloc: Global, text: &[Spot]) -> Result<Begun<'_>, Failure<LexErr>>
     ensures { MatchResult result
         (λ b. IsBegun b (or_else (field_sign_begun text.now) (or_else (number_begun text.now) (string_begun text.now))))
-        (λ e. Caused e (or_else (field_sign_begun text.now) (or_else (number_begun text.now) (string_begun text.now)) ≡ faulty e)) }
+        (IfRefused (λ e. or_else (field_sign_begun text.now) (or_else (number_begun text.now) (string_begun text.now)) ≡ faulty e)) }
 {
     match field_sign_at(alloc, text)? {
-        Begun::Nothing => number_or_string(text),
+        Begun::Nothing => number_or_string(text).map_err(Failure::Refused),
         Begun::Known(word, rest) => Ok(Begun::Known(word, rest)),
         Begun::Holds(part, rest) => Ok(Begun::Holds(part, rest)),
     }
@@ -175,11 +194,11 @@ fn in_field(alloc: Global, text: &[Spot]) -> Result<Begun<'_>, LexErr>
 
 /// What begins at the front of a text that is read in a mode, apart from names, keywords and
 /// operators.
-pub fn literal(alloc: Global, mode: Mode, text: &[Spot]) -> Result<Begun<'_>, LexErr>
-    ensures { MatchResult result (λ b. IsBegun b (literal_in mode text.now)) (λ e. Caused e (literal_in mode text.now ≡ faulty e)) }
+pub fn literal(alloc: Global, mode: Mode, text: &[Spot]) -> Result<Begun<'_>, Failure<LexErr>>
+    ensures { MatchResult result (λ b. IsBegun b (literal_in mode text.now)) (IfRefused (λ e. literal_in mode text.now ≡ faulty e)) }
 {
     match mode {
-        Mode::Words => number_or_string(text),
+        Mode::Words => number_or_string(text).map_err(Failure::Refused),
         Mode::Text(string) => text_at(alloc, string, text),
         Mode::Field(_) => in_field(alloc, text),
         Mode::Spec(field) => Ok(spec_at(alloc, field.string, text)?),

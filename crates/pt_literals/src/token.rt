@@ -1,7 +1,5 @@
-ghost use Rattle.std.specs.Prelude.{◌≡◌};
-
 use crate::{Delimiter, Part, Spot};
-use pt_base::{Line, Memory, Text};
+use pt_base::{Failure, Line, Text};
 
 /// A token and where it stands: the place of its first byte, and the number of its physical line
 /// (Language Reference 2.1).
@@ -51,17 +49,16 @@ pub enum LexErr {
     Excluded { line: Line },
     /// Too many levels of indentation, too many open brackets, or too large a number.
     Limit { line: Line },
-    /// Memory ran out.
-    Memory,
 }
 
-impl From<Memory> for LexErr {
-    ghost use Rattle.pt_literals.specs.declared.token.LexErr.TheVariants as fault;
+impl From<LexErr> for Failure<LexErr> {
+    ghost use Rattle.std.specs.Prelude.{◌≡◌};
+    ghost use Rattle.pt_base.specs.declared.failure.Failure.TheVariants as failure;
 
-    ghost from_gives = { λ _ e. e ≡ fault.Memory };
+    ghost from_gives = { λ e f. f ≡ failure.Refused e };
 
-    fn from(_: Memory) -> Self {
-        LexErr::Memory
+    fn from(error: LexErr) -> Self {
+        Failure::Refused(error)
     }
 }
 

@@ -47,91 +47,6 @@ count_args (S.spread_named e r) = suc (count_args r)
 abbrev pub is_built_call : (callee : Exp) → Args → Bool
 is_built_call f args = is_print f && (count_args args == 1)
 
-abbrev pub Never : Type 0
-Never = ⊥
-
-abbrev mutual
-  -- a name of a builtin stands as what is called alone
-  pub Built_exp : Exp → Type 0
-  Built_exp (S.constant l k) = is_built_constant k ≡ true
-  Built_exp (S.name l x) = is_builtin_name x ≡ false
-  Built_exp (S.binary l o a b) = (is_built_operator o ≡ true) × (Built_exp a × Built_exp b)
-  Built_exp (S.call l f args) = (is_built_call f args ≡ true) × Built_args args
-  Built_exp (S.joined l ps) = Never
-  Built_exp (S.tuple l es) = Never
-  Built_exp (S.list l es) = Never
-  Built_exp (S.set l es) = Never
-  Built_exp (S.dict l es) = Never
-  Built_exp (S.attribute l a x) = Never
-  Built_exp (S.item l a i) = Never
-  Built_exp (S.slice l a b c) = Never
-  Built_exp (S.unary l o a) = Never
-  Built_exp (S.not_of l a) = Never
-  Built_exp (S.compare l a o b r) = Never
-  Built_exp (S.and l a es) = Never
-  Built_exp (S.or l a es) = Never
-  Built_exp (S.conditional l c a b) = Never
-  Built_exp (S.lambda l n ps e) = Never
-  Built_exp (S.comprehension l m k t it cs) = Never
-  Built_exp (S.generator l n e k t it cs) = Never
-  Built_exp (S.yield l v) = Never
-  Built_exp (S.yield_from l e) = Never
-
-  -- of arguments the plain ones
-  pub Built_args : Args → Type 0
-  Built_args S.no_args = Unit {0}
-  Built_args (S.positional e r) = Built_exp e × Built_args r
-  Built_args (S.named x e r) = Never
-  Built_args (S.spread e r) = Never
-  Built_args (S.spread_named e r) = Never
-
--- a single name
-abbrev pub Built_place : Place → Type 0
-Built_place (S.name_at l x) = is_builtin_name x ≡ false
-Built_place (S.attribute_at l a x) = Never
-Built_place (S.item_at l a i) = Never
-
-abbrev pub Built_target : Tgt → Type 0
-Built_target (S.single p) = Built_place p
-Built_target (S.several l f ts) = Never
-Built_target (S.starred l t) = Never
-
--- one target
-abbrev pub Built_targets : Tgts → Type 0
-Built_targets S.no_targets = Never
-Built_targets (S.more_targets t S.no_targets) = Built_target t
-Built_targets (S.more_targets t (S.more_targets u ts)) = Never
-
-abbrev pub Built_stm : Stm → Type 0
-Built_stm (S.expr l e) = Built_exp e
-Built_stm (S.assign l ts e) = Built_targets ts × Built_exp e
-Built_stm (S.augmented l p o e) = Never
-Built_stm (S.annotated l p a v) = Never
-Built_stm (S.assert l c m) = Never
-Built_stm (S.pass l) = Never
-Built_stm (S.del l ts) = Never
-Built_stm (S.return l v) = Never
-Built_stm (S.raise l e c) = Never
-Built_stm (S.raise_again l) = Never
-Built_stm (S.break l) = Never
-Built_stm (S.continue l) = Never
-Built_stm (S.import l xs) = Never
-Built_stm (S.import_from l m xs) = Never
-Built_stm (S.global l xs) = Never
-Built_stm (S.nonlocal l xs) = Never
-Built_stm (S.choice l bs els) = Never
-Built_stm (S.while l c body els) = Never
-Built_stm (S.for l t e body els) = Never
-Built_stm (S.try l body hs els fin) = Never
-Built_stm (S.with l is body) = Never
-Built_stm (S.def l ds k n x ps r body) = Never
-Built_stm (S.class l ds k n x base body) = Never
-Built_stm (S.docstring l) = Never
-
-abbrev pub Built : Stms → Type 0
-Built none = Unit {0}
-Built (more s ss) = Built_stm s × Built ss
-
 -- the first of two lines, if there is one
 abbrev pub first_of : Option ℕ → Option ℕ → Option ℕ
 first_of (Some l) o = Some l
@@ -142,6 +57,7 @@ abbrev pub unless : (is_built : Bool) → (line : ℕ) → Option ℕ
 unless b l = if b then None else Some l
 
 abbrev mutual
+  -- a name of a builtin stands as what is called alone
   pub unbuilt_exp : Exp → Option ℕ
   unbuilt_exp (S.constant l k) = unless (is_built_constant k) l
   unbuilt_exp (S.name l x) = if is_builtin_name x then Some l else None
@@ -167,7 +83,7 @@ abbrev mutual
   unbuilt_exp (S.yield l v) = Some l
   unbuilt_exp (S.yield_from l e) = Some l
 
-  -- the arguments of a call on a line
+  -- the arguments of a call on a line: plain ones alone are built
   pub unbuilt_args : (line : ℕ) → Args → Option ℕ
   unbuilt_args l S.no_args = None
   unbuilt_args l (S.positional e r) = first_of (unbuilt_exp e) (unbuilt_args l r)
@@ -175,6 +91,7 @@ abbrev mutual
   unbuilt_args l (S.spread e r) = Some l
   unbuilt_args l (S.spread_named e r) = Some l
 
+-- a single name
 abbrev pub unbuilt_place : Place → Option ℕ
 unbuilt_place (S.name_at l x) = if is_builtin_name x then Some l else None
 unbuilt_place (S.attribute_at l a x) = Some l
@@ -185,7 +102,7 @@ unbuilt_target (S.single p) = unbuilt_place p
 unbuilt_target (S.several l f ts) = Some l
 unbuilt_target (S.starred l t) = Some l
 
--- the targets of an assignment on a line
+-- the targets of an assignment on a line: one target
 abbrev pub unbuilt_targets : (line : ℕ) → Tgts → Option ℕ
 unbuilt_targets l S.no_targets = Some l
 unbuilt_targets l (S.more_targets t S.no_targets) = unbuilt_target t
@@ -221,3 +138,7 @@ unbuilt_stm (S.docstring l) = Some l
 abbrev pub unbuilt_of : Stms → Option ℕ
 unbuilt_of none = None
 unbuilt_of (more s ss) = first_of (unbuilt_stm s) (unbuilt_of ss)
+
+-- a script is built where there is none
+abbrev pub Built : Stms → Type 0
+Built ss = unbuilt_of ss ≡ None

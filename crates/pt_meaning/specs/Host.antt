@@ -11,7 +11,7 @@ use Rattle.pt_tree.specs.declared.expression.Constant.{Constant}
 use Rattle.pt_tree.specs.declared.expression.Constant.TheVariants as constant
 use Rattle.pt_tree.specs.Syntax.{Name}
 use Rattle.pt_control.specs.Turn as T
-use Rattle.pt_control.specs.Turn.{Ask, Answer, Note, Role, Operation, Seek, const, load, operate, Deed, store, discard, seek, deed, Reply, got, raised, unbind}
+use Rattle.pt_control.specs.Turn.{Ask, Answer, Note, Scope, Role, Operation, Seek, const, load, operate, Deed, store, discard, seek, deed, Reply, got, raised}
 use Rattle.pt_meaning.specs.declared.value.Value.{Value}
 use Rattle.pt_meaning.specs.declared.value.Value.TheVariants as value
 use Rattle.pt_meaning.specs.declared.value.ExceptionClass.TheVariants.{NameError, TypeError}
@@ -104,10 +104,10 @@ valued constant.None w = leaves Feature
 valued (constant.Bool b) w = leaves Feature
 valued constant.Ellipsis w = leaves Feature
 
--- the names of comprehensions have no values yet
-abbrev pub named : (within : List ℕ) → Name → World → Outcome Value Value World
-named [] x w = given (or_builtin (w.names x) x) w
-named (n ∷ ns) x w = leaves Feature
+-- the names of the module; the others have no values yet
+abbrev pub named : Scope → Name → World → Outcome Value Value World
+named T.global x w = given (or_builtin (w.names x) x) w
+named scope x w = leaves Feature
 
 -- a `print` is one piece; what is no function cannot be called (Language Reference 6.3.4)
 abbrev pub called : Value → List Value → World → Outcome Value Value World
@@ -127,17 +127,17 @@ operated op vs w = leaves Feature
 
 abbrev pub sought : Seek Value → World → Outcome Value Value World
 sought (const k) w = valued k w
-sought (load x) w = named x.within x.name w
+sought (load x) w = named x.scope x.name w
 sought (operate op vs) w = operated op vs w
 sought s w = leaves Feature
 
--- a name is bound or unbound
-abbrev pub bound : (within : List ℕ) → Name → Option Value → World → World
-bound [] x v w = record w { names = update bytes_eq w.names x v }
-bound (n ∷ ns) x v w = w
+-- a name of the module is bound
+abbrev pub bound : Scope → Name → Value → World → Outcome Value (Unit {0}) World
+bound T.global x v w = goes (got tt) (record w { names = update bytes_eq w.names x (Some v) })
+bound scope x v w = leaves Feature
 
 abbrev pub done_by : Deed Value → World → Outcome Value (Unit {0}) World
-done_by (store x v) w = goes (got tt) (bound x.within x.name (Some v) w)
+done_by (store x v) w = bound x.scope x.name v w
 done_by (discard v) w = goes (got tt) w
 done_by d w = leaves Feature
 
@@ -146,9 +146,8 @@ answer (seek s) w = sought s w
 answer (deed d) w = done_by d w
 answer a w = leaves Feature
 
--- a note changes names alone (Language Reference 8.4.1)
+-- a note changes nothing
 abbrev pub noted : Note Value → World → Reply Value (Unit {0}) × World
-noted (unbind x) w = (got tt, bound x.within x.name None w)
 noted a w = (got tt, w)
 
 abbrev pub host : Host Value World

@@ -6,7 +6,7 @@ ghost use Rattle.pt_parser.specs.Script.{ScriptAnswers};
 
 use crate::Statements;
 use crate::signs::END;
-use pt_base::Seq;
+use pt_base::{Failure, Seq};
 use pt_expr::ParseErr;
 use pt_lexer::Token;
 use pt_readers::Halt;
@@ -31,7 +31,7 @@ fn place(tokens: &[Token], left: usize) -> u32
 /// Reads the script that tokens are by the wide grammar (Language Reference 7 to 9). Unexpected:
 /// with the token at this byte place no script goes on, or the tokens end too early. Limit: with
 /// the token on this line one goes on beyond the limits alone.
-pub fn wide_script(alloc: Global, tokens: &[Token]) -> Result<WideScript, ParseErr>
+pub fn wide_script(alloc: Global, tokens: &[Token]) -> Result<WideScript, Failure<ParseErr>>
     ensures { ScriptAnswers tokens.now result }
 {
     let mut reader = Statements::new(alloc, tokens);
@@ -43,18 +43,18 @@ pub fn wide_script(alloc: Global, tokens: &[Token]) -> Result<WideScript, ParseE
             if left == 0 {
                 return Ok(WideScript { body });
             }
-            Err(ParseErr::Unexpected {
+            Err(Failure::Refused(ParseErr::Unexpected {
                 at: place(tokens, left),
-            })
+            }))
         }
         Err(halt) => match halt {
-            Halt::Unexpected => Err(ParseErr::Unexpected {
+            Halt::Unexpected => Err(Failure::Refused(ParseErr::Unexpected {
                 at: place(tokens, left),
-            }),
-            Halt::Limit => Err(ParseErr::Limit {
+            })),
+            Halt::Limit => Err(Failure::Refused(ParseErr::Limit {
                 line: reader.line(),
-            }),
-            Halt::Memory => Err(ParseErr::Memory),
+            })),
+            Halt::Memory => Err(Failure::Memory),
         },
     }
 }

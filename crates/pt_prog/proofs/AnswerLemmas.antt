@@ -3,11 +3,10 @@ use Rattle.std.proofs.Common.{◌≡◌, ◌∙◌, ap, ℕ, List, [], Option, N
 use Rattle.pt_base.specs.declared.numbers.Line.{Line}
 use Rattle.pt_base.specs.Taken.{Pieces, Takes, TakesFront}
 use Rattle.pt_tree.specs.Syntax.{Stms}
-use Rattle.pt_control.specs.Turn.{done, gave, left_by}
+use Rattle.pt_control.specs.Turn.{gave, left_by}
 use Rattle.pt_meaning.specs.Built.{Built, unbuilt_of}
 use Rattle.pt_meaning.specs.declared.value.Value.{Value}
 use Rattle.pt_meaning.specs.Run.{Ending, ended, outside, spent}
-use Rattle.pt_meaning.proofs.BuiltLemmas.{is_built}
 use Rattle.pt_session.specs.declared.runner.RunEnd.{RunEnd}
 use Rattle.pt_session.specs.declared.runner.RunEnd.TheVariants as run
 use Rattle.pt_session.specs.Running.{IsEnding, Finished, meaning_of as meaning_under}
@@ -20,7 +19,7 @@ use Rattle.pt_prog.specs.Answer.{meaning_of, IsEndOf, IsBuilt, IsUnrun, Ran, Wro
 
 -- where no line is told of a script, all of it is built
 pub built : (script : Stms) (o : Option Line) → option_map (λ (l : Line). l.0) o ≡ unbuilt_of script → o ≡ None → Built script
-built script o told none = is_built script (sym told ∙ ap (option_map (λ (l : Line). l.0)) none)
+built script o told none = sym told ∙ ap (option_map (λ (l : Line). l.0)) none
 
 -- nothing is written for a text that isn't run
 pub unrun : (text : List ℕ) (old new : Pieces → Pieces → Type 0) (e : End) → IsUnrun text e → Takes old new [] → IsAnsweredFor text old new e
@@ -33,22 +32,18 @@ pub unrun_cause : (text : List ℕ) (e : End) → IsUnrun text e → e ≡ end.W
 unrun_cause text e is fails = subst (IsUnrun text) fails is
 
 is_end : (r : RunEnd) (E : Ending Value) → IsEnding r E → IsEndOf E (end_of_run r)
-is_end run.Done (ended done) i = refl
-is_end run.Done (ended (gave v)) i = absurd i
+is_end run.Done (ended (gave v)) i = refl
 is_end run.Done (ended (left_by v)) i = absurd i
 is_end run.Done (outside what line) i = absurd i
 is_end run.Done spent i = absurd i
-is_end run.Raised (ended done) i = absurd i
 is_end run.Raised (ended (gave v)) i = absurd i
 is_end run.Raised (ended (left_by v)) i = refl
 is_end run.Raised (outside what line) i = absurd i
 is_end run.Raised spent i = absurd i
-is_end (run.Outside what line) (ended done) i = absurd i
 is_end (run.Outside what line) (ended (gave v)) i = absurd i
 is_end (run.Outside what line) (ended (left_by v)) i = absurd i
 is_end (run.Outside what line) (outside what' line') i = λ k. end.Outside (sym i.0 k) (record { 0 = sym i.1 k })
 is_end (run.Outside what line) spent i = absurd i
-is_end run.Spent (ended done) i = absurd i
 is_end run.Spent (ended (gave v)) i = absurd i
 is_end run.Spent (ended (left_by v)) i = absurd i
 is_end run.Spent (outside what line) i = absurd i

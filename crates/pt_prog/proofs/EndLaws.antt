@@ -1,11 +1,11 @@
 -- A text says one end at most.
 use Rattle.std.proofs.Common.{◌≡◌, ℕ, List, Some, refl, sym, ap, ◌∙◌, subst}
 use Rattle.pt_tree.specs.Syntax.{Stms}
-use Rattle.pt_control.specs.Turn.{done, gave, left_by}
+use Rattle.pt_control.specs.Turn.{gave, left_by}
 use Rattle.pt_meaning.specs.declared.value.Value.{Value}
 use Rattle.pt_meaning.specs.Built.{Built, unbuilt_of}
 use Rattle.pt_meaning.specs.Run.{Ending, ended, outside, spent}
-use Rattle.pt_meaning.proofs.BuiltLemmas.{never_both as built_or_unbuilt}
+use Rattle.pt_meaning.proofs.BuiltLemmas.{told}
 use Rattle.pt_base.specs.declared.numbers.Line.{Line}
 use Rattle.pt_front.specs.Text.{IsRefused}
 use Rattle.pt_front.specs.declared.refusal.Refusal.{Refusal}
@@ -34,9 +34,8 @@ says text (end.WriteFault which) i = absurd i
 says text end.Memory i = absurd i
 
 one_end : (E : Ending Value) (e f : End) → IsEndOf E e → IsEndOf E f → e ≡ f
-one_end (ended done) e f i j = i ∙ sym j
 one_end (ended (left_by v)) e f i j = i ∙ sym j
-one_end (ended (gave v)) e f i j = absurd i
+one_end (ended (gave v)) e f i j = i ∙ sym j
 one_end (outside what line) e f i j = i ∙ sym j
 one_end spent e f i j = i ∙ sym j
 
@@ -48,7 +47,9 @@ module _ (text : List ℕ) where
       let line : k.0 ≡ l.0 = cc in λ i. end.Unbuilt (record { 0 = line i })
 
   not_both : (k : ℕ) (e : End) → IsUnbuilt text k → Ends text e → ⊥
-  not_both k e u r = built_or_unbuilt u.script k (subst Built (one_script text r.script u.script r.is.is_script u.is_script) r.is.is_built) u.is_first
+  not_both k e u r =
+      let built : Built u.script = subst Built (one_script text r.script u.script r.is.is_script u.is_script) r.is.is_built in
+      told (sym u.is_first ∙ built)
 
   said_once : (e f : End) → Says text e → Says text f → e ≡ f
   said_once e f (refused q x i) (refused r y j) = i ∙ ap (λ r. end.Refused r) (one_refusal text q r x y) ∙ sym j

@@ -6,7 +6,7 @@ use Rattle.std.specs.declared.alloc.Global.{Global}
 use Rattle.pt_base.specs.Told.{Told, IsWhole}
 use Rattle.pt_base.specs.Taken.{Pieces, Takes, TakesFront}
 use Rattle.pt_tree.specs.Syntax.{Stms}
-use Rattle.pt_control.specs.Turn.{done, gave, left_by}
+use Rattle.pt_control.specs.Turn.{gave, left_by}
 use Rattle.pt_meaning.specs.Built.{Built, unbuilt_of}
 use Rattle.pt_meaning.specs.Run.{Ending, ended, outside, spent}
 use Rattle.pt_meaning.specs.declared.value.Value.{Value}
@@ -38,10 +38,8 @@ meaning_of ss = meaning_under act_limit ss
 
 -- the program's end for a run's
 abbrev pub IsEndOf : Ending Value → End → Type 0
-IsEndOf (ended done) e = e ≡ end.Done
+IsEndOf (ended (gave v)) e = e ≡ end.Done
 IsEndOf (ended (left_by v)) e = e ≡ end.Raised
--- a module gives nothing
-IsEndOf (ended (gave v)) e = ⊥
 IsEndOf (outside what line) e = e ≡ end.Outside what (record { 0 = line })
 -- all acts of the bound are taken, and another would begin
 IsEndOf spent e = e ≡ end.Spent act_limit

@@ -10,8 +10,8 @@ ghost use Rattle.pt_prog.specs.RunEnds.{end_of_run};
 ghost use Rattle.pt_tree.specs.StatementFold.{script_of};
 
 use crate::end::{End, File, Out};
-use pt_base::{Budget, Shelf, ShelfErr, Sink};
-use pt_front::{FrontErr, front};
+use pt_base::{Budget, Failure, Shelf, ShelfErr, Sink};
+use pt_front::front;
 use pt_session::{RunEnd, RunErr, first_unbuilt, run};
 use pt_tree::Script;
 use std::alloc::Global;
@@ -55,8 +55,8 @@ fn built_script(alloc: Global, text: &[u8]) -> Result<Script, End>
 {
     let script = match front(alloc, text) {
         Ok((script, _)) => script,
-        Err(FrontErr::Refused(error)) => return Err(End::Refused { error }),
-        Err(FrontErr::Memory) => return Err(End::Memory),
+        Err(Failure::Refused(error)) => return Err(End::Refused { error }),
+        Err(Failure::Memory) => return Err(End::Memory),
     };
     match first_unbuilt(&script) {
         Some(line) => Err(End::Unbuilt { line }),

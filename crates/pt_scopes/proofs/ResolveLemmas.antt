@@ -1,12 +1,11 @@
 -- The tables of a script tell its scopes and its first fault.
-use Rattle.std.proofs.Common.{◌≡◌, ℕ, Bool, List, [], Some, None, ap, refl, sym, subst, ◌∙◌}
+use Rattle.std.proofs.Common.{◌≡◌, ℕ, Bool, List, [], Some, None, ap, sym, subst, ◌∙◌}
 use Rattle.std.specs.Prelude.{slice_get}
 use Rattle.pt_scopes.specs.declared.name_set.NameSet.{NameSet}
 use Rattle.pt_scopes.specs.declared.region.Facts.{Facts}
 use Rattle.pt_scopes.specs.declared.region.Mention.{Mention}
 use Rattle.pt_scopes.specs.declared.region.Region.{Region}
 use Rattle.pt_scopes.specs.declared.scope.ScopeErr.{ScopeErr}
-use Rattle.pt_scopes.specs.declared.scope.ScopeErr.TheVariants.{NoBinding, Twice, LateDecl, Outside, Memory}
 use Rattle.pt_scopes.specs.declared.table.Names.{Names}
 use Rattle.pt_scopes.specs.Places.{Places}
 use Rattle.pt_scopes.specs.NameSets.{is_in}
@@ -30,22 +29,11 @@ resolved g rs bs ms names captured is_r is_b is_m told caught sound =
       scopes = λ b x. ap (λ (c : ℕ → Name → Bool). scope_at rs (facts_in names) c x (slice_get bs b)) cells ∙ ap (λ (l : Name → ℕ → Facts). scope_at rs l (is_captured rs l ms) x (slice_get bs b)) look;
     })
 
-refused-as : (g : Places) (e : ScopeErr) → fault_of g ≡ Some e → IsRefused g e
-refused-as g (NoBinding x l) is = is
-refused-as g (Twice x l) is = is
-refused-as g (LateDecl x l) is = is
-refused-as g (Outside l) is = is
-refused-as g Memory is = tt
-
 pub refused : (g : Places) (rs : List Region) (bs : List ℕ) (ms : List Mention) (names : Names) (e : ScopeErr) → rs ≡ g.regions → bs ≡ g.blocks → ms ≡ g.mentions
     → ((x : Name) (r : ℕ) → facts_in names x r ≡ facts ms x r) → first_fault rs (facts_in names) [] ms ≡ Some e → IsRefused g e
 refused g rs bs ms names e is_r is_b is_m told found =
     let look : facts_in names ≡ facts ms = λ i x r. told x r i in
-    refused-as g e (ap (λ (h : Places). fault_of h) (sym (places-are g rs bs ms is_r is_b is_m)) ∙ ap (λ (l : Name → ℕ → Facts). first_fault rs l [] ms) (sym look) ∙ found)
+    ap (λ (h : Places). fault_of h) (sym (places-are g rs bs ms is_r is_b is_m)) ∙ ap (λ (l : Name → ℕ → Facts). first_fault rs l [] ms) (sym look) ∙ found
 
-pub excluded : (g : Places) (e : ScopeErr) → fault_of g ≡ None → IsRefused g e → e ≡ Memory
-excluded g (NoBinding x l) none is = absurd (let same : None ≡ Some (NoBinding x l) = sym none ∙ is in cc)
-excluded g (Twice x l) none is = absurd (let same : None ≡ Some (Twice x l) = sym none ∙ is in cc)
-excluded g (LateDecl x l) none is = absurd (let same : None ≡ Some (LateDecl x l) = sym none ∙ is in cc)
-excluded g (Outside l) none is = absurd (let same : None ≡ Some (Outside l) = sym none ∙ is in cc)
-excluded g Memory none is = refl
+pub excluded : (g : Places) (e : ScopeErr) → fault_of g ≡ None → IsRefused g e → ⊥
+excluded g e none is = let same : None ≡ Some e = sym none ∙ is in cc

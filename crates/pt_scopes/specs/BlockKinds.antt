@@ -19,7 +19,7 @@ abbrev pub code_kind : Code → Kind
 code_kind (of_module ss) = Module
 code_kind (of_function ss) = Function
 code_kind (of_class ss) = Class
-code_kind (of_lambda e) = Function
+code_kind (of_lambda l e) = Function
 code_kind (of_generator l e fl t cs) = Function
 
 abbrev pub kind_of : Block → Kind

@@ -2,7 +2,6 @@
 use Rattle.std.specs.Prelude.{◌≡◌, ℕ, slice_get, Option, Some, None}
 use Rattle.pt_scopes.specs.declared.scope.Scope.{Scope}
 use Rattle.pt_scopes.specs.declared.scope.ScopeErr.{ScopeErr}
-use Rattle.pt_scopes.specs.declared.scope.ScopeErr.TheVariants.{NoBinding, Twice, LateDecl, Outside, Memory}
 use Rattle.pt_scopes.specs.declared.scopes.Scopes.{Scopes}
 use Rattle.pt_scopes.specs.Places.{Places}
 use Rattle.pt_scopes.specs.NameSets.{is_in}
@@ -21,8 +20,4 @@ pub record IsResolved (g : Places) (s : Scopes) : Type 0 where
 
 -- a script with this fault as its first
 abbrev pub IsRefused : Places → ScopeErr → Type 0
-IsRefused g (NoBinding x l) = fault_of g ≡ Some (NoBinding x l)
-IsRefused g (Twice x l) = fault_of g ≡ Some (Twice x l)
-IsRefused g (LateDecl x l) = fault_of g ≡ Some (LateDecl x l)
-IsRefused g (Outside l) = fault_of g ≡ Some (Outside l)
-IsRefused g Memory = Unit {0}
+IsRefused g e = fault_of g ≡ Some e

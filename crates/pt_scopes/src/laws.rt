@@ -4,7 +4,7 @@ ghost use Rattle.std.specs.Prelude.{◌≡◌, ℕ, List, map, Some, None, codes
 ghost use Rattle.pt_scopes.specs.declared.scope.Scope.{Scope};
 ghost use Rattle.pt_scopes.specs.declared.scope.Scope.TheVariants as scope;
 ghost use Rattle.pt_scopes.specs.declared.scope.ScopeErr.{ScopeErr};
-ghost use Rattle.pt_scopes.specs.declared.scope.ScopeErr.TheVariants.{NoBinding, Twice, LateDecl, Outside, Memory};
+ghost use Rattle.pt_scopes.specs.declared.scope.ScopeErr.TheVariants.{NoBinding, Twice, LateDecl, Outside};
 ghost use Rattle.pt_scopes.specs.declared.scopes.Scopes.{Scopes};
 ghost use Rattle.pt_scopes.specs.BlockKinds.{block_kinds, kind_of};
 ghost use Rattle.pt_scopes.specs.Mentions.{places_script};
@@ -20,9 +20,9 @@ pub fn a_name_has_one_scope()
     ensures { (ss : Stms) (b : ℕ) (x : List ℕ) (s t : Scope) → scope_of (places_script ss) b x ≡ Some s → scope_of (places_script ss) b x ≡ Some t → s ≡ t }
 {}
 
-/// A script whose scopes are told is refused for want of memory alone, and one fault at most is told.
+/// A script whose scopes are told is not refused, and one fault at most is told.
 pub fn resolved_and_refused_exclude_one_another()
-    ensures one { (ss : Stms) (s : Scopes) (e : ScopeErr) → IsResolved (places_script ss) s → IsRefused (places_script ss) e → e ≡ Memory }
+    ensures one { (ss : Stms) (s : Scopes) (e : ScopeErr) → IsResolved (places_script ss) s → IsRefused (places_script ss) e → ⊥ }
     ensures same { (ss : Stms) (d e : ScopeErr) → fault_of (places_script ss) ≡ Some d → fault_of (places_script ss) ≡ Some e → d ≡ e }
 {}
 

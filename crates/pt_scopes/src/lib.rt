@@ -15,6 +15,3 @@ mod table;
 
 pub use scope::{Scope, ScopeErr};
 pub use scopes::{Scopes, resolve};
-
-#[cfg(test)]
-mod tests;

@@ -1,4 +1,4 @@
-use pt_base::{Line, Memory, Text};
+use pt_base::{Line, Text};
 
 /// What a name means in a block (Language Reference 4.2.2).
 #[derive(Clone, Copy, Debug, PartialEq, Eq)]
@@ -26,16 +26,4 @@ pub enum ScopeErr {
     LateDecl { name: Text, line: Line },
     /// `return`, `yield`, `break` or `continue` outside its place.
     Outside { line: Line },
-    Memory,
-}
-
-impl From<Memory> for ScopeErr {
-    ghost use Rattle.std.specs.Prelude.{◌≡◌};
-    ghost use Rattle.pt_scopes.specs.declared.scope.ScopeErr.TheVariants.{Memory as out_of_memory};
-
-    ghost from_gives = { λ _ e. e ≡ out_of_memory };
-
-    fn from(_: Memory) -> Self {
-        ScopeErr::Memory
-    }
 }

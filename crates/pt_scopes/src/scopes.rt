@@ -1,4 +1,5 @@
 ghost use Rattle.std.specs.Prelude.{◌≡◌, IfOk, IfErr, OnOk};
+ghost use Rattle.pt_base.specs.Failures.{IfRefused};
 ghost use Rattle.pt_scopes.specs.Mentions.{places_script};
 ghost use Rattle.pt_scopes.specs.NameSets.{is_in};
 ghost use Rattle.pt_scopes.specs.Resolved.{scope_told, IsRefused, IsResolved};
@@ -12,7 +13,7 @@ use crate::region::{Kind, Mention, Region};
 use crate::scope::{Scope, ScopeErr};
 use crate::statements::gathered;
 use crate::table::{Names, Table};
-use pt_base::{BlockId, Memory, Seq};
+use pt_base::{BlockId, Failure, Memory, Seq};
 use pt_tree::Script;
 use std::alloc::Global;
 
@@ -99,15 +100,15 @@ fn captured(alloc: Global, table: &Table, mentions: &[Mention]) -> Result<NameSe
 }
 
 /// The scopes of the names of a script, or the first fault in its declarations.
-pub fn resolve(alloc: Global, script: &Script) -> Result<Scopes, ScopeErr>
+pub fn resolve(alloc: Global, script: &Script) -> Result<Scopes, Failure<ScopeErr>>
     ensures ok { IfOk result (IsResolved (places_script (script_of script.now))) }
-    ensures err { IfErr result (IsRefused (places_script (script_of script.now))) }
+    ensures err { IfErr result (IfRefused (IsRefused (places_script (script_of script.now)))) }
 {
     let (regions, blocks, mentions) = gathered(alloc, script)?.into_parts();
     let names = Names::build(alloc, mentions.as_slice())?;
     let table = Table { regions, names };
     match first_fault(alloc, &table, mentions.as_slice())? {
-        Some(fault) => Err(fault),
+        Some(fault) => Err(Failure::Refused(fault)),
         None => {
             let captured = captured(alloc, &table, mentions.as_slice())?;
             Ok(Scopes {

@@ -11,6 +11,7 @@ use Rattle.pt_meaning.specs.declared.value.Value.TheVariants.{Exception}
 use Rattle.pt_meaning.specs.declared.value.ExceptionClass.{ExceptionClass}
 use Rattle.pt_meaning.specs.Run.{ended, outside}
 use Rattle.pt_meaning.specs.Host.{host}
+use Rattle.pt_meaning.specs.declared.value.Value.TheVariants as value
 use Rattle.pt_session.specs.declared.code.Code.{Code}
 use Rattle.pt_session.specs.declared.code.Placed.{Placed}
 use Rattle.pt_session.specs.declared.machine.Machine.{Machine}
@@ -24,15 +25,15 @@ use Rattle.pt_session.proofs.RunLemmas.{run_on, goes_on, stops, never_lost, is_o
 
 module _ (code : Code) (placed : Placed) (old : Machine) where
   abbrev turn_there : Point → Turn (State Value) Value
-  turn_there p = here false (ins_of code.texts code.constants p.at (Some placed)) old.slots
+  turn_there p = here value.None false (ins_of code.texts code.constants p.at (Some placed)) old.slots
 
   module _ (new : Machine) where
     after_next : Performs code placed old (Some step.Next) new → (p : Point) → RunsAt code placed old p
-        → Runs host (laid code) p.left (turn (laid code) (on (p.at + 1) new.slots)) (world_of new p.written) p.whole.world p.whole.ending
+        → Runs value.None host (laid code) p.left (turn value.None (laid code) (on (p.at + 1) new.slots)) (world_of new p.written) p.whole.world p.whole.ending
     after_next does p r = goes_on (laid code) (p.left + 1) (turn_there p) (world_of old p.written) _ _ r p.left refl (on (p.at + 1) new.slots) (world_of new p.written) (does p.at p.written)
 
     after_print : (t : List ℕ) → Performs code placed old (Some (step.Print t)) new → (p : Point) → RunsAt code placed old p
-        → Runs host (laid code) p.left (turn (laid code) (on (p.at + 1) new.slots)) (world_of new (p.written ++ t ∷ [])) p.whole.world p.whole.ending
+        → Runs value.None host (laid code) p.left (turn value.None (laid code) (on (p.at + 1) new.slots)) (world_of new (p.written ++ t ∷ [])) p.whole.world p.whole.ending
     after_print t does p r = goes_on (laid code) (p.left + 1) (turn_there p) (world_of old p.written) _ _ r p.left refl (on (p.at + 1) new.slots) (world_of new (p.written ++ t ∷ [])) (does p.at p.written)
 
     after_raise : (c : ExceptionClass) → Performs code placed old (Some (step.Raised c)) new → (p : Point) → RunsAt code placed old p
@@ -55,7 +56,7 @@ module _ (code : Code) (placed : Placed) (old : Machine) where
       advanced_next does same p r = (
         [],
         takes_nothing before after same,
-        subst (λ ws. Runs host (laid code) p.left (turn (laid code) (on (p.at + 1) new.slots)) (world_of new ws) p.whole.world p.whole.ending) (sym (append-nil p.written)) (after_next does p r),
+        subst (λ ws. Runs value.None host (laid code) p.left (turn value.None (laid code) (on (p.at + 1) new.slots)) (world_of new ws) p.whole.world p.whole.ending) (sym (append-nil p.written)) (after_next does p r),
       )
 
       pub advanced_print : (t : List ℕ) → Performs code placed old (Some (step.Print t)) new → Takes before after (t ∷ [])

@@ -4,8 +4,9 @@ use Rattle.std.proofs.Common.{◌≡◌, ℕ, ◌+◌, ◌-◌, ◌<◌, ◌≤�
 use Rattle.std.proofs.lemmas.List.{get_or_default}
 use Rattle.pt_base.specs.Taken.{Pieces, Takes, TakesFront}
 use Rattle.pt_base.proofs.TakenLemmas.{takes_nothing, takes_then, takes_then_front}
-use Rattle.pt_control.specs.Turn.{done, over}
+use Rattle.pt_control.specs.Turn.{gave, over}
 use Rattle.pt_meaning.specs.Host.{host, start_world}
+use Rattle.pt_meaning.specs.declared.value.Value.TheVariants as value
 use Rattle.pt_session.specs.declared.code.Code.{Code}
 use Rattle.pt_session.specs.declared.code.Placed.{Placed}
 use Rattle.pt_session.specs.declared.machine.Machine.{Machine}
@@ -17,24 +18,24 @@ use Rattle.pt_session.specs.Machine.{names_of, world_of}
 use Rattle.pt_session.specs.Running.{Whole, Point, RunsAt, Advanced, BrokenOff, IsEnding, Finished}
 use Rattle.pt_session.proofs.RunLemmas.{is_over, is_spent, here_not_over, turn-here, turn-end}
 
--- so many instructions are done, and what they wrote was taken whole; the run goes on from there
+-- so many instructions are gave, and what they wrote was taken whole; the run goes on from there
 pub record Reached (code : Code) (whole : Whole) (limit i : ℕ) (m : Machine) (before now : Pieces → Pieces → Type 0) : Type 0 where
   pub written : Pieces
   pub taken : Takes before now written
-  pub runs : Runs host (laid code) (limit - i) (turn (laid code) (on i m.slots)) (world_of m written) whole.world whole.ending
+  pub runs : Runs value.None host (laid code) (limit - i) (turn value.None (laid code) (on i m.slots)) (world_of m written) whole.world whole.ending
 
 module _ (code : Code) (whole : Whole) (limit : ℕ) where
   pub started : (m : Machine) (before : Pieces → Pieces → Type 0) → m.slots ≡ [] → ((x : List ℕ) → names_of m x ≡ None)
-      → Runs host (laid code) limit (turn (laid code) (on 0 [])) start_world whole.world whole.ending → Reached code whole limit 0 m before before
+      → Runs value.None host (laid code) limit (turn value.None (laid code) (on 0 [])) start_world whole.world whole.ending → Reached code whole limit 0 m before before
   started m before no_slots no_names r =
       let world : world_of m [] ≡ start_world = λ i. record { names = λ x. no_names x i; written = [] } in
       let all : limit ≡ limit - 0 = omega arith in
       record {
         written = [];
         taken = takes_nothing before before (λ _ _ t. t);
-        runs = subst (λ n. Runs host (laid code) n (turn (laid code) (on 0 m.slots)) (world_of m []) whole.world whole.ending) all
-            (subst (λ w. Runs host (laid code) limit (turn (laid code) (on 0 m.slots)) w whole.world whole.ending) (sym world)
-            (subst (λ ss. Runs host (laid code) limit (turn (laid code) (on 0 ss)) start_world whole.world whole.ending) (sym no_slots) r));
+        runs = subst (λ n. Runs value.None host (laid code) n (turn value.None (laid code) (on 0 m.slots)) (world_of m []) whole.world whole.ending) all
+            (subst (λ w. Runs value.None host (laid code) limit (turn value.None (laid code) (on 0 m.slots)) w whole.world whole.ending) (sym world)
+            (subst (λ ss. Runs value.None host (laid code) limit (turn value.None (laid code) (on 0 ss)) start_world whole.world whole.ending) (sym no_slots) r));
       }
 
   module _ (i : ℕ) (m : Machine) (before mid : Pieces → Pieces → Type 0) (reached : Reached code whole limit i m before mid) where
@@ -43,12 +44,12 @@ module _ (code : Code) (whole : Whole) (limit : ℕ) where
 
     -- at an instruction
     module _ (items : List Placed) (d : Placed) (same : items ≡ code.instrs) (within : i < length items) where
-      runs_here : Runs host (laid code) (limit - i) (here false (ins_of code.texts code.constants i (Some (get_or items i d))) m.slots) (world_of m reached.written) whole.world whole.ending
+      runs_here : Runs value.None host (laid code) (limit - i) (here value.None false (ins_of code.texts code.constants i (Some (get_or items i d))) m.slots) (world_of m reached.written) whole.world whole.ending
       runs_here =
           let inside : i < length code.instrs = subst (λ (l : List Placed). i < length l) same within in
           let is : get_or items i d ≡ get_or code.instrs i (get_or items i d) =
           get_or_default items i d (get_or items i d) within ∙ ap (λ (l : List Placed). get_or l i (get_or items i d)) same in
-          subst (λ t. Runs host (laid code) (limit - i) t (world_of m reached.written) whole.world whole.ending) (turn-here code m.slots i (get_or items i d) inside is) reached.runs
+          subst (λ t. Runs value.None host (laid code) (limit - i) t (world_of m reached.written) whole.world whole.ending) (turn-here code m.slots i (get_or items i d) inside is) reached.runs
 
       -- all acts of the bound are taken
       pub out_of_acts : limit ≤ i → Finished whole end.Spent before mid
@@ -61,7 +62,7 @@ module _ (code : Code) (whole : Whole) (limit : ℕ) where
       pub comes_to : RunsAt code (get_or items i d) m point
       comes_to =
           let one : limit - i ≡ limit - (i + 1) + 1 = omega arith in
-          subst (λ n. Runs host (laid code) n (here false (ins_of code.texts code.constants i (Some (get_or items i d))) m.slots) (world_of m reached.written) whole.world whole.ending) one
+          subst (λ n. Runs value.None host (laid code) n (here value.None false (ins_of code.texts code.constants i (Some (get_or items i d))) m.slots) (world_of m reached.written) whole.world whole.ending) one
           (runs_here items d same within)
 
       abbrev Says : Option RunEnd → Machine → (now : Pieces → Pieces → Type 0) → Type 0
@@ -88,8 +89,8 @@ module _ (code : Code) (whole : Whole) (limit : ℕ) where
 
     pub at_the_end : i ≡ length code.instrs → Finished whole end.Done before mid
     at_the_end e =
-        let last : turn (laid code) (on i m.slots) ≡ over done = ap (λ k. turn (laid code) (on k m.slots)) e ∙ turn-end code m.slots in
-        let o = is_over (laid code) (limit - i) (turn (laid code) (on i m.slots)) done (world_of m reached.written) whole.world whole.ending last reached.runs in
+        let last : turn value.None (laid code) (on i m.slots) ≡ over (gave value.None) = ap (λ k. turn value.None (laid code) (on k m.slots)) e ∙ turn-end code m.slots in
+        let o = is_over (laid code) (limit - i) (turn value.None (laid code) (on i m.slots)) (gave value.None) (world_of m reached.written) whole.world whole.ending last reached.runs in
         (subst (λ x. IsEnding end.Done x) (sym o.0) tt, subst (λ ws. Takes before mid ws) (ap (λ w. w.written) o.1) reached.taken)
 
 -- what a budget says of the acts that are left

@@ -5,6 +5,7 @@ use Rattle.pt_base.specs.declared.memory.Memory.{Memory}
 use Rattle.pt_instr.specs.declared.Instr.TheVariants as instr
 use Rattle.pt_instr.specs.declared.ConstNo.{ConstNo}
 use Rattle.pt_instr.specs.declared.TextNo.{TextNo}
+use Rattle.pt_meaning.specs.declared.value.Value.TheVariants as value
 use Rattle.pt_session.specs.declared.code.Code.{Code}
 use Rattle.pt_session.specs.declared.code.Constant.{Constant}
 use Rattle.pt_session.specs.declared.code.Placed.{Placed}
@@ -18,7 +19,7 @@ use Rattle.pt_session.specs.Machine.{Does, Performs, passed, world_of, told}
 module _ (code : Code) (p : Placed) (old new : Machine) (r : Result (Option Step) Memory) where
   performs : (op : Op) → op_of code.texts code.constants p.instr ≡ Some op → IfOk r (λ s. (line : ℕ) → Does op line old s new) → IfOk r (λ s. Performs code p old s new)
   performs op is = elim r as (λ r. IfOk r (λ s. (line : ℕ) → Does op line old s new) → IfOk r (λ s. Performs code p old s new)) [
-    | Ok s ↦ λ does at ws. subst (λ o. passed (here false (option_map (λ op. ins op at p.line.0) o) old.slots) (world_of old ws) ≡ told s (at + 1) new ws) (sym is) (does p.line.0 at ws)
+    | Ok s ↦ λ does at ws. subst (λ o. passed (here value.None false (option_map (λ op. ins op at p.line.0) o) old.slots) (world_of old ws) ≡ told s (at + 1) new ws) (sym is) (does p.line.0 at ws)
     | Err e ↦ λ any. tt
   ]
 

@@ -1,6 +1,6 @@
 -- The code that is laid down for a built script stands for it.
 use Rattle.std.proofs.Common.{◌≡◌, ℕ, ◌+◌, List, [], ◌∷◌, ◌++◌, Bool, true, false, Some, None, length, refl, sym, ap, ◌∙◌, subst, arith, append_assoc, append-nil, length-append}
-use Rattle.std.specs.Prelude.{slice_get, option_map, ◌&&◌, ◌==◌}
+use Rattle.std.specs.Prelude.{slice_get, option_map}
 use Rattle.std.proofs.lemmas.Bool.{eqb-true}
 use Rattle.std.proofs.lemmas.Option.{slice_get_past}
 use Rattle.pt_instr.specs.declared.Instr.{Instr}
@@ -11,7 +11,8 @@ use Rattle.pt_tree.specs.Syntax as S
 use Rattle.pt_tree.specs.Syntax.{Exp, Args, Place, Tgt, Tgts, Stm, Stms, none, more}
 use Rattle.pt_tree.specs.Sizes.{size, args_size, targets_size, stm_size, stms_size}
 use Rattle.pt_control.specs.Turn.{mark}
-use Rattle.pt_meaning.specs.Built.{count_args, is_print, is_built_constant, Built_exp, Built_args, Built_targets, Built_stm, Built}
+use Rattle.pt_meaning.specs.Built.{count_args, is_print, is_built_constant, unbuilt_exp, unbuilt_args, unbuilt_targets, unbuilt_stm, Built}
+use Rattle.pt_meaning.proofs.BuiltLemmas.{told, built_constant, built_binary, built_call, built_positional, built_assign, built_more}
 use Rattle.pt_session.specs.declared.code.Code.{Code}
 use Rattle.pt_session.specs.declared.code.Constant.{Constant}
 use Rattle.pt_session.specs.declared.code.Constant.TheVariants.{Int, Str}
@@ -145,87 +146,91 @@ length_literal literal.None l b c = absurd (cc)
 length_literal (literal.Bool x) l b c = absurd (cc)
 length_literal literal.Ellipsis l b c = absurd (cc)
 
-both_true : (a b : Bool) → (a && b) ≡ true → (a ≡ true) × (b ≡ true)
-both_true true b h = (refl, h)
-both_true false b h = absurd (cc)
-
 length_print : (f : Exp) → is_print f ≡ true → (c : Code) → length (lay_exp f c).instrs ≡ length c.instrs + size f
 length_print (S.name l x) h c = one_longer c.instrs _
 length_print f h c = absurd (cc)
 
 mutual
-  length_exp : (e : Exp) → Built_exp e → (c : Code) → length (lay_exp e c).instrs ≡ length c.instrs + size e
-  length_exp (S.constant l k) h c = length_literal k l h c
+  length_exp : (e : Exp) → unbuilt_exp e ≡ None → (c : Code) → length (lay_exp e c).instrs ≡ length c.instrs + size e
+  length_exp (S.constant l k) h c = length_literal k l (built_constant l k h) c
   length_exp (S.name l x) h c = one_longer c.instrs _
   length_exp (S.binary l o a b) h c =
-      omega (arith, one_longer (lay_exp b (lay_exp a c)).instrs (placed (instr.Binary o) l), length_exp b h.1.1 (lay_exp a c), length_exp a h.1.0 c)
+      let parts = built_binary l o a b h in
+      omega (arith, one_longer (lay_exp b (lay_exp a c)).instrs (placed (instr.Binary o) l), length_exp b parts.1 (lay_exp a c), length_exp a parts.0 c)
   length_exp (S.call l f args) h c =
-      omega (arith, one_longer (lay_args args (lay_exp f c)).instrs (placed (instr.Call 1) l), length_args args h.1 (lay_exp f c), length_print f (both_true _ _ h.0).0 c)
-  length_exp (S.joined l ps) h c = absurd h
-  length_exp (S.tuple l es) h c = absurd h
-  length_exp (S.list l es) h c = absurd h
-  length_exp (S.set l es) h c = absurd h
-  length_exp (S.dict l es) h c = absurd h
-  length_exp (S.attribute l a x) h c = absurd h
-  length_exp (S.item l a i) h c = absurd h
-  length_exp (S.slice l x y z) h c = absurd h
-  length_exp (S.unary l o a) h c = absurd h
-  length_exp (S.not_of l a) h c = absurd h
-  length_exp (S.compare l a o b r) h c = absurd h
-  length_exp (S.and l a es) h c = absurd h
-  length_exp (S.or l a es) h c = absurd h
-  length_exp (S.conditional l t a b) h c = absurd h
-  length_exp (S.lambda l m ps e) h c = absurd h
-  length_exp (S.comprehension l m k t it cs) h c = absurd h
-  length_exp (S.generator l m e k t it cs) h c = absurd h
-  length_exp (S.yield l v) h c = absurd h
-  length_exp (S.yield_from l e) h c = absurd h
+      let is = built_call l f args h in
+      omega (arith, one_longer (lay_args args (lay_exp f c)).instrs (placed (instr.Call 1) l), length_args l args is.arguments (lay_exp f c), length_print f is.print c)
+  length_exp (S.joined l ps) h c = told h
+  length_exp (S.tuple l es) h c = told h
+  length_exp (S.list l es) h c = told h
+  length_exp (S.set l es) h c = told h
+  length_exp (S.dict l es) h c = told h
+  length_exp (S.attribute l a x) h c = told h
+  length_exp (S.item l a i) h c = told h
+  length_exp (S.slice l x y z) h c = told h
+  length_exp (S.unary l o a) h c = told h
+  length_exp (S.not_of l a) h c = told h
+  length_exp (S.compare l a o b r) h c = told h
+  length_exp (S.and l a es) h c = told h
+  length_exp (S.or l a es) h c = told h
+  length_exp (S.conditional l t a b) h c = told h
+  length_exp (S.lambda l m ps e) h c = told h
+  length_exp (S.comprehension l m k t it cs) h c = told h
+  length_exp (S.generator l m e k t it cs) h c = told h
+  length_exp (S.yield l v) h c = told h
+  length_exp (S.yield_from l e) h c = told h
 
-  length_args : (args : Args) → Built_args args → (c : Code) → length (lay_args args c).instrs ≡ length c.instrs + args_size args
-  length_args S.no_args h c = omega arith
-  length_args (S.positional e r) h c = omega (arith, length_args r h.1 (lay_exp e c), length_exp e h.0 c)
-  length_args (S.named x e r) h c = absurd h
-  length_args (S.spread e r) h c = absurd h
-  length_args (S.spread_named e r) h c = absurd h
+  length_args : (k : ℕ) (args : Args) → unbuilt_args k args ≡ None → (c : Code) → length (lay_args args c).instrs ≡ length c.instrs + args_size args
+  length_args k S.no_args h c = omega arith
+  length_args k (S.positional e r) h c =
+      let parts = built_positional k e r h in
+      omega (arith, length_args k r parts.1 (lay_exp e c), length_exp e parts.0 c)
+  length_args k (S.named x e r) h c = told h
+  length_args k (S.spread e r) h c = told h
+  length_args k (S.spread_named e r) h c = told h
 
-length_targets : (ts : Tgts) → Built_targets ts → (c : Code) → length (lay_targets ts c).instrs ≡ length c.instrs + targets_size ts
-length_targets S.no_targets h c = absurd h
-length_targets (S.more_targets (S.single (S.name_at l x)) S.no_targets) h c = one_longer c.instrs _
-length_targets (S.more_targets (S.single (S.attribute_at l a x)) S.no_targets) h c = absurd h
-length_targets (S.more_targets (S.single (S.item_at l a i)) S.no_targets) h c = absurd h
-length_targets (S.more_targets (S.several l f us) S.no_targets) h c = absurd h
-length_targets (S.more_targets (S.starred l t) S.no_targets) h c = absurd h
-length_targets (S.more_targets t (S.more_targets u ts)) h c = absurd h
+length_targets : (k : ℕ) (ts : Tgts) → unbuilt_targets k ts ≡ None → (c : Code) → length (lay_targets ts c).instrs ≡ length c.instrs + targets_size ts
+length_targets k S.no_targets h c = told h
+length_targets k (S.more_targets (S.single (S.name_at l x)) S.no_targets) h c = one_longer c.instrs _
+length_targets k (S.more_targets (S.single (S.attribute_at l a x)) S.no_targets) h c = told h
+length_targets k (S.more_targets (S.single (S.item_at l a i)) S.no_targets) h c = told h
+length_targets k (S.more_targets (S.several l f us) S.no_targets) h c = told h
+length_targets k (S.more_targets (S.starred l t) S.no_targets) h c = told h
+length_targets k (S.more_targets t (S.more_targets u ts)) h c = told h
 
-length_stm : (s : Stm) → Built_stm s → (c : Code) → length (lay_stm s c).instrs ≡ length c.instrs + stm_size s
+length_stm : (s : Stm) → unbuilt_stm s ≡ None → (c : Code) → length (lay_stm s c).instrs ≡ length c.instrs + stm_size s
 length_stm (S.expr l e) h c = omega (arith, one_longer (lay_exp e c).instrs (placed instr.Pop l), length_exp e h c)
-length_stm (S.assign l ts e) h c = omega (arith, length_targets ts h.0 (lay_exp e c), length_exp e h.1 c)
-length_stm (S.augmented l t o e) h c = absurd h
-length_stm (S.annotated l t a v) h c = absurd h
-length_stm (S.assert l t m) h c = absurd h
-length_stm (S.pass l) h c = absurd h
-length_stm (S.del l ts) h c = absurd h
-length_stm (S.return l v) h c = absurd h
-length_stm (S.raise l e d) h c = absurd h
-length_stm (S.raise_again l) h c = absurd h
-length_stm (S.break l) h c = absurd h
-length_stm (S.continue l) h c = absurd h
-length_stm (S.import l xs) h c = absurd h
-length_stm (S.import_from l m xs) h c = absurd h
-length_stm (S.global l xs) h c = absurd h
-length_stm (S.nonlocal l xs) h c = absurd h
-length_stm (S.choice l bs els) h c = absurd h
-length_stm (S.while l t body els) h c = absurd h
-length_stm (S.for l t e body els) h c = absurd h
-length_stm (S.try l body hs els fin) h c = absurd h
-length_stm (S.with l is body) h c = absurd h
-length_stm (S.def l ds k m x ps r body) h c = absurd h
-length_stm (S.class l ds k m x t body) h c = absurd h
-length_stm (S.docstring l) h c = absurd h
+length_stm (S.assign l ts e) h c =
+    let parts = built_assign l ts e h in
+    omega (arith, length_targets l ts parts.0 (lay_exp e c), length_exp e parts.1 c)
+length_stm (S.augmented l t o e) h c = told h
+length_stm (S.annotated l t a v) h c = told h
+length_stm (S.assert l t m) h c = told h
+length_stm (S.pass l) h c = told h
+length_stm (S.del l ts) h c = told h
+length_stm (S.return l v) h c = told h
+length_stm (S.raise l e d) h c = told h
+length_stm (S.raise_again l) h c = told h
+length_stm (S.break l) h c = told h
+length_stm (S.continue l) h c = told h
+length_stm (S.import l xs) h c = told h
+length_stm (S.import_from l m xs) h c = told h
+length_stm (S.global l xs) h c = told h
+length_stm (S.nonlocal l xs) h c = told h
+length_stm (S.choice l bs els) h c = told h
+length_stm (S.while l t body els) h c = told h
+length_stm (S.for l t e body els) h c = told h
+length_stm (S.try l body hs els fin) h c = told h
+length_stm (S.with l is body) h c = told h
+length_stm (S.def l ds k m x ps r body) h c = told h
+length_stm (S.class l ds k m x t body) h c = told h
+length_stm (S.docstring l) h c = told h
 
 pub length_all : (ss : Stms) → Built ss → (c : Code) → length (lay_all ss c).instrs ≡ length c.instrs + stms_size ss
 length_all none h c = omega arith
-length_all (more s ss) h c = omega (arith, length_all ss h.1 (lay_stm s c), length_stm s h.0 c)
+length_all (more s ss) h c =
+    let parts = built_more s ss h in
+    omega (arith, length_all ss parts.1 (lay_stm s c), length_stm s parts.0 c)
 
 -- what was put behind a list stands at its length
 seam : {A : Type 0} (xs : List A) (y : A) (ys : List A) → slice_get (xs ++ y ∷ ys) (length xs) ≡ Some y
@@ -271,85 +276,87 @@ module _ (whole : Code) where
   placed_print f h c b n en = absurd (cc)
 
   mutual
-    placed_exp : (e : Exp) → Built_exp e → (c : Code) → Begins (lay_exp e c) whole → (n : ℕ) → n ≡ length c.instrs → Exp_at (laid whole) e n n (n + size e)
-    placed_exp (S.constant l k) h c b n en = placed_literal k l h c b n en
+    placed_exp : (e : Exp) → unbuilt_exp e ≡ None → (c : Code) → Begins (lay_exp e c) whole → (n : ℕ) → n ≡ length c.instrs → Exp_at (laid whole) e n n (n + size e)
+    placed_exp (S.constant l k) h c b n en = placed_literal k l (built_constant l k h) c b n en
     placed_exp (S.name l x) h c b n en = placed_name l x c b n en
     placed_exp (S.binary l o x y) h c b n en =
+        let parts = built_binary l o x y h in
         let by = before_instr (instr.Binary o) l (lay_exp y (lay_exp x c)) whole b in
         let bx = before_exp y (lay_exp x c) whole by in
-        let ny : n + size x ≡ length (lay_exp x c).instrs = omega (arith, length_exp x h.1.0 c) in
-        let no : n + size x + size y ≡ length (lay_exp y (lay_exp x c)).instrs = omega (arith, length_exp y h.1.1 (lay_exp x c)) in (
+        let ny : n + size x ≡ length (lay_exp x c).instrs = omega (arith, length_exp x parts.0 c) in
+        let no : n + size x + size y ≡ length (lay_exp y (lay_exp x c)).instrs = omega (arith, length_exp y parts.1 (lay_exp x c)) in (
           n + size x,
-          placed_exp x h.1.0 c bx n en,
+          placed_exp x parts.0 c bx n en,
           (
             n + size x + size y,
-            placed_exp y h.1.1 (lay_exp x c) by (n + size x) ny,
+            placed_exp y parts.1 (lay_exp x c) by (n + size x) ny,
             ins_to (view.binary o) (n + size x + size y) l (n + size x + size y) (n + size (S.binary l o x y))
                 (ins_stands (instr.Binary o) (view.binary o) l (lay_exp y (lay_exp x c)).instrs (n + size x + size y) (n + size x + size y) no no b.instrs refl) (omega arith),
           ),
         )
     placed_exp (S.call l f args) h c b n en =
-        let is = both_true (is_print f) (count_args args == 1) h.0 in
+        let is = built_call l f args h in
         let ba = before_instr (instr.Call 1) l (lay_args args (lay_exp f c)) whole b in
         let bf = before_args args (lay_exp f c) whole ba in
-        let na : n + size f ≡ length (lay_exp f c).instrs = omega (arith, length_print f is.0 c) in
-        let no : n + size f + args_size args ≡ length (lay_args args (lay_exp f c)).instrs = omega (arith, length_args args h.1 (lay_exp f c)) in (
-          eqb-true (count_args args) 1 is.1,
+        let na : n + size f ≡ length (lay_exp f c).instrs = omega (arith, length_print f is.print c) in
+        let no : n + size f + args_size args ≡ length (lay_args args (lay_exp f c)).instrs = omega (arith, length_args l args is.arguments (lay_exp f c)) in (
+          eqb-true (count_args args) 1 is.one,
           (
             n + size f,
-            placed_print f is.0 c bf n en,
+            placed_print f is.print c bf n en,
             (
               n + size f + args_size args,
-              placed_args args h.1 (lay_exp f c) ba (n + size f) na,
+              placed_args l args is.arguments (lay_exp f c) ba (n + size f) na,
               ins_to (view.call 1) (n + size f + args_size args) l (n + size f + args_size args) (n + size (S.call l f args))
                   (ins_stands (instr.Call 1) (view.call 1) l (lay_args args (lay_exp f c)).instrs (n + size f + args_size args) (n + size f + args_size args) no no b.instrs refl) (omega arith),
             ),
           ),
         )
-    placed_exp (S.joined l ps) h c b n en = absurd h
-    placed_exp (S.tuple l es) h c b n en = absurd h
-    placed_exp (S.list l es) h c b n en = absurd h
-    placed_exp (S.set l es) h c b n en = absurd h
-    placed_exp (S.dict l es) h c b n en = absurd h
-    placed_exp (S.attribute l a x) h c b n en = absurd h
-    placed_exp (S.item l a i) h c b n en = absurd h
-    placed_exp (S.slice l x y z) h c b n en = absurd h
-    placed_exp (S.unary l o a) h c b n en = absurd h
-    placed_exp (S.not_of l a) h c b n en = absurd h
-    placed_exp (S.compare l a o d r) h c b n en = absurd h
-    placed_exp (S.and l a es) h c b n en = absurd h
-    placed_exp (S.or l a es) h c b n en = absurd h
-    placed_exp (S.conditional l t a d) h c b n en = absurd h
-    placed_exp (S.lambda l m ps e) h c b n en = absurd h
-    placed_exp (S.comprehension l m k t it cs) h c b n en = absurd h
-    placed_exp (S.generator l m e k t it cs) h c b n en = absurd h
-    placed_exp (S.yield l v) h c b n en = absurd h
-    placed_exp (S.yield_from l e) h c b n en = absurd h
+    placed_exp (S.joined l ps) h c b n en = told h
+    placed_exp (S.tuple l es) h c b n en = told h
+    placed_exp (S.list l es) h c b n en = told h
+    placed_exp (S.set l es) h c b n en = told h
+    placed_exp (S.dict l es) h c b n en = told h
+    placed_exp (S.attribute l a x) h c b n en = told h
+    placed_exp (S.item l a i) h c b n en = told h
+    placed_exp (S.slice l x y z) h c b n en = told h
+    placed_exp (S.unary l o a) h c b n en = told h
+    placed_exp (S.not_of l a) h c b n en = told h
+    placed_exp (S.compare l a o d r) h c b n en = told h
+    placed_exp (S.and l a es) h c b n en = told h
+    placed_exp (S.or l a es) h c b n en = told h
+    placed_exp (S.conditional l t a d) h c b n en = told h
+    placed_exp (S.lambda l m ps e) h c b n en = told h
+    placed_exp (S.comprehension l m k t it cs) h c b n en = told h
+    placed_exp (S.generator l m e k t it cs) h c b n en = told h
+    placed_exp (S.yield l v) h c b n en = told h
+    placed_exp (S.yield_from l e) h c b n en = told h
 
-    placed_args : (args : Args) → Built_args args → (c : Code) → Begins (lay_args args c) whole → (n : ℕ) → n ≡ length c.instrs → Args_at (laid whole) args n n (n + args_size args)
-    placed_args S.no_args h c b n en = omega arith
-    placed_args (S.positional e r) h c b n en =
-        let ne : n + size e ≡ length (lay_exp e c).instrs = omega (arith, length_exp e h.0 c) in (
+    placed_args : (k : ℕ) (args : Args) → unbuilt_args k args ≡ None → (c : Code) → Begins (lay_args args c) whole → (n : ℕ) → n ≡ length c.instrs → Args_at (laid whole) args n n (n + args_size args)
+    placed_args k S.no_args h c b n en = omega arith
+    placed_args k (S.positional e r) h c b n en =
+        let parts = built_positional k e r h in
+        let ne : n + size e ≡ length (lay_exp e c).instrs = omega (arith, length_exp e parts.0 c) in (
           n + size e,
-          placed_exp e h.0 c (before_args r (lay_exp e c) whole b) n en,
-          subst (λ to. Args_at (laid whole) r (n + size e) (n + size e) to) (omega arith) (placed_args r h.1 (lay_exp e c) b (n + size e) ne),
+          placed_exp e parts.0 c (before_args r (lay_exp e c) whole b) n en,
+          subst (λ to. Args_at (laid whole) r (n + size e) (n + size e) to) (omega arith) (placed_args k r parts.1 (lay_exp e c) b (n + size e) ne),
         )
-    placed_args (S.named x e r) h c b n en = absurd h
-    placed_args (S.spread e r) h c b n en = absurd h
-    placed_args (S.spread_named e r) h c b n en = absurd h
+    placed_args k (S.named x e r) h c b n en = told h
+    placed_args k (S.spread e r) h c b n en = told h
+    placed_args k (S.spread_named e r) h c b n en = told h
 
-  placed_targets : (ts : Tgts) → Built_targets ts → (c : Code) → Begins (lay_targets ts c) whole → (n : ℕ) → n ≡ length c.instrs → Targets_at (laid whole) ts n n (n + targets_size ts)
-  placed_targets S.no_targets h c b n en = absurd h
-  placed_targets (S.more_targets (S.single (S.name_at l x)) S.no_targets) h c b n en =
+  placed_targets : (k : ℕ) (ts : Tgts) → unbuilt_targets k ts ≡ None → (c : Code) → Begins (lay_targets ts c) whole → (n : ℕ) → n ≡ length c.instrs → Targets_at (laid whole) ts n n (n + targets_size ts)
+  placed_targets k S.no_targets h c b n en = told h
+  placed_targets k (S.more_targets (S.single (S.name_at l x)) S.no_targets) h c b n en =
       ins_stands (instr.SetName (record { 0 = length c.texts })) (view.store x) l c.instrs n n en en b.instrs
       (ap (option_map view.store) (stands c.texts x whole.texts b.texts))
-  placed_targets (S.more_targets (S.single (S.attribute_at l a x)) S.no_targets) h c b n en = absurd h
-  placed_targets (S.more_targets (S.single (S.item_at l a i)) S.no_targets) h c b n en = absurd h
-  placed_targets (S.more_targets (S.several l f us) S.no_targets) h c b n en = absurd h
-  placed_targets (S.more_targets (S.starred l t) S.no_targets) h c b n en = absurd h
-  placed_targets (S.more_targets t (S.more_targets u ts)) h c b n en = absurd h
+  placed_targets k (S.more_targets (S.single (S.attribute_at l a x)) S.no_targets) h c b n en = told h
+  placed_targets k (S.more_targets (S.single (S.item_at l a i)) S.no_targets) h c b n en = told h
+  placed_targets k (S.more_targets (S.several l f us) S.no_targets) h c b n en = told h
+  placed_targets k (S.more_targets (S.starred l t) S.no_targets) h c b n en = told h
+  placed_targets k (S.more_targets t (S.more_targets u ts)) h c b n en = told h
 
-  placed_stm : (s : Stm) → Built_stm s → (c : Code) → Begins (lay_stm s c) whole → (n : ℕ) → n ≡ length c.instrs → Stm_at (laid whole) s n n (n + stm_size s)
+  placed_stm : (s : Stm) → unbuilt_stm s ≡ None → (c : Code) → Begins (lay_stm s c) whole → (n : ℕ) → n ≡ length c.instrs → Stm_at (laid whole) s n n (n + stm_size s)
   placed_stm (S.expr l e) h c b n en =
       let no : n + size e ≡ length (lay_exp e c).instrs = omega (arith, length_exp e h c) in (
         n + size e,
@@ -358,41 +365,43 @@ module _ (whole : Code) where
             (ins_stands instr.Pop view.pop l (lay_exp e c).instrs (n + size e) (n + size e) no no b.instrs refl) (omega arith),
       )
   placed_stm (S.assign l ts e) h c b n en =
-      let no : n + size e ≡ length (lay_exp e c).instrs = omega (arith, length_exp e h.1 c) in (
+      let parts = built_assign l ts e h in
+      let no : n + size e ≡ length (lay_exp e c).instrs = omega (arith, length_exp e parts.1 c) in (
         n + size e,
-        placed_exp e h.1 c (before_targets ts (lay_exp e c) whole b) n en,
-        subst (λ to. Targets_at (laid whole) ts (n + size e) (n + size e) to) (omega arith) (placed_targets ts h.0 (lay_exp e c) b (n + size e) no),
+        placed_exp e parts.1 c (before_targets ts (lay_exp e c) whole b) n en,
+        subst (λ to. Targets_at (laid whole) ts (n + size e) (n + size e) to) (omega arith) (placed_targets l ts parts.0 (lay_exp e c) b (n + size e) no),
       )
-  placed_stm (S.augmented l t o e) h c b n en = absurd h
-  placed_stm (S.annotated l t a v) h c b n en = absurd h
-  placed_stm (S.assert l t m) h c b n en = absurd h
-  placed_stm (S.pass l) h c b n en = absurd h
-  placed_stm (S.del l ts) h c b n en = absurd h
-  placed_stm (S.return l v) h c b n en = absurd h
-  placed_stm (S.raise l e d) h c b n en = absurd h
-  placed_stm (S.raise_again l) h c b n en = absurd h
-  placed_stm (S.break l) h c b n en = absurd h
-  placed_stm (S.continue l) h c b n en = absurd h
-  placed_stm (S.import l xs) h c b n en = absurd h
-  placed_stm (S.import_from l m xs) h c b n en = absurd h
-  placed_stm (S.global l xs) h c b n en = absurd h
-  placed_stm (S.nonlocal l xs) h c b n en = absurd h
-  placed_stm (S.choice l bs els) h c b n en = absurd h
-  placed_stm (S.while l t body els) h c b n en = absurd h
-  placed_stm (S.for l t e body els) h c b n en = absurd h
-  placed_stm (S.try l body hs els fin) h c b n en = absurd h
-  placed_stm (S.with l is body) h c b n en = absurd h
-  placed_stm (S.def l ds k m x ps r body) h c b n en = absurd h
-  placed_stm (S.class l ds k m x t body) h c b n en = absurd h
-  placed_stm (S.docstring l) h c b n en = absurd h
+  placed_stm (S.augmented l t o e) h c b n en = told h
+  placed_stm (S.annotated l t a v) h c b n en = told h
+  placed_stm (S.assert l t m) h c b n en = told h
+  placed_stm (S.pass l) h c b n en = told h
+  placed_stm (S.del l ts) h c b n en = told h
+  placed_stm (S.return l v) h c b n en = told h
+  placed_stm (S.raise l e d) h c b n en = told h
+  placed_stm (S.raise_again l) h c b n en = told h
+  placed_stm (S.break l) h c b n en = told h
+  placed_stm (S.continue l) h c b n en = told h
+  placed_stm (S.import l xs) h c b n en = told h
+  placed_stm (S.import_from l m xs) h c b n en = told h
+  placed_stm (S.global l xs) h c b n en = told h
+  placed_stm (S.nonlocal l xs) h c b n en = told h
+  placed_stm (S.choice l bs els) h c b n en = told h
+  placed_stm (S.while l t body els) h c b n en = told h
+  placed_stm (S.for l t e body els) h c b n en = told h
+  placed_stm (S.try l body hs els fin) h c b n en = told h
+  placed_stm (S.with l is body) h c b n en = told h
+  placed_stm (S.def l ds k m x ps r body) h c b n en = told h
+  placed_stm (S.class l ds k m x t body) h c b n en = told h
+  placed_stm (S.docstring l) h c b n en = told h
 
   placed_all : (ss : Stms) → Built ss → (c : Code) → Begins (lay_all ss c) whole → (n : ℕ) → n ≡ length c.instrs → All_at (laid whole) ss n n (n + stms_size ss)
   placed_all none h c b n en = omega arith
   placed_all (more s ss) h c b n en =
-      let ns : n + stm_size s ≡ length (lay_stm s c).instrs = omega (arith, length_stm s h.0 c) in (
+      let parts = built_more s ss h in
+      let ns : n + stm_size s ≡ length (lay_stm s c).instrs = omega (arith, length_stm s parts.0 c) in (
         n + stm_size s,
-        placed_stm s h.0 c (before_all ss (lay_stm s c) whole b) n en,
-        subst (λ to. All_at (laid whole) ss (n + stm_size s) (n + stm_size s) to) (omega arith) (placed_all ss h.1 (lay_stm s c) b (n + stm_size s) ns),
+        placed_stm s parts.0 c (before_all ss (lay_stm s c) whole b) n en,
+        subst (λ to. All_at (laid whole) ss (n + stm_size s) (n + stm_size s) to) (omega arith) (placed_all ss parts.1 (lay_stm s c) b (n + stm_size s) ns),
       )
 
 whole_begins : (c : Code) → Begins c c

@@ -6,6 +6,7 @@ use Rattle.pt_base.specs.Taken.{Pieces}
 use Rattle.pt_control.specs.Turn.{End, left_by, Turn, act, note, move, over, stuck}
 use Rattle.pt_meaning.specs.Run.{on_outcome}
 use Rattle.pt_meaning.specs.declared.value.Value.{Value}
+use Rattle.pt_meaning.specs.declared.value.Value.TheVariants as value
 use Rattle.pt_meaning.specs.declared.value.Value.TheVariants.{Exception}
 use Rattle.pt_meaning.specs.Host.{Names, World, host}
 use Rattle.pt_session.specs.declared.machine.Machine.{Machine}
@@ -31,7 +32,8 @@ pub data Passed : Type 0 where
   lost : Passed
 
 abbrev pub passed : Turn (State Value) Value → World → Passed
-passed (act m a k) w = on_outcome (λ r w'. onto (k r) w') (λ what. left what m.line) (host.answer a w)
+passed (act (Some m) a k) w = on_outcome (λ r w'. onto (k r) w') (λ what. left what m.line) (host.answer a w)
+passed (act None a k) w = lost
 passed (over e) w = at_end e
 passed (note a k) w = lost
 passed (move s) w = lost
@@ -51,4 +53,4 @@ Does op line old s new = (at : ℕ) (ws : Pieces) → passed (do_op op (ins op a
 
 -- what stands at a place before the end is done, wherever that is
 abbrev pub Performs : Code → Placed → (old : Machine) → Option Step → (new : Machine) → Type 0
-Performs code placed old s new = (at : ℕ) (ws : Pieces) → passed (here false (ins_of code.texts code.constants at (Some placed)) old.slots) (world_of old ws) ≡ told s (at + 1) new ws
+Performs code placed old s new = (at : ℕ) (ws : Pieces) → passed (here value.None false (ins_of code.texts code.constants at (Some placed)) old.slots) (world_of old ws) ≡ told s (at + 1) new ws

@@ -2,7 +2,7 @@
 use Rattle.std.specs.Prelude.{◌≡◌, ◌<◌, ℕ, ◌+◌, [], ◌++◌, Option, Some, None, false}
 use Rattle.pt_base.specs.Taken.{Pieces, Takes, TakesFront}
 use Rattle.pt_tree.specs.Syntax.{Stms}
-use Rattle.pt_control.specs.Turn.{done, left_by}
+use Rattle.pt_control.specs.Turn.{gave, left_by}
 use Rattle.pt_meaning.specs.Run.{Ending, ended, outside, spent, meaning}
 use Rattle.pt_meaning.specs.declared.value.Value.{Value}
 use Rattle.pt_meaning.specs.declared.value.Value.TheVariants as value
@@ -27,7 +27,7 @@ meaning_of limit ss = record { world = (meaning value.None host limit ss start_w
 
 -- the code's run from its first instruction, with no name bound and nothing written
 abbrev pub RunsWhole : Code → (limit : ℕ) → Whole → Type 0
-RunsWhole code limit whole = Runs host (laid code) limit (turn (laid code) (on 0 [])) start_world whole.world whole.ending
+RunsWhole code limit whole = Runs value.None host (laid code) limit (turn value.None (laid code) (on 0 [])) start_world whole.world whole.ending
 
 -- a place of a run: how many acts are left behind it, and what is written so far
 pub record Point : Type 0 where
@@ -38,7 +38,7 @@ pub record Point : Type 0 where
 
 -- a run that is not broken off ends so
 abbrev pub IsEnding : RunEnd → Ending Value → Type 0
-IsEnding end.Done (ended done) = Unit {0}
+IsEnding end.Done (ended (gave v)) = Unit {0}
 IsEnding end.Raised (ended (left_by v)) = Unit {0}
 IsEnding (end.Outside what line) (outside what' line') = (what' ≡ what) × (line' ≡ line.0)
 IsEnding end.Spent spent = Unit {0}
@@ -65,7 +65,7 @@ Finished whole e old new = IsEnding e whole.ending × Takes old new whole.world.
 
 -- the run comes to what stands at the place, with the machine's slots and names
 abbrev pub RunsAt : Code → Placed → Machine → Point → Type 0
-RunsAt code placed m p = Runs host (laid code) (p.left + 1) (here false (ins_of code.texts code.constants p.at (Some placed)) m.slots) (world_of m p.written) p.whole.world p.whole.ending
+RunsAt code placed m p = Runs value.None host (laid code) (p.left + 1) (here value.None false (ins_of code.texts code.constants p.at (Some placed)) m.slots) (world_of m p.written) p.whole.world p.whole.ending
 
 -- of the pieces that are left to write, a front was taken
 abbrev pub BrokenOff : Point → (old new : Pieces → Pieces → Type 0) → Type 0
@@ -73,5 +73,5 @@ BrokenOff p old new = (rest : Pieces) × (p.whole.world.written ≡ p.written ++
 
 -- one act further, or at the end of the run
 abbrev pub Advanced : Laid → Point → Option RunEnd → Machine → (old new : Pieces → Pieces → Type 0) → Type 0
-Advanced code p None m old new = (more : Pieces) × Takes old new more × Runs host code p.left (turn code (on (p.at + 1) m.slots)) (world_of m (p.written ++ more)) p.whole.world p.whole.ending
+Advanced code p None m old new = (more : Pieces) × Takes old new more × Runs value.None host code p.left (turn value.None code (on (p.at + 1) m.slots)) (world_of m (p.written ++ more)) p.whole.world p.whole.ending
 Advanced code p (Some why) m old new = IsEnding why p.whole.ending × (p.whole.world.written ≡ p.written) × Takes old new []

@@ -11,5 +11,5 @@ ghost use Rattle.pt_session.specs.View.{laid};
 /// The code that is laid down for a built script means the script: for every bound on acts it has a
 /// run, so that it is never stuck, with the world and the ending of the script's meaning.
 pub fn compiled_code_means_the_script()
-    ensures { (ss : Stms) → Built ss → Means host (laid (lay_all ss no_code)) None ss }
+    ensures { (ss : Stms) → Built ss → Means None host (laid (lay_all ss no_code)) ss }
 {}

@@ -1,11 +1,17 @@
 use pt_base::{BinOp, BlockId, Boxed, CompareOp, Line, Seq, Text, UnOp};
 
 /// An expression, and the line on which it starts (Language Reference 6).
-#[derive(Drop)]
 #[cycle(expr)]
 pub struct Expr {
     pub line: Line,
     pub node: ExprNode,
+}
+
+impl Drop for Expr {
+    #[cycle(expr)]
+    fn drop(self) {
+        let Self { line: _, node: _ } = self;
+    }
 }
 
 #[derive(Drop)]

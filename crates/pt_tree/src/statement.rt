@@ -9,11 +9,17 @@ pub struct Script {
 
 /// A statement, and the line on which it starts: that of its first decorator, if it has one
 /// (Language Reference 7, 8).
-#[derive(Drop)]
 #[cycle(stmt)]
 pub struct Stmt {
     pub line: Line,
     pub node: StmtNode,
+}
+
+impl Drop for Stmt {
+    #[cycle(stmt)]
+    fn drop(self) {
+        let Self { line: _, node: _ } = self;
+    }
 }
 
 #[derive(Drop)]

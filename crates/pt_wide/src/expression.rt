@@ -1,12 +1,30 @@
+ghost use Rattle.std.specs.Prelude.{◌≡◌};
+
 use pt_base::{BinOp, Boxed, CompareOp, Line, Seq, Text, UnOp};
 use pt_tree::{Constant, Conversion, NamedParameter};
 
 /// An expression of the wide grammar, and the line on which it starts (Language Reference 6).
-#[derive(Drop)]
 #[cycle(wide)]
 pub struct WideExpr {
     pub line: Line,
     pub node: WideNode,
+}
+
+impl Drop for WideExpr {
+    #[cycle(wide)]
+    fn drop(self) {
+        let Self { line: _, node: _ } = self;
+    }
+}
+
+impl WideExpr {
+    /// What it is, without its line.
+    pub fn into_node(self) -> WideNode
+        ensures { result ≡ self.node }
+    {
+        let Self { line: _, node } = self;
+        node
+    }
 }
 
 /// What stands in a target's place is an expression too; so is `*item` in a display.

@@ -10,11 +10,17 @@ pub struct WideScript {
 
 /// A statement, and the line on which it starts: that of its first decorator, if it has one
 /// (Language Reference 7, 8).
-#[derive(Drop)]
 #[cycle(wide_statement)]
 pub struct WideStmt {
     pub line: Line,
     pub node: WideStmtNode,
+}
+
+impl Drop for WideStmt {
+    #[cycle(wide_statement)]
+    fn drop(self) {
+        let Self { line: _, node: _ } = self;
+    }
 }
 
 #[derive(Drop)]

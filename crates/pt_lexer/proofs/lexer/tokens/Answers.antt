@@ -1,5 +1,5 @@
 use Rattle.pt_lexer.proofs.LineLemmas.{one_list, one_refusal}
-use Rattle.pt_lexer.proofs.ShapeLemmas.{shape_of}
+use Rattle.pt_lexer.proofs.StringShape.{shape_of}
 use Rattle.pt_lexer.proofs.lexer.tokens.Goals as goal
 
 pub returns-clause-one_list : goal.returns-clause-one_list

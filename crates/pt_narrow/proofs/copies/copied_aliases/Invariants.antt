@@ -1,5 +1,0 @@
-use Rattle.std.proofs.Common.{◌≡◌, take}
-use Rattle.pt_narrow.proofs.copies.copied_aliases.Given as goal
-
-abbrev pub invariant-loop-alias : goal.invariant-loop-alias
-invariant-loop-alias l = l.copy ≡ take l.alias-index l.aliases

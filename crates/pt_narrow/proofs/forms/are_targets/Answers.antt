@@ -1,6 +1,0 @@
-use Rattle.std.proofs.Common.{arith}
-use Rattle.pt_narrow.proofs.Others.{targets-items}
-use Rattle.pt_narrow.proofs.forms.are_targets.Goals as goal
-
-pub returns : goal.returns
-returns c = grind (arith, targets-items c.args.items.now)

@@ -1,8 +1,0 @@
-use Rattle.std.proofs.Common.{◌≡◌, drop}
-use Rattle.pt_wide.specs.StatementFold.{items_of}
-use Rattle.pt_narrow.specs.StatementFaults.{faults_items}
-use Rattle.pt_narrow.specs.First.{first_of}
-use Rattle.pt_narrow.proofs.statement_faults.check_items.Given as goal
-
-abbrev pub invariant-loop-item : goal.invariant-loop-item
-invariant-loop-item l = first_of (faults_items (items_of (drop l.item-index l.items))) ≡ first_of (faults_items (items_of l.items))

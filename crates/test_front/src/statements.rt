@@ -1,0 +1,261 @@
+//! Trees of statements as lists in parentheses, each behind the last two digits of its line.
+
+use crate::printer::{expression, given, parameters, place, sign_of, target, targets};
+use crate::words::{Printed, at, close, open, renamed, word};
+use pt_base::{Line, Text};
+use pt_tree::{Alias, Branch, Decorator, Handler, Script, Stmt, StmtNode, WithItem};
+
+fn aliases(out: &mut String, names: &[Alias]) -> Printed {
+    for name in names {
+        word(out, name.name.as_str())?;
+        renamed(out, &name.alias)?;
+    }
+    Ok(())
+}
+
+fn words(out: &mut String, names: &[Text]) -> Printed {
+    for name in names {
+        word(out, name.as_str())?;
+    }
+    Ok(())
+}
+
+fn items(out: &mut String, parts: &[WithItem]) -> Printed {
+    for part in parts {
+        open(out, "item")?;
+        expression(out, &part.context)?;
+        if let Some(part) = &part.target {
+            target(out, part)?;
+        }
+        close(out)?;
+    }
+    Ok(())
+}
+
+/// What a definition begins with: its decorators, its own line and its name.
+fn defined(out: &mut String, decorators: &[Decorator], line: Line, name: &Text) -> Printed {
+    for part in decorators {
+        open(out, "@")?;
+        at(out, part.line)?;
+        expression(out, &part.value)?;
+        close(out)?;
+    }
+    at(out, line)?;
+    word(out, name.as_str())
+}
+
+/// What the list of a statement begins with, or the whole of a statement that is a word alone.
+fn head(node: &StmtNode) -> &'static str {
+    match node {
+        StmtNode::Expr(_) => "expr",
+        StmtNode::Assign { .. } => "assign",
+        StmtNode::Augmented { .. } => "augmented",
+        StmtNode::Annotated { .. } => "annotated",
+        StmtNode::Assert { .. } => "assert",
+        StmtNode::Pass => "pass",
+        StmtNode::Del(_) => "del",
+        StmtNode::Return(_) => "return",
+        StmtNode::Raise { .. } => "raise",
+        StmtNode::RaiseAgain => "raise",
+        StmtNode::Break => "break",
+        StmtNode::Continue => "continue",
+        StmtNode::Import(_) => "import",
+        StmtNode::ImportFrom { .. } => "from",
+        StmtNode::Global(_) => "global",
+        StmtNode::Nonlocal(_) => "nonlocal",
+        StmtNode::If { .. } => "if",
+        StmtNode::While { .. } => "while",
+        StmtNode::For { .. } => "for",
+        StmtNode::Try { .. } => "try",
+        StmtNode::With { .. } => "with",
+        StmtNode::Def { .. } => "def",
+        StmtNode::Class { .. } => "class",
+    }
+}
+
+/// What stands in the list of a simple statement behind its name (Language Reference 7).
+fn simple(out: &mut String, node: &StmtNode) -> Printed {
+    match node {
+        StmtNode::Expr(value) => expression(out, value),
+        StmtNode::Assign {
+            targets: parts,
+            value,
+        } => {
+            targets(out, parts.as_slice())?;
+            expression(out, value)
+        }
+        StmtNode::Augmented {
+            target,
+            operator,
+            value,
+        } => {
+            place(out, &target.node)?;
+            word(out, sign_of(*operator))?;
+            expression(out, value)
+        }
+        StmtNode::Annotated {
+            target,
+            annotation,
+            value,
+        } => {
+            place(out, &target.node)?;
+            expression(out, annotation)?;
+            given(out, value)
+        }
+        StmtNode::Assert { test, message } => {
+            expression(out, test)?;
+            given(out, message)
+        }
+        StmtNode::Del(parts) => targets(out, parts.as_slice()),
+        StmtNode::Return(value) => given(out, value),
+        StmtNode::Raise { exception, cause } => {
+            expression(out, exception)?;
+            given(out, cause)
+        }
+        StmtNode::Import(names) => aliases(out, names.as_slice()),
+        StmtNode::ImportFrom { origin, names } => {
+            word(out, origin.as_str())?;
+            aliases(out, names.as_slice())
+        }
+        StmtNode::Global(names) => words(out, names.as_slice()),
+        StmtNode::Nonlocal(names) => words(out, names.as_slice()),
+        _ => Ok(()),
+    }
+}
+
+#[cycle(statements)]
+fn block(out: &mut String, body: &[Stmt]) -> Printed {
+    open(out, "block")?;
+    statements(out, body)?;
+    close(out)
+}
+
+#[cycle(statements)]
+fn statements(out: &mut String, body: &[Stmt]) -> Printed {
+    for s in body {
+        statement(out, s)?;
+    }
+    Ok(())
+}
+
+#[cycle(statements)]
+fn statement(out: &mut String, s: &Stmt) -> Printed {
+    at(out, s.line)?;
+    match &s.node {
+        StmtNode::Pass | StmtNode::RaiseAgain | StmtNode::Break | StmtNode::Continue => {
+            word(out, head(&s.node))
+        }
+        _ => {
+            open(out, head(&s.node))?;
+            simple(out, &s.node)?;
+            compound(out, &s.node)?;
+            close(out)
+        }
+    }
+}
+
+/// What stands in the list of a compound statement behind its name (Language Reference 8).
+#[cycle(statements)]
+fn compound(out: &mut String, node: &StmtNode) -> Printed {
+    match node {
+        StmtNode::If {
+            branches: parts,
+            otherwise,
+        } => {
+            branches(out, parts.as_slice())?;
+            block(out, otherwise.as_slice())
+        }
+        StmtNode::While {
+            test,
+            body,
+            otherwise,
+        } => {
+            expression(out, test)?;
+            block(out, body.as_slice())?;
+            block(out, otherwise.as_slice())
+        }
+        StmtNode::For {
+            target: each,
+            iterable,
+            body,
+            otherwise,
+        } => {
+            target(out, each)?;
+            expression(out, iterable)?;
+            block(out, body.as_slice())?;
+            block(out, otherwise.as_slice())
+        }
+        StmtNode::Try {
+            body,
+            handlers: parts,
+            otherwise,
+            finally,
+        } => {
+            block(out, body.as_slice())?;
+            handlers(out, parts.as_slice())?;
+            block(out, otherwise.as_slice())?;
+            block(out, finally.as_slice())
+        }
+        StmtNode::With { items: parts, body } => {
+            items(out, parts.as_slice())?;
+            block(out, body.as_slice())
+        }
+        StmtNode::Def {
+            decorators,
+            line,
+            name,
+            parameters: parts,
+            returns,
+            body,
+            ..
+        } => {
+            defined(out, decorators.as_slice(), *line, name)?;
+            parameters(out, parts)?;
+            given(out, returns)?;
+            block(out, body.as_slice())
+        }
+        StmtNode::Class {
+            decorators,
+            line,
+            name,
+            base,
+            body,
+            ..
+        } => {
+            defined(out, decorators.as_slice(), *line, name)?;
+            given(out, base)?;
+            block(out, body.as_slice())
+        }
+        _ => Ok(()),
+    }
+}
+
+#[cycle(statements)]
+fn branches(out: &mut String, parts: &[Branch]) -> Printed {
+    for part in parts {
+        open(out, "branch")?;
+        at(out, part.line)?;
+        expression(out, &part.test)?;
+        block(out, part.body.as_slice())?;
+        close(out)?;
+    }
+    Ok(())
+}
+
+#[cycle(statements)]
+fn handlers(out: &mut String, parts: &[Handler]) -> Printed {
+    for part in parts {
+        open(out, "except")?;
+        at(out, part.line)?;
+        given(out, &part.class)?;
+        renamed(out, &part.name)?;
+        block(out, part.body.as_slice())?;
+        close(out)?;
+    }
+    Ok(())
+}
+
+/// All statements of a script.
+pub fn script(out: &mut String, script: &Script) -> Printed {
+    statements(out, script.body.as_slice())
+}

@@ -1,3 +1,0 @@
-x = [1, "two", f"{x!r:>{3}}"]
-if x:
-    print(x)
