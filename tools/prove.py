@@ -1,58 +1,39 @@
-"""Proves the crates that the program is made of, and builds it: each once those below it are proved.
+"""Proves the crates that the program is made of, several at once, and builds the program.
 
 usage: prove.py [JOBS]: at most so many crates at once; else as many as processors and memory allow.
+
+`rt all check` in the program's folder proves that crate and those below it, in the order of their needs. A line
+tells each crate as it is proved; crates/pt/out/prove.log has all that rt says.
 """
 import os
+import re
 import subprocess
 import sys
 import time
-from concurrent.futures import FIRST_COMPLETED, ThreadPoolExecutor, wait
 
 TOP = os.path.dirname(os.path.dirname(os.path.realpath(__file__)))
 PROGRAM = "pt"
+FOLDER = f"{TOP}/crates/{PROGRAM}"
+LOG = f"crates/{PROGRAM}/out/prove.log"
 FAILED = 70
 # What the proof of a big crate takes, in KiB.
 MEMORY = 5 << 20
 
 
-def needs():
-    """The crates of crates.txt, each with those of them that it names."""
-    found = {}
+def made_of():
+    """The crates of the program, by crates.txt."""
+    below = {}
     with open(f"{TOP}/crates.txt", encoding="utf-8") as file:
         for line in file:
-            head, colon, below = line.partition("#")[0].partition(":")
+            head, colon, names = line.partition("#")[0].partition(":")
             if colon:
-                found[head.split()[0]] = below.split()
-    return {name: [it for it in below if it in found] for name, below in found.items()}
-
-
-def closure(name, below):
-    """The crate and all that it stands on."""
-    found, work = set(), [name]
+                below[head.split()[0]] = names.split()
+    found, work = set(), [PROGRAM]
     while work:
-        it = work.pop()
-        if it not in found:
-            found.add(it)
-            work += below[it]
-    return found
-
-
-def size(name):
-    return sum(os.path.getsize(f"{at}/{it}") for at, _, files in os.walk(f"{TOP}/crates/{name}/src") for it in files)
-
-
-def heights(crates, below):
-    """How much is to be proved from each crate up to the program: the longest way has the first place."""
-    found = {}
-
-    def height(name):
-        if name not in found:
-            above = [it for it in crates if name in below[it]]
-            found[name] = size(name) + max(map(height, above), default=0)
-        return found[name]
-
-    for it in crates:
-        height(it)
+        name = work.pop()
+        if name in below and name not in found:
+            found.add(name)
+            work += below[name]
     return found
 
 
@@ -62,61 +43,92 @@ def at_once():
     return max(1, min(len(os.sched_getaffinity(0)), free // MEMORY))
 
 
-def prove(name, is_alone):
-    """Proves a crate and builds it. Returns the status and the seconds that it took."""
-    start = time.monotonic()
-    folder = f"{TOP}/crates/{name}"
-    os.makedirs(f"{folder}/out", exist_ok=True)
-    jobs = [] if is_alone else ["--jobs", "1"]
-    # A build of the program ends with a run of it, here on an empty script.
-    command = ["rt", "run", *jobs, "--", "run", "/dev/null"] if name == PROGRAM else ["rt", "lib", *jobs]
-    with open(f"{folder}/out/prove.log", "wb") as log:
-        ran = subprocess.run(command, cwd=folder, stdin=subprocess.DEVNULL, stdout=log, stderr=log)
-    return ran.returncode, time.monotonic() - start
+def blocks(lines):
+    """The name of each crate as rt ends with it, and the lines that rt says of it; at last `summary` and its lines."""
+    name, said = None, []
+    for line in lines:
+        if line.startswith("== "):
+            if name:
+                yield name, said
+            name, said = line[3:].strip(), []
+        else:
+            said.append(line)
+            # That line is the last of a crate.
+            if name and line.startswith("logic="):
+                yield name, said
+                name, said = None, []
+    if name:
+        yield name, said
 
 
-def prove_all(crates, below, jobs):
-    """Whether all of them are proved. A line tells each as it is done; after a failure no other one is begun."""
-    first, left, running, proved = heights(crates, below), set(crates), {}, set()
-    with ThreadPoolExecutor(jobs) as pool:
-        while left or running:
-            ready = [it for it in left if proved.issuperset(below[it])]
-            ready.sort(key=first.get, reverse=True)
-            for name in ready[: jobs - len(running)]:
-                left.remove(name)
-                running[pool.submit(prove, name, len(ready) == 1 and not running)] = name
-            if not running:
-                return False
-            for task in wait(running, return_when=FIRST_COMPLETED)[0]:
-                name = running.pop(task)
-                status, seconds = task.result()
-                if status:
-                    print(f"{name} isn't proved: crates/{name}/out/prove.log says why", flush=True)
-                    left.clear()
-                else:
-                    proved.add(name)
-                    print(f"{name} is proved ({seconds:.0f} s); left: {len(crates) - len(proved)}", flush=True)
-    return len(proved) == len(crates)
+def is_proved(said):
+    """Whether these lines are of a crate that is proved: now, or earlier, of which rt says next to nothing."""
+    return said[-1:] and said[-1].startswith("logic=proved ") or all(" begins with what " in it for it in said)
+
+
+def named(said, word):
+    """The crates of a summary that this word stands behind."""
+    return [it.partition(":")[0] for it in said if re.match(rf"\w+: {word}", it)]
+
+
+def prove(crates, jobs, log):
+    """Whether all of them are proved."""
+    left, start = set(crates), time.monotonic()
+
+    def tell(name):
+        if name in left:
+            left.remove(name)
+            print(f"{time.monotonic() - start:5.0f} s: {name} is proved, {len(left)} left", flush=True)
+
+    command = ["rt", "all", "check", "--jobs", str(jobs)]
+    how = {"stdin": subprocess.DEVNULL, "stdout": subprocess.PIPE, "stderr": subprocess.STDOUT}
+    with subprocess.Popen(command, cwd=FOLDER, text=True, errors="replace", **how) as rt:
+
+        def lines():
+            for line in rt.stdout:
+                log.write(line)
+                log.flush()
+                yield line
+
+        for name, said in blocks(lines()):
+            if name == "summary":
+                for it in named(said, "ok"):
+                    tell(it)
+                for it in named(said, "failed"):
+                    print(f"{it} isn't proved: {LOG} says why", flush=True)
+            elif is_proved(said):
+                tell(name)
+    return rt.returncode == 0
+
+
+def build(log):
+    """Whether the program is built. A build ends with a run of it, here on an empty script."""
+    command = ["rt", "run", "--", "run", "/dev/null"]
+    log.flush()
+    return subprocess.run(command, cwd=FOLDER, stdin=subprocess.DEVNULL, stdout=log, stderr=log).returncode == 0
 
 
 def main(words):
     if len(words) > 1 or not all(it.isdigit() and int(it) for it in words):
         print("usage: ./pt --prove [JOBS]", file=sys.stderr)
         return 2
-    below = needs()
-    crates = closure(PROGRAM, below)
+    crates = made_of()
     jobs = int(words[0]) if words else at_once()
-    kept = f"{TOP}/crates/{PROGRAM}/out"
-    os.makedirs(kept, exist_ok=True)
-    made_of = [f"crates/{name}/{it}" for name in sorted(crates) for it in ("src", "specs", "proofs")]
+    os.makedirs(f"{FOLDER}/out", exist_ok=True)
     # This file's age is that of the sources that are proved, so it is written before the first is read.
-    with open(f"{kept}/proving", "w", encoding="utf-8") as file:
-        file.write("\n".join(["crates.txt", *filter(lambda it: os.path.isdir(f"{TOP}/{it}"), made_of)]) + "\n")
+    folders = [f"crates/{name}/{it}" for name in sorted(crates) for it in ("src", "specs", "proofs")]
+    with open(f"{FOLDER}/out/proving", "w", encoding="utf-8") as file:
+        file.write("\n".join(["crates.txt", *(it for it in folders if os.path.isdir(f"{TOP}/{it}"))]) + "\n")
     start = time.monotonic()
     print(f"{len(crates)} crates to prove, {jobs} at once", flush=True)
-    if not prove_all(crates, below, jobs):
-        return FAILED
-    os.replace(f"{kept}/proving", f"{kept}/proved")
+    with open(f"{TOP}/{LOG}", "w", encoding="utf-8") as log:
+        if not prove(crates, jobs, log):
+            print(f"the program isn't proved: {LOG} says why", file=sys.stderr)
+            return FAILED
+        if not build(log):
+            print(f"the program is proved and can't be built: {LOG} says why", file=sys.stderr)
+            return FAILED
+    os.replace(f"{FOLDER}/out/proving", f"{FOLDER}/out/proved")
     print(f"the program is proved and built, in {time.monotonic() - start:.0f} s", flush=True)
     return 0
 

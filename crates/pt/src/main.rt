@@ -1,9 +1,7 @@
-//! The program `pt`: the real files and streams, and one call.
+//! The program `pt`: one call, over the real files and streams.
 #![tactic(auto)]
 
-mod outside;
-
-use outside::{FileShelf, StreamSink};
+use pt_outside::{FileShelf, StreamSink};
 use pt_prog::{End, status, top};
 use std::io::ErrorKind;
 use std::process::ExitCode;

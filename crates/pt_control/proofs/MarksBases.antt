@@ -1,9 +1,12 @@
 -- Where the acts of what goes on stand, those of the nest around it stand too.
+use Rattle.std.proofs.Common.{ℕ, ◌+◌}
+use Rattle.pt_tree.specs.declared.act.ActKind.{ActKind}
+use Rattle.pt_tree.specs.Sizes.{size}
 use Rattle.pt_control.specs.Frames as F
-use Rattle.pt_control.specs.Frames.{Nest, Way, Wait, Over, Rounds}
-use Rattle.pt_control.specs.Bases.{base, way_base, over_base, rounds_base}
+use Rattle.pt_control.specs.Frames.{Nest, Way, Wait, Purpose, Over, Rounds}
+use Rattle.pt_control.specs.Bases.{base, way_base, purpose_base, over_base, rounds_base}
 use Rattle.pt_control.proofs.MarksTree.{Numbering}
-use Rattle.pt_control.proofs.MarksFrames.{Nest_in, Way_in, Wait_in, Over_in, Rounds_in}
+use Rattle.pt_control.proofs.MarksFrames.{Nest_in, Way_in, Wait_in, Purpose_in, Over_in, Rounds_in}
 
 module _ (R : Numbering) {V : Type 0} where
   mutual
@@ -51,15 +54,9 @@ module _ (R : Numbering) {V : Type 0} where
     base_in (F.item_sent l n r) h = rounds_base_in r h.1
     base_in (F.dropped l n s) h = h.1
     base_in (F.assigned n ts s) h = h.1
-    base_in (F.set_attribute_of l n x v k) h = way_base_in k h.1
-    base_in (F.set_item_of l n i v k) h = way_base_in k h.2
-    base_in (F.set_item_at l n a v k) h = way_base_in k h.1
-    base_in (F.delete_attribute_of l n x k) h = way_base_in k h.1
-    base_in (F.delete_item_of l n i k) h = way_base_in k h.2
-    base_in (F.delete_item_at l n a k) h = way_base_in k h.1
-    base_in (F.change_attribute_of l n tl x o e s) h = h.2
-    base_in (F.change_item_of l n tl i o e s) h = h.3
-    base_in (F.change_item_at l n tl a o e s) h = h.2
+    base_in (F.of_attribute l n x p) h = purpose_base_in p _ _ _ l n h
+    base_in (F.of_item l n i p) h = purpose_base_in p _ _ _ l (n + size i) h.1
+    base_in (F.at_item l n a p) h = purpose_base_in p _ _ _ l n h
     base_in (F.changing l n tl to o e s) h = h.1
     base_in (F.changed_by l n tl to v o s) h = h.2
     base_in (F.change_stored n tl to s) h = h.1
@@ -74,6 +71,11 @@ module _ (R : Numbering) {V : Type 0} where
     base_in (F.entered l n t is body s) h = h.2
     base_in (F.decorated dl n before behind l x what s) h = h.1
     base_in (F.defined l n x calls s) h = h.1
+
+    pub purpose_base_in : (p : Purpose V) (st dl tk : ActKind) (l n : ℕ) → Purpose_in R p st dl tk l n → Nest_in R (purpose_base p)
+    purpose_base_in (F.storing v k) st dl tk l n h = way_base_in k h.1
+    purpose_base_in (F.deleting k) st dl tk l n h = way_base_in k h.1
+    purpose_base_in (F.changing_by j o e s) st dl tk l n h = h.2
 
     pub over_base_in : (o : Over V) → Over_in R o → Nest_in R (over_base o)
     over_base_in (F.for_over l n t body els s) h = h.1

@@ -6,18 +6,18 @@ use Rattle.pt_tree.specs.Syntax.{Exp, Clauses, Tgt, Tgts, Items, Stms}
 use Rattle.pt_tree.specs.Sizes.{items_size, stms_size}
 use Rattle.pt_control.specs.Turn.{Mark, Variable, Around, Row, Delegated, returned, resumed, Reply, got, raised}
 use Rattle.pt_control.specs.Frames as F
-use Rattle.pt_control.specs.Frames.{Abrupt, raise, normal, by, Nest, no_more, Changed, Way, Wait, Over, Rounds, Control}
+use Rattle.pt_control.specs.Frames.{Abrupt, raise, normal, by, Nest, no_more, Address, Way, Wait, Over, Rounds, Control}
 use Rattle.pt_control.specs.Bases.{base, way_base, over_base, around, rounds_line}
 use Rattle.pt_control.specs.Expressions.{take_item, target_names, clause_names}
-use Rattle.pt_control.specs.Statements.{each_gets, count}
+use Rattle.pt_control.specs.Statements.{at_place, each_gets, count}
 use Rattle.pt_control.specs.Completions.{complete}
-use Rattle.pt_control.specs.Control.{make_anew, store_back, deliver, next_round, take_iter, go, after_value, after_deed, after_leave, after_throw, after_truth, after_iter, after_item, after_entry, after_unpack, after_delegate, turn}
+use Rattle.pt_control.specs.Control.{make_anew, deliver, next_round, take_iter, go, after_value, after_deed, after_leave, after_throw, after_truth, after_iter, after_item, after_entry, after_unpack, after_delegate, turn}
 use Rattle.pt_control.specs.Reached.{Leads}
 use Rattle.pt_control.proofs.MarksTree.{Numbering, Target_in, Targets_in}
 use Rattle.pt_control.proofs.MarksFrames.{store_kind, Round_in, Last_in, Nest_in, Way_in, Wait_in, Over_in, Rounds_in, Entry_in, Control_in, Marked}
 use Rattle.pt_control.proofs.MarksBases.{base_in, way_base_in, over_base_in, rounds_base_in}
 use Rattle.pt_control.proofs.MarksExpressions.{no_test, begin_operation_in, begin_exp_in, next_operand_in, begin_spec_in, begin_clauses_in, take_item_in}
-use Rattle.pt_control.proofs.MarksStatements.{each_gets_in, begin_store_in, begin_assign_in, begin_stores_in, begin_deletes_in, begin_imports_in, begin_imports_from_in, begin_definition_in, begin_next_in, begin_all_in, begin_branches_in, begin_items_in, begin_tests_in}
+use Rattle.pt_control.proofs.MarksStatements.{at_attribute_in, at_item_in, each_gets_in, begin_store_in, begin_assign_in, begin_stores_in, begin_deletes_in, begin_imports_in, begin_imports_from_in, begin_definition_in, begin_next_in, begin_all_in, begin_branches_in, begin_items_in, begin_tests_in}
 use Rattle.pt_control.proofs.MarksCompletions.{complete_in, let_go_in}
 
 module _ (R : Numbering) {V : Type 0} where
@@ -27,11 +27,11 @@ module _ (R : Numbering) {V : Type 0} where
   make_anew_in (x ∷ xs) l n i t cs r h hr = ((h, hr), rounds_base_in R r hr)
 
 module _ (R : Numbering) {V : Type 0} (block : Around V) where
-  store_back_in : (to : Changed V) (v : V) (n l : ℕ) (s : Nest V)
-      → R.is (store_kind to) l n → Nest_in R s → Control_in R (store_back block to v n l s)
-  store_back_in (F.a_name x) v n l s h hs = ((h, no_test R n), hs, hs)
-  store_back_in (F.an_attribute a x) v n l s h hs = ((h, no_test R n), hs, hs)
-  store_back_in (F.an_item a i) v n l s h hs = ((h, no_test R n), hs, hs)
+  store_back_in : (to : Address V) (v : V) (l n : ℕ) (s : Nest V)
+      → R.is (store_kind to) l n → Nest_in R s → Control_in R (at_place block (F.storing v (F.finished s)) to l n)
+  store_back_in (F.a_name x) v l n s h hs = ((h, no_test R n), hs, hs)
+  store_back_in (F.an_attribute a x) v l n s h hs = ((h, no_test R n), hs, hs)
+  store_back_in (F.an_item a i) v l n s h hs = ((h, no_test R n), hs, hs)
 
   mutual
     deliver_in : (v : V) (w : Wait V) → Wait_in R w → Control_in R (deliver block v w)
@@ -59,18 +59,12 @@ module _ (R : Numbering) {V : Type 0} (block : Around V) where
     deliver_in v (F.item_sent l n r) (h, hr) = ((h, no_test R n), hr, rounds_base_in R r hr)
     deliver_in v (F.dropped l n s) (h, hs) = ((h, no_test R n), hs, hs)
     deliver_in v (F.assigned n ts s) (h, hs) = begin_assign_in R block v ts n s _ h hs (complete_in R block normal s hs)
-    deliver_in a (F.set_attribute_of l n x v k) (h, hk) = ((h, no_test R n), hk, way_base_in R k hk)
-    deliver_in a (F.set_item_of l n i v k) (hi, h, hk) = begin_exp_in R block i n false _ hi (no_test R n) (h, hk)
-    deliver_in i (F.set_item_at l n a v k) (h, hk) = ((h, no_test R n), hk, way_base_in R k hk)
-    deliver_in a (F.delete_attribute_of l n x k) (h, hk) = ((h, no_test R n), hk, way_base_in R k hk)
-    deliver_in a (F.delete_item_of l n i k) (hi, h, hk) = begin_exp_in R block i n false _ hi (no_test R n) (h, hk)
-    deliver_in i (F.delete_item_at l n a k) (h, hk) = ((h, no_test R n), hk, way_base_in R k hk)
-    deliver_in a (F.change_attribute_of l n k x o e s) (h, he, hs) = ((h, no_test R n), (he, hs))
-    deliver_in a (F.change_item_of l n k i o e s) (hi, h, he, hs) = begin_exp_in R block i n false _ hi (no_test R n) (h, he, hs)
-    deliver_in i (F.change_item_at l n k a o e s) (h, he, hs) = ((h, no_test R n), (he, hs))
+    deliver_in a (F.of_attribute l n x p) h = at_attribute_in R block p a x l n h
+    deliver_in a (F.of_item l n i p) (hi, h) = begin_exp_in R block i n false _ hi (no_test R n) h
+    deliver_in i (F.at_item l n a p) h = at_item_in R block p a i l n h
     deliver_in v (F.changing l n k to o e s) ((he, h, ht), hs) = begin_exp_in R block e n false _ he (no_test R n) (h, ht, hs)
     deliver_in u (F.changed_by l n k to v o s) (h, ht, hs) = ((h, no_test R n), (ht, hs))
-    deliver_in v (F.change_stored n k to s) (h, hs) = store_back_in to v n k s h hs
+    deliver_in v (F.change_stored n k to s) (h, hs) = store_back_in to v k n s h hs
     deliver_in v (F.returned_by l n s) (h, hs) = ((h, no_test R n), hs)
     deliver_in v (F.thrown l n S.absent s) (h, hs) = ((h, no_test R n), hs)
     deliver_in v (F.thrown l n (S.given c) s) ((hc, h), hs) = begin_exp_in R block c n false _ hc (no_test R n) (h, hs)

@@ -6,13 +6,13 @@ use Rattle.pt_tree.specs.Syntax.{Exp, Clauses, Tgt, Items, Stms}
 use Rattle.pt_tree.specs.Sizes.{joins, size, pieces_size, target_size, items_size, stms_size, handlers_size}
 use Rattle.pt_control.specs.Turn.{Mark}
 use Rattle.pt_control.specs.Frames as F
-use Rattle.pt_control.specs.Frames.{Frame, Nest, Way, Wait, Over, Rounds, Control, Operand, Stores, Changed, Definition, Decorating}
+use Rattle.pt_control.specs.Frames.{Frame, Nest, Way, Wait, Over, Rounds, Control, Operand, Stores, Purpose, Address, Definition, Decorating}
 use Rattle.pt_control.specs.Bases.{rounds_line}
 use Rattle.pt_control.specs.Reached.{operation_kind, seek_kind, deed_kind, leave_kind, test_kind}
 use Rattle.pt_control.proofs.MarksTree.{Numbering, Spec_end, Exp_in, Decisions_in, Opt_in, Pieces_in, Links_in, Made_in, Clauses_in, Target_in, Targets_in, Option_in, Deletes_in, Change_in, Imports_in, Decorators_in, Calls_in, Function_in, Class_in, Items_in, Stms_in, Branches_in, Handlers_in}
 
--- the act that stores what an operator changed
-abbrev pub store_kind : {V : Type 0} → Changed V → ActKind
+-- the act that stores to a place
+abbrev pub store_kind : {V : Type 0} → Address V → ActKind
 store_kind (F.a_name x) = K.Store
 store_kind (F.an_attribute a x) = K.SetAttr
 store_kind (F.an_item a i) = K.SetItem
@@ -126,15 +126,9 @@ module _ (R : Numbering) where
     Wait_in (F.item_sent l n r) = R.is K.Discard l n × Rounds_in r
     Wait_in (F.dropped l n s) = R.is K.Discard l n × Nest_in s
     Wait_in (F.assigned n ts s) = Targets_in R ts n × Nest_in s
-    Wait_in (F.set_attribute_of l n x v k) = R.is K.SetAttr l n × Way_in k
-    Wait_in (F.set_item_of l n i v k) = Exp_in R i n × R.is K.SetItem l (n + size i) × Way_in k
-    Wait_in (F.set_item_at l n a v k) = R.is K.SetItem l n × Way_in k
-    Wait_in (F.delete_attribute_of l n x k) = R.is K.DelAttr l n × Way_in k
-    Wait_in (F.delete_item_of l n i k) = Exp_in R i n × R.is K.DelItem l (n + size i) × Way_in k
-    Wait_in (F.delete_item_at l n a k) = R.is K.DelItem l n × Way_in k
-    Wait_in (F.change_attribute_of l n k x o e s) = R.is K.Attr k n × Change_in R K.SetAttr l k e (n + 1) × Nest_in s
-    Wait_in (F.change_item_of l n k i o e s) = Exp_in R i n × R.is K.Item k (n + size i) × Change_in R K.SetItem l k e (n + size i + 1) × Nest_in s
-    Wait_in (F.change_item_at l n k a o e s) = R.is K.Item k n × Change_in R K.SetItem l k e (n + 1) × Nest_in s
+    Wait_in (F.of_attribute l n x p) = Purpose_in p K.SetAttr K.DelAttr K.Attr l n
+    Wait_in (F.of_item l n i p) = Exp_in R i n × Purpose_in p K.SetItem K.DelItem K.Item l (n + size i)
+    Wait_in (F.at_item l n a p) = Purpose_in p K.SetItem K.DelItem K.Item l n
     Wait_in (F.changing l n k to o e s) = Change_in R (store_kind to) l k e n × Nest_in s
     Wait_in (F.changed_by l n k to v o s) = R.is K.InPlace l n × R.is (store_kind to) k (n + 1) × Nest_in s
     Wait_in (F.change_stored n k to s) = R.is (store_kind to) k n × Nest_in s
@@ -149,6 +143,12 @@ module _ (R : Numbering) where
     Wait_in (F.entered l n t is body s) = R.is K.Enter l n × Entry_in l (n + 1) t is body × Nest_in s
     Wait_in (F.decorated k n before behind l x what s) = Decorators_in R behind n (k ∷ lines before) (λ m ks. Definition_in l what m ks) × Nest_in s
     Wait_in (F.defined l n x calls s) = Calls_in R l (lines calls) n × Nest_in s
+
+    -- by the kinds of the acts that store to the place, delete it and take its value
+    pub Purpose_in : {V : Type 0} → Purpose V → (stores deletes takes : ActKind) → (l n : ℕ) → Type 0
+    Purpose_in (F.storing v k) st dl tk l n = R.is st l n × Way_in k
+    Purpose_in (F.deleting k) st dl tk l n = R.is dl l n × Way_in k
+    Purpose_in (F.changing_by j o e s) st dl tk l n = R.is tk l n × Change_in R st j l e (n + 1) × Nest_in s
 
     pub Over_in : {V : Type 0} → Over V → Type 0
     Over_in (F.for_over l n t body els s) = For_in l n t body els × Nest_in s

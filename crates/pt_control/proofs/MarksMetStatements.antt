@@ -10,7 +10,7 @@ use Rattle.pt_control.specs.Turn as T
 use Rattle.pt_control.specs.Turn.{Around, got, mark}
 use Rattle.pt_control.specs.Frames as F
 use Rattle.pt_control.specs.Frames.{raise, normal, by, Completion, Nest, Way, Definition, Decorating, Control}
-use Rattle.pt_control.specs.Statements.{all_places, begin_assign, begin_delete, begin_deletes, begin_change, begin_imports, begin_imports_from, begin_definition, begin_next, begin_stm, begin_all, begin_branches, begin_items, begin_tests, handler_way}
+use Rattle.pt_control.specs.Statements.{all_places, begin_assign, begin_place, begin_deletes, begin_imports, begin_imports_from, begin_definition, begin_next, begin_stm, begin_all, begin_branches, begin_items, begin_tests, handler_way}
 use Rattle.pt_control.specs.Numbers.{handler_body}
 use Rattle.pt_control.specs.Completions.{complete, let_go}
 use Rattle.pt_control.specs.Control.{deliver, go}
@@ -30,7 +30,7 @@ module _ {V : Type 0} (block : Around V) where
   gets_run (S.more_targets t (S.more_targets u ts)) v n s =
       runs_to block (runs_then block (target_runs block t v n _) (gets_run (S.more_targets u ts) v (n + target_size t) s)) (omega arith)
 
-  delete_runs : (p : Place) (n : ℕ) (k : Way V) → Runs block (begin_delete block p n k) n (n + place_size p) (go block k)
+  delete_runs : (p : Place) (n : ℕ) (k : Way V) → Runs block (begin_place block p n (F.deleting k)) n (n + place_size p) (go block k)
   delete_runs (S.name_at l x) n k = deed_runs block
   delete_runs (S.attribute_at l a x) n k = runs_to block (runs_then block (exp_runs block a n false _) (deed_runs block)) (omega arith)
   delete_runs (S.item_at l a i) n k =
@@ -41,7 +41,7 @@ module _ {V : Type 0} (block : Around V) where
   deletes_run (p ∷ ps) n s = runs_to block (runs_then block (delete_runs p n _) (deletes_run ps (n + place_size p) s)) (omega arith)
 
   change_runs : (l : ℕ) (p : Place) (n : ℕ) (o : BinOp) (e : Exp) (s : Nest V)
-      → Runs block (begin_change block l p n o e s) n (n + (place_size p + size e + 2)) (Done s)
+      → Runs block (begin_place block p n (F.changing_by l o e s)) n (n + (place_size p + size e + 2)) (Done s)
   change_runs l (S.name_at k x) n o e s =
       runs_to block (runs_then block (value_runs block) (runs_then block (exp_runs block e (n + 1) false _) (runs_then block (value_runs block) (deed_runs block)))) (omega arith)
   change_runs l (S.attribute_at k a x) n o e s =

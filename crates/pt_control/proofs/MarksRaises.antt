@@ -10,7 +10,7 @@ use Rattle.pt_control.specs.Frames as F
 use Rattle.pt_control.specs.Frames.{Abrupt, Operand, raise, normal, by, Nest, Way, Wait, Definition, Decorating, Control}
 use Rattle.pt_control.specs.Bases.{base, way_base}
 use Rattle.pt_control.specs.Expressions.{begin_operation, begin_exp, begin_defaults, begin_function}
-use Rattle.pt_control.specs.Statements.{places, all_places, begin_delete, begin_deletes, begin_change, begin_definition, begin_stm, begin_all, begin_items}
+use Rattle.pt_control.specs.Statements.{places, all_places, begin_place, begin_deletes, begin_definition, begin_stm, begin_all, begin_items}
 use Rattle.pt_control.specs.Completions.{complete}
 use Rattle.pt_control.specs.Reached.{Reaches, here, then}
 use Rattle.pt_control.proofs.MarksPaths.{reaches_then}
@@ -109,7 +109,7 @@ module _ {V : Type 0} (block : Around V) where
   abbrev pub Out : Control V → Nest V → (many : ℕ) → Type 0
   Out c s k = Reaches block c (Raised s) ⊎ ((k ≡ 0) × Reaches block c (complete block normal s))
 
-  delete_raises : (p : Place) (n : ℕ) (k : Way V) → Reaches block (begin_delete block p n k) (Raised (way_base k))
+  delete_raises : (p : Place) (n : ℕ) (k : Way V) → Reaches block (begin_place block p n (F.deleting k)) (Raised (way_base k))
   delete_raises (S.name_at l x) n k = deed_raises
   delete_raises (S.attribute_at l a x) n k = exp_raises a n false _
   delete_raises (S.item_at l a i) n k = exp_raises a n false _
@@ -118,7 +118,7 @@ module _ {V : Type 0} (block : Around V) where
   deletes_out [] n k s e = inr (sym e, here)
   deletes_out (p ∷ ps) n k s e = inl (delete_raises p n _)
 
-  change_raises : (l : ℕ) (p : Place) (n : ℕ) (o : BinOp) (e : Exp) (s : Nest V) → Reaches block (begin_change block l p n o e s) (Raised s)
+  change_raises : (l : ℕ) (p : Place) (n : ℕ) (o : BinOp) (e : Exp) (s : Nest V) → Reaches block (begin_place block p n (F.changing_by l o e s)) (Raised s)
   change_raises l (S.name_at k x) n o e s = value_raises
   change_raises l (S.attribute_at k a x) n o e s = exp_raises a n false _
   change_raises l (S.item_at k a i) n o e s = exp_raises a n false _

@@ -8,11 +8,11 @@ use Rattle.pt_tree.specs.Syntax.{Name, Exp, Opt, Place, Tgt, Tgts, Items, Stm, S
 use Rattle.pt_tree.specs.Sizes.{size, target_size, stm_size, stms_size}
 use Rattle.pt_control.specs.Turn.{Around, Row}
 use Rattle.pt_control.specs.Frames as F
-use Rattle.pt_control.specs.Frames.{Nest, Way, Stores, Definition, Decorating, Control}
-use Rattle.pt_control.specs.Statements.{count, each_gets, all_places, begin_store, begin_stores, begin_assign, begin_delete, begin_deletes, begin_change, begin_imports, begin_imports_from, begin_definition, begin_test, begin_next, begin_stm, begin_all, begin_branches, begin_items, begin_tests, handler_way}
+use Rattle.pt_control.specs.Frames.{Nest, Way, Purpose, Stores, Definition, Decorating, Control}
+use Rattle.pt_control.specs.Statements.{count, each_gets, all_places, at_place, begin_place, begin_store, begin_stores, begin_assign, begin_deletes, begin_imports, begin_imports_from, begin_definition, begin_test, begin_next, begin_stm, begin_all, begin_branches, begin_items, begin_tests, handler_way}
 use Rattle.pt_control.specs.Numbers.{handler_body}
 use Rattle.pt_control.proofs.MarksTree.{Numbering, Target_in, Targets_in, Delete_in, Deletes_in, Augmented_in, Imports_in, Items_in, Name_in, Stm_in, Stms_in, Branches_in, Handlers_in}
-use Rattle.pt_control.proofs.MarksFrames.{lines, Stores_in, Definition_in, While_in, For_in, Nest_in, Way_in, Control_in}
+use Rattle.pt_control.proofs.MarksFrames.{lines, Stores_in, Definition_in, While_in, For_in, Nest_in, Way_in, Purpose_in, Control_in}
 use Rattle.pt_control.proofs.MarksBases.{way_base_in}
 use Rattle.pt_control.proofs.MarksExpressions.{no_test, begin_operation_in, begin_exp_in, begin_function_in}
 
@@ -21,10 +21,28 @@ each_gets_in R V S.no_targets u n h = h
 each_gets_in R V (S.more_targets t ts) vs n (ht, hs) = (ht, each_gets_in R V ts vs.1 (n + target_size t) hs)
 
 module _ (R : Numbering) {V : Type 0} (block : Around V) where
+  -- the act at a name, an attribute, an item
+  at_name_in : (p : Purpose V) (x : Name) (l n : ℕ) → Purpose_in R p K.Store K.Delete K.Load l n → Control_in R (at_place block p (F.a_name x) l n)
+  at_name_in (F.storing v k) x l n (h, hk) = ((h, no_test R n), hk, way_base_in R k hk)
+  at_name_in (F.deleting k) x l n (h, hk) = ((h, no_test R n), hk, way_base_in R k hk)
+  at_name_in (F.changing_by j o e s) x l n (h, he, hs) = ((h, no_test R n), (he, hs))
+
+  pub at_attribute_in : (p : Purpose V) (a : V) (x : Name) (l n : ℕ)
+      → Purpose_in R p K.SetAttr K.DelAttr K.Attr l n → Control_in R (at_place block p (F.an_attribute a x) l n)
+  at_attribute_in (F.storing v k) a x l n (h, hk) = ((h, no_test R n), hk, way_base_in R k hk)
+  at_attribute_in (F.deleting k) a x l n (h, hk) = ((h, no_test R n), hk, way_base_in R k hk)
+  at_attribute_in (F.changing_by j o e s) a x l n (h, he, hs) = ((h, no_test R n), (he, hs))
+
+  pub at_item_in : (p : Purpose V) (a i : V) (l n : ℕ)
+      → Purpose_in R p K.SetItem K.DelItem K.Item l n → Control_in R (at_place block p (F.an_item a i) l n)
+  at_item_in (F.storing v k) a i l n (h, hk) = ((h, no_test R n), hk, way_base_in R k hk)
+  at_item_in (F.deleting k) a i l n (h, hk) = ((h, no_test R n), hk, way_base_in R k hk)
+  at_item_in (F.changing_by j o e s) a i l n (h, he, hs) = ((h, no_test R n), (he, hs))
+
   pub begin_store_in : (t : Tgt) (v : V) (n : ℕ) (k : Way V) → Target_in R t n → Way_in R k → Control_in R (begin_store block t v n k)
-  begin_store_in (S.single (S.name_at l x)) v n k h hk = ((h, no_test R n), hk, way_base_in R k hk)
+  begin_store_in (S.single (S.name_at l x)) v n k h hk = at_name_in (F.storing v k) x l n (h, hk)
   begin_store_in (S.single (S.attribute_at l a x)) v n k (ha, h) hk = begin_exp_in R block a n false _ ha (no_test R n) (h, hk)
-  begin_store_in (S.single (S.item_at l a i)) v n k (ha, hi, h) hk = begin_exp_in R block a n false _ ha (no_test R n) (hi, h, hk)
+  begin_store_in (S.single (S.item_at l a i)) v n k (ha, hi, h) hk = begin_exp_in R block a n false _ ha (no_test R n) (hi, (h, hk))
   begin_store_in (S.several l f ts) v n k (h, hs) hk = ((h, no_test R n), hs, hk, way_base_in R k hk)
   begin_store_in (S.starred l t) v n k h hk = begin_store_in t v n k h hk
 
@@ -39,10 +57,10 @@ module _ (R : Numbering) {V : Type 0} (block : Around V) where
   begin_assign_in v (S.more_targets t S.no_targets) n s after h hs ha = begin_store_in t v n _ h.0 hs
   begin_assign_in v (S.more_targets t (S.more_targets u ts)) n s after h hs ha = begin_store_in t v n _ h.0 (h.1, hs)
 
-  begin_delete_in : (p : Place) (n : ℕ) (k : Way V) → Delete_in R p n → Way_in R k → Control_in R (begin_delete block p n k)
-  begin_delete_in (S.name_at l x) n k h hk = ((h, no_test R n), hk, way_base_in R k hk)
+  begin_delete_in : (p : Place) (n : ℕ) (k : Way V) → Delete_in R p n → Way_in R k → Control_in R (begin_place block p n (F.deleting k))
+  begin_delete_in (S.name_at l x) n k h hk = at_name_in (F.deleting k) x l n (h, hk)
   begin_delete_in (S.attribute_at l a x) n k (ha, h) hk = begin_exp_in R block a n false _ ha (no_test R n) (h, hk)
-  begin_delete_in (S.item_at l a i) n k (ha, hi, h) hk = begin_exp_in R block a n false _ ha (no_test R n) (hi, h, hk)
+  begin_delete_in (S.item_at l a i) n k (ha, hi, h) hk = begin_exp_in R block a n false _ ha (no_test R n) (hi, (h, hk))
 
   pub begin_deletes_in : (ps : List Place) (n : ℕ) (s : Nest V) (after : Control V)
       → Deletes_in R ps n → Nest_in R s → Control_in R after → Control_in R (begin_deletes block ps n s after)
@@ -50,10 +68,10 @@ module _ (R : Numbering) {V : Type 0} (block : Around V) where
   begin_deletes_in (p ∷ ps) n s after (h, hp) hs ha = begin_delete_in p n _ h (hp, hs)
 
   begin_change_in : (l : ℕ) (p : Place) (n : ℕ) (o : BinOp) (e : Exp) (s : Nest V)
-      → Augmented_in R l p e n → Nest_in R s → Control_in R (begin_change block l p n o e s)
-  begin_change_in l (S.name_at k x) n o e s (h, he) hs = ((h, no_test R n), (he, hs))
+      → Augmented_in R l p e n → Nest_in R s → Control_in R (begin_place block p n (F.changing_by l o e s))
+  begin_change_in l (S.name_at k x) n o e s (h, he) hs = at_name_in (F.changing_by l o e s) x k n (h, he, hs)
   begin_change_in l (S.attribute_at k a x) n o e s (ha, h, he) hs = begin_exp_in R block a n false _ ha (no_test R n) (h, he, hs)
-  begin_change_in l (S.item_at k a i) n o e s (ha, hi, h, he) hs = begin_exp_in R block a n false _ ha (no_test R n) (hi, h, he, hs)
+  begin_change_in l (S.item_at k a i) n o e s (ha, hi, h, he) hs = begin_exp_in R block a n false _ ha (no_test R n) (hi, (h, he, hs))
 
   pub begin_imports_in : (l n : ℕ) (xs : List Alias) (s : Nest V) (after : Control V)
       → Imports_in R K.Import l xs n → Nest_in R s → Control_in R after → Control_in R (begin_imports block l n xs s after)

@@ -1,7 +1,7 @@
 -- Where what goes on stands: in which nest, in which comprehensions, and with which exception.
 use Rattle.std.specs.Prelude.{ℕ, List, [], ◌∷◌, Option, Some, None}
 use Rattle.pt_control.specs.Frames as F
-use Rattle.pt_control.specs.Frames.{Frame, Nest, Way, Wait, Over, Rounds}
+use Rattle.pt_control.specs.Frames.{Frame, Nest, Way, Wait, Purpose, Over, Rounds}
 
 -- the nest to which a raise goes
 abbrev mutual
@@ -49,15 +49,9 @@ abbrev mutual
   base (F.item_sent l n r) = rounds_base r
   base (F.dropped l n s) = s
   base (F.assigned n ts s) = s
-  base (F.set_attribute_of l n x v k) = way_base k
-  base (F.set_item_of l n i v k) = way_base k
-  base (F.set_item_at l n a v k) = way_base k
-  base (F.delete_attribute_of l n x k) = way_base k
-  base (F.delete_item_of l n i k) = way_base k
-  base (F.delete_item_at l n a k) = way_base k
-  base (F.change_attribute_of l n tl x o e s) = s
-  base (F.change_item_of l n tl i o e s) = s
-  base (F.change_item_at l n tl a o e s) = s
+  base (F.of_attribute l n x p) = purpose_base p
+  base (F.of_item l n i p) = purpose_base p
+  base (F.at_item l n a p) = purpose_base p
   base (F.changing l n tl to o e s) = s
   base (F.changed_by l n tl to v o s) = s
   base (F.change_stored n tl to s) = s
@@ -73,6 +67,11 @@ abbrev mutual
   base (F.entered l n t is body s) = s
   base (F.decorated dl n before behind l x what s) = s
   base (F.defined l n x calls s) = s
+
+  pub purpose_base : {V : Type 0} → Purpose V → Nest V
+  purpose_base (F.storing v k) = way_base k
+  purpose_base (F.deleting k) = way_base k
+  purpose_base (F.changing_by l o e s) = s
 
   pub over_base : {V : Type 0} → Over V → Nest V
   over_base (F.for_over l n t body els s) = s
@@ -116,10 +115,15 @@ abbrev mutual
   around (F.added_to_dict l n k v r) = around_rounds r
   around (F.item_yielded l n r) = around_rounds r
   around (F.item_sent l n r) = around_rounds r
-  around (F.set_attribute_of l n x v k) = around_way k
-  around (F.set_item_of l n i v k) = around_way k
-  around (F.set_item_at l n a v k) = around_way k
+  around (F.of_attribute l n x p) = around_purpose p
+  around (F.of_item l n i p) = around_purpose p
+  around (F.at_item l n a p) = around_purpose p
   around w = []
+
+  pub around_purpose : {V : Type 0} → Purpose V → List ℕ
+  around_purpose (F.storing v k) = around_way k
+  around_purpose (F.deleting k) = around_way k
+  around_purpose (F.changing_by l o e s) = []
 
   pub around_over : {V : Type 0} → Over V → List ℕ
   around_over (F.comprehension_over l n fl t cs m w) = around w

@@ -4,12 +4,12 @@ use Rattle.pt_tree.specs.Syntax as S
 use Rattle.pt_tree.specs.Syntax.{Exp, Clauses, Tgt, Tgts, Items, Stms, Name, none}
 use Rattle.pt_tree.specs.Sizes.{size, target_size, items_size, stms_size}
 use Rattle.pt_control.specs.Turn as T
-use Rattle.pt_control.specs.Turn.{Mark, Variable, Around, mark, operate, yielding, store, set_attribute, set_item, delete, delete_attribute, delete_item, discard, add_to_list, add_to_set, add_to_dict, fresh, Leave, returning, jumping, raising, failing, branch, matches, seek, deed, leave, throw, test, iter_of, next_of, enter, unpack, delegate, Answer, Row, Delegated, returned, resumed, Reply, got, raised, Turn, act, note, over}
+use Rattle.pt_control.specs.Turn.{Mark, Variable, Around, mark, operate, yielding, store, delete, discard, add_to_list, add_to_set, add_to_dict, fresh, Leave, returning, jumping, raising, failing, branch, matches, seek, deed, leave, throw, test, iter_of, next_of, enter, unpack, delegate, Answer, Row, Delegated, returned, resumed, Reply, got, raised, Turn, act, note, over}
 use Rattle.pt_control.specs.Frames as F
-use Rattle.pt_control.specs.Frames.{Abrupt, raise, return, Completion, normal, by, Nest, no_more, Changed, Way, Wait, Over, Rounds, Control, for_value, for_deed, for_leave, for_throw, for_truth, for_iter, for_item, for_entry, for_unpack, for_delegate, silent_value, silent_deed, noting, closed}
+use Rattle.pt_control.specs.Frames.{Abrupt, raise, return, Completion, normal, by, Nest, no_more, Way, Wait, Over, Rounds, Control, for_value, for_deed, for_leave, for_throw, for_truth, for_iter, for_item, for_entry, for_unpack, for_delegate, silent_value, silent_deed, noting, closed}
 use Rattle.pt_control.specs.Bases.{base, way_base, over_base, rounds_base, around, active}
 use Rattle.pt_control.specs.Expressions.{begin_operation, begin_exp, next_operand, begin_spec, begin_clauses, take_item, target_names, clause_names, built_as}
-use Rattle.pt_control.specs.Statements.{begin_store, begin_stores, begin_deletes, begin_imports, begin_imports_from, begin_definition, begin_assign, begin_next, begin_all, begin_branches, begin_items, begin_tests, each_gets, count, star_of}
+use Rattle.pt_control.specs.Statements.{at_place, begin_store, begin_stores, begin_deletes, begin_imports, begin_imports_from, begin_definition, begin_assign, begin_next, begin_all, begin_branches, begin_items, begin_tests, each_gets, count, star_of}
 use Rattle.pt_control.specs.Completions.{complete, let_go}
 
 -- the nest in which control stands
@@ -39,12 +39,6 @@ make_anew [] l n i t cs r = take_item l n i t cs r
 make_anew (x ∷ xs) l n i t cs r = silent_deed (fresh x) (F.made_anew xs l n i t cs r) (rounds_base r)
 
 module _ {V : Type 0} (block : Around V) where
-  -- where the result of an operator goes back to
-  abbrev pub store_back : Changed V → V → (n l : ℕ) → Nest V → Control V
-  store_back (F.a_name x) v n l s = for_deed (mark n l false) (store (block.variable [] x) v) (F.finished s) s
-  store_back (F.an_attribute a x) v n l s = for_deed (mark n l false) (set_attribute (block.spelled x) a v) (F.finished s) s
-  store_back (F.an_item a i) v n l s = for_deed (mark n l false) (set_item a i v) (F.finished s) s
-
   -- a value is there
   abbrev mutual
     pub deliver : V → Wait V → Control V
@@ -74,18 +68,12 @@ module _ {V : Type 0} (block : Around V) where
     deliver v (F.item_sent l n r) = for_deed (mark n l false) (discard v) (F.round r) (rounds_base r)
     deliver v (F.dropped l n s) = for_deed (mark n l false) (discard v) (F.finished s) s
     deliver v (F.assigned n ts s) = begin_assign block v ts n s (complete block normal s)
-    deliver a (F.set_attribute_of l n x v k) = for_deed (mark n l false) (set_attribute (block.spelled x) a v) k (way_base k)
-    deliver a (F.set_item_of l n i v k) = begin_exp block i n false (F.set_item_at l (n + size i) a v k)
-    deliver i (F.set_item_at l n a v k) = for_deed (mark n l false) (set_item a i v) k (way_base k)
-    deliver a (F.delete_attribute_of l n x k) = for_deed (mark n l false) (delete_attribute (block.spelled x) a) k (way_base k)
-    deliver a (F.delete_item_of l n i k) = begin_exp block i n false (F.delete_item_at l (n + size i) a k)
-    deliver i (F.delete_item_at l n a k) = for_deed (mark n l false) (delete_item a i) k (way_base k)
-    deliver a (F.change_attribute_of l n k x o e s) = for_value (mark n k false) (operate (T.get (block.spelled x)) (a ∷ [])) (F.changing l (n + 1) k (F.an_attribute a x) o e s)
-    deliver a (F.change_item_of l n k i o e s) = begin_exp block i n false (F.change_item_at l (n + size i) k a o e s)
-    deliver i (F.change_item_at l n k a o e s) = for_value (mark n k false) (operate T.item (a ∷ i ∷ [])) (F.changing l (n + 1) k (F.an_item a i) o e s)
+    deliver a (F.of_attribute l n x p) = at_place block p (F.an_attribute a x) l n
+    deliver a (F.of_item l n i p) = begin_exp block i n false (F.at_item l (n + size i) a p)
+    deliver i (F.at_item l n a p) = at_place block p (F.an_item a i) l n
     deliver v (F.changing l n k to o e s) = begin_exp block e n false (F.changed_by l (n + size e) k to v o s)
     deliver u (F.changed_by l n k to v o s) = for_value (mark n l false) (operate (T.in_place o) (v ∷ u ∷ [])) (F.change_stored (n + 1) k to s)
-    deliver v (F.change_stored n k to s) = store_back to v n k s
+    deliver v (F.change_stored n k to s) = at_place block (F.storing v (F.finished s)) to k n
     deliver v (F.returned_by l n s) = for_leave (mark n l false) (return v) s
     deliver v (F.thrown l n S.absent s) = for_throw (mark n l false) (raising v None) s
     deliver v (F.thrown l n (S.given c) s) = begin_exp block c n false (F.caused l (n + size c) v s)

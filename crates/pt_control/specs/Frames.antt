@@ -55,11 +55,11 @@ pub data Operand : Type 0 where
   literal_of : (l : ℕ) (text : List ℕ) → Operand
   field_of : (l : ℕ) → Exp → Option Conversion → (spec : Pieces) → Operand
 
--- where an operator's result goes back to, with its parts evaluated
-pub data Changed (V : Type 0) : Type 0 where
-  a_name : (x : Name) → Changed V
-  an_attribute : (object : V) (x : Name) → Changed V
-  an_item : (object index : V) → Changed V
+-- a place with its parts evaluated
+pub data Address (V : Type 0) : Type 0 where
+  a_name : (x : Name) → Address V
+  an_attribute : (object : V) (x : Name) → Address V
+  an_item : (object index : V) → Address V
 
 -- targets, each with the value that is due to it
 pub data Stores (V : Type 0) : Type 0 where
@@ -146,20 +146,14 @@ mutual
     item_sent : (l n : ℕ) → Rounds V → Wait V
     dropped : (l n : ℕ) → Nest V → Wait V
     assigned : (n : ℕ) (ts : Tgts) → Nest V → Wait V
-    -- the object of an attribute target is due; that of an item, and its index
-    set_attribute_of : (l n : ℕ) (x : Name) (v : V) → Way V → Wait V
-    set_item_of : (l n : ℕ) (index : Exp) (v : V) → Way V → Wait V
-    set_item_at : (l n : ℕ) (object v : V) → Way V → Wait V
-    delete_attribute_of : (l n : ℕ) (x : Name) → Way V → Wait V
-    delete_item_of : (l n : ℕ) (index : Exp) → Way V → Wait V
-    delete_item_at : (l n : ℕ) (object : V) → Way V → Wait V
-    -- a target that an operator changes: its object is due, that of an item, its index; its present value, the other operand and the result
-    change_attribute_of : (l n target_line : ℕ) (x : Name) (operator : BinOp) (e : Exp) → Nest V → Wait V
-    change_item_of : (l n target_line : ℕ) (index : Exp) (operator : BinOp) (e : Exp) → Nest V → Wait V
-    change_item_at : (l n target_line : ℕ) (object : V) (operator : BinOp) (e : Exp) → Nest V → Wait V
-    changing : (l n target_line : ℕ) (to : Changed V) (operator : BinOp) (e : Exp) → Nest V → Wait V
-    changed_by : (l n target_line : ℕ) (to : Changed V) (present : V) (operator : BinOp) → Nest V → Wait V
-    change_stored : (n target_line : ℕ) (to : Changed V) → Nest V → Wait V
+    -- the object of an attribute is due, that of an item, and its index; and what the place is for
+    of_attribute : (l n : ℕ) (x : Name) → Purpose V → Wait V
+    of_item : (l n : ℕ) (index : Exp) → Purpose V → Wait V
+    at_item : (l n : ℕ) (object : V) → Purpose V → Wait V
+    -- what an operator changes: its present value is due, the other operand, and the result
+    changing : (l n target_line : ℕ) (to : Address V) (operator : BinOp) (e : Exp) → Nest V → Wait V
+    changed_by : (l n target_line : ℕ) (to : Address V) (present : V) (operator : BinOp) → Nest V → Wait V
+    change_stored : (n target_line : ℕ) (to : Address V) → Nest V → Wait V
     returned_by : (l n : ℕ) → Nest V → Wait V
     -- an exception is due, and its cause
     thrown : (l n : ℕ) (cause : Opt) → Nest V → Wait V
@@ -175,6 +169,12 @@ mutual
     decorated : (decorator_line n : ℕ) (before : List (Decorating V)) (behind : Decorators) (l : ℕ) (x : Name) (what : Definition) → Nest V → Wait V
     -- what is bound to a name, once the decorators are called, the last first
     defined : (l n : ℕ) (x : Name) (calls : List (Decorating V)) → Nest V → Wait V
+
+  -- what a place is for: it gets a value, it is deleted, or an operator changes it; and what goes on then
+  pub data Purpose (V : Type 0) : Type 0 where
+    storing : V → Way V → Purpose V
+    deleting : Way V → Purpose V
+    changing_by : (l : ℕ) (operator : BinOp) (e : Exp) → Nest V → Purpose V
 
   -- what goes on once an iterator is there
   pub data Over (V : Type 0) : Type 0 where

@@ -8,10 +8,11 @@ pub mod CompletionTable
 pub mod Completions
 pub mod Control
 pub mod Events
+pub mod Jump
+pub mod ClosedParts
 pub mod LineEvents
 pub mod Lines
 pub mod Samples
-pub mod Jump
-pub mod ClosedParts
 pub mod Reached
 pub mod Endings
+pub mod Laws

@@ -4,7 +4,10 @@ use Rattle.std.specs.Prelude.{ℕ, ◌+◌, zero, suc, List, [], ◌∷◌, reve
 use Rattle.pt_control.specs.Turn as T
 use Rattle.pt_control.specs.Turn.{Mark, Around, Ask, Answer, Row, Seek, seek, deed, leave, throw, test, iter_of, next_of, enter, unpack, delegate, operate, yielding, returned, Reply, got, raised, End, gave, left_by, Turn, act, note}
 use Rattle.pt_control.specs.Frames.{Control}
-use Rattle.pt_control.specs.Control.{turn}
+use Rattle.pt_tree.specs.Blocks.{of_module}
+use Rattle.pt_tree.specs.Syntax.{Stms}
+use Rattle.pt_control.specs.Control.{nest_at, start, turn}
+use Rattle.pt_control.specs.Jump.{Jumped, jump}
 use Rattle.pt_control.specs.LineEvents.{is_told}
 
 -- every name is spelled as it is written and no cells are taken along
@@ -137,13 +140,29 @@ run (suc n) st = run n (next (turn numbers st.runs.control) st)
 abbrev state : Control ℕ → List Given → State
 state c gs = record { runs = block c None; waits = nothing; suspended = None; given = gs; lines = []; acts = 0 }
 
--- the line events of so many steps from the start of a block, and how many acts they are
-abbrev pub lines_of : (steps : ℕ) → Control ℕ → List Given → List ℕ
-lines_of n c gs = reverse (run n (state c gs)).lines
+-- the line events of a hundred steps, and how many acts they are
+abbrev pub lines_from : Control ℕ → List Given → List ℕ
+lines_from c gs = reverse (run 100 (state c gs)).lines
 
-abbrev pub acts_of : (steps : ℕ) → Control ℕ → List Given → ℕ
-acts_of n c gs = (run n (state c gs)).acts
+abbrev pub acts_from : Control ℕ → List Given → ℕ
+acts_from c gs = (run 100 (state c gs)).acts
 
--- control after so many steps
+-- control behind so many steps
 abbrev pub control_after : (steps : ℕ) → Control ℕ → List Given → Control ℕ
 control_after n c gs = (run n (state c gs)).runs.control
+
+-- what a turn asks, if it is an act
+abbrev pub ask_of : Turn (Control ℕ) ℕ → Option (Ask ℕ)
+ask_of (act (Some m) a k) = Some a
+ask_of t = None
+
+-- of a script from its start
+abbrev pub starts : Stms → Control ℕ
+starts ss = start numbers ss
+
+abbrev pub lines_of : Stms → List Given → List ℕ
+lines_of ss gs = lines_from (starts ss) gs
+
+-- a jump from behind so many steps of it
+abbrev pub jump_after : (steps : ℕ) → Stms → List Given → (line : ℕ) → Jumped ℕ
+jump_after n ss gs l = jump (of_module ss) (nest_at (control_after n (starts ss) gs)) l

@@ -1,17 +1,20 @@
 -- Scripts to follow control by.
-use Rattle.std.specs.Prelude.{ℕ, [], ◌∷◌, codes, Some, None}
+use Rattle.std.specs.Prelude.{ℕ, List, [], ◌∷◌, true, false, codes, Some, None}
 use Rattle.pt_base.specs.declared.operators.BinOp.TheVariants.{Add, Sub}
 use Rattle.pt_base.specs.declared.operators.CompareOp.TheVariants.{Less}
 use Rattle.pt_tree.specs.declared.expression.Constant.TheVariants.{Int, Str}
 use Rattle.std.specs.Prelude.{pos}
 use Rattle.pt_tree.specs.Syntax as S
 use Rattle.pt_tree.specs.Syntax.{Name, Exp, Args, Stm, Stms, none, more}
-use Rattle.pt_control.specs.Frames.{Way, stms, rest, guarded, ensuring}
+use Rattle.pt_control.specs.Frames.{Nest, Way, Control, stms, raises, rest, guarded, handling, ensuring, noting}
+use Rattle.pt_control.specs.Control.{start_lambda}
+use Rattle.pt_control.specs.Turn.{raised_again}
+use Rattle.pt_control.specs.Lines.{numbers, Given, truth, throws, value, opens, resumes, starts}
 
-abbrev pub x : Name
+abbrev x : Name
 x = codes "x"
 
-abbrev pub number : (line n : ℕ) → Exp
+abbrev number : (line n : ℕ) → Exp
 number l n = S.constant l (Int (pos n))
 
 abbrev named : (line : ℕ) → Name → Exp
@@ -23,7 +26,7 @@ call l f args = S.call l f args
 abbrev one : Exp → Args
 one e = S.positional e S.no_args
 
-abbrev pub put : (line : ℕ) → Name → Exp → Stm
+abbrev put : (line : ℕ) → Name → Exp → Stm
 put l y e = S.assign l (S.more_targets (S.single (S.name_at l y)) S.no_targets) e
 
 abbrev no_params : S.Params
@@ -193,3 +196,35 @@ spreading =
     more (S.def 1 S.no_decorators 1 1 (codes "f") no_params S.absent spread_body)
     (more (put 2 x (S.list 2 (S.more_exps (number 2 1) S.no_exps)))
     (more (S.expr 3 (call 3 (named 3 (codes "f")) (S.spread (named 4 x) (S.spread (named 5 x) S.no_args)))) none))
+
+-- what is given to these scripts
+abbrev pub twice : List Given
+twice = truth true ∷ truth true ∷ truth false ∷ []
+
+abbrev pub two_items : List Given
+two_items = value ∷ opens (starts generator_body) ∷ value ∷ resumes ∷ value ∷ resumes ∷ []
+
+abbrev pub in_the_handler : List Given
+in_the_handler = throws 1 ∷ truth true ∷ throws 2 ∷ []
+
+-- where the handler of the first exception is left by the second
+abbrev pub handler_left : Nest ℕ
+handler_left = rest 8 none ∷ handling 3 1 ∷ ensuring 0 8 none ∷ rest 8 none ∷ []
+
+abbrev pub going_on : Control ℕ
+going_on = noting (raised_again 2) (raises 2 handler_left) handler_left
+
+abbrev pub at_a_match : List Given
+at_a_match = throws 1 ∷ throws 2 ∷ truth true ∷ []
+
+abbrev pub back_at_the_store : Way ℕ
+back_at_the_store = stms 1 (more (put 2 x (number 2 1)) only_global) (guarded 3 S.no_handlers none ∷ ensuring 0 3 printing ∷ rest 7 none ∷ [])
+
+abbrev pub lambda_starts : Control ℕ
+lambda_starts = start_lambda numbers 1 (number 2 1)
+
+abbrev pub nested_lines : List ℕ
+nested_lines = 1 ∷ 11 ∷ 2 ∷ 3 ∷ 4 ∷ 5 ∷ 7 ∷ 9 ∷ 10 ∷ []
+
+abbrev pub spread_lines : List ℕ
+spread_lines = 1 ∷ 2 ∷ 3 ∷ 4 ∷ 3 ∷ 5 ∷ 3 ∷ 1 ∷ []

@@ -8,7 +8,7 @@ use Rattle.pt_tree.specs.Sizes.{size, place_size, target_size, params_size, stm_
 use Rattle.pt_control.specs.Turn as T
 use Rattle.pt_control.specs.Turn.{Row, mark, Around, load, operate, yielding, store, set_attribute, set_item, delete, delete_attribute, delete_item, nothing, raising, raising_again, failing}
 use Rattle.pt_control.specs.Frames as F
-use Rattle.pt_control.specs.Frames.{return, break, continue, Frame, Nest, Way, Wait, Stores, no_more, and_store, Definition, a_function, a_class, Decorating, Control, for_value, for_deed, for_leave, for_throw, for_truth, for_item, for_unpack}
+use Rattle.pt_control.specs.Frames.{return, break, continue, Nest, Way, Wait, Purpose, Address, Stores, no_more, and_store, Definition, a_function, a_class, Decorating, Control, for_value, for_deed, for_leave, for_throw, for_truth, for_item, for_unpack}
 use Rattle.pt_control.specs.Bases.{way_base, around_way}
 use Rattle.pt_control.specs.Numbers.{tested_body, behind_body, for_body, for_else, try_handlers, try_finally, handler_body}
 use Rattle.pt_control.specs.Expressions.{begin_operation, begin_exp, begin_function}
@@ -49,11 +49,29 @@ abbrev pub bound_name : Alias → Name
 bound_name a = name_or a.name a.alias
 
 module _ {V : Type 0} (block : Around V) where
+  -- 7.2, 7.2.1, 7.5: the act at a place whose parts are evaluated; an operator takes the present value before the other operand
+  abbrev pub at_place : Purpose V → Address V → (l n : ℕ) → Control V
+  at_place (F.storing v k) (F.a_name x) l n = for_deed (mark n l false) (store (block.variable (around_way k) x) v) k (way_base k)
+  at_place (F.storing v k) (F.an_attribute a x) l n = for_deed (mark n l false) (set_attribute (block.spelled x) a v) k (way_base k)
+  at_place (F.storing v k) (F.an_item a i) l n = for_deed (mark n l false) (set_item a i v) k (way_base k)
+  at_place (F.deleting k) (F.a_name x) l n = for_deed (mark n l false) (delete (block.variable (around_way k) x)) k (way_base k)
+  at_place (F.deleting k) (F.an_attribute a x) l n = for_deed (mark n l false) (delete_attribute (block.spelled x) a) k (way_base k)
+  at_place (F.deleting k) (F.an_item a i) l n = for_deed (mark n l false) (delete_item a i) k (way_base k)
+  at_place (F.changing_by j o e s) (F.a_name x) l n = for_value (mark n l false) (load (block.variable [] x)) (F.changing j (n + 1) l (F.a_name x) o e s)
+  at_place (F.changing_by j o e s) (F.an_attribute a x) l n =
+      for_value (mark n l false) (operate (T.get (block.spelled x)) (a ∷ [])) (F.changing j (n + 1) l (F.an_attribute a x) o e s)
+  at_place (F.changing_by j o e s) (F.an_item a i) l n =
+      for_value (mark n l false) (operate T.item (a ∷ i ∷ [])) (F.changing j (n + 1) l (F.an_item a i) o e s)
+
+  -- a place is evaluated once, whatever it is for
+  abbrev pub begin_place : Place → (n : ℕ) → Purpose V → Control V
+  begin_place (S.name_at l x) n p = at_place p (F.a_name x) l n
+  begin_place (S.attribute_at l a x) n p = begin_exp block a n false (F.of_attribute l (n + size a) x p)
+  begin_place (S.item_at l a i) n p = begin_exp block a n false (F.of_item l (n + size a) i p)
+
   -- a value goes to a target, and then on
   abbrev pub begin_store : Tgt → V → (n : ℕ) → Way V → Control V
-  begin_store (S.single (S.name_at l x)) v n k = for_deed (mark n l false) (store (block.variable (around_way k) x) v) k (way_base k)
-  begin_store (S.single (S.attribute_at l a x)) v n k = begin_exp block a n false (F.set_attribute_of l (n + size a) x v k)
-  begin_store (S.single (S.item_at l a i)) v n k = begin_exp block a n false (F.set_item_of l (n + size a) i v k)
+  begin_store (S.single p) v n k = begin_place p n (F.storing v k)
   begin_store (S.several l f ts) v n k = for_unpack (mark n l false) v (n + 1) ts k (way_base k)
   begin_store (S.starred l t) v n k = begin_store t v n k
 
@@ -67,21 +85,9 @@ module _ {V : Type 0} (block : Around V) where
   begin_assign v (S.more_targets t S.no_targets) n s after = begin_store t v n (F.finished s)
   begin_assign v (S.more_targets t (S.more_targets u ts)) n s after = begin_store t v n (F.assigns (n + target_size t) v (S.more_targets u ts) s)
 
-  -- 7.5
-  abbrev pub begin_delete : Place → (n : ℕ) → Way V → Control V
-  begin_delete (S.name_at l x) n k = for_deed (mark n l false) (delete (block.variable [] x)) k (way_base k)
-  begin_delete (S.attribute_at l a x) n k = begin_exp block a n false (F.delete_attribute_of l (n + size a) x k)
-  begin_delete (S.item_at l a i) n k = begin_exp block a n false (F.delete_item_of l (n + size a) i k)
-
   abbrev pub begin_deletes : List Place → (n : ℕ) → Nest V → (after : Control V) → Control V
   begin_deletes [] n s after = after
-  begin_deletes (p ∷ ps) n s after = begin_delete p n (F.deletes (n + place_size p) ps s)
-
-  -- 7.2.1: a target is evaluated once, its present value before the other operand
-  abbrev pub begin_change : (l : ℕ) → Place → (n : ℕ) → BinOp → Exp → Nest V → Control V
-  begin_change l (S.name_at k x) n o e s = for_value (mark n k false) (load (block.variable [] x)) (F.changing l (n + 1) k (F.a_name x) o e s)
-  begin_change l (S.attribute_at k a x) n o e s = begin_exp block a n false (F.change_attribute_of l (n + size a) k x o e s)
-  begin_change l (S.item_at k a i) n o e s = begin_exp block a n false (F.change_item_of l (n + size a) k i o e s)
+  begin_deletes (p ∷ ps) n s after = begin_place p n (F.deleting (F.deletes (n + place_size p) ps s))
 
   -- 7.11
   abbrev pub begin_imports : (l n : ℕ) → List Alias → Nest V → (after : Control V) → Control V
@@ -116,7 +122,7 @@ module _ {V : Type 0} (block : Around V) where
     pub begin_stm : Stm → (n : ℕ) → Nest V → (after : Control V) → Control V
     begin_stm (S.expr l e) n s after = begin_exp block e n false (F.dropped l (n + size e) s)
     begin_stm (S.assign l ts e) n s after = begin_exp block e n false (F.assigned (n + size e) ts s)
-    begin_stm (S.augmented l p o e) n s after = begin_change l p n o e s
+    begin_stm (S.augmented l p o e) n s after = begin_place p n (F.changing_by l o e s)
     begin_stm (S.annotated l p a S.absent) n s after = for_deed (mark n l false) nothing (F.finished s) s
     begin_stm (S.annotated l p a (S.given e)) n s after = begin_exp block e n false (F.assigned (n + size e) (S.more_targets (S.single p) S.no_targets) s)
     begin_stm (S.assert l c m) n s after = begin_exp block c n false (F.asked l (n + size c) (F.finished s) (F.failed l (n + size c + 1) m s))

@@ -1,17 +1,17 @@
 //! Laws of control, each the contract of a function that does nothing.
 
-ghost use Rattle.std.specs.Prelude.{◌≡◌, ◌<◌, ℕ, List, [], ◌∷◌, None, Option, Some, length};
-ghost use Rattle.pt_tree.specs.Blocks.{Code, acts_of_code};
+ghost use Rattle.std.specs.Prelude.{◌≡◌, ℕ, List, [], ◌∷◌, None, Some};
+ghost use Rattle.pt_tree.specs.Blocks.{Code};
 ghost use Rattle.pt_tree.specs.Syntax.{Name, Stms, absent, global, handler, more, no_handlers, none, pass, return, try};
-ghost use Rattle.pt_control.specs.Bases.{way_base};
 ghost use Rattle.pt_control.specs.ClosedParts.{All_apart, parts_of};
 ghost use Rattle.pt_control.specs.Completions.{complete, end_of, follow};
 ghost use Rattle.pt_control.specs.CompletionTable.{onward, row};
-ghost use Rattle.pt_control.specs.Control.{go, turn};
+ghost use Rattle.pt_control.specs.Control.{turn};
 ghost use Rattle.pt_control.specs.Endings.{All_reached, Code_reached};
-ghost use Rattle.pt_control.specs.Frames.{Completion, Control, Frame, Nest, Way, by, closed, raise};
-ghost use Rattle.pt_control.specs.Jump.{Target, Landing, on_line, starts_of, jump, lands, parts, verdict, permitted};
-ghost use Rattle.pt_control.specs.Reached.{IsRow, Meets, Reaches, start_code};
+ghost use Rattle.pt_control.specs.Frames.{Completion, Control, Frame, Nest, closed};
+ghost use Rattle.pt_control.specs.Jump.{Target, Landing, on_line, starts_of, parts, verdict, permitted};
+ghost use Rattle.pt_control.specs.Laws.{GoesByRows, LandsByRows, MeetsAllRows, RaisesByRows};
+ghost use Rattle.pt_control.specs.Reached.{start_code};
 ghost use Rattle.pt_control.specs.Samples.{counting, generating, jumping, nested_body};
 ghost use Rattle.pt_control.specs.Turn.{Around, move, stuck};
 
@@ -25,15 +25,15 @@ pub fn turns_are_never_stuck<V>()
 /// block's row with its number, and a re-test begins with it only where the row says so.
 #[tactic(auto, using(crate::proofs::MarksLaw::marks_are_rows))]
 pub fn each_mark_is_its_row<V>()
-    ensures { (block : Around V) (code : Code) (first : V) (c : Control V) → Reaches block (start_code block code first) c → IsRow (acts_of_code code) block c }
+    ensures { (block : Around V) (code : Code) (first : V) → GoesByRows code block (start_code block code first) }
 {}
 
 /// From where a jump lands too, whatever the replies, and from a raise that comes before the target's
 /// statement begins, each act has the kind and the line of the block's row with its number.
 #[tactic(auto, using(crate::proofs::MarksJumps::marks_behind_jumps, crate::proofs::MarksJumps::marks_behind_raises))]
 pub fn each_mark_behind_a_jump_is_its_row<V>()
-    ensures goes { (block : Around V) (code : Code) (place : Nest V) (line : ℕ) (k : Way V) (d : Control V) → jump code place line ≡ lands k → Reaches block (go block k) d → IsRow (acts_of_code code) block d }
-    ensures raised { (block : Around V) (code : Code) (place : Nest V) (line : ℕ) (k : Way V) (v : V) (d : Control V) → jump code place line ≡ lands k → Reaches block (complete block (by (raise v)) (way_base k)) d → IsRow (acts_of_code code) block d }
+    ensures goes { (block : Around V) (code : Code) (place : Nest V) (line : ℕ) → LandsByRows code block place line }
+    ensures raised { (block : Around V) (code : Code) (place : Nest V) (line : ℕ) → RaisesByRows code block place line }
 {}
 
 /// In a block where each statement can be reached, as far as the forms of statements tell, each row
@@ -41,7 +41,7 @@ pub fn each_mark_behind_a_jump_is_its_row<V>()
 /// expression each row always is.
 #[tactic(auto, using(crate::proofs::MarksMetLaw::rows_are_met))]
 pub fn each_row_is_met<V>()
-    ensures { (block : Around V) (code : Code) (first : V) → Code_reached code → (n : ℕ) → n < length (acts_of_code code) → Meets block (start_code block code first) n }
+    ensures { (block : Around V) (code : Code) (first : V) → Code_reached code → MeetsAllRows code block (start_code block code first) }
 {}
 
 /// Statements that can be reached, and two that cannot: one behind a `return`, and a handler of a
@@ -56,7 +56,7 @@ pub fn statements_are_reached()
     ensures nothing_to_catch { (l : ℕ) (xs : List Name) → All_reached (more (try l (more (global l xs) none) (handler l absent None none no_handlers) none none) none) → ⊥ }
 {}
 
-/// block completion that leaves a block closes it, and one that is passed to a frame goes the way of the
+/// A completion that leaves a block closes it, and one that is passed to a frame goes the way of the
 /// table's row.
 pub fn completions_go_the_ways_of_the_table<V>()
     ensures leaves { (block : Around V) (c : Completion V) → complete block c [] ≡ closed (end_of block c) }

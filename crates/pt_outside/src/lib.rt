@@ -1,4 +1,6 @@
 //! The real files and streams. They keep their count of faults, and tell nothing of what they hold.
+#![tactic(auto)]
+
 ghost use Rattle.std.specs.Prelude.{ℕ, List, ◌-◌, ◌^◌};
 ghost use Rattle.pt_base.specs.Told.Told.{Silent};
 
@@ -16,6 +18,7 @@ pub struct FileShelf<'a, R: Files> {
 }
 
 impl<'a, R: Files> FileShelf<'a, R> {
+    /// The files that this runtime opens.
     pub fn new(rt: &'a R) -> FileShelf<'a, R> {
         FileShelf { rt, faults: 0 }
     }
@@ -65,6 +68,7 @@ pub struct StreamSink<W: Write + Drop> {
 }
 
 impl<W: Write + Drop> StreamSink<W> {
+    /// The stream behind this writer.
     pub fn new(inner: W) -> StreamSink<W> {
         StreamSink { inner, faults: 0 }
     }

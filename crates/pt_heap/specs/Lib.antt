@@ -1,0 +1,3 @@
+pub mod Entries
+pub mod Holes
+pub mod Sound
