@@ -249,7 +249,7 @@ def block(node):
         case ast.FunctionDef(body=body):
             return statements(body[1:] if is_text(body[0]) else body)
         case ast.Lambda(_, body):
-            return expression(body) + act("Return", body.lineno)
+            return expression(body) + act("Return", node.lineno)
         case ast.GeneratorExp(item, generators):
             line = node.lineno
             return turns(generators, line, expression(item) + act("Yield", line) + act("Discard", line))
