@@ -4,11 +4,11 @@ use Rattle.std.specs.List.{list_any}
 use Rattle.std.proofs.lemmas.Bool.{eqb-true}
 use Rattle.pt_tree.specs.Syntax as S
 use Rattle.pt_tree.specs.Syntax.{Name, Stm, Stms, Branches, Handlers, Items, none, more}
-use Rattle.pt_tree.specs.Sizes.{size, target_size, opt_size, items_size, stm_size, stms_size}
+use Rattle.pt_tree.specs.Sizes.{size, target_size, opt_size, stm_size, stms_size}
 use Rattle.pt_tree.specs.Blocks.{Code}
 use Rattle.pt_control.specs.Frames.{Completion, normal, by, Frame, Nest, rest, looping, iterating, guarded, testing, handling, naming, ensuring, ending, withing, exiting}
 use Rattle.pt_control.specs.Numbers.{tested_body, behind_body, for_body, for_else, try_handlers, try_else, try_finally, handler_body}
-use Rattle.pt_control.specs.Jump.{Part, for_part, with_part, tests_part, handler_part, finally_part, exit_part, same, Held, iterator, exception, completion, exit, exit_and, kept, parts, has, holding, permitted, out_of_finally, into_block, verdict, Shape, shape, Target, starts_on, with_name, body_at, within_items, behind_branches, starts, starts_in, branch_starts, handler_starts, starts_of, statements_of, on_line, with_iterator, with_exception, with_completion, with_exit, filled_frame, joined, filled, Keeps, Landing}
+use Rattle.pt_control.specs.Jump.{Part, for_part, with_part, tests_part, handler_part, finally_part, exit_part, same, Held, iterator, exception, completion, exit, exit_and, kept, parts, has, holding, permitted, out_of_finally, into_block, verdict, Shape, shape, Target, with_name, body_at, within_items, behind_branches, starts, starts_in, branch_starts, handler_starts, starts_of, statements_of, on_line, with_iterator, with_exception, with_completion, with_exit, filled_frame, joined, filled, Landing}
 
 pub same_part : (p q : Part) → same p q ≡ true → p ≡ q
 same_part (for_part n) (for_part m) e = ap for_part (eqb-true n m e)

@@ -1,5 +1,6 @@
 pub mod JumpLemmas
 pub mod PartsApart
+pub mod PartsAmong
 pub mod MarksTree
 pub mod MarksFrames
 pub mod MarksBases

@@ -3,7 +3,6 @@ use Rattle.std.proofs.Common.{[], ◌∷◌, ◌++◌}
 use Rattle.pt_tree.specs.declared.act.ActKind.TheVariants as K
 use Rattle.pt_tree.specs.Syntax as S
 use Rattle.pt_tree.specs.Syntax.{none, more}
-use Rattle.pt_tree.specs.Sizes.{handlers_size}
 use Rattle.pt_control.specs.Turn.{Around}
 use Rattle.pt_control.specs.Frames as F
 use Rattle.pt_control.specs.Frames.{raise, return, break, continue, Completion, normal, by, Frame, Nest, Control}

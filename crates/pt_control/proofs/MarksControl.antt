@@ -8,9 +8,8 @@ use Rattle.pt_control.specs.Turn.{Mark, Variable, Around, Row, Delegated, return
 use Rattle.pt_control.specs.Frames as F
 use Rattle.pt_control.specs.Frames.{Abrupt, raise, normal, by, Nest, no_more, Address, Way, Wait, Over, Rounds, Control}
 use Rattle.pt_control.specs.Bases.{base, way_base, over_base, around, rounds_line}
-use Rattle.pt_control.specs.Expressions.{take_item, target_names, clause_names}
+use Rattle.pt_control.specs.Expressions.{target_names, clause_names}
 use Rattle.pt_control.specs.Statements.{at_place, each_gets, count}
-use Rattle.pt_control.specs.Completions.{complete}
 use Rattle.pt_control.specs.Control.{make_anew, deliver, next_round, take_iter, go, after_value, after_deed, after_leave, after_throw, after_truth, after_iter, after_item, after_entry, after_unpack, after_delegate, turn}
 use Rattle.pt_control.specs.Reached.{Leads}
 use Rattle.pt_control.proofs.MarksTree.{Numbering, Target_in, Targets_in}

@@ -5,7 +5,6 @@ use Rattle.pt_tree.specs.declared.expression.Conversion.{Conversion}
 use Rattle.pt_tree.specs.Syntax as S
 use Rattle.pt_tree.specs.Syntax.{Exp, Exps, Opt, Pieces, Entries, Args, Made, Clauses, Tgt, Params, Formals}
 use Rattle.pt_tree.specs.Sizes.{size, pieces_size, joins}
-use Rattle.pt_control.specs.Turn as T
 use Rattle.pt_control.specs.Turn.{Variable, Around, Operation}
 use Rattle.pt_control.specs.Frames as F
 use Rattle.pt_control.specs.Frames.{Operand, Wait, Rounds, Control}

@@ -2,7 +2,7 @@
 use Rattle.std.proofs.Common.{◌≡◌, ℕ, ◌+◌, List, [], ◌∷◌, ◌++◌, Option, Some, None, refl, sym, subst, arith}
 use Rattle.pt_tree.specs.Syntax as S
 use Rattle.pt_tree.specs.Syntax.{Opt, Items, Stm, Stms, Branches, Handlers, none, more}
-use Rattle.pt_tree.specs.Sizes.{size, opt_size, target_size, stm_size, stms_size, handlers_size}
+use Rattle.pt_tree.specs.Sizes.{size, opt_size, target_size, stm_size, stms_size}
 use Rattle.pt_tree.specs.Acts.{acts_stms}
 use Rattle.pt_tree.specs.Blocks as B
 use Rattle.pt_tree.specs.Blocks.{Code, acts_of_code, function_body}
@@ -17,7 +17,7 @@ use Rattle.pt_control.specs.Jump.{kept, parts, Verdict, permitted, no_statement,
 use Rattle.pt_control.specs.Reached.{IsRow, Reaches}
 use Rattle.pt_control.proofs.JumpLemmas.{Each, each_append, each_on_line, jump_lands}
 use Rattle.pt_control.proofs.MarksTree.{Numbering, Opt_in, Name_in, Items_in, Stm_in, Stms_in, Branches_in, Handlers_in}
-use Rattle.pt_control.proofs.MarksFrames.{Frame_in, Nest_in, Way_in, Control_in}
+use Rattle.pt_control.proofs.MarksFrames.{Frame_in, Nest_in, Way_in}
 use Rattle.pt_control.proofs.MarksBases.{way_base_in}
 use Rattle.pt_control.proofs.MarksCompletions.{complete_in}
 use Rattle.pt_control.proofs.MarksControl.{go_in}

@@ -1,10 +1,10 @@
 -- The closed parts of a block by its syntax, in source order, each with its number.
-use Rattle.std.specs.Prelude.{◌≡◌, ℕ, ◌+◌, false, List, [], ◌∷◌, ◌++◌, Some, None}
+use Rattle.std.specs.Prelude.{◌≡◌, ℕ, ◌+◌, true, false, List, [], ◌∷◌, ◌++◌, Some, None}
 use Rattle.pt_tree.specs.Syntax as S
 use Rattle.pt_tree.specs.Syntax.{Items, Stm, Stms, Branches, Handlers, none, more}
 use Rattle.pt_tree.specs.Sizes.{size, target_size, opt_size, items_size, stm_size, stms_size}
 use Rattle.pt_control.specs.Numbers.{tested_body, behind_body, for_body, for_else, try_handlers, try_else, try_finally, handler_body}
-use Rattle.pt_control.specs.Jump.{Part, for_part, with_part, tests_part, handler_part, finally_part, exit_part, same, body_at, behind_branches}
+use Rattle.pt_control.specs.Jump.{Part, for_part, with_part, tests_part, handler_part, finally_part, exit_part, same, has, body_at, behind_branches}
 
 abbrev pub tests_of : Handlers → (n : ℕ) → List Part
 tests_of S.no_handlers n = []
@@ -57,3 +57,7 @@ Apart_from q (p ∷ ps) = (same q p ≡ false) × Apart_from q ps
 abbrev pub All_apart : List Part → Type 0
 All_apart [] = Unit {0}
 All_apart (p ∷ ps) = Apart_from p ps × All_apart ps
+
+-- each of some parts is one of others
+abbrev pub Among : (ps qs : List Part) → Type 0
+Among ps qs = (q : Part) → has ps q ≡ true → has qs q ≡ true

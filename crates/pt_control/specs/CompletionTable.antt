@@ -4,7 +4,7 @@ use Rattle.std.specs.Prelude.{ℕ, ◌+◌, List, [], ◌∷◌}
 use Rattle.pt_tree.specs.Syntax as S
 use Rattle.pt_tree.specs.Syntax.{Name, Exp, Tgt, Stms, Handlers, none, more}
 use Rattle.pt_tree.specs.Sizes.{handlers_size}
-use Rattle.pt_control.specs.Frames.{Abrupt, raise, return, break, continue, Completion, normal, by, Frame, rest, looping, iterating, guarded, testing, handling, naming, ensuring, ending, withing, exiting}
+use Rattle.pt_control.specs.Frames.{raise, return, break, continue, Completion, normal, by, Frame, rest, looping, iterating, guarded, testing, handling, naming, ensuring, ending, withing, exiting}
 
 -- what follows where the frame is taken off
 pub data Follows (V : Type 0) : Type 0 where

@@ -1,26 +1,49 @@
--- What laws say of control in a block, whatever the replies.
-use Rattle.std.specs.Prelude.{◌≡◌, ℕ, ◌<◌, length}
+-- What laws say of control, whatever the replies.
+use Rattle.std.specs.Prelude.{◌≡◌, ℕ, ◌<◌, [], ◌∷◌, Some, length}
 use Rattle.pt_tree.specs.Blocks.{Code, acts_of_code}
+use Rattle.pt_tree.specs.Syntax.{Stms}
 use Rattle.pt_control.specs.Turn.{Around}
-use Rattle.pt_control.specs.Frames.{by, raise, Nest, Way, Control}
+use Rattle.pt_control.specs.Frames.{by, raise, Completion, Frame, Nest, Way, Control, closed}
 use Rattle.pt_control.specs.Bases.{way_base}
-use Rattle.pt_control.specs.Completions.{complete}
+use Rattle.pt_control.specs.CompletionTable.{row, onward}
+use Rattle.pt_control.specs.Completions.{end_of, follow, complete}
 use Rattle.pt_control.specs.Control.{go}
-use Rattle.pt_control.specs.Jump.{jump, lands}
+use Rattle.pt_control.specs.Endings.{Code_reached}
+use Rattle.pt_control.specs.ClosedParts.{parts_of, Among}
+use Rattle.pt_control.specs.Jump.{Target, starts, starts_of, on_line, parts, verdict, permitted, Landing, jump, lands}
 use Rattle.pt_control.specs.Reached.{IsRow, Reaches, Meets, start_code}
 
--- each act that comes from there is the row with its number
-abbrev pub GoesByRows : {V : Type 0} → Code → Around V → Control V → Type 0
-GoesByRows {V = V} code block c = (d : Control V) → Reaches block c d → IsRow (acts_of_code code) block d
+module _ {V : Type 0} where
+  -- each act that comes from there is the row with its number
+  abbrev pub GoesByRows : Code → Around V → Control V → Type 0
+  GoesByRows code block c = (d : Control V) → Reaches block c d → IsRow (acts_of_code code) block d
 
--- so it is where a jump to a line lands, and behind a raise that comes before the target's statement begins
-abbrev pub LandsByRows : {V : Type 0} → Code → Around V → (place : Nest V) → (line : ℕ) → Type 0
-LandsByRows {V = V} code block p l = (k : Way V) → jump code p l ≡ lands k → GoesByRows code block (go block k)
+  -- so it is from a block's start, where a jump to a line lands, and behind a raise that comes before the target's statement begins
+  abbrev pub StartsByRows : Code → Around V → (first : V) → Type 0
+  StartsByRows code block i = GoesByRows code block (start_code block code i)
 
-abbrev pub RaisesByRows : {V : Type 0} → Code → Around V → (place : Nest V) → (line : ℕ) → Type 0
-RaisesByRows {V = V} code block p l =
-    (k : Way V) (v : V) → jump code p l ≡ lands k → GoesByRows code block (complete block (by (raise v)) (way_base k))
+  abbrev pub LandsByRows : Code → Around V → (place : Nest V) → (line : ℕ) → Type 0
+  LandsByRows code block p l = (k : Way V) → jump code p l ≡ lands k → GoesByRows code block (go block k)
 
--- each row is that of an act that comes with some replies
-abbrev pub MeetsAllRows : {V : Type 0} → Code → Around V → Control V → Type 0
-MeetsAllRows code block c = (n : ℕ) → n < length (acts_of_code code) → Meets block c n
+  abbrev pub RaisesByRows : Code → Around V → (place : Nest V) → (line : ℕ) → Type 0
+  RaisesByRows code block p l =
+      (k : Way V) (v : V) → jump code p l ≡ lands k → GoesByRows code block (complete block (by (raise v)) (way_base k))
+
+  -- where each statement can be reached, each row is that of an act that comes with some replies
+  abbrev pub MeetsAllRows : Code → Around V → (first : V) → Type 0
+  MeetsAllRows code block i = Code_reached code → (n : ℕ) → n < length (acts_of_code code) → Meets block (start_code block code i) n
+
+  -- a completion leaves a block, or takes off a frame as the table has it
+  abbrev pub ClosesBy : Around V → Completion V → Type 0
+  ClosesBy block c = complete block c [] ≡ closed (end_of block c)
+
+  abbrev pub TakesOff : Around V → Completion V → Frame V → Nest V → Type 0
+  TakesOff block c f s = complete block c (f ∷ s) ≡ follow block (row c f) s (complete block (onward (row c f)) s)
+
+  -- where the jump to a line is permitted, it lands
+  abbrev pub LandsPermitted : Code → (line : ℕ) → (place : Nest V) → Type 0
+  LandsPermitted code l p = (t : Target) → on_line l (starts_of code) ≡ Some t → verdict (parts p) (parts t.within) ≡ permitted → Landing t p
+
+-- the statement that a line's first one is lies in parts of its block alone
+abbrev pub LiesInParts : Stms → (line : ℕ) → Type 0
+LiesInParts ss l = (t : Target) → on_line l (starts ss 0 []) ≡ Some t → Among (parts t.within) (parts_of ss 0)

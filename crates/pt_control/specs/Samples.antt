@@ -6,10 +6,12 @@ use Rattle.pt_tree.specs.declared.expression.Constant.TheVariants.{Int, Str}
 use Rattle.std.specs.Prelude.{pos}
 use Rattle.pt_tree.specs.Syntax as S
 use Rattle.pt_tree.specs.Syntax.{Name, Exp, Args, Stm, Stms, none, more}
-use Rattle.pt_control.specs.Frames.{Nest, Way, Control, stms, raises, rest, guarded, handling, ensuring, noting}
+use Rattle.pt_control.specs.Frames.{Nest, Way, Control, by, raise, stms, raises, rest, guarded, handling, ensuring, noting}
+use Rattle.pt_control.specs.Bases.{way_base}
+use Rattle.pt_control.specs.Completions.{complete}
 use Rattle.pt_control.specs.Control.{start_lambda}
 use Rattle.pt_control.specs.Turn.{raised_again}
-use Rattle.pt_control.specs.Lines.{numbers, Given, truth, throws, value, opens, resumes, starts}
+use Rattle.pt_control.specs.Lines.{numbers, Given, truth, item, throws, value, opens, resumes, starts}
 
 abbrev x : Name
 x = codes "x"
@@ -228,3 +230,13 @@ nested_lines = 1 ∷ 11 ∷ 2 ∷ 3 ∷ 4 ∷ 5 ∷ 7 ∷ 9 ∷ 10 ∷ []
 
 abbrev pub spread_lines : List ℕ
 spread_lines = 1 ∷ 2 ∷ 3 ∷ 4 ∷ 3 ∷ 5 ∷ 3 ∷ 1 ∷ []
+
+abbrev pub nested_call : List Given
+nested_call = opens (starts nested_body) ∷ value ∷ item true ∷ []
+
+abbrev pub global_nest : Nest ℕ
+global_nest = way_base at_the_global
+
+-- a raise before anything there has begun
+abbrev pub raised_from : Way ℕ → Control ℕ
+raised_from k = complete numbers (by (raise 0)) (way_base k)

@@ -1,6 +1,5 @@
 -- How targets, statements and blocks begin (Language Reference 7, 8).
 use Rattle.std.specs.Prelude.{ℕ, ◌+◌, zero, suc, List, [], ◌∷◌, ◌++◌, Bool, false, Option, Some, None, option_map}
-use Rattle.pt_base.specs.declared.operators.BinOp.{BinOp}
 use Rattle.pt_tree.specs.declared.statement.Alias.{Alias}
 use Rattle.pt_tree.specs.Syntax as S
 use Rattle.pt_tree.specs.Syntax.{Name, Exp, Opt, Place, Tgt, Tgts, Items, Stm, Stms, Branches, Handlers, none, more}

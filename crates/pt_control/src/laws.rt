@@ -1,17 +1,13 @@
 //! Laws of control, each the contract of a function that does nothing.
 
-ghost use Rattle.std.specs.Prelude.{◌≡◌, ℕ, List, [], ◌∷◌, None, Some};
+ghost use Rattle.std.specs.Prelude.{◌≡◌, ℕ, List, None};
 ghost use Rattle.pt_tree.specs.Blocks.{Code};
 ghost use Rattle.pt_tree.specs.Syntax.{Name, Stms, absent, global, handler, more, no_handlers, none, pass, return, try};
 ghost use Rattle.pt_control.specs.ClosedParts.{All_apart, parts_of};
-ghost use Rattle.pt_control.specs.Completions.{complete, end_of, follow};
-ghost use Rattle.pt_control.specs.CompletionTable.{onward, row};
 ghost use Rattle.pt_control.specs.Control.{turn};
-ghost use Rattle.pt_control.specs.Endings.{All_reached, Code_reached};
-ghost use Rattle.pt_control.specs.Frames.{Completion, Control, Frame, Nest, closed};
-ghost use Rattle.pt_control.specs.Jump.{Target, Landing, on_line, starts_of, parts, verdict, permitted};
-ghost use Rattle.pt_control.specs.Laws.{GoesByRows, LandsByRows, MeetsAllRows, RaisesByRows};
-ghost use Rattle.pt_control.specs.Reached.{start_code};
+ghost use Rattle.pt_control.specs.Endings.{All_reached};
+ghost use Rattle.pt_control.specs.Frames.{Completion, Control, Frame, Nest};
+ghost use Rattle.pt_control.specs.Laws.{ClosesBy, LandsByRows, LandsPermitted, LiesInParts, MeetsAllRows, RaisesByRows, StartsByRows, TakesOff};
 ghost use Rattle.pt_control.specs.Samples.{counting, generating, jumping, nested_body};
 ghost use Rattle.pt_control.specs.Turn.{Around, move, stuck};
 
@@ -25,11 +21,11 @@ pub fn turns_are_never_stuck<V>()
 /// block's row with its number, and a re-test begins with it only where the row says so.
 #[tactic(auto, using(crate::proofs::MarksLaw::marks_are_rows))]
 pub fn each_mark_is_its_row<V>()
-    ensures { (block : Around V) (code : Code) (first : V) → GoesByRows code block (start_code block code first) }
+    ensures { (block : Around V) (code : Code) (first : V) → StartsByRows code block first }
 {}
 
-/// From where a jump lands too, whatever the replies, and from a raise that comes before the target's
-/// statement begins, each act has the kind and the line of the block's row with its number.
+/// From where a jump lands too, whatever the replies, and from a raise that comes before the
+/// target's statement begins, each act has the kind and the line of the block's row with its number.
 #[tactic(auto, using(crate::proofs::MarksJumps::marks_behind_jumps, crate::proofs::MarksJumps::marks_behind_raises))]
 pub fn each_mark_behind_a_jump_is_its_row<V>()
     ensures goes { (block : Around V) (code : Code) (place : Nest V) (line : ℕ) → LandsByRows code block place line }
@@ -41,7 +37,7 @@ pub fn each_mark_behind_a_jump_is_its_row<V>()
 /// expression each row always is.
 #[tactic(auto, using(crate::proofs::MarksMetLaw::rows_are_met))]
 pub fn each_row_is_met<V>()
-    ensures { (block : Around V) (code : Code) (first : V) → Code_reached code → MeetsAllRows code block (start_code block code first) }
+    ensures { (block : Around V) (code : Code) (first : V) → MeetsAllRows code block first }
 {}
 
 /// Statements that can be reached, and two that cannot: one behind a `return`, and a handler of a
@@ -56,22 +52,24 @@ pub fn statements_are_reached()
     ensures nothing_to_catch { (l : ℕ) (xs : List Name) → All_reached (more (try l (more (global l xs) none) (handler l absent None none no_handlers) none none) none) → ⊥ }
 {}
 
-/// A completion that leaves a block closes it, and one that is passed to a frame goes the way of the
-/// table's row.
+/// A completion that leaves a block closes it, and one that is passed to a frame goes the way of
+/// the table's row.
 pub fn completions_go_the_ways_of_the_table<V>()
-    ensures leaves { (block : Around V) (c : Completion V) → complete block c [] ≡ closed (end_of block c) }
-    ensures goes_on { (block : Around V) (c : Completion V) (f : Frame V) (s : Nest V) → complete block c (f ∷ s) ≡ follow block (row c f) s (complete block (onward (row c f)) s) }
+    ensures leaves { (block : Around V) (c : Completion V) → ClosesBy block c }
+    ensures goes_on { (block : Around V) (c : Completion V) (f : Frame V) (s : Nest V) → TakesOff block c f s }
 {}
 
 /// Behind a permitted jump there is a nest of the shape that the target has by the syntax, and each
 /// closed part holds in it what the same part holds at the place of the jump.
 #[tactic(auto, using(crate::proofs::JumpLemmas::jump_lands))]
 pub fn a_permitted_jump_lands<V>()
-    ensures { (code : Code) (line : ℕ) (place : Nest V) (t : Target) → on_line line (starts_of code) ≡ Some t → verdict (parts place) (parts t.within) ≡ permitted → Landing t place }
+    ensures { (code : Code) (line : ℕ) (place : Nest V) → LandsPermitted code line place }
 {}
 
-/// Within a block no two closed parts are the same, whatever acts they have.
-#[tactic(auto, using(crate::proofs::PartsApart::parts_apart))]
+/// Within a block no two closed parts are the same, whatever acts they have, and a statement lies in
+/// parts of its block alone.
+#[tactic(auto, using(crate::proofs::PartsApart::parts_apart, crate::proofs::PartsAmong::targets_among))]
 pub fn no_two_parts_are_the_same()
-    ensures { (block : Stms) → All_apart (parts_of block 0) }
+    ensures apart { (block : Stms) → All_apart (parts_of block 0) }
+    ensures of_block { (block : Stms) (line : ℕ) → LiesInParts block line }
 {}

@@ -3,15 +3,13 @@
 ghost use Rattle.std.specs.Prelude.{◌≡◌, ℕ, [], ◌∷◌, true, false, Some, None};
 ghost use Rattle.pt_tree.specs.Blocks.{of_module};
 ghost use Rattle.pt_tree.specs.declared.act.ActKind.TheVariants.{Match};
-ghost use Rattle.pt_control.specs.Bases.{way_base};
-ghost use Rattle.pt_control.specs.Completions.{complete};
 ghost use Rattle.pt_control.specs.Control.{context_at, go, turn};
 ghost use Rattle.pt_control.specs.Events.{after, raises, raises_again};
-ghost use Rattle.pt_control.specs.Frames.{by, raise, stms};
+ghost use Rattle.pt_control.specs.Frames.{stms};
 ghost use Rattle.pt_control.specs.Jump.{jump, refused, lands, into_block, out_of_finally, no_statement};
-ghost use Rattle.pt_control.specs.Lines.{numbers, item, opens, value, acts_from, ask_of, control_after, jump_after, lines_from, lines_of, starts};
+ghost use Rattle.pt_control.specs.Lines.{numbers, item, opens, acts_from, ask_of, control_after, jump_after, lines_from, lines_of, starts};
 ghost use Rattle.pt_control.specs.Reached.{kind_of};
-ghost use Rattle.pt_control.specs.Samples.{at_a_match, at_the_global, back_at_the_store, counting, ends_in_global, generating, going_on, in_a_handler, in_the_handler, jumping, lambda_below, lambda_starts, last_of_jumping, names_its_exception, nested, nested_body, nested_lines, on_one_line, part_without_acts, raises_alone, raises_in_a_handler, spread_body, spread_lines, spreading, twice, two_items};
+ghost use Rattle.pt_control.specs.Samples.{at_a_match, at_the_global, back_at_the_store, counting, ends_in_global, generating, going_on, global_nest, in_a_handler, in_the_handler, jumping, lambda_below, lambda_starts, last_of_jumping, names_its_exception, nested, nested_call, nested_lines, on_one_line, part_without_acts, raised_from, raises_alone, raises_in_a_handler, spread_body, spread_lines, spreading, twice, two_items};
 ghost use Rattle.pt_control.specs.Turn.{raised, raising_again, throw};
 
 /// The line events of four scripts, and how many acts the first has.
@@ -20,7 +18,7 @@ pub fn scripts_are_followed()
     ensures counted { acts_from (starts counting) twice ≡ 26 }
     ensures on_one_line { lines_of on_one_line twice ≡ 1 ∷ 2 ∷ 2 ∷ 2 ∷ [] }
     ensures generating { lines_of generating two_items ≡ 1 ∷ 4 ∷ 2 ∷ 5 ∷ 4 ∷ 3 ∷ 5 ∷ 4 ∷ [] }
-    ensures nested { lines_of nested (opens (starts nested_body) ∷ value ∷ item true ∷ []) ≡ nested_lines }
+    ensures nested { lines_of nested nested_call ≡ nested_lines }
 {}
 
 /// Jumps in a script: into the body of a `for`, out of a `finally` part, and out of a loop.
@@ -56,13 +54,13 @@ pub fn a_part_without_acts_is_not_entered()
 /// part around it, and a second jump may go back.
 pub fn a_jump_to_no_act_is_followed()
     ensures lands_there { jump_after 1 ends_in_global [] 3 ≡ lands at_the_global }
-    ensures raised_there { lines_from (complete numbers (by (raise 0)) (way_base at_the_global)) [] ≡ 5 ∷ [] }
+    ensures raised_there { lines_from (raised_from at_the_global) [] ≡ 5 ∷ [] }
     ensures goes_on { lines_from (go numbers at_the_global) [] ≡ 5 ∷ [] }
-    ensures back { jump (of_module ends_in_global) (way_base at_the_global) 2 ≡ lands back_at_the_store }
+    ensures back { jump (of_module ends_in_global) global_nest 2 ≡ lands back_at_the_store }
 {}
 
-/// A raise of a tool where a handler is found goes on from the tests of handlers: the name isn't bound
-/// yet, and none is unbound; the next test is that of the `try` around.
+/// A raise of a tool where a handler is found goes on from the tests of handlers: the name isn't
+/// bound yet, and none is unbound; the next test is that of the `try` around.
 pub fn a_raise_at_a_match_is_followed()
     ensures next { kind_of (control_after 6 (starts names_its_exception) at_a_match) ≡ Some Match }
     ensures told { lines_of names_its_exception at_a_match ≡ 1 ∷ 2 ∷ 3 ∷ 4 ∷ 6 ∷ 7 ∷ [] }

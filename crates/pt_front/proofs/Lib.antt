@@ -1,3 +1,4 @@
+pub mod SyntaxLemmas
 pub mod SyntaxOnce
 pub mod Once
 pub mod FrontLemmas

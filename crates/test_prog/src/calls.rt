@@ -1,6 +1,6 @@
 //! The call of a row, and what it comes to.
 
-use crate::rows::{NoRow, row};
+use crate::rows::{NoRow, read_row};
 use pt_base::{MemShelf, MemSink, Seq, Text};
 use pt_prog::{End, status, top};
 use std::alloc::{AllocError, Global};
@@ -32,7 +32,7 @@ fn tell(line: &mut String, end: &End) -> Result<(), AllocError> {
 
 /// Writes the exit status and the end of a row's call, and the pieces that it has written.
 pub fn answer(line: &mut String, alloc: Global, text: &str) -> Result<(), NoRow> {
-    let row = row(alloc, text)?;
+    let row = read_row(alloc, text)?;
     let mut shelf = shelf(alloc, row.text.as_slice(), row.read_fails)?;
     let mut out = MemSink::new(alloc, row.write_fails);
     let mut log = MemSink::new(alloc, Seq::new(alloc));

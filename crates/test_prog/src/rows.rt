@@ -60,7 +60,8 @@ fn fails(alloc: Global, head: &str, word: &str) -> Result<Seq<u64>, NoRow> {
     Ok(numbers)
 }
 
-pub fn row(alloc: Global, line: &str) -> Result<Row, NoRow> {
+/// The call that a line tells.
+pub fn read_row(alloc: Global, line: &str) -> Result<Row, NoRow> {
     let (head, text) = line.split_once(":").ok_or(NoRow)?;
     Ok(Row {
         words: words(alloc, head.split(',').next().unwrap_or_default())?,
