@@ -23,7 +23,7 @@ fn steps(out: &mut Vec<u8>, piece: &str, count: &str) -> Written {
     Ok(())
 }
 
-fn escaped(out: &mut Vec<u8>, byte: u8, rest: &str) -> Written {
+fn push_byte(out: &mut Vec<u8>, byte: u8, rest: &str) -> Written {
     out.push(byte)?;
     out.extend_from_slice(rest.as_bytes())
 }
@@ -33,20 +33,20 @@ fn hexadecimal(out: &mut Vec<u8>, text: &str) -> Written {
     match text.split_at_checked(2) {
         Some((digits, rest)) => {
             let byte = u8::from_str_radix(digits, 16).unwrap_or(0);
-            escaped(out, byte, rest)
+            push_byte(out, byte, rest)
         }
         None => Ok(()),
     }
 }
 
 /// What stands behind a backslash. The answer is the piece that is repeated next.
-fn behind<'a>(out: &mut Vec<u8>, piece: &'a str, part: &'a str) -> Result<&'a str, AllocError> {
+fn escape<'a>(out: &mut Vec<u8>, piece: &'a str, part: &'a str) -> Result<&'a str, AllocError> {
     if let Some((letter, rest)) = part.split_at_checked(1) {
         match letter {
-            "n" => escaped(out, b'\n', rest)?,
-            "r" => escaped(out, b'\r', rest)?,
-            "t" => escaped(out, b'\t', rest)?,
-            "f" => escaped(out, 12, rest)?,
+            "n" => push_byte(out, b'\n', rest)?,
+            "r" => push_byte(out, b'\r', rest)?,
+            "t" => push_byte(out, b'\t', rest)?,
+            "f" => push_byte(out, 12, rest)?,
             "x" => hexadecimal(out, rest)?,
             "(" => return Ok(rest),
             "*" => repeat(out, piece, rest)?,
@@ -70,7 +70,7 @@ pub fn text_of(alloc: Global, row: &str) -> Result<Vec<u8>, AllocError> {
             out.push(b'\\')?;
             is_plain = true;
         } else {
-            piece = behind(&mut out, piece, part)?;
+            piece = escape(&mut out, piece, part)?;
         }
     }
     Ok(out)

@@ -18,7 +18,7 @@ use std::process::ExitCode;
 use std::{env, fs, io};
 
 /// Prints a line for each row of a table.
-fn table(rt: &HostRuntime, kind: Kind, name: &str) -> io::Result<()> {
+fn print_table(rt: &HostRuntime, kind: Kind, name: &str) -> io::Result<()> {
     let text = fs::read_to_string(rt, name)?;
     for row in text.as_str().split_terminator(kind.between()) {
         let mut line = String::new(rt.alloc());
@@ -28,8 +28,8 @@ fn table(rt: &HostRuntime, kind: Kind, name: &str) -> io::Result<()> {
     Ok(())
 }
 
-/// Reads a file as what its kind tells, for a clock outside.
-fn timed(rt: &HostRuntime, kind: Kind, name: &str) -> io::Result<()> {
+/// Reads a file as what a kind asks, for a clock outside.
+fn read_file(rt: &HostRuntime, kind: Kind, name: &str) -> io::Result<()> {
     let text = fs::read(rt, name)?;
     if rows::is_taken(rt.alloc(), kind, text.as_slice()) {
         Ok(())
@@ -38,12 +38,12 @@ fn timed(rt: &HostRuntime, kind: Kind, name: &str) -> io::Result<()> {
     }
 }
 
-/// Tells what a kind asks of a file. The answer is whether it could.
-fn is_told(rt: &HostRuntime, is_timed: bool, kind: Kind, name: &str) -> bool {
+/// Whether a file could be read as what a kind asks, and its answers printed.
+fn is_done(rt: &HostRuntime, is_timed: bool, kind: Kind, name: &str) -> bool {
     if is_timed {
-        timed(rt, kind, name).is_ok()
+        read_file(rt, kind, name).is_ok()
     } else {
-        table(rt, kind, name).is_ok()
+        print_table(rt, kind, name).is_ok()
     }
 }
 
@@ -56,7 +56,7 @@ fn main(rt: HostRuntime) -> ExitCode {
     for word in args.skip(1) {
         match asked {
             Some(kind) => {
-                if !is_told(&rt, is_timed, kind, word.as_str()) {
+                if !is_done(&rt, is_timed, kind, word.as_str()) {
                     return ExitCode::from(1);
                 }
                 asked = None;

@@ -47,7 +47,7 @@ fn sign_of_comparison(operator: CompareOp) -> &'static str {
     }
 }
 
-fn quoted(out: &mut String, text: &Text) -> Printed {
+fn quote(out: &mut String, text: &Text) -> Printed {
     out.push_str(" '")?;
     out.push_str(text.as_str())?;
     out.push_str("'")
@@ -64,7 +64,7 @@ fn constant(out: &mut String, constant: &Constant) -> Printed {
         Constant::Int(1) => word(out, "1"),
         Constant::Int(2) => word(out, "2"),
         Constant::Int(_) => word(out, "int"),
-        Constant::Str(text) => quoted(out, text),
+        Constant::Str(text) => quote(out, text),
     }
 }
 
@@ -76,7 +76,7 @@ fn conversion(out: &mut String, conversion: Option<Conversion>) -> Printed {
     }
 }
 
-fn starred(out: &mut String, stars: &str, name: &Option<NamedParameter>) -> Printed {
+fn star_parameter(out: &mut String, stars: &str, name: &Option<NamedParameter>) -> Printed {
     match name {
         Some(name) => {
             word(out, stars)?;
@@ -150,9 +150,9 @@ fn children(out: &mut String, node: &ExprNode) -> Printed {
             expression(out, index.get())
         }
         ExprNode::Slice { start, stop, step } => {
-            boxed(out, start)?;
-            boxed(out, stop)?;
-            boxed(out, step)
+            optional_part(out, start)?;
+            optional_part(out, stop)?;
+            optional_part(out, step)
         }
         ExprNode::Unary { operand, .. } => expression(out, operand.get()),
         ExprNode::Not(operand) => expression(out, operand.get()),
@@ -234,7 +234,7 @@ fn children(out: &mut String, node: &ExprNode) -> Printed {
             clause(out, first.get())?;
             clauses(out, rest.as_slice())
         }
-        ExprNode::Yield(value) => boxed(out, value),
+        ExprNode::Yield(value) => optional_part(out, value),
         ExprNode::YieldFrom(value) => expression(out, value.get()),
     }
 }
@@ -248,7 +248,7 @@ fn all(out: &mut String, parts: &[Expr]) -> Printed {
 }
 
 #[cycle(expressions)]
-fn boxed(out: &mut String, value: &Option<Boxed<Expr>>) -> Printed {
+fn optional_part(out: &mut String, value: &Option<Boxed<Expr>>) -> Printed {
     match value {
         Some(value) => expression(out, value.get()),
         None => word(out, "-"),
@@ -284,7 +284,7 @@ fn pieces(out: &mut String, parts: &[Piece]) -> Printed {
 #[cycle(expressions)]
 fn piece(out: &mut String, part: &Piece) -> Printed {
     match part {
-        Piece::Literal { text, .. } => quoted(out, text),
+        Piece::Literal { text, .. } => quote(out, text),
         Piece::Field {
             value,
             conversion: told,
@@ -401,11 +401,11 @@ pub fn place(out: &mut String, node: &PlaceNode) -> Printed {
 pub fn parameters(out: &mut String, parts: &Parameters) -> Printed {
     open(out, "parameters")?;
     formals(out, parts.positional.as_slice())?;
-    starred(out, "*", &parts.star)?;
+    star_parameter(out, "*", &parts.star)?;
     open(out, "only")?;
     formals(out, parts.keyword_only.as_slice())?;
     close(out)?;
-    starred(out, "**", &parts.double_star)?;
+    star_parameter(out, "**", &parts.double_star)?;
     close(out)
 }
 
@@ -413,14 +413,14 @@ pub fn parameters(out: &mut String, parts: &Parameters) -> Printed {
 fn formals(out: &mut String, parts: &[Parameter]) -> Printed {
     for part in parts {
         open(out, part.name.as_str())?;
-        boxed(out, &part.annotation)?;
-        boxed(out, &part.default)?;
+        optional_part(out, &part.annotation)?;
+        optional_part(out, &part.default)?;
         close(out)?;
     }
     Ok(())
 }
 
-pub fn given(out: &mut String, value: &Option<Expr>) -> Printed {
+pub fn optional_expression(out: &mut String, value: &Option<Expr>) -> Printed {
     match value {
         Some(value) => expression(out, value),
         None => word(out, "-"),

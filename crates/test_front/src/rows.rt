@@ -4,7 +4,7 @@ use crate::acts::acts_of;
 use crate::escapes::text_of;
 use crate::kind::Kind;
 use crate::scopes::scopes_of;
-use crate::tokens::{places, spelled};
+use crate::tokens::{places, spell};
 use crate::words::{Printed, word};
 use crate::{printer, statements, wide};
 use pt_acts::acts;
@@ -78,7 +78,7 @@ fn of_tokens(out: &mut String, alloc: Global, kind: Kind, at: usize, words: &[To
         Kind::Target => wide_part(out, alloc, words, Part::Target),
         Kind::Script => whole_script(out, alloc, words),
         Kind::Part => part(out, alloc, words, at),
-        _ => spelled(out, words),
+        _ => spell(out, words),
     }
 }
 

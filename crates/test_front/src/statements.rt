@@ -1,14 +1,16 @@
 //! Trees of statements as lists in parentheses, each behind the last two digits of its line.
 
-use crate::printer::{expression, given, parameters, place, sign_of, target, targets};
-use crate::words::{Printed, at, close, open, renamed, word};
+use crate::printer::{
+    expression, optional_expression, parameters, place, sign_of, target, targets,
+};
+use crate::words::{Printed, at, close, open, optional_name, word};
 use pt_base::{Line, Text};
 use pt_tree::{Alias, Branch, Decorator, Handler, Script, Stmt, StmtNode, WithItem};
 
 fn aliases(out: &mut String, names: &[Alias]) -> Printed {
     for name in names {
         word(out, name.name.as_str())?;
-        renamed(out, &name.alias)?;
+        optional_name(out, &name.alias)?;
     }
     Ok(())
 }
@@ -33,7 +35,7 @@ fn items(out: &mut String, parts: &[WithItem]) -> Printed {
 }
 
 /// What a definition begins with: its decorators, its own line and its name.
-fn defined(out: &mut String, decorators: &[Decorator], line: Line, name: &Text) -> Printed {
+fn definition_head(out: &mut String, decorators: &[Decorator], line: Line, name: &Text) -> Printed {
     for part in decorators {
         open(out, "@")?;
         at(out, part.line)?;
@@ -100,17 +102,17 @@ fn simple(out: &mut String, node: &StmtNode) -> Printed {
         } => {
             place(out, &target.node)?;
             expression(out, annotation)?;
-            given(out, value)
+            optional_expression(out, value)
         }
         StmtNode::Assert { test, message } => {
             expression(out, test)?;
-            given(out, message)
+            optional_expression(out, message)
         }
         StmtNode::Del(parts) => targets(out, parts.as_slice()),
-        StmtNode::Return(value) => given(out, value),
+        StmtNode::Return(value) => optional_expression(out, value),
         StmtNode::Raise { exception, cause } => {
             expression(out, exception)?;
-            given(out, cause)
+            optional_expression(out, cause)
         }
         StmtNode::Import(names) => aliases(out, names.as_slice()),
         StmtNode::ImportFrom { origin, names } => {
@@ -209,9 +211,9 @@ fn compound(out: &mut String, node: &StmtNode) -> Printed {
             body,
             ..
         } => {
-            defined(out, decorators.as_slice(), *line, name)?;
+            definition_head(out, decorators.as_slice(), *line, name)?;
             parameters(out, parts)?;
-            given(out, returns)?;
+            optional_expression(out, returns)?;
             block(out, body.as_slice())
         }
         StmtNode::Class {
@@ -222,8 +224,8 @@ fn compound(out: &mut String, node: &StmtNode) -> Printed {
             body,
             ..
         } => {
-            defined(out, decorators.as_slice(), *line, name)?;
-            given(out, base)?;
+            definition_head(out, decorators.as_slice(), *line, name)?;
+            optional_expression(out, base)?;
             block(out, body.as_slice())
         }
         _ => Ok(()),
@@ -247,8 +249,8 @@ fn handlers(out: &mut String, parts: &[Handler]) -> Printed {
     for part in parts {
         open(out, "except")?;
         at(out, part.line)?;
-        given(out, &part.class)?;
-        renamed(out, &part.name)?;
+        optional_expression(out, &part.class)?;
+        optional_name(out, &part.name)?;
         block(out, part.body.as_slice())?;
         close(out)?;
     }

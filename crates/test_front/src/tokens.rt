@@ -1,13 +1,13 @@
 //! The tokens of a text, each spelled out.
 
-use crate::words::{Printed, shown};
+use crate::words::{Printed, show};
 use pt_lexer::{Token, TokenKind};
 
 /// A sign stands behind a quote, an integer behind `#`, a string in quotes, and the literal text of
 /// an f-string behind `~`.
 fn token(out: &mut String, kind: &TokenKind) -> Printed {
     match kind {
-        TokenKind::Name(text) => shown(out, text.as_str()),
+        TokenKind::Name(text) => show(out, text.as_str()),
         TokenKind::Sign(text) => {
             out.push_str("'")?;
             out.push_str(text.as_str())
@@ -15,12 +15,12 @@ fn token(out: &mut String, kind: &TokenKind) -> Printed {
         TokenKind::Int(value) => write!(out, "#{value}"),
         TokenKind::Str(text) => {
             out.push_str("\"")?;
-            shown(out, text.as_str())?;
+            show(out, text.as_str())?;
             out.push_str("\"")
         }
         TokenKind::FText(text) => {
             out.push_str("~")?;
-            shown(out, text.as_str())
+            show(out, text.as_str())
         }
         TokenKind::FStart => out.push_str("<"),
         TokenKind::FEnd => out.push_str(">"),
@@ -31,7 +31,7 @@ fn token(out: &mut String, kind: &TokenKind) -> Printed {
     }
 }
 
-pub fn spelled(out: &mut String, tokens: &[Token]) -> Printed {
+pub fn spell(out: &mut String, tokens: &[Token]) -> Printed {
     for each in tokens {
         out.push_str(" ")?;
         token(out, &each.kind)?;

@@ -26,7 +26,7 @@ pub fn at(out: &mut String, line: Line) -> Printed {
     write!(out, " {}{}", line / 10, line % 10)
 }
 
-pub fn renamed(out: &mut String, name: &Option<Text>) -> Printed {
+pub fn optional_name(out: &mut String, name: &Option<Text>) -> Printed {
     match name {
         Some(name) => word(out, name.as_str()),
         None => word(out, "-"),
@@ -34,7 +34,7 @@ pub fn renamed(out: &mut String, name: &Option<Text>) -> Printed {
 }
 
 /// A text on one line of ASCII.
-pub fn shown(out: &mut String, text: &str) -> Printed {
+pub fn show(out: &mut String, text: &str) -> Printed {
     for c in text.chars() {
         match c {
             '\n' => out.push_str("\\n")?,
