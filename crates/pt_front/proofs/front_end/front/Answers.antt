@@ -7,12 +7,13 @@ use Rattle.pt_front.proofs.front_end.front.Goals as goal
 pub returns-in-Err : goal.returns-in-Err
 returns-in-Err c = of_tokens c.args.text.now c.in-Err.failure c.map_refused.result c.map_refused.ensures c.in-Err.ensures.exact
 
-pub returns-in-Err-2 : goal.returns-in-Err-2
-returns-in-Err-2 c =
+pub returns-in-Err-parse_script : goal.returns-in-Err-parse_script
+returns-in-Err-parse_script c =
     let are = subst (IsTokens c.args.text.now) (sym c.as_slice.ensures) c.in-Ok.ensures.exact in
-    of_script c.args.text.now c.as_slice.result.now are c.in-Err-2.failure c.map_refused-2.result c.map_refused-2.ensures c.in-Err-2.ensures
+    of_script c.args.text.now c.as_slice.result.now are c.in-Err-parse_script.failure c.map_refused-in-Err-parse_script.result c.map_refused-in-Err-parse_script.ensures c.in-Err-parse_script.ensures
 
-pub returns-in-Err-3 : goal.returns-in-Err-3
-returns-in-Err-3 c =
+pub returns-in-Err-resolve : goal.returns-in-Err-resolve
+returns-in-Err-resolve c =
     let are = subst (IsTokens c.args.text.now) (sym c.as_slice.ensures) c.in-Ok.ensures.exact in
-    of_declarations c.args.text.now c.as_slice.result.now are (script_of c.in-Ok-2.script) c.in-Ok-2.ensures c.in-Err-3.failure c.map_refused-3.result c.map_refused-3.ensures c.in-Err-3.ensures.err
+    of_declarations c.args.text.now c.as_slice.result.now are (script_of c.in-Ok-parse_script.script) c.in-Ok-parse_script.ensures c.in-Err-resolve.failure c.map_refused-in-Err-resolve.result
+    c.map_refused-in-Err-resolve.ensures c.in-Err-resolve.ensures.err
