@@ -26,11 +26,11 @@ refused_by text of Memory Memory into same is = tt
 
 module _ (text : List ℕ) where
   pub of_tokens : (d : Failure LexErr) (f : Failure Refusal) → IsSameFailure (λ e r. r ≡ of_lexer e) d f → IfRefused (HasNoTokens text) d → IfRefused (IsRefused text) f
-  of_tokens d f same is = refused_by text of_lexer d f (λ e a. no_tokens e (of_lexer e) a refl) same is
+  of_tokens d f same is = refused_by {P = HasNoTokens text} text of_lexer d f (λ e a. no_tokens e (of_lexer e) a refl) same is
 
   module _ (ts : List Token) (are : IsTokens text ts) where
     pub of_script : (d : Failure SyntaxErr) (f : Failure Refusal) → IsSameFailure (λ e r. r ≡ of_syntax e) d f → IfRefused (AreNoScript ts) d → IfRefused (IsRefused text) f
-    of_script d f same is = refused_by text of_syntax d f (λ e a. no_script ts e (of_syntax e) are a refl) same is
+    of_script d f same is = refused_by {P = AreNoScript ts} text of_syntax d f (λ e a. no_script ts e (of_syntax e) are a refl) same is
 
     pub of_declarations : (script : Stms) → AreScript ts script → (d : Failure ScopeErr) (f : Failure Refusal) → IsSameFailure (λ e r. r ≡ of_scopes e) d f → IfRefused (HasNoScopes (places_script script)) d → IfRefused (IsRefused text) f
-    of_declarations script are_script d f same is = refused_by text of_scopes d f (λ e a. no_scopes ts script e (of_scopes e) are are_script a refl) same is
+    of_declarations script are_script d f same is = refused_by {P = HasNoScopes (places_script script)} text of_scopes d f (λ e a. no_scopes ts script e (of_scopes e) are are_script a refl) same is
