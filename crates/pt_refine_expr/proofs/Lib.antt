@@ -6,3 +6,6 @@ pub mod Stops
 pub mod OtherStatements
 pub mod Building
 pub mod Telling
+pub mod Agreement
+pub mod OnePass
+pub mod StatementOnePass

@@ -9,4 +9,8 @@ pub mod Narrowed
 pub mod StatementFaults
 pub mod StatementBlocks
 pub mod StatementNarrow
+pub mod Steps
+pub mod Refine
+pub mod StatementRefine
+pub mod Agreement
 pub mod Rows

@@ -1,10 +1,15 @@
 //! Laws of the definitions, each the contract of a function that does nothing.
 
-ghost use Rattle.std.specs.Prelude.{◌≡◌, ℕ, [], ◌∷◌, Some, is_some};
+ghost use Rattle.std.specs.Prelude.{◌≡◌, ◌+◌, ℕ, [], ◌∷◌, Some, is_some};
 ghost use Rattle.pt_wide.specs.Syntax.{Args, Exp, Exps, Opt, Params, Stm, Stms};
 ghost use Rattle.pt_refine_expr.specs.declared.stars.Stars.{Stars as Places};
 ghost use Rattle.pt_refine_expr.specs.Faults.{bad_target, excluded, faults_args, faults_exp, faults_opt, faults_params, faults_target, faults_targets, is_clean};
 ghost use Rattle.pt_refine_expr.specs.Narrow.{narrow_args, narrow_exp, narrow_opt, narrow_params, narrow_target, narrow_targets};
+ghost use Rattle.pt_refine_expr.specs.Agreement.{Agrees};
+ghost use Rattle.pt_refine_expr.specs.Blocks.{blocks_exp};
+ghost use Rattle.pt_refine_expr.specs.Refine.{refine_exp};
+ghost use Rattle.pt_refine_expr.specs.StatementBlocks.{blocks_stms};
+ghost use Rattle.pt_refine_expr.specs.StatementRefine.{refine_stms};
 ghost use Rattle.pt_refine_expr.specs.Rows as row;
 ghost use Rattle.pt_refine_expr.specs.StatementFaults.{faults_stm, faults_stms};
 ghost use Rattle.pt_refine_expr.specs.StatementNarrow.{narrow_stm, narrow_stms};
@@ -19,6 +24,13 @@ pub fn a_tree_has_a_fault_or_is_narrow()
     ensures targets { (n : ℕ) (s : Places) (es : Exps) → is_some (narrow_targets n s es) ≡ is_clean (faults_targets s es) }
     ensures statement { (n : ℕ) (s : Stm) → is_some (narrow_stm n s) ≡ is_clean (faults_stm s) }
     ensures statements { (n : ℕ) (ss : Stms) → is_some (narrow_stms n ss) ≡ is_clean (faults_stms ss) }
+{}
+
+/// In one pass that counts blocks a tree becomes that of the language, or the pass stops at the first
+/// of its faults.
+pub fn one_pass_makes_the_tree_or_stops_at_its_first_fault()
+    ensures expression { (n : ℕ) (e : Exp) → Agrees (faults_exp e) (narrow_exp n e) (n + blocks_exp e) (refine_exp e n) }
+    ensures statements { (n : ℕ) (ss : Stms) → Agrees (faults_stms ss) (narrow_stms n ss) (n + blocks_stms ss) (refine_stms ss n) }
 {}
 
 /// Small statements have the faults that they are known to have (Language Reference 7, 8).
