@@ -12,8 +12,8 @@ returns-in-Err-parse_script c =
     let are = subst (IsTokens c.args.text.now) (sym c.as_slice.ensures) c.in-Ok.ensures.exact in
     of_script c.args.text.now c.as_slice.result.now are c.in-Err-parse_script.failure c.map_refused-in-Err-parse_script.result c.map_refused-in-Err-parse_script.ensures c.in-Err-parse_script.ensures
 
-pub returns-in-Err-resolve : goal.returns-in-Err-resolve
-returns-in-Err-resolve c =
+pub returns : goal.returns
+returns c =
     let are = subst (IsTokens c.args.text.now) (sym c.as_slice.ensures) c.in-Ok.ensures.exact in
     of_declarations c.args.text.now c.as_slice.result.now are (script_of c.in-Ok-parse_script.script) c.in-Ok-parse_script.ensures c.in-Err-resolve.failure c.map_refused-in-Err-resolve.result
     c.map_refused-in-Err-resolve.ensures c.in-Err-resolve.ensures.err

@@ -4,8 +4,8 @@ use Rattle.pt_front.proofs.syntax.parse_expr.Goals as goal
 pub returns-in-Err : goal.returns-in-Err
 returns-in-Err c = no_wide_expr c.args.tokens.now c.args.at c.in-Err.failure c.map_refused.result c.map_refused.ensures c.in-Err.ensures
 
-pub returns-in-Err-narrow_expr : goal.returns-in-Err-narrow_expr
-returns-in-Err-narrow_expr c =
+pub returns : goal.returns
+returns c =
     no_narrow_expr c.args.tokens.now c.args.at c.in-Err-narrow_expr.told c.left_out.result c.left_out.ensures (record {
       wide = _;
       next = _;
