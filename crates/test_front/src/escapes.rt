@@ -5,19 +5,19 @@ use std::alloc::{AllocError, Global};
 
 type Written = Result<(), AllocError>;
 
-fn repeat(out: &mut Vec<u8>, piece: &str, count: &str) -> Written {
+fn repeat(out: &mut Vec<u8>, piece: &[u8], count: &str) -> Written {
     for _ in 0..count.parse::<u32>().unwrap_or(0) {
-        out.extend_from_slice(piece.as_bytes())?;
+        out.extend_from_slice(piece)?;
     }
     Ok(())
 }
 
-fn steps(out: &mut Vec<u8>, piece: &str, count: &str) -> Written {
+fn steps(out: &mut Vec<u8>, piece: &[u8], count: &str) -> Written {
     for depth in 0..count.parse::<u32>().unwrap_or(0) {
         for _ in 0..depth {
             out.push(b' ')?;
         }
-        out.extend_from_slice(piece.as_bytes())?;
+        out.extend_from_slice(piece)?;
         out.push(b'\n')?;
     }
     Ok(())
@@ -40,7 +40,7 @@ fn hexadecimal(out: &mut Vec<u8>, text: &str) -> Written {
 }
 
 /// What stands behind a backslash. The answer is the piece that is repeated next.
-fn escape<'a>(out: &mut Vec<u8>, piece: &'a str, part: &'a str) -> Result<&'a str, AllocError> {
+fn escape<'a>(out: &mut Vec<u8>, piece: &'a [u8], part: &'a str) -> Result<&'a [u8], AllocError> {
     if let Some((letter, rest)) = part.split_at_checked(1) {
         match letter {
             "n" => push_byte(out, b'\n', rest)?,
@@ -48,7 +48,7 @@ fn escape<'a>(out: &mut Vec<u8>, piece: &'a str, part: &'a str) -> Result<&'a st
             "t" => push_byte(out, b'\t', rest)?,
             "f" => push_byte(out, 12, rest)?,
             "x" => hexadecimal(out, rest)?,
-            "(" => return Ok(rest),
+            "(" => return Ok(rest.as_bytes()),
             "*" => repeat(out, piece, rest)?,
             "/" => steps(out, piece, rest)?,
             _ => out.extend_from_slice(rest.as_bytes())?,
@@ -60,7 +60,7 @@ fn escape<'a>(out: &mut Vec<u8>, piece: &'a str, part: &'a str) -> Result<&'a st
 /// The bytes of the text that a row is.
 pub fn text_of(alloc: Global, row: &str) -> Result<Vec<u8>, AllocError> {
     let mut out = Vec::new(alloc);
-    let mut piece = "";
+    let mut piece: &[u8] = &[];
     let mut is_plain = true;
     for part in row.split("\\") {
         if is_plain {
