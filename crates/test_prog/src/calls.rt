@@ -1,6 +1,6 @@
 //! The call of a row, and what it comes to.
 
-use crate::rows::{NoRow, read_row};
+use crate::rows::{NoRow, Row, read_row};
 use pt_base::{MemShelf, MemSink, Seq, Text};
 use pt_prog::{End, status, top};
 use std::alloc::{AllocError, Global};
@@ -32,11 +32,16 @@ fn tell(line: &mut String, end: &End) -> Result<(), AllocError> {
 
 /// Writes the exit status and the end of a row's call, and the pieces that it has written.
 pub fn answer(line: &mut String, alloc: Global, text: &str) -> Result<(), NoRow> {
-    let row = read_row(alloc, text)?;
-    let mut shelf = shelf(alloc, row.text.as_slice(), row.read_fails)?;
-    let mut out = MemSink::new(alloc, row.write_fails);
+    let Row {
+        words,
+        text: script,
+        read_fails,
+        write_fails,
+    } = read_row(alloc, text)?;
+    let mut shelf = shelf(alloc, script.as_slice(), read_fails)?;
+    let mut out = MemSink::new(alloc, write_fails);
     let mut log = MemSink::new(alloc, Seq::new(alloc));
-    let end = top(alloc, row.words.as_slice(), &mut shelf, &mut out, &mut log);
+    let end = top(alloc, words.as_slice(), &mut shelf, &mut out, &mut log);
     write!(line, "{} ", status(&end))?;
     tell(line, &end)?;
     for piece in out.pieces() {
