@@ -120,7 +120,7 @@ def main(words):
     with open(f"{FOLDER}/out/proving", "w", encoding="utf-8") as file:
         file.write("\n".join(["crates.txt", *(it for it in folders if os.path.isdir(f"{TOP}/{it}"))]) + "\n")
     start = time.monotonic()
-    print(f"{len(crates)} crates to prove, {jobs} at once", flush=True)
+    print(f"{len(crates)} crates to prove, {jobs} at once; all sources are read first, some minutes long", flush=True)
     with open(f"{TOP}/{LOG}", "w", encoding="utf-8") as log:
         if not prove(crates, jobs, log):
             print(f"the program isn't proved: {LOG} says why", file=sys.stderr)
