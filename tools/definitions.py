@@ -39,4 +39,6 @@ def main(name):
 
 
 if __name__ == "__main__":
-    main(*sys.argv[1:])
+    if len(sys.argv) != 2:
+        sys.exit("usage: tools/definitions.py FILE, whose clauses rest on the definitions that are listed")
+    main(sys.argv[1])
