@@ -1,5 +1,5 @@
 -- The plain data of each kind of wide statement, given that of its parts.
-use Rattle.std.proofs.Common.{◌≡◌, ℕ, List, ap, ◌∙◌, map, Option}
+use Rattle.std.proofs.Common.{◌≡◌, ℕ, List, ap, ◌∙◌, map, Option, Bool}
 use Rattle.pt_base.specs.declared.operators.BinOp.{BinOp}
 use Rattle.pt_base.specs.declared.numbers.Line.{Line}
 use Rattle.pt_tree.specs.declared.statement.Alias.{Alias}
@@ -110,8 +110,8 @@ stm_of-With s is body h = stm_of-is s ∙ ap (λ (f : ℕ → Stm). f s.line.0) 
 pub stm_of-Def : (s : WideStmt) (ds : List WideDecorator) (dl : Line) (x : List ℕ) (ps : WideParameters) (r : Option WideExpr) (body : List WideStmt) → s.node ≡ node.Def ds dl x ps r body → stm_of s ≡ S.def s.line.0 (decorators_of ds) dl.0 x (parameters_of ps) (opt_exp r) (stms_of body)
 stm_of-Def s ds dl x ps r body h = stm_of-is s ∙ ap (λ (f : ℕ → Stm). f s.line.0) (stm_node_of-is s.node) ∙ rw (h, node.outs-Def)
 
-pub stm_of-Class : (s : WideStmt) (ds : List WideDecorator) (cl : Line) (x : List ℕ) (args : List WideArgument) (body : List WideStmt) → s.node ≡ node.Class ds cl x args body → stm_of s ≡ S.class s.line.0 (decorators_of ds) cl.0 x (chained S.no_args (map argument_of args)) (stms_of body)
-stm_of-Class s ds cl x args body h = stm_of-is s ∙ ap (λ (f : ℕ → Stm). f s.line.0) (stm_node_of-is s.node) ∙ rw (h, node.outs-Class)
+pub stm_of-Class : (s : WideStmt) (ds : List WideDecorator) (cl : Line) (x : List ℕ) (args : List WideArgument) (comma : Bool) (body : List WideStmt) → s.node ≡ node.Class ds cl x args comma body → stm_of s ≡ S.class s.line.0 (decorators_of ds) cl.0 x (chained S.no_args (map argument_of args)) comma (stms_of body)
+stm_of-Class s ds cl x args comma body h = stm_of-is s ∙ ap (λ (f : ℕ → Stm). f s.line.0) (stm_node_of-is s.node) ∙ rw (h, node.outs-Class)
 
 pub branch_of-parts : (b : WideBranch) (r : Branches) → branch_of b r ≡ S.branch (out-WideBranch b).line.0 (exp_of (out-WideBranch b).test) (stms_of (out-WideBranch b).body) r
 branch_of-parts b r = ap (λ (f : Branches → Branches). f r) (branch_of-is b)

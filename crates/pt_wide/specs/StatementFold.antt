@@ -59,7 +59,7 @@ statement_plain (node.For t e body els) l = S.for l (exp_of t) (exp_of e) (stms_
 statement_plain (node.Try body hs els fin) l = S.try l (stms_from body) (chained S.no_handlers hs) (stms_from els) (stms_from fin)
 statement_plain (node.With is body) l = S.with l (items_of is) (stms_from body)
 statement_plain (node.Def ds dl x ps r body) l = S.def l (decorators_of ds) dl.0 x (parameters_of ps) (opt_exp r) (stms_from body)
-statement_plain (node.Class ds cl x args body) l = S.class l (decorators_of ds) cl.0 x (chained S.no_args (map argument_of args)) (stms_from body)
+statement_plain (node.Class ds cl x args comma body) l = S.class l (decorators_of ds) cl.0 x (chained S.no_args (map argument_of args)) comma (stms_from body)
 
 abbrev pub branch_plain : WideBranch-P → Branches → Branches
 branch_plain b r = S.branch b.line.0 (exp_of b.test) (stms_from b.body) r

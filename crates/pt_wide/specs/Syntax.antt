@@ -124,7 +124,8 @@ mutual
     try : (line : ℕ) (body : Stms) (handlers : Handlers) (otherwise finally : Stms) → Stm
     with : (line : ℕ) (items : Items) (body : Stms) → Stm
     def : (line : ℕ) (decorators : Decorators) (def_line : ℕ) (x : Name) (params : Params) (returns : Opt) (body : Stms) → Stm
-    class : (line : ℕ) (decorators : Decorators) (class_line : ℕ) (x : Name) (args : Args) (body : Stms) → Stm
+    -- the comma is one before the ")" behind the arguments
+    class : (line : ℕ) (decorators : Decorators) (class_line : ℕ) (x : Name) (args : Args) (trailing_comma : Bool) (body : Stms) → Stm
 
   pub data Stms : Type 0 where
     none : Stms

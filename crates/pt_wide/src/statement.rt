@@ -124,6 +124,8 @@ pub enum WideStmtNode {
         line: Line,
         name: Text,
         arguments: Seq<WideArgument>,
+        /// Whether a comma stands before the `)` behind the arguments.
+        trailing_comma: bool,
         body: Seq<WideStmt>,
     },
 }
