@@ -75,6 +75,13 @@ impl<'a> Lexemes<'a> {
         Lexemes { tokens, sign }
     }
 
+    /// The tokens that are left.
+    pub fn as_slice(&self) -> &'a [Token]
+        ensures { lexemes result.now ≡ self.now }
+    {
+        self.tokens.as_slice()
+    }
+
     /// The next token, which stays.
     pub fn peek(&self) -> Option<&'a Token>
         ensures { option_map lexeme_of (option_copied result) ≡ next_of self.now }

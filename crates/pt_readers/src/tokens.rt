@@ -24,6 +24,13 @@ impl<'a, T> Tokens<'a, T> {
         Tokens { rest: tokens }
     }
 
+    /// The tokens that are left.
+    pub fn as_slice(&self) -> &'a [T]
+        ensures { result.now ≡ self.now }
+    {
+        self.rest
+    }
+
     /// The next token, which stays.
     pub fn peek(&self) -> Option<&'a T>
         ensures { option_copied result ≡ next_of self.now }
