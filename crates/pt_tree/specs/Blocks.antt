@@ -1,7 +1,8 @@
 -- The blocks of a script and what each runs (Language Reference 4.1), in the order in which their nodes start, an outer block before
 -- an inner one. Annotations have none.
-use Rattle.std.specs.Prelude.{ℕ, Bool, true, false, cond, List, [], ◌∷◌, ◌++◌, Option, Some, None, codes}
+use Rattle.std.specs.Prelude.{ℕ, Bool, true, false, cond, List, [], ◌∷◌, ◌++◌, map, Option, Some, None, codes}
 use Rattle.std.specs.List.{list_any}
+use Rattle.std.specs.Option.{unwrap_or}
 use Rattle.pt_tree.specs.declared.act.ActRow.{ActRow}
 use Rattle.pt_tree.specs.declared.act.ActKind.{ActKind}
 use Rattle.pt_tree.specs.declared.act.ActKind.TheVariants as A
@@ -23,6 +24,8 @@ pub data Code : Type 0 where
 pub record Block : Type 0 where
   pub name : Name
   pub first_line : ℕ
+  -- the innermost class around, by whose name private names are spelled (6.2.1); a class is around its own body
+  pub class : Option Name
   pub params : Params
   pub code : Code
 
@@ -70,8 +73,12 @@ yields code = list_any (λ r. gives_on r.kind) (acts_of_code code)
 abbrev pub no_params : Params
 no_params = S.parameters S.no_formals None S.no_formals None
 
-abbrev block : Name → (first_line : ℕ) → Params → Code → List Block
-block x l ps c = record { name = x; first_line = l; params = ps; code = c } ∷ []
+abbrev block : Name → (first_line : ℕ) → (class : Option Name) → Params → Code → List Block
+block x l cls ps c = record { name = x; first_line = l; class = cls; params = ps; code = c } ∷ []
+
+-- a block in the body of a class
+abbrev pub inside_class : Name → Block → Block
+inside_class x b = record b { class = Some (unwrap_or b.class x) }
 
 -- the line of the first decorator, or of the keyword
 abbrev pub first_line_of : Decorators → (line : ℕ) → ℕ
@@ -98,9 +105,9 @@ abbrev mutual
   blocks_exp (S.or l a es) = blocks_exp a ++ blocks_all es
   blocks_exp (S.conditional l c a b) = blocks_exp a ++ blocks_exp c ++ blocks_exp b
   blocks_exp (S.call l f args) = blocks_exp f ++ blocks_args args
-  blocks_exp (S.lambda l b ps e) = block (codes "<lambda>") l ps (of_lambda l e) ++ blocks_params ps ++ blocks_exp e
+  blocks_exp (S.lambda l b ps e) = block (codes "<lambda>") l None ps (of_lambda l e) ++ blocks_params ps ++ blocks_exp e
   blocks_exp (S.comprehension l m fl t it cs) = blocks_made m ++ blocks_target t ++ blocks_exp it ++ blocks_clauses cs
-  blocks_exp (S.generator l b e fl t it cs) = block (codes "<genexpr>") l no_params (of_generator l e fl t cs) ++ blocks_exp e ++ blocks_target t ++ blocks_exp it ++ blocks_clauses cs
+  blocks_exp (S.generator l b e fl t it cs) = block (codes "<genexpr>") l None no_params (of_generator l e fl t cs) ++ blocks_exp e ++ blocks_target t ++ blocks_exp it ++ blocks_clauses cs
   blocks_exp (S.yield l v) = blocks_opt v
   blocks_exp (S.yield_from l e) = blocks_exp e
 
@@ -200,8 +207,9 @@ abbrev mutual
   blocks_stm (S.try l body hs els fin) = blocks_stms body ++ blocks_handlers hs ++ blocks_stms els ++ blocks_stms fin
   blocks_stm (S.with l is body) = blocks_items is ++ blocks_stms body
   -- a function or class starts at its keyword, behind its decorators
-  blocks_stm (S.def l ds dl b x ps r body) = blocks_decorators ds ++ block x (first_line_of ds dl) ps (of_function body) ++ blocks_params ps ++ blocks_stms body
-  blocks_stm (S.class l ds cl b x base body) = blocks_decorators ds ++ block x (first_line_of ds cl) no_params (of_class body) ++ blocks_opt base ++ blocks_stms body
+  blocks_stm (S.def l ds dl b x ps r body) = blocks_decorators ds ++ block x (first_line_of ds dl) None ps (of_function body) ++ blocks_params ps ++ blocks_stms body
+  blocks_stm (S.class l ds cl b x base body) =
+      blocks_decorators ds ++ block x (first_line_of ds cl) (Some x) no_params (of_class body) ++ blocks_opt base ++ map (inside_class x) (blocks_stms body)
   blocks_stm (S.docstring l) = []
 
   pub blocks_stms : Stms → List Block
@@ -218,4 +226,4 @@ abbrev mutual
 
 -- the module is block 0
 abbrev pub blocks_script : Stms → List Block
-blocks_script ss = block (codes "<module>") 1 no_params (of_module ss) ++ blocks_stms ss
+blocks_script ss = block (codes "<module>") 1 None no_params (of_module ss) ++ blocks_stms ss
