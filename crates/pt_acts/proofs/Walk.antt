@@ -1,13 +1,13 @@
 -- How the blocks of lists are put together.
-use Rattle.std.proofs.Common.{◌≡◌, List, [], ◌∷◌, ◌++◌, map, refl, append_assoc}
+use Rattle.std.proofs.Common.{◌≡◌, List, [], ◌∷◌, ◌++◌, map, refl, ap, append_assoc}
 use Rattle.std.proofs.lemmas.List.{append-nil, map-append}
 use Rattle.pt_tree.specs.declared.expression.Argument.{Argument}
 use Rattle.pt_tree.specs.declared.expression.Argument.TheOpen as open_node
 use Rattle.pt_tree.specs.declared.expression.Piece.{Piece}
 use Rattle.pt_tree.specs.Syntax as S
-use Rattle.pt_tree.specs.Syntax.{Exp, Clauses, Pieces, Args}
+use Rattle.pt_tree.specs.Syntax.{Name, Exp, Clauses, Pieces, Args}
 use Rattle.pt_tree.specs.Fold.{Piece-P, Argument-P, piece_plain, argument_plain, all_of, argument_of, conditions_of, piece_of}
-use Rattle.pt_tree.specs.Blocks.{blocks_all, blocks_args, blocks_clauses, blocks_pieces}
+use Rattle.pt_tree.specs.Blocks.{Block, acts_of, blocks_all, blocks_args, blocks_clauses, blocks_pieces, inside_class}
 use Rattle.pt_tree.proofs.Folds.{argument_of-is, opened-Argument, opened-Piece, piece_of-is}
 
 pub blocks_clauses-conditions : (es : List Exp) (cs : Clauses) → blocks_clauses (conditions_of es cs) ≡ blocks_all (all_of es) ++ blocks_clauses cs
@@ -30,4 +30,9 @@ argument-first (open_node.SpreadNamed e) r = simp append_assoc
 pub blocks_args-first : (a : Argument) (r : Args) → blocks_args (argument_of a r) ≡ blocks_args (argument_of a S.no_args) ++ blocks_args r
 blocks_args-first a r = rw (argument_of-is a) (argument-first (opened-Argument a) r)
 
-pub ruleset blocks = (append_assoc, append-nil, map-append, blocks_clauses-conditions, blocks_pieces-first, blocks_args-first)
+-- the class around a block doesn't change what it runs
+pub acts-inside_class : (x : Name) (bs : List Block) → map acts_of (map (inside_class x) bs) ≡ map acts_of bs
+acts-inside_class x [] = refl
+acts-inside_class x (b ∷ bs) = ap (λ rs. acts_of b ∷ rs) (acts-inside_class x bs)
+
+pub ruleset blocks = (append_assoc, append-nil, map-append, blocks_clauses-conditions, blocks_pieces-first, blocks_args-first, acts-inside_class)

@@ -11,7 +11,7 @@ use Rattle.pt_scopes.specs.declared.region.Role.{Role}
 use Rattle.pt_scopes.specs.Places.{Part, ◌⨾◌, block, class_context, comprehension, comprehension_context, function_context, generator_context, in_class, in_comprehension, in_function, in_generator, mention, misplaced, nothing, module_context}
 use Rattle.pt_scopes.specs.Mentions.{places_all, places_args, places_branches, places_clauses, places_decorators, places_entries, places_exp, places_formals, places_handlers, places_imports, places_items, places_links, places_made, places_named, places_named_parameter, places_names, places_opt, places_opt_target, places_params, places_pieces, places_place, places_script, places_stm, places_stms, places_target, places_targets, gives, turns}
 use Rattle.pt_scopes.specs.Names.{mangled}
-use Rattle.pt_tree.specs.Blocks.{Block, of_generator, blocks_all, blocks_args, blocks_branches, blocks_clauses, blocks_decorators, blocks_entries, blocks_exp, blocks_formals, blocks_handlers, blocks_items, blocks_links, blocks_made, blocks_opt, blocks_opt_target, blocks_params, blocks_pieces, blocks_place, blocks_script, blocks_stm, blocks_stms, blocks_target, blocks_targets, no_params}
+use Rattle.pt_tree.specs.Blocks.{Block, of_generator, blocks_all, blocks_args, blocks_branches, blocks_clauses, blocks_decorators, blocks_entries, blocks_exp, blocks_formals, blocks_handlers, blocks_items, blocks_links, blocks_made, blocks_opt, blocks_opt_target, blocks_params, blocks_pieces, blocks_place, blocks_script, blocks_stm, blocks_stms, blocks_target, blocks_targets, inside_class, no_params}
 use Rattle.pt_tree.specs.declared.expression.NamedParameter.{NamedParameter}
 use Rattle.pt_tree.specs.declared.statement.Alias.{Alias}
 use Rattle.pt_tree.specs.Syntax as S
@@ -82,14 +82,19 @@ kinds-names : (r : Role) (a : Context) (c : Name) (l : ℕ) (xs : List Name) (be
 kinds-names r a c l [] before = kinds-nothing before
 kinds-names r a c l (x ∷ xs) before = simp (kinds-names r a c l xs, kinds-mention, kinds-both)
 
-ruleset kinds-steps = (kinds-nothing, kinds-mention, kinds-both, kinds-function, kinds-generator, kinds-class, kinds-comprehension, kinds-gives, kinds-turns, kinds-named_parameter, kinds-named, kinds-imports, kinds-names, map-append, append_assoc, append-nil)
+-- the class around a block doesn't change what it is
+kinds-inside_class : (x : Name) (bs : List Block) → map kind_of (map (inside_class x) bs) ≡ map kind_of bs
+kinds-inside_class x [] = refl
+kinds-inside_class x (b ∷ bs) = ap (λ ks. kind_of b ∷ ks) (kinds-inside_class x bs)
+
+ruleset kinds-steps = (kinds-nothing, kinds-mention, kinds-both, kinds-function, kinds-generator, kinds-class, kinds-comprehension, kinds-gives, kinds-turns, kinds-named_parameter, kinds-named, kinds-imports, kinds-names, kinds-inside_class, map-append, append_assoc, append-nil)
 
 -- the blocks behind one, of four parts
 with-block : (b : Block) (p q r t : List Block) → kind_of b ∷ (map kind_of p ++ (map kind_of q ++ (map kind_of r ++ map kind_of t))) ≡ map kind_of (b ∷ (((p ++ q) ++ r) ++ t))
 with-block b p q r t = simp (map-append, append_assoc)
 
 abbrev generator_block : (line : ℕ) (item : Exp) (for_line : ℕ) (target : Tgt) (more : Clauses) → Block
-generator_block l e fl t cs = record { name = codes "<genexpr>"; first_line = l; params = no_params; code = of_generator l e fl t cs }
+generator_block l e fl t cs = record { name = codes "<genexpr>"; first_line = l; class = None; params = no_params; code = of_generator l e fl t cs }
 
 mutual
   pub kinds-exp : (e : Exp) (a : Context) (c : Name) (before : ℕ) → block_kinds (places_exp a c e before).regions ≡ map kind_of (blocks_exp e)

@@ -2,6 +2,7 @@ use Rattle.std.proofs.Common.{arith, append_assoc}
 use Rattle.std.proofs.lemmas.Grind.{common_steps}
 use Rattle.std.proofs.lemmas.List.{map-append}
 use Rattle.pt_tree.proofs.StatementFolds.{branch_of-parts, handler_of-parts, stm_of-Annotated, stm_of-Class, stm_of-Def}
+use Rattle.pt_acts.proofs.Walk.{acts-inside_class}
 use Rattle.pt_acts.proofs.statement_blocks.+blocks.Goals as goal
 
 pub collect_branches-loop-branch-preserved : goal.collect_branches-loop-branch-preserved
@@ -22,4 +23,4 @@ collect_statement-returns-in_ok-collect_parameters-in-Def t c =
 
 pub collect_statement-returns-in_ok-collect_optional-in-Class : goal.collect_statement-returns-in_ok-collect_optional-in-Class
 collect_statement-returns-in_ok-collect_optional-in-Class t c =
-    grind (arith, append_assoc, map-append, stm_of-Class c.args.s.now _ _ _ _ _ _ c.in-Class.is)
+    grind (arith, append_assoc, map-append, acts-inside_class, stm_of-Class c.args.s.now _ _ _ _ _ _ c.in-Class.is)
