@@ -1,5 +1,5 @@
 ghost use Rattle.std.specs.Prelude.{◌≡◌, ◌∷◌, [], ◌++◌, Some, None, IfOk, OnOk, MatchOption, length, nat_le, string_bytes, ◌≤◌};
-ghost use Rattle.std.specs.HashMap.{get_by_text};
+ghost use Rattle.std.specs.BTreeMap.{get_by_text};
 ghost use Rattle.std.specs.Map.{update};
 ghost use Rattle.std.specs.Str.{bytes_eq};
 ghost use Rattle.std.specs.Option.{option_copied};
@@ -8,16 +8,17 @@ ghost use Rattle.pt_session.specs.Operated.{IsOperated};
 ghost use Rattle.pt_session.specs.View.{const, load, store, pop, binary, call, constant_of};
 
 use crate::code::{Code, Constant, Placed};
-use indexmap::IndexMap;
 use pt_base::{BinOp, Line, Memory, Shared, Stack, Text, What};
 use pt_instr::Instr;
 use pt_meaning::{ExceptionClass, Value};
 use std::alloc::Global;
+use std::collections::BTreeMap;
 
-/// The value of each bound name.
+/// The value of each bound name. Names stand in order, so that no choice of them makes a look-up take
+/// more than a logarithm of their count.
 #[derive(Drop)]
 pub struct Names {
-    pub map: IndexMap<String, Value>,
+    pub map: BTreeMap<String, Value>,
 }
 
 impl Names {
@@ -25,7 +26,7 @@ impl Names {
         ensures { (x : _) → get_by_text result.map x ≡ None }
     {
         Names {
-            map: IndexMap::new(alloc),
+            map: BTreeMap::new(alloc),
         }
     }
 
