@@ -14,7 +14,7 @@ from pathlib import Path
 
 CRATES = Path(__file__).resolve().parent.parent / "crates"
 # the programs that read a text as a kind
-PROGRAMS = {"tokens": "test_front", "trees": "test_front", "scopes": "test_front"}
+PROGRAMS = {"tokens": "test_tokens", "trees": "test_front", "scopes": "test_front"}
 MEBIBYTE = 1 << 20
 RUNS = 5
 
