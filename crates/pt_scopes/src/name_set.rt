@@ -6,8 +6,8 @@ use pt_base::Memory;
 use std::alloc::Global;
 use std::collections::BTreeSet;
 
-/// Names, each with the regions that it is in. They stand in order, so that no choice of names makes
-/// a look-up take more than a logarithm of their count.
+/// Names, each with the regions that it is in. They stand in order, so that no choice of names makes a
+/// look-up take more than a logarithm of their count.
 #[derive(Drop)]
 pub struct NameSet {
     rows: Vec<BTreeSet<String>>,
@@ -43,7 +43,9 @@ impl NameSet {
     }
 
     pub fn add(&mut self, alloc: Global, region: usize, name: &str) -> Result<(), Memory>
-        ensures { OnOk result ((r : _) (x : _) → is_in self.new r x ≡ (is_in self.old r x || ((region == r) && bytes_eq name.now x))) }
+        ensures { OnOk result
+            ((r : _) (x : _)
+            → is_in self.new r x ≡ (is_in self.old r x || ((region == r) && bytes_eq name.now x))) }
     {
         self.reach(alloc, region)?;
         let name = String::from_str(alloc, name)?;

@@ -14,8 +14,8 @@ use pt_meaning::{ExceptionClass, Value};
 use std::alloc::Global;
 use std::collections::BTreeMap;
 
-/// The value of each bound name. Names stand in order, so that no choice of them makes a look-up take
-/// more than a logarithm of their count.
+/// The value of each bound name. Names stand in order, so that no choice of them makes a look-up
+/// take more than a logarithm of their count.
 #[derive(Drop)]
 pub struct Names {
     pub map: BTreeMap<String, Value>,
@@ -45,7 +45,9 @@ impl Names {
 
     /// Binds a name anew.
     fn set(&mut self, alloc: Global, name: &str, value: Value) -> Result<(), Memory>
-        ensures { OnOk result ((x : _) → get_by_text self.new.map x ≡ update bytes_eq (get_by_text self.old.map) name.now (Some value) x) }
+        ensures { OnOk result
+            ((x : _) → get_by_text self.new.map x
+            ≡ update bytes_eq (get_by_text self.old.map) name.now (Some value) x) }
     {
         let key = String::from_str(alloc, name)?;
         self.map.insert(key, value)?;
@@ -188,7 +190,8 @@ impl Machine {
     }
 
     fn constant(&mut self, constant: &Constant) -> Result<Option<Step>, Memory>
-        ensures { IfOk result (λ s. (line : _) → Does (const (constant_of constant.now)) line self.old s self.new) }
+        ensures { IfOk result
+            (λ s. (line : _) → Does (const (constant_of constant.now)) line self.old s self.new) }
     {
         let value = match constant {
             Constant::Int(n) => Value::Int(*n),
