@@ -12,8 +12,9 @@ import tempfile
 import time
 from pathlib import Path
 
-CRATE = Path(__file__).resolve().parent.parent / "crates" / "test_front"
-PROGRAM = CRATE / "out" / "test_front"
+CRATES = Path(__file__).resolve().parent.parent / "crates"
+# the programs that read a text as a kind
+PROGRAMS = {"tokens": "test_tokens", "trees": "test_front", "scopes": "test_front"}
 MEBIBYTE = 1 << 20
 RUNS = 5
 
@@ -54,25 +55,27 @@ def run(words):
     return statistics.median(r[0] for r in rows), max(r[1] for r in rows)
 
 
-def build():
-    built = subprocess.run(["rt", "run"], cwd=CRATE, capture_output=True, text=True)
+def command(kind):
+    """The words that read a text as this kind, of a program that is proved and built first."""
+    crate = CRATES / PROGRAMS[kind]
+    built = subprocess.run(["rt", "run"], cwd=crate, capture_output=True, text=True)
     if built.returncode != 0:
         sys.exit(built.stdout + built.stderr)
+    return [crate / "out" / crate.name, "time", kind]
 
 
 def main(kind, shapes):
     """Times what is read of texts of these shapes: their tokens or trees."""
-    build()
+    words = command(kind)
     with tempfile.TemporaryDirectory() as files:
         path = Path(files, "script")
-        words = [PROGRAM, "time", kind, path]
         path.write_text("")
-        start, _ = run(words)
+        start, _ = run([*words, path])
         for name, shape in shapes.items():
             times = []
             for size, twice in [(MEBIBYTE, ""), (2 * MEBIBYTE, " twice")]:
                 path.write_text(shape(size))
-                seconds, memory = run(words)
+                seconds, memory = run([*words, path])
                 times.append(seconds - start)
                 print(f"{name + twice:26} {seconds - start:7.3f} s  {memory:8} KiB")
             print(f"{name + ' ratio':26} {times[1] / times[0]:7.2f}")

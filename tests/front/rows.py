@@ -1,5 +1,5 @@
-"""Writes what the program test_front reads, and what it must print: the tables with the answers that they tell, the
-trees that CPython's ast gives with the acts of their blocks, and the scopes that its symtable gives."""
+"""Writes what the programs test_tokens, test_wide and test_front read, and what they must print: the tables with the answers
+that they tell, the trees that CPython's ast gives with the acts of their blocks, and the scopes that its symtable gives."""
 import io
 import tokenize
 import warnings
@@ -12,10 +12,10 @@ import trees
 
 warnings.simplefilter("ignore")
 
-CRATE = Path("../../crates/test_front")
+CRATES = Path("../../crates")
 
-# kinds of rows that stand on a line each, by the names of their tables
-LINES = ["tokens", "places", "expressions", "targets", "scripts", "parts"]
+# kinds of rows that stand on a line each, by the programs that read them and the names of their tables
+LINES = {"test_tokens": ["tokens", "places"], "test_wide": ["expressions", "targets", "scripts"], "test_front": ["parts"]}
 
 # words that are no tokens of the language: a text with one is refused for it, before its tokens are read
 EXCLUDED = {":=", "@=", "async", "await"}
@@ -38,9 +38,14 @@ def queried(script):
     return "#" + "".join(f" {block} {name}" for block, name, _ in found) + "\n" + script, "".join(" " + scope for _, _, scope in found)
 
 
-def main():
-    files = [(name, name, [(text, " " + answer) for answer, text in tables.rows(name)]) for name in LINES]
-    files += [
+def lines(names):
+    """Kind, name and rows of the tables of lines with these names."""
+    return [(name, name, [(text, " " + answer) for answer, text in tables.rows(name)]) for name in names]
+
+
+def trees_acts_and_scopes():
+    """The same of the tables of scripts."""
+    return [
         ("trees", "accepted", [(script, trees.script(script)) for script in tables.accepted()]),
         ("trees", "refused", [(script, refusal(place, script)) for place, script in tables.refused()]),
         ("trees", "faults", [(script, f" {number} {line}") for number, line, _, script in tables.faults()]),
@@ -48,14 +53,23 @@ def main():
         ("scopes", "declarations", [(script, f" {number} {line}") for number, line, _, script in tables.faults("declarations")]),
         ("scopes", "scopes", [queried(script) for script in scopes.scripts()] + [NO_BLOCK]),
     ]
-    for folder in ("data", ""):
-        (CRATE / folder).mkdir(parents=True, exist_ok=True)
-    for kind, name, rows in files:
+
+
+def write(crate, files):
+    """What a program reads and what it must print."""
+    (crate / "data").mkdir(parents=True, exist_ok=True)
+    for _, name, rows in files:
         texts = [text for text, _ in rows]
-        table = "".join(text + "\n" for text in texts) if name in LINES else "---\n".join(texts)
-        (CRATE / "data" / (name + ".txt")).write_text(table)
-    (CRATE / "args").write_text("".join(f"{kind}\n{name}.txt\n" for kind, name, _ in files))
-    (CRATE / "stdout").write_text("".join(answer + "\n" for _, _, rows in files for _, answer in rows))
+        is_of_lines = any(name in names for names in LINES.values())
+        table = "".join(text + "\n" for text in texts) if is_of_lines else "---\n".join(texts)
+        (crate / "data" / (name + ".txt")).write_text(table)
+    (crate / "args").write_text("".join(f"{kind}\n{name}.txt\n" for kind, name, _ in files))
+    (crate / "stdout").write_text("".join(answer + "\n" for _, _, rows in files for _, answer in rows))
+
+
+def main():
+    for program, names in LINES.items():
+        write(CRATES / program, lines(names) + (trees_acts_and_scopes() if program == "test_front" else []))
 
 
 if __name__ == "__main__":

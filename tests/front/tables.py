@@ -31,7 +31,7 @@ DECLARATIONS = {
 
 
 def rows(name):
-    """Answer and text of each line of a table, with a tab between; escapes.rt of test_front says how a text stands on a line."""
+    """Answer and text of each line of a table, with a tab between; escapes.rt of test_notation says how a text stands on a line."""
     lines = open(name + ".txt").read().splitlines()
     return [tuple(line.split("\t", 1)) for line in lines]
 

@@ -146,7 +146,8 @@ fn boxed(g: &mut Gatherer, at: Context, class: &str, e: &Option<Boxed<Expr>>) ->
 #[cycle(expressions)]
 #[tactic(auto, using(pt_tree::proofs::Folds::expressions, crate::proofs::Behind::parts))]
 fn all(g: &mut Gatherer, at: Context, class: &str, items: &[Expr]) -> Result<(), Memory>
-    ensures { OnOk result (g.new ≡ behind g.old (places_all at class.now (all_of (map exp_of items.now)))) }
+    ensures { OnOk result
+        (g.new ≡ behind g.old (places_all at class.now (all_of (map exp_of items.now)))) }
 {
     for item in items {
         expression(g, at, class, item)?;
@@ -157,7 +158,9 @@ fn all(g: &mut Gatherer, at: Context, class: &str, items: &[Expr]) -> Result<(),
 #[cycle(expressions)]
 #[tactic(auto, using(pt_tree::proofs::Folds::expressions, crate::proofs::Behind::parts))]
 fn links(g: &mut Gatherer, at: Context, class: &str, rest: &[Comparison]) -> Result<(), Memory>
-    ensures { OnOk result (g.new ≡ behind g.old (places_links at class.now (chained no_links (map link_of rest.now)))) }
+    ensures { OnOk result
+        (g.new ≡ behind g.old
+        (places_links at class.now (chained no_links (map link_of rest.now)))) }
 {
     for link in rest {
         expression(g, at, class, &link.right)?;
@@ -168,7 +171,9 @@ fn links(g: &mut Gatherer, at: Context, class: &str, rest: &[Comparison]) -> Res
 #[cycle(expressions)]
 #[tactic(auto, using(pt_tree::proofs::Folds::expressions, crate::proofs::Behind::parts))]
 fn entries(g: &mut Gatherer, at: Context, class: &str, items: &[Entry]) -> Result<(), Memory>
-    ensures { OnOk result (g.new ≡ behind g.old (places_entries at class.now (chained no_entries (map entry_of items.now)))) }
+    ensures { OnOk result
+        (g.new ≡ behind g.old
+        (places_entries at class.now (chained no_entries (map entry_of items.now)))) }
 {
     for entry in items {
         expression(g, at, class, &entry.key)?;
@@ -180,7 +185,9 @@ fn entries(g: &mut Gatherer, at: Context, class: &str, items: &[Entry]) -> Resul
 #[cycle(expressions)]
 #[tactic(auto, using(pt_tree::proofs::Folds::expressions, crate::proofs::Behind::parts))]
 fn pieces(g: &mut Gatherer, at: Context, class: &str, parts: &[Piece]) -> Result<(), Memory>
-    ensures { OnOk result (g.new ≡ behind g.old (places_pieces at class.now (chained no_pieces (map piece_of parts.now)))) }
+    ensures { OnOk result
+        (g.new ≡ behind g.old
+        (places_pieces at class.now (chained no_pieces (map piece_of parts.now)))) }
 {
     for part in parts {
         piece(g, at, class, part)?;
@@ -191,7 +198,9 @@ fn pieces(g: &mut Gatherer, at: Context, class: &str, parts: &[Piece]) -> Result
 #[cycle(expressions)]
 #[tactic(auto, using(pt_tree::proofs::Folds::expressions, crate::proofs::Behind::parts))]
 fn piece(g: &mut Gatherer, at: Context, class: &str, part: &Piece) -> Result<(), Memory>
-    ensures { OnOk result ((r : _) → behind g.new (places_pieces at class.now r) ≡ behind g.old (places_pieces at class.now (piece_of part.now r))) }
+    ensures { OnOk result
+        ((r : _) → behind g.new (places_pieces at class.now r)
+        ≡ behind g.old (places_pieces at class.now (piece_of part.now r))) }
 {
     match part {
         Piece::Literal { .. } => Ok(()),
@@ -205,7 +214,9 @@ fn piece(g: &mut Gatherer, at: Context, class: &str, part: &Piece) -> Result<(),
 #[cycle(expressions)]
 #[tactic(auto, using(pt_tree::proofs::Folds::expressions, crate::proofs::Behind::parts))]
 fn arguments(g: &mut Gatherer, at: Context, class: &str, values: &[Argument]) -> Result<(), Memory>
-    ensures { OnOk result (g.new ≡ behind g.old (places_args at class.now (chained no_args (map argument_of values.now)))) }
+    ensures { OnOk result
+        (g.new ≡ behind g.old
+        (places_args at class.now (chained no_args (map argument_of values.now)))) }
 {
     for value in values {
         argument(g, at, class, value)?;
@@ -216,7 +227,9 @@ fn arguments(g: &mut Gatherer, at: Context, class: &str, values: &[Argument]) ->
 #[cycle(expressions)]
 #[tactic(auto, using(pt_tree::proofs::Folds::expressions, crate::proofs::Behind::parts))]
 fn argument(g: &mut Gatherer, at: Context, class: &str, value: &Argument) -> Result<(), Memory>
-    ensures { OnOk result ((r : _) → behind g.new (places_args at class.now r) ≡ behind g.old (places_args at class.now (argument_of value.now r))) }
+    ensures { OnOk result
+        ((r : _) → behind g.new (places_args at class.now r)
+        ≡ behind g.old (places_args at class.now (argument_of value.now r))) }
 {
     match value {
         Argument::Positional(value) => expression(g, at, class, value),
@@ -236,7 +249,11 @@ fn first_clause(
     class: &str,
     first: &Clause,
 ) -> Result<(), Memory>
-    ensures { OnOk result (g.new ≡ behind (behind (behind g.old (places_target inside class.now (clause_of first.now).target)) (places_exp at class.now (clause_of first.now).iterable)) (places_conditions inside class.now (clause_of first.now).conditions)) }
+    ensures { OnOk result
+        (g.new ≡ behind (behind (behind g.old
+        (places_target inside class.now (clause_of first.now).target))
+        (places_exp at class.now (clause_of first.now).iterable))
+        (places_conditions inside class.now (clause_of first.now).conditions)) }
 {
     target(g, inside, class, &first.target)?;
     expression(g, at, class, &first.iterable)?;
@@ -246,7 +263,8 @@ fn first_clause(
 #[cycle(expressions)]
 #[tactic(auto, using(pt_tree::proofs::Folds::expressions, crate::proofs::Behind::parts))]
 fn conditions(g: &mut Gatherer, at: Context, class: &str, tests: &[Expr]) -> Result<(), Memory>
-    ensures { OnOk result (g.new ≡ behind g.old (places_conditions at class.now (map exp_of tests.now))) }
+    ensures { OnOk result
+        (g.new ≡ behind g.old (places_conditions at class.now (map exp_of tests.now))) }
 {
     for test in tests {
         expression(g, at, class, test)?;
@@ -258,7 +276,8 @@ fn conditions(g: &mut Gatherer, at: Context, class: &str, tests: &[Expr]) -> Res
 #[cycle(expressions)]
 #[tactic(auto, using(pt_tree::proofs::Folds::expressions, crate::proofs::Behind::parts))]
 fn clauses(g: &mut Gatherer, at: Context, class: &str, rest: &[Clause]) -> Result<(), Memory>
-    ensures { OnOk result (g.new ≡ behind g.old (places_clauses at class.now (clauses_of (map clause_of rest.now)))) }
+    ensures { OnOk result
+        (g.new ≡ behind g.old (places_clauses at class.now (clauses_of (map clause_of rest.now)))) }
 {
     for clause in rest {
         first_clause(g, at, at, class, clause)?;
@@ -275,7 +294,8 @@ pub fn place(
     line: Line,
     place: &PlaceNode,
 ) -> Result<(), Memory>
-    ensures { OnOk result (g.new ≡ behind g.old (places_place at class.now (place_node_of place.now line.0))) }
+    ensures { OnOk result
+        (g.new ≡ behind g.old (places_place at class.now (place_node_of place.now line.0))) }
 {
     match place {
         PlaceNode::Name(name) => g.tell(Role::Bind, at, class, name.as_str(), line),
@@ -303,7 +323,9 @@ pub fn target(g: &mut Gatherer, at: Context, class: &str, t: &Target) -> Result<
 #[cycle(expressions)]
 #[tactic(auto, using(pt_tree::proofs::Folds::expressions, crate::proofs::Behind::parts))]
 pub fn targets(g: &mut Gatherer, at: Context, class: &str, parts: &[Target]) -> Result<(), Memory>
-    ensures { OnOk result (g.new ≡ behind g.old (places_targets at class.now (targets_of (map target_of parts.now)))) }
+    ensures { OnOk result
+        (g.new ≡ behind g.old
+        (places_targets at class.now (targets_of (map target_of parts.now)))) }
 {
     for part in parts {
         target(g, at, class, part)?;
@@ -321,7 +343,8 @@ pub fn parameters(
     class: &str,
     names: &Parameters,
 ) -> Result<(), Memory>
-    ensures { OnOk result (g.new ≡ behind g.old (places_params at inside class.now (parameters_of names.now))) }
+    ensures { OnOk result
+        (g.new ≡ behind g.old (places_params at inside class.now (parameters_of names.now))) }
 {
     formals(g, at, inside, class, names.positional.as_slice())?;
     named_parameter(g, inside, class, &names.star)?;
@@ -336,7 +359,8 @@ fn named_parameter(
     class: &str,
     parameter: &Option<NamedParameter>,
 ) -> Result<(), Memory>
-    ensures { OnOk result (g.new ≡ behind g.old (places_named_parameter inside class.now parameter.now)) }
+    ensures { OnOk result
+        (g.new ≡ behind g.old (places_named_parameter inside class.now parameter.now)) }
 {
     match parameter {
         None => Ok(()),
@@ -353,7 +377,9 @@ fn formals(
     class: &str,
     names: &[Parameter],
 ) -> Result<(), Memory>
-    ensures { OnOk result (g.new ≡ behind g.old (places_formals at inside class.now (chained no_formals (map formal_of names.now)))) }
+    ensures { OnOk result
+        (g.new ≡ behind g.old
+        (places_formals at inside class.now (chained no_formals (map formal_of names.now)))) }
 {
     for p in names {
         g.tell(Role::Parameter, inside, class, p.name.as_str(), p.line)?;

@@ -69,7 +69,8 @@ impl Gatherer {
         name: &str,
         line: Line,
     ) -> Result<(), Memory>
-        ensures { OnOk result (self.new ≡ behind self.old (tells role at class.now name.now line.0)) }
+        ensures { OnOk result
+            (self.new ≡ behind self.old (tells role at class.now name.now line.0)) }
     {
         let name = names::read_in(self.alloc, class, name)?;
         self.mention(role, at, name, line)
@@ -108,7 +109,8 @@ impl Gatherer {
     /// The number of a new block.
     #[tactic(auto, using(crate::proofs::Behind::steps))]
     fn open_block(&mut self, kind: Kind, at: Context) -> Result<usize, Memory>
-        ensures { IfOk result (λ n. (n ≡ length self.old.regions) × (self.new ≡ behind self.old (block kind at))) }
+        ensures { IfOk result
+            (λ n. (n ≡ length self.old.regions) × (self.new ≡ behind self.old (block kind at))) }
     {
         let number = self.regions.len();
         self.blocks.push(number)?;
@@ -121,7 +123,9 @@ impl Gatherer {
     }
 
     pub fn open_function(&mut self, at: Context) -> Result<Context, Memory>
-        ensures { IfOk result (λ b. (b ≡ function_context (length self.old.regions)) × (self.new ≡ behind self.old (block Function at))) }
+        ensures { IfOk result
+            (λ b. (b ≡ function_context (length self.old.regions))
+            × (self.new ≡ behind self.old (block Function at))) }
     {
         let number = self.open_block(Kind::Function, at)?;
         Ok(Context {
@@ -133,7 +137,9 @@ impl Gatherer {
     }
 
     pub fn open_generator(&mut self, at: Context) -> Result<Context, Memory>
-        ensures { IfOk result (λ b. (b ≡ generator_context (length self.old.regions)) × (self.new ≡ behind self.old (block Function at))) }
+        ensures { IfOk result
+            (λ b. (b ≡ generator_context (length self.old.regions))
+            × (self.new ≡ behind self.old (block Function at))) }
     {
         let number = self.open_block(Kind::Function, at)?;
         Ok(Context {
@@ -145,7 +151,9 @@ impl Gatherer {
     }
 
     pub fn open_class(&mut self, at: Context) -> Result<Context, Memory>
-        ensures { IfOk result (λ b. (b ≡ class_context (length self.old.regions)) × (self.new ≡ behind self.old (block Class at))) }
+        ensures { IfOk result
+            (λ b. (b ≡ class_context (length self.old.regions))
+            × (self.new ≡ behind self.old (block Class at))) }
     {
         let number = self.open_block(Kind::Class, at)?;
         Ok(Context {
@@ -158,7 +166,9 @@ impl Gatherer {
 
     #[tactic(auto, using(crate::proofs::Behind::steps))]
     pub fn open_comprehension(&mut self, at: Context) -> Result<Context, Memory>
-        ensures { IfOk result (λ b. (b ≡ comprehension_context at (length self.old.regions)) × (self.new ≡ behind self.old (comprehension at))) }
+        ensures { IfOk result
+            (λ b. (b ≡ comprehension_context at (length self.old.regions))
+            × (self.new ≡ behind self.old (comprehension at))) }
     {
         let number = self.regions.len();
         self.regions.push(Region {
@@ -176,7 +186,8 @@ impl Gatherer {
 
     /// The regions, the region of each block, and the mentions.
     pub fn into_parts(self) -> (Seq<Region>, Seq<usize>, Seq<Mention>)
-        ensures { (result.0 ≡ self.regions) × (result.1 ≡ self.blocks) × (result.2 ≡ self.mentions) }
+        ensures { (result.0 ≡ self.regions) × (result.1 ≡ self.blocks)
+            × (result.2 ≡ self.mentions) }
     {
         let Gatherer {
             regions,

@@ -2,14 +2,15 @@ ghost use Rattle.std.specs.Prelude.{◌≡◌, ◌<◌, ◌&&◌, ◌||◌, ◌=
 ghost use Rattle.std.specs.Str.{bytes_eq};
 ghost use Rattle.pt_scopes.specs.NameSets.{is_in};
 
-use indexmap::IndexSet;
 use pt_base::Memory;
 use std::alloc::Global;
+use std::collections::BTreeSet;
 
-/// Names, each with the regions that it is in.
+/// Names, each with the regions that it is in. They stand in order, so that no choice of names makes a
+/// look-up take more than a logarithm of their count.
 #[derive(Drop)]
 pub struct NameSet {
-    rows: Vec<IndexSet<String>>,
+    rows: Vec<BTreeSet<String>>,
 }
 
 impl NameSet {
@@ -36,13 +37,15 @@ impl NameSet {
         ensures same { OnOk result ((r : _) (x : _) → is_in self.new r x ≡ is_in self.old r x) }
     {
         while self.rows.len() <= region {
-            self.rows.push(IndexSet::new(alloc))?;
+            self.rows.push(BTreeSet::new(alloc))?;
         }
         Ok(())
     }
 
     pub fn add(&mut self, alloc: Global, region: usize, name: &str) -> Result<(), Memory>
-        ensures { OnOk result ((r : _) (x : _) → is_in self.new r x ≡ (is_in self.old r x || ((region == r) && bytes_eq name.now x))) }
+        ensures { OnOk result
+            ((r : _) (x : _)
+            → is_in self.new r x ≡ (is_in self.old r x || ((region == r) && bytes_eq name.now x))) }
     {
         self.reach(alloc, region)?;
         let name = String::from_str(alloc, name)?;

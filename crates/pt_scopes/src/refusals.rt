@@ -22,7 +22,8 @@ struct Seen {
 
 impl Seen {
     fn new(alloc: Global) -> Seen
-        ensures { (x : _) (r : _) (rs : _) (look : _) → earlier_in result x r ≡ earlier_of rs look [] x r }
+        ensures { (x : _) (r : _) (rs : _) (look : _)
+            → earlier_in result x r ≡ earlier_of rs look [] x r }
     {
         Seen {
             parameters: NameSet::new(alloc),
@@ -45,7 +46,11 @@ impl Seen {
 
     /// A use of a name, where it is read or bound in the end.
     fn note_use(&mut self, alloc: Global, table: &Table, m: &Mention) -> Result<(), Memory>
-        ensures { OnOk result ((x : _) (r : _) → earlier_in self.new x r ≡ used_too table.now.regions (facts_in table.now.names) m.now x r (earlier_in self.old x r)) }
+        ensures { OnOk result
+            ((x : _) (r : _)
+            → earlier_in self.new x r
+            ≡ used_too table.now.regions (facts_in table.now.names) m.now x r
+            (earlier_in self.old x r)) }
     {
         match table.seat(m.region, m.name.as_str()) {
             Some(seat) => self.used.add(alloc, seat, m.name.as_str()),
@@ -54,7 +59,11 @@ impl Seen {
     }
 
     fn note(&mut self, alloc: Global, table: &Table, m: &Mention) -> Result<(), Memory>
-        ensures { OnOk result ((x : _) (r : _) → earlier_in self.new x r ≡ seen_too table.now.regions (facts_in table.now.names) m.now.role m.now x r (earlier_in self.old x r)) }
+        ensures { OnOk result
+            ((x : _) (r : _)
+            → earlier_in self.new x r
+            ≡ seen_too table.now.regions (facts_in table.now.names) m.now.role m.now x r
+            (earlier_in self.old x r)) }
     {
         match m.role {
             Role::Read => self.note_use(alloc, table, m),
@@ -108,7 +117,10 @@ fn declaration(
 
 /// The fault of a mention.
 fn fault(alloc: Global, table: &Table, e: Earlier, m: &Mention) -> Result<Option<ScopeErr>, Memory>
-    ensures { IfOk result (λ f. f ≡ fault_with (is_offered table.now.regions (facts_in table.now.names m.now.name) m.now.region) e m.now m.now.role) }
+    ensures { IfOk result
+        (λ f. f ≡ fault_with
+        (is_offered table.now.regions (facts_in table.now.names m.now.name) m.now.region)
+        e m.now m.now.role) }
 {
     match m.role {
         Role::Read => Ok(None),
@@ -138,7 +150,8 @@ pub fn first_fault(
     table: &Table,
     mentions: &[Mention],
 ) -> Result<Option<ScopeErr>, Memory>
-    ensures { IfOk result (λ f. f ≡ fault_in table.now.regions (facts_in table.now.names) [] mentions.now) }
+    ensures { IfOk result
+        (λ f. f ≡ fault_in table.now.regions (facts_in table.now.names) [] mentions.now) }
 {
     let mut seen = Seen::new(alloc);
     for m in mentions {

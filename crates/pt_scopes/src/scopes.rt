@@ -39,7 +39,9 @@ fn bound_scope(captured: bool, kind: Kind) -> Scope
 
 impl Scopes {
     fn scope_in(&self, region: usize, here: Region, name: &str) -> Scope
-        ensures { Some result ≡ scope_in self.now.table.regions (facts_in self.now.table.names) (is_in self.now.captured) region name.now (Some here) }
+        ensures { Some result
+            ≡ scope_in self.now.table.regions (facts_in self.now.table.names)
+            (is_in self.now.captured) region name.now (Some here) }
     {
         let facts = self.table.facts(region, name);
         if facts.global {
@@ -74,7 +76,11 @@ fn note_captured(
     captured: &mut NameSet,
     m: &Mention,
 ) -> Result<(), Memory>
-    ensures { OnOk result ((r : _) (x : _) → is_in captured.new r x ≡ captured_too table.now.regions (facts_in table.now.names) m.now r x (is_in captured.old r x)) }
+    ensures { OnOk result
+        ((r : _) (x : _)
+        → is_in captured.new r x
+        ≡ captured_too table.now.regions (facts_in table.now.names) m.now r x
+        (is_in captured.old r x)) }
 {
     match table.meant(m.region, m.name.as_str()) {
         Some(owner) => {
@@ -90,7 +96,9 @@ fn note_captured(
 
 /// The names of functions that other blocks read.
 fn captured(alloc: Global, table: &Table, mentions: &[Mention]) -> Result<NameSet, Memory>
-    ensures { IfOk result (λ s. (r : _) (x : _) → is_in s r x ≡ is_captured table.now.regions (facts_in table.now.names) mentions.now r x) }
+    ensures { IfOk result
+        (λ s. (r : _) (x : _)
+        → is_in s r x ≡ is_captured table.now.regions (facts_in table.now.names) mentions.now r x) }
 {
     let mut captured = NameSet::new(alloc);
     for m in mentions {

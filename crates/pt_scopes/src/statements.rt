@@ -41,7 +41,8 @@ fn optional_target(
     class: &str,
     t: &Option<Target>,
 ) -> Result<(), Memory>
-    ensures { OnOk result (g.new ≡ behind g.old (places_opt_target at class.now (option_map target_of t.now))) }
+    ensures { OnOk result
+        (g.new ≡ behind g.old (places_opt_target at class.now (option_map target_of t.now))) }
 {
     match t {
         None => Ok(()),
@@ -51,7 +52,8 @@ fn optional_target(
 
 #[tactic(auto, using(crate::proofs::Behind::parts))]
 fn decorators(g: &mut Gatherer, at: Context, class: &str, list: &[Decorator]) -> Result<(), Memory>
-    ensures { OnOk result (g.new ≡ behind g.old (places_decorators at class.now (decorators_of list.now))) }
+    ensures { OnOk result
+        (g.new ≡ behind g.old (places_decorators at class.now (decorators_of list.now))) }
 {
     for decorator in list {
         expression(g, at, class, &decorator.value)?;
@@ -95,7 +97,9 @@ fn import(
     line: Line,
     alias: &Alias,
 ) -> Result<(), Memory>
-    ensures { OnOk result ((rest : _) → behind g.new (places_imports at class.now line.0 rest) ≡ behind g.old (places_imports at class.now line.0 (alias.now ∷ rest))) }
+    ensures { OnOk result
+        ((rest : _) → behind g.new (places_imports at class.now line.0 rest)
+        ≡ behind g.old (places_imports at class.now line.0 (alias.now ∷ rest))) }
 {
     match &alias.alias {
         None => g.tell(Role::Bind, at, class, alias.name.as_str(), line),
@@ -274,7 +278,9 @@ fn statements(g: &mut Gatherer, at: Context, class: &str, list: &[Stmt]) -> Resu
 #[cycle(statements)]
 #[tactic(auto, using(pt_tree::proofs::StatementFolds::statements, crate::proofs::Behind::parts))]
 fn branches(g: &mut Gatherer, at: Context, class: &str, list: &[Branch]) -> Result<(), Memory>
-    ensures { OnOk result (g.new ≡ behind g.old (places_branches at class.now (chained no_branches (map branch_of list.now)))) }
+    ensures { OnOk result
+        (g.new ≡ behind g.old
+        (places_branches at class.now (chained no_branches (map branch_of list.now)))) }
 {
     for branch in list {
         expression(g, at, class, &branch.test)?;
@@ -286,7 +292,9 @@ fn branches(g: &mut Gatherer, at: Context, class: &str, list: &[Branch]) -> Resu
 #[cycle(statements)]
 #[tactic(auto, using(pt_tree::proofs::StatementFolds::statements, crate::proofs::Behind::parts))]
 fn handlers(g: &mut Gatherer, at: Context, class: &str, list: &[Handler]) -> Result<(), Memory>
-    ensures { OnOk result (g.new ≡ behind g.old (places_handlers at class.now (chained no_handlers (map handler_of list.now)))) }
+    ensures { OnOk result
+        (g.new ≡ behind g.old
+        (places_handlers at class.now (chained no_handlers (map handler_of list.now)))) }
 {
     for handler in list {
         optional(g, at, class, &handler.class)?;

@@ -40,7 +40,9 @@ impl Names {
     }
 
     fn note(&mut self, alloc: Global, m: &Mention) -> Result<(), Memory>
-        ensures { OnOk result ((x : _) (r : _) → facts_in self.new x r ≡ noted m.now.role m.now x r (facts_in self.old x r)) }
+        ensures { OnOk result
+            ((x : _) (r : _)
+            → facts_in self.new x r ≡ noted m.now.role m.now x r (facts_in self.old x r)) }
     {
         match m.role {
             Role::Read => Ok(()),
@@ -54,7 +56,8 @@ impl Names {
 
     /// The names that mentions bind and declare.
     pub fn build(alloc: Global, mentions: &[Mention]) -> Result<Names, Memory>
-        ensures { IfOk result (λ names. (x : _) (r : _) → facts_in names x r ≡ facts_of mentions.now x r) }
+        ensures { IfOk result
+            (λ names. (x : _) (r : _) → facts_in names x r ≡ facts_of mentions.now x r) }
     {
         let mut names = Names::new(alloc);
         for m in mentions {
@@ -129,7 +132,9 @@ impl Table {
     }
 
     fn verdict(&self, region: usize, name: &str) -> Verdict
-        ensures { result ≡ verdict_at (facts_in self.now.names name.now region) (slice_get self.now.regions region) }
+        ensures { result
+            ≡ verdict_at (facts_in self.now.names name.now region)
+            (slice_get self.now.regions region) }
     {
         match self.regions.get(region) {
             Some(here) => verdict_of(*here, self.facts(region, name)),
@@ -138,7 +143,9 @@ impl Table {
     }
 
     fn handed(&self, region: usize, name: &str) -> Verdict
-        ensures { result ≡ handed_at (facts_in self.now.names name.now region) (slice_get self.now.regions region) }
+        ensures { result
+            ≡ handed_at (facts_in self.now.names name.now region)
+            (slice_get self.now.regions region) }
     {
         match self.regions.get(region) {
             Some(here) => handed_of(*here, self.facts(region, name)),
@@ -205,7 +212,8 @@ impl Table {
 
     /// Whether a function around a region offers it the name.
     pub fn is_offered(&self, region: usize, name: &str) -> bool
-        ensures { result ≡ is_offered_in self.now.regions (facts_in self.now.names name.now) region }
+        ensures { result
+            ≡ is_offered_in self.now.regions (facts_in self.now.names name.now) region }
     {
         let around = match self.regions.get(region) {
             Some(here) => here.around,

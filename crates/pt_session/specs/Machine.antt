@@ -1,6 +1,6 @@
 -- What one instruction does, as a step of the code's run.
 use Rattle.std.specs.Prelude.{◌≡◌, ℕ, ◌+◌, [], ◌∷◌, ◌++◌, Option, Some, None, false}
-use Rattle.std.specs.HashMap.{get_by_text}
+use Rattle.std.specs.BTreeMap.{get_by_text}
 use Rattle.pt_base.specs.declared.what.What.{What}
 use Rattle.pt_base.specs.Taken.{Pieces}
 use Rattle.pt_control.specs.Turn.{End, left_by, Turn, act, note, move, over, stuck}

@@ -107,7 +107,8 @@ fn expression(alloc: Global, e: &Expr, code: &mut Code) -> Result<(), Memory>
 #[cycle(expressions)]
 #[tactic(auto, using(pt_tree::proofs::Folds::expressions))]
 fn arguments(alloc: Global, values: &[Argument], code: &mut Code) -> Result<(), Memory>
-    ensures { OnOk result (code.new ≡ lay_args (chained no_args (map argument_of values.now)) code.old) }
+    ensures { OnOk result
+        (code.new ≡ lay_args (chained no_args (map argument_of values.now)) code.old) }
 {
     for value in values {
         argument(alloc, value, code)?;
@@ -118,7 +119,8 @@ fn arguments(alloc: Global, values: &[Argument], code: &mut Code) -> Result<(), 
 #[cycle(expressions)]
 #[tactic(auto, using(pt_tree::proofs::Folds::expressions))]
 fn argument(alloc: Global, value: &Argument, code: &mut Code) -> Result<(), Memory>
-    ensures { OnOk result ((r : _) → lay_args r code.new ≡ lay_args (argument_of value.now r) code.old) }
+    ensures { OnOk result
+        ((r : _) → lay_args r code.new ≡ lay_args (argument_of value.now r) code.old) }
 {
     match value {
         Argument::Positional(value) => expression(alloc, value, code),

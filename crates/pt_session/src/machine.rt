@@ -1,5 +1,5 @@
 ghost use Rattle.std.specs.Prelude.{◌≡◌, ◌∷◌, [], ◌++◌, Some, None, IfOk, OnOk, MatchOption, length, nat_le, string_bytes, ◌≤◌};
-ghost use Rattle.std.specs.HashMap.{get_by_text};
+ghost use Rattle.std.specs.BTreeMap.{get_by_text};
 ghost use Rattle.std.specs.Map.{update};
 ghost use Rattle.std.specs.Str.{bytes_eq};
 ghost use Rattle.std.specs.Option.{option_copied};
@@ -8,16 +8,17 @@ ghost use Rattle.pt_session.specs.Operated.{IsOperated};
 ghost use Rattle.pt_session.specs.View.{const, load, store, pop, binary, call, constant_of};
 
 use crate::code::{Code, Constant, Placed};
-use indexmap::IndexMap;
 use pt_base::{BinOp, Line, Memory, Shared, Stack, Text, What};
 use pt_instr::Instr;
 use pt_meaning::{ExceptionClass, Value};
 use std::alloc::Global;
+use std::collections::BTreeMap;
 
-/// The value of each bound name.
+/// The value of each bound name. Names stand in order, so that no choice of them makes a look-up
+/// take more than a logarithm of their count.
 #[derive(Drop)]
 pub struct Names {
-    pub map: IndexMap<String, Value>,
+    pub map: BTreeMap<String, Value>,
 }
 
 impl Names {
@@ -25,7 +26,7 @@ impl Names {
         ensures { (x : _) → get_by_text result.map x ≡ None }
     {
         Names {
-            map: IndexMap::new(alloc),
+            map: BTreeMap::new(alloc),
         }
     }
 
@@ -44,7 +45,9 @@ impl Names {
 
     /// Binds a name anew.
     fn set(&mut self, alloc: Global, name: &str, value: Value) -> Result<(), Memory>
-        ensures { OnOk result ((x : _) → get_by_text self.new.map x ≡ update bytes_eq (get_by_text self.old.map) name.now (Some value) x) }
+        ensures { OnOk result
+            ((x : _) → get_by_text self.new.map x
+            ≡ update bytes_eq (get_by_text self.old.map) name.now (Some value) x) }
     {
         let key = String::from_str(alloc, name)?;
         self.map.insert(key, value)?;
@@ -187,7 +190,8 @@ impl Machine {
     }
 
     fn constant(&mut self, constant: &Constant) -> Result<Option<Step>, Memory>
-        ensures { IfOk result (λ s. (line : _) → Does (const (constant_of constant.now)) line self.old s self.new) }
+        ensures { IfOk result
+            (λ s. (line : _) → Does (const (constant_of constant.now)) line self.old s self.new) }
     {
         let value = match constant {
             Constant::Int(n) => Value::Int(*n),

@@ -50,7 +50,8 @@ impl From<Memory> for RunErr {
 fn write<O: Sink>(piece: &Text, out: &mut O) -> Result<(), RunErr>
     ensures ok { OnOk result (Takes (O.taken out.old) (O.taken out.new) (piece.now ∷ [])) }
     ensures err { OnErr result (TakesFront (O.taken out.old) (O.taken out.new) (piece.now ∷ [])) }
-    ensures cause { result ≡ Err RunErr.Write → Rose (O.faults out.old) (O.faults out.new) × (O.faults out.new ≤ O.most out.new) }
+    ensures cause { result ≡ Err RunErr.Write
+        → Rose (O.faults out.old) (O.faults out.new) × (O.faults out.new ≤ O.most out.new) }
     ensures most { O.most out.new ≡ O.most out.old }
     ensures later { O.faults out.old ≤ O.faults out.new }
 {
@@ -69,10 +70,15 @@ fn advance<O: Sink>(
     out: &mut O,
 ) -> Result<Option<RunEnd>, RunErr>
     requires { (p : Point) × RunsAt code.now placed.now machine.old p }
-    ensures ok { IfOk result (λ stop. (p : Point) → RunsAt code.now placed.now machine.old p → Advanced (laid code.now) p stop machine.new (O.taken out.old) (O.taken out.new)) }
+    ensures ok { IfOk result
+        (λ stop. (p : Point) → RunsAt code.now placed.now machine.old p
+        → Advanced (laid code.now) p stop machine.new (O.taken out.old) (O.taken out.new)) }
     ensures of_step { IfOk result IsOfStep }
-    ensures err { OnErr result ((p : Point) → RunsAt code.now placed.now machine.old p → BrokenOff p (O.taken out.old) (O.taken out.new)) }
-    ensures cause { result ≡ Err RunErr.Write → Rose (O.faults out.old) (O.faults out.new) × (O.faults out.new ≤ O.most out.new) }
+    ensures err { OnErr result
+        ((p : Point) → RunsAt code.now placed.now machine.old p
+        → BrokenOff p (O.taken out.old) (O.taken out.new)) }
+    ensures cause { result ≡ Err RunErr.Write
+        → Rose (O.faults out.old) (O.faults out.new) × (O.faults out.new ≤ O.most out.new) }
     ensures most { O.most out.new ≡ O.most out.old }
     ensures later { O.faults out.old ≤ O.faults out.new }
 {
@@ -97,10 +103,15 @@ fn run_code<O: Sink>(
 ) -> Result<RunEnd, RunErr>
     requires runs { (whole : Whole) × RunsWhole code.now budget.old.limit whole }
     requires untaken { budget.old.taken ≡ 0 }
-    ensures ok { IfOk result (λ end. (whole : Whole) → RunsWhole code.now budget.old.limit whole → Finished whole end (O.taken out.old) (O.taken out.new)) }
+    ensures ok { IfOk result
+        (λ end. (whole : Whole) → RunsWhole code.now budget.old.limit whole
+        → Finished whole end (O.taken out.old) (O.taken out.new)) }
     ensures spent { IfOk result (λ end. IsBeyond end budget.old.limit (length code.now.instrs)) }
-    ensures err { OnErr result ((whole : Whole) → RunsWhole code.now budget.old.limit whole → TakesFront (O.taken out.old) (O.taken out.new) whole.world.written) }
-    ensures cause { result ≡ Err RunErr.Write → Rose (O.faults out.old) (O.faults out.new) × (O.faults out.new ≤ O.most out.new) }
+    ensures err { OnErr result
+        ((whole : Whole) → RunsWhole code.now budget.old.limit whole
+        → TakesFront (O.taken out.old) (O.taken out.new) whole.world.written) }
+    ensures cause { result ≡ Err RunErr.Write
+        → Rose (O.faults out.old) (O.faults out.new) × (O.faults out.new ≤ O.most out.new) }
     ensures most { O.most out.new ≡ O.most out.old }
     ensures later { O.faults out.old ≤ O.faults out.new }
 {
@@ -130,10 +141,16 @@ pub fn run<O: Sink>(
 ) -> Result<RunEnd, RunErr>
     requires built { Built (script_of script.now) }
     requires untaken { budget.old.taken ≡ 0 }
-    ensures ok { IfOk result (λ end. Finished (meaning_of budget.old.limit (script_of script.now)) end (O.taken out.old) (O.taken out.new)) }
-    ensures spent { IfOk result (λ end. IsBeyond end budget.old.limit (stms_size (script_of script.now))) }
-    ensures err { OnErr result (TakesFront (O.taken out.old) (O.taken out.new) (meaning_of budget.old.limit (script_of script.now)).world.written) }
-    ensures cause { result ≡ Err RunErr.Write → Rose (O.faults out.old) (O.faults out.new) × (O.faults out.new ≤ O.most out.new) }
+    ensures ok { IfOk result
+        (λ end. Finished (meaning_of budget.old.limit (script_of script.now)) end
+        (O.taken out.old) (O.taken out.new)) }
+    ensures spent { IfOk result
+        (λ end. IsBeyond end budget.old.limit (stms_size (script_of script.now))) }
+    ensures err { OnErr result
+        (TakesFront (O.taken out.old) (O.taken out.new)
+        (meaning_of budget.old.limit (script_of script.now)).world.written) }
+    ensures cause { result ≡ Err RunErr.Write
+        → Rose (O.faults out.old) (O.faults out.new) × (O.faults out.new ≤ O.most out.new) }
     ensures most { O.most out.new ≡ O.most out.old }
     ensures later { O.faults out.old ≤ O.faults out.new }
 {

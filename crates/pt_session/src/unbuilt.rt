@@ -54,7 +54,8 @@ fn unless_built(is_built: bool, line: Line) -> Option<Line>
 }
 
 fn name(line: Line, name: &str) -> Option<Line>
-    ensures { option_map (λ l. l.0) result ≡ (if is_builtin_name name.now then Some line.0 else None) }
+    ensures { option_map (λ l. l.0) result
+        ≡ (if is_builtin_name name.now then Some line.0 else None) }
 {
     if is_builtin_or_module(name) {
         Some(line)
@@ -111,7 +112,8 @@ fn expression(e: &Expr) -> Option<Line>
 #[cycle(expressions)]
 #[tactic(auto, using(pt_tree::proofs::Folds::expressions))]
 fn arguments(line: Line, values: &[Argument]) -> Option<Line>
-    ensures { option_map (λ l. l.0) result ≡ unbuilt_args line.0 (chained no_args (map argument_of values.now)) }
+    ensures { option_map (λ l. l.0) result
+        ≡ unbuilt_args line.0 (chained no_args (map argument_of values.now)) }
 {
     for value in values {
         let found = argument(line, value);
@@ -125,7 +127,9 @@ fn arguments(line: Line, values: &[Argument]) -> Option<Line>
 #[cycle(expressions)]
 #[tactic(auto, using(pt_tree::proofs::Folds::expressions))]
 fn argument(line: Line, value: &Argument) -> Option<Line>
-    ensures { (r : _) → unbuilt_args line.0 (argument_of value.now r) ≡ first_of (option_map (λ l. l.0) result) (unbuilt_args line.0 r) }
+    ensures { (r : _)
+        → unbuilt_args line.0 (argument_of value.now r)
+        ≡ first_of (option_map (λ l. l.0) result) (unbuilt_args line.0 r) }
 {
     match value {
         Argument::Positional(value) => expression(value),
@@ -160,7 +164,8 @@ fn target(t: &Target) -> Option<Line>
 
 /// The targets of an assignment on a line.
 fn targets(line: Line, parts: &[Target]) -> Option<Line>
-    ensures { option_map (λ l. l.0) result ≡ unbuilt_targets line.0 (targets_of (map target_of parts.now)) }
+    ensures { option_map (λ l. l.0) result
+        ≡ unbuilt_targets line.0 (targets_of (map target_of parts.now)) }
 {
     if parts.len() == 1 {
         target(&parts[0])

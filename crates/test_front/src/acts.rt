@@ -1,9 +1,9 @@
 //! The acts of blocks, each with its line and, where a loop tests again with it, a star.
 
-use crate::words::{Printed, at, close, word};
 use pt_acts::ActTable;
 use pt_base::{ActNo, BlockId};
 use pt_tree::ActRow;
+use test_notation::{Printed, at, close, word};
 
 /// A script of a table has fewer blocks.
 const BLOCKS: u32 = 64;

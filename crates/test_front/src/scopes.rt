@@ -1,8 +1,8 @@
 //! The scopes of names.
 
-use crate::words::{Printed, word};
 use pt_base::BlockId;
 use pt_scopes::{Scope, Scopes};
+use test_notation::{Printed, word};
 
 fn name_of(scope: Scope) -> &'static str {
     match scope {

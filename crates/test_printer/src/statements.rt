@@ -1,11 +1,7 @@
-//! Trees of statements as lists in parentheses, each behind the last two digits of its line.
-
-use crate::printer::{
-    expression, optional_expression, parameters, place, sign_of, target, targets,
-};
-use crate::words::{Printed, at, close, open, optional_name, word};
+use crate::expressions::{expression, optional_expression, parameters, place, target, targets};
 use pt_base::{Line, Text};
 use pt_tree::{Alias, Branch, Decorator, Handler, Script, Stmt, StmtNode, WithItem};
+use test_notation::{Printed, at, close, open, optional_name, sign_of, word};
 
 fn aliases(out: &mut String, names: &[Alias]) -> Printed {
     for name in names {
@@ -257,7 +253,7 @@ fn handlers(out: &mut String, parts: &[Handler]) -> Printed {
     Ok(())
 }
 
-/// All statements of a script.
+/// All statements of a script, each behind the last two digits of its line.
 pub fn script(out: &mut String, script: &Script) -> Printed {
     statements(out, script.body.as_slice())
 }

@@ -1,7 +1,5 @@
-//! The tokens of a text, each spelled out.
-
-use crate::words::{Printed, show};
 use pt_lexer::{Token, TokenKind};
+use test_notation::{Printed, show};
 
 /// A sign stands behind a quote, an integer behind `#`, a string in quotes, and the literal text of
 /// an f-string behind `~`.
@@ -31,6 +29,7 @@ fn token(out: &mut String, kind: &TokenKind) -> Printed {
     }
 }
 
+/// Each token, spelled out.
 pub fn spell(out: &mut String, tokens: &[Token]) -> Printed {
     for each in tokens {
         out.push_str(" ")?;

@@ -1,10 +1,10 @@
-//! Words of answers, each behind a blank, and lists in parentheses.
-
 use pt_base::{Line, Text};
 use std::alloc::AllocError;
 
+/// What writing comes to: an error is want of memory.
 pub type Printed = Result<(), AllocError>;
 
+/// A word, behind a blank.
 pub fn word(out: &mut String, text: &str) -> Printed {
     out.push_str(" ")?;
     out.push_str(text)
@@ -16,6 +16,7 @@ pub fn open(out: &mut String, name: &str) -> Printed {
     out.push_str(name)
 }
 
+/// Ends a list.
 pub fn close(out: &mut String) -> Printed {
     out.push_str(")")
 }
@@ -26,6 +27,7 @@ pub fn at(out: &mut String, line: Line) -> Printed {
     write!(out, " {}{}", line / 10, line % 10)
 }
 
+/// A name, or `-` where there is none.
 pub fn optional_name(out: &mut String, name: &Option<Text>) -> Printed {
     match name {
         Some(name) => word(out, name.as_str()),

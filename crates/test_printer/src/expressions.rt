@@ -1,28 +1,9 @@
-//! Trees of expressions as lists in parentheses.
-
-use crate::words::{Printed, close, open, word};
-use pt_base::{BinOp, Boxed, CompareOp, Text, UnOp};
+use pt_base::{Boxed, CompareOp, Text, UnOp};
 use pt_tree::{
     Argument, Clause, Comparison, Constant, Conversion, Entry, Expr, ExprNode, NamedParameter,
     Parameter, Parameters, Piece, PlaceNode, Target, TargetNode,
 };
-
-pub fn sign_of(operator: BinOp) -> &'static str {
-    match operator {
-        BinOp::Add => "+",
-        BinOp::Sub => "-",
-        BinOp::Mul => "*",
-        BinOp::Div => "/",
-        BinOp::FloorDiv => "//",
-        BinOp::Mod => "%",
-        BinOp::Pow => "**",
-        BinOp::BitAnd => "&",
-        BinOp::BitOr => "|",
-        BinOp::BitXor => "^",
-        BinOp::LeftShift => "<<",
-        BinOp::RightShift => ">>",
-    }
-}
+use test_notation::{Printed, close, open, sign_of, word};
 
 fn sign_of_unary(operator: UnOp) -> &'static str {
     match operator {
@@ -425,10 +406,4 @@ pub fn optional_expression(out: &mut String, value: &Option<Expr>) -> Printed {
         Some(value) => expression(out, value),
         None => word(out, "-"),
     }
-}
-
-/// An expression, and how many tokens stand before its end.
-pub fn expression_to(out: &mut String, e: &Expr, end: usize) -> Printed {
-    expression(out, e)?;
-    write!(out, " {end}")
 }
