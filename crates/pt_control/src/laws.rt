@@ -4,10 +4,11 @@ ghost use Rattle.std.specs.Prelude.{◌≡◌, ℕ, List, None};
 ghost use Rattle.pt_tree.specs.Blocks.{Code};
 ghost use Rattle.pt_tree.specs.Syntax.{Exp, Name, Stms, absent, break, global, handler, more, no_handlers, none, pass, return, try, while};
 ghost use Rattle.pt_control.specs.ClosedParts.{All_apart, parts_of};
-ghost use Rattle.pt_control.specs.Control.{turn};
+ghost use Rattle.pt_control.specs.Control.{go, turn};
 ghost use Rattle.pt_control.specs.Endings.{All_reached};
-ghost use Rattle.pt_control.specs.Frames.{Completion, Control, Frame, Nest};
-ghost use Rattle.pt_control.specs.Laws.{ClosesBy, LandsByRows, LandsPermitted, LiesInParts, MeetsAllRows, RaisesByRows, StartsByRows, TakesOff};
+ghost use Rattle.pt_control.specs.Frames.{Completion, Control, Frame, Nest, Way};
+ghost use Rattle.pt_control.specs.Laws.{ClosesBy, ComesToAct, LandsByRows, LandsPermitted, LiesInParts, MeetsAllRows, RaisesByRows, StartsByRows, TakesOff};
+ghost use Rattle.pt_control.specs.Reached.{Leads, start_code};
 ghost use Rattle.pt_control.specs.Samples.{counting, generating, jumping, nested_body};
 ghost use Rattle.pt_control.specs.Turn.{Around, move, stuck};
 
@@ -73,4 +74,14 @@ pub fn a_permitted_jump_lands<V>()
 pub fn no_two_parts_are_the_same()
     ensures apart { (block : Stms) → All_apart (parts_of block 0) }
     ensures of_block { (block : Stms) (line : ℕ) → LiesInParts block line }
+{}
+
+/// From a block's start, from where a jump lands and behind each reply, an act or the end of the
+/// block is next, behind as many notes and unmarked asks as `most_silent` says, if none of them
+/// raises. So a decision has a destination.
+#[tactic(auto, using(crate::proofs::NextActs::behind_starts, crate::proofs::NextActs::behind_ways, crate::proofs::NextActs::behind_replies))]
+pub fn an_act_comes_next<V>()
+    ensures starts { (block : Around V) (code : Code) (first : V) → ComesToAct block (start_code block code first) }
+    ensures lands { (block : Around V) (k : Way V) → ComesToAct block (go block k) }
+    ensures replied { (block : Around V) (c d : Control V) → Leads (turn block c) d → ComesToAct block d }
 {}
