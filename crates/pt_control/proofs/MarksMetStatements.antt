@@ -358,7 +358,7 @@ module _ {V : Type 0} (block : Around V) where
         let e = all_go els he (m + 1 + target_size t + stms_size body) s in
         let r : Runs block (begin_next block l m false block.null t body els s) m (m + 1) _ = none_runs block in
         let i : Runs block (begin_next block l m false block.null t body els s) m (m + 1 + target_size t) (begin_all block body (m + 1 + target_size t) (F.iterating l m block.null t body els ∷ s) _) =
-          runs_then block (some_runs block) (target_runs block t block.null (m + 1) _) in
+        runs_then block (some_runs block) (target_runs block t block.null (m + 1) _) in
         record {
           met = met_to block (met_then block p (met_then block q (met_fork block (met_then block (some_runs block) (met_then block (target_runs block t block.null (m + 1) _) b.met)) (none_runs block) e.met))) (omega arith);
           ends = λ h. reaches_then block p.reaches (reaches_then block q.reaches (elim h [
@@ -437,12 +437,12 @@ module _ {V : Type 0} (block : Around V) where
         let g = all_go body hb (n + 1) (F.guarded k hds els ∷ around) in
         reaches_then block p.reaches (elim u [
           | inl v ↦ reaches_then block (elim v.0 [
-              | inl w ↦ all_break body hb w (n + 1) (F.guarded k hds els ∷ around)
-              | inr w ↦ elim w [
-                | inl y ↦ handlers_break body hds els (n + 1) k around (some_act body hds hh) y.1 (tests_break hds body hh y.1)
-                | inr y ↦ reaches_then block (g.ends y.0) (all_break els he y.1 (k + handlers_size hds) around)
-              ]
-            ]) (finally_passes fin n m s (all_go fin hf) v.1)
+            | inl w ↦ all_break body hb w (n + 1) (F.guarded k hds els ∷ around)
+            | inr w ↦ elim w [
+              | inl y ↦ handlers_break body hds els (n + 1) k around (some_act body hds hh) y.1 (tests_break hds body hh y.1)
+              | inr y ↦ reaches_then block (g.ends y.0) (all_break els he y.1 (k + handlers_size hds) around)
+            ]
+          ]) (finally_passes fin n m s (all_go fin hf) v.1)
           | inr v ↦ reaches_then block c.1 (finally_breaks fin n m s c.0 v (all_break fin hf v))
         ])
     stm_breaks (S.with l is body) h u n s =

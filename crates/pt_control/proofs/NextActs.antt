@@ -1,6 +1,5 @@
 -- Behind notes and unmarked asks, none of which raises, an act or the end of the block comes, and not too late.
 use Rattle.std.proofs.Common.{◌≡◌, ℕ, zero, suc, ◌+◌, ◌*◌, ◌≤◌, Bool, true, false, Option, Some, None, List, [], ◌∷◌, ◌++◌, length, refl, ap, subst, arith}
-use Rattle.pt_base.specs.declared.operators.CompareOp.{CompareOp}
 use Rattle.pt_tree.specs.declared.expression.Conversion.{Conversion}
 use Rattle.pt_tree.specs.declared.statement.Alias.{Alias}
 use Rattle.pt_tree.specs.Syntax as S
@@ -13,12 +12,12 @@ use Rattle.pt_control.specs.Turn.{Mark, Variable, Around, Operation, Seek, Deed,
 use Rattle.pt_control.specs.Frames as F
 use Rattle.pt_control.specs.Frames.{Abrupt, raise, normal, by, Completion, Nest, Operand, Address, Stores, Definition, Decorating, Way, Wait, Purpose, Over, Rounds, Control}
 use Rattle.pt_control.specs.Bases.{base, way_base, over_base}
-use Rattle.pt_control.specs.Expressions.{making, cells_of, begin_operation, begin_exp, begin_defaults, begin_function, next_operand, begin_spec, begin_made, begin_last, begin_clauses, take_item}
-use Rattle.pt_control.specs.Statements.{all_places, at_place, begin_place, begin_store, begin_stores, begin_assign, begin_deletes, begin_imports, begin_imports_from, begin_definition, begin_test, begin_stm, begin_all, begin_branches, begin_items, begin_tests, each_gets}
+use Rattle.pt_control.specs.Expressions.{cells_of, begin_operation, begin_exp, begin_defaults, begin_function, next_operand, begin_spec, begin_made, begin_last, begin_clauses}
+use Rattle.pt_control.specs.Statements.{all_places, at_place, begin_place, begin_store, begin_stores, begin_assign, begin_deletes, begin_imports, begin_imports_from, begin_definition, begin_stm, begin_all, begin_branches, begin_items, begin_tests, each_gets}
 use Rattle.pt_control.specs.CompletionTable as C
 use Rattle.pt_control.specs.CompletionTable.{Follows, row, onward}
 use Rattle.pt_control.specs.Completions.{pass_on, follow, complete, let_go}
-use Rattle.pt_control.specs.Control.{make_anew, deliver, next_round, take_iter, go, after_value, after_deed, after_leave, after_throw, after_truth, after_iter, after_item, after_entry, after_unpack, after_delegate, turn, most_silent, unhindered}
+use Rattle.pt_control.specs.Control.{make_anew, deliver, next_round, take_iter, go, after_value, after_deed, after_leave, after_throw, after_truth, after_iter, after_item, after_entry, after_delegate, turn, unhindered}
 use Rattle.pt_control.specs.Reached.{Leads, start_code}
 use Rattle.pt_control.specs.Laws.{IsActOrEnd, ComesToAct}
 
