@@ -18,3 +18,4 @@ pub mod MarksMetStatements
 pub mod MarksMetLaw
 pub mod MarksLaw
 pub mod MarksJumps
+pub mod NextActs

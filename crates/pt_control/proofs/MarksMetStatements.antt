@@ -1,5 +1,5 @@
--- From the beginning of a statement each of its acts is met, where each statement inside can be reached; and it comes to its end, where its
--- form tells so.
+-- From the beginning of a statement each of its acts is met, where each statement inside can be reached; and it comes to its end, or breaks the
+-- loop around, where its form tells so.
 use Rattle.std.proofs.Common.{◌≡◌, ℕ, ◌+◌, ◌≤◌, true, false, Option, Some, None, List, [], ◌∷◌, length, ◌⊎◌, inl, inr, refl, subst, arith}
 use Rattle.pt_base.specs.declared.operators.BinOp.{BinOp}
 use Rattle.pt_tree.specs.declared.statement.Alias.{Alias}
@@ -9,13 +9,13 @@ use Rattle.pt_tree.specs.Sizes.{size, opt_size, place_size, target_size, targets
 use Rattle.pt_control.specs.Turn as T
 use Rattle.pt_control.specs.Turn.{Around, got, mark}
 use Rattle.pt_control.specs.Frames as F
-use Rattle.pt_control.specs.Frames.{raise, normal, by, Completion, Nest, Way, Definition, Decorating, Control}
+use Rattle.pt_control.specs.Frames.{raise, break, normal, by, Completion, Nest, Way, Definition, Decorating, Control}
 use Rattle.pt_control.specs.Statements.{all_places, begin_assign, begin_place, begin_deletes, begin_imports, begin_imports_from, begin_definition, begin_next, begin_stm, begin_all, begin_branches, begin_items, begin_tests, handler_way}
 use Rattle.pt_control.specs.Numbers.{handler_body}
 use Rattle.pt_control.specs.Completions.{complete, let_go}
 use Rattle.pt_control.specs.Control.{deliver, go}
 use Rattle.pt_control.specs.Reached.{Reaches, here, then}
-use Rattle.pt_control.specs.Endings.{Ends, All_end, A_branch_ends, A_handler_ends, Leads_on, Reached_within, All_reached, Branches_reached, Handlers_reached}
+use Rattle.pt_control.specs.Endings.{Ends, All_end, A_branch_ends, A_handler_ends, Breaks, One_breaks, A_branch_breaks, A_handler_breaks, Leads_on, Reached_within, All_reached, Branches_reached, Handlers_reached}
 use Rattle.pt_control.proofs.MarksPaths.{reaches_then, Met, met_along, met_both, met_none, met_to, met_one, met_then, met_fork, stays, along, Runs, runs_then, runs_to, value_runs, operation_runs, deed_runs, true_runs, false_runs, iter_runs, some_runs, none_runs, entry_runs}
 use Rattle.pt_control.proofs.MarksMetExpressions.{exp_runs, target_runs, place_runs, function_runs}
 use Rattle.pt_control.proofs.MarksRaises.{places_size, all_deleted_places_size, Raised, truth_raises, exp_raises, all_out, block_raises, items_out}
@@ -223,6 +223,58 @@ module _ {V : Type 0} (block : Around V) where
             (finally_ends fin n m s f h.1));
       }
 
+  -- a `break` passes frames on its way to the loop around
+  abbrev Broken : Nest V → Control V
+  Broken s = complete block (by break) s
+
+  -- statements break, in any nest
+  abbrev Block_breaks : Stms → Type 0
+  Block_breaks ss = (n : ℕ) (s : Nest V) → Reaches block (begin_all block ss n s (Done s)) (Broken s)
+
+  withing_breaks : (l k : ℕ) (s : Nest V) → Reaches block (Broken (F.withing l k block.null ∷ s)) (Broken s)
+  withing_breaks l k s = turn_false
+
+  items_break : (is : Items) (body : Stms) → Block_breaks body → (n : ℕ) (s : Nest V) → Reaches block (begin_items block is body n s (Done s)) (Broken s)
+  items_break S.no_items body b n s = b n s
+  items_break (S.with_item k e None r) body b n s =
+      let m = n + size e + 1 in
+      let at = F.withing k (m + items_size r (stms_size body)) block.null ∷ s in
+      let p = runs_then block (exp_runs block e n false (F.entered k (n + size e) None r body s)) (entry_runs block) in
+      reaches_then block p.reaches (reaches_then block (items_break r body b m at) (withing_breaks k _ s))
+  items_break (S.with_item k e (Some t) r) body b n s =
+      let m = n + size e + 1 + target_size t in
+      let at = F.withing k (m + items_size r (stms_size body)) block.null ∷ s in
+      let p = runs_then block (exp_runs block e n false (F.entered k (n + size e) (Some t) r body s)) (runs_then block (entry_runs block) (target_runs block t block.null (n + size e + 1) (F.within_items m r body at))) in
+      reaches_then block p.reaches (reaches_then block (items_break r body b m at) (withing_breaks k _ s))
+
+  naming_breaks : (x : Name) (s : Nest V) → Reaches block (Broken (F.naming x ∷ s)) (Broken s)
+  naming_breaks x s = then (then here (got tt, refl)) (got tt, refl)
+
+  way_breaks : (l n : ℕ) (x : Option Name) (body : Stms) (e : V) (s : Nest V) → Block_breaks body → Reaches block (go block (handler_way block l n x body e s)) (Broken s)
+  way_breaks l n None body e s b = b (n + 1) (F.handling n e ∷ s)
+  way_breaks l n (Some x) body e s b =
+      reaches_then block (turn_deed (F.stms (n + 1 + 1) body (F.naming x ∷ F.handling n e ∷ s)))
+      (reaches_then block (b (n + 1 + 1) (F.naming x ∷ F.handling n e ∷ s)) (naming_breaks x (F.handling n e ∷ s)))
+
+  abbrev Tests_break : Handlers → Type 0
+  Tests_break hds = (k n : ℕ) (e : V) (s : Nest V) (x : Control V) → Reaches block (begin_tests block k hds n e s x) (Broken s)
+
+  handlers_break : (body : Stms) (hds : Handlers) (els : Stms) (n k : ℕ) (s : Nest V) → Some_act_before body hds → A_handler_breaks hds → Tests_break hds
+      → Reaches block (begin_all block body n (F.guarded k hds els ∷ s) (Done (F.guarded k hds els ∷ s))) (Broken s)
+  handlers_break body S.no_handlers els n k s some u t = absurd u
+  handlers_break body (S.handler l c x b r) els n k s some u t =
+      reaches_then block (block_raises block body n (F.guarded k (S.handler l c x b r) els ∷ s) some) (t k k block.null s _)
+
+  -- a `finally` part lets it go on, or breaks by itself
+  finally_passes : (fin : Stms) (t m : ℕ) (s : Nest V) → Block_goes fin → All_end fin → Reaches block (Broken (F.ensuring t m fin ∷ s)) (Broken s)
+  finally_passes S.none t m s f e = here
+  finally_passes (S.more st ss) t m s f e = (f m (F.ending t (by break) ∷ s)).ends e
+
+  finally_breaks : (fin : Stms) (t m : ℕ) (s : Nest V) (c : Completion V) → One_breaks fin → Block_breaks fin
+      → Reaches block (complete block c (F.ensuring t m fin ∷ s)) (Broken s)
+  finally_breaks S.none t m s c u f = absurd u
+  finally_breaks (S.more st ss) t m s c u f = f m (F.ending t c ∷ s)
+
   failed_met : (m : Opt) (l n : ℕ) (s : Nest V) → Met block (go block (F.failed l n m s)) n (n + opt_size m + 1)
   failed_met S.absent l n s = met_to block (met_one block refl) (omega arith)
   failed_met (S.given e) l n s = met_then block (exp_runs block e n false _) (met_one block refl)
@@ -293,7 +345,10 @@ module _ {V : Type 0} (block : Around V) where
         let e = all_go els he (n + size c + 1 + stms_size body) s in
         record {
           met = met_to block (met_then block p (met_fork block (met_then block (true_runs block) b.met) (false_runs block) e.met)) (omega arith);
-          ends = λ h. reaches_then block p.reaches (reaches_then block turn_false (e.ends h));
+          ends = λ h. reaches_then block p.reaches (elim h [
+            | inl u ↦ reaches_then block turn_false (e.ends u)
+            | inr u ↦ reaches_then block turn_true (all_break body hb u (n + size c + 1) (F.looping l n c body els ∷ s))
+          ]);
         }
     stm_goes (S.for l t it body els) (hb, he) n s =
         let m = n + size it + 1 in
@@ -302,9 +357,14 @@ module _ {V : Type 0} (block : Around V) where
         let b = all_go body hb (m + 1 + target_size t) (F.iterating l m block.null t body els ∷ s) in
         let e = all_go els he (m + 1 + target_size t + stms_size body) s in
         let r : Runs block (begin_next block l m false block.null t body els s) m (m + 1) _ = none_runs block in
+        let i : Runs block (begin_next block l m false block.null t body els s) m (m + 1 + target_size t) (begin_all block body (m + 1 + target_size t) (F.iterating l m block.null t body els ∷ s) _) =
+        runs_then block (some_runs block) (target_runs block t block.null (m + 1) _) in
         record {
           met = met_to block (met_then block p (met_then block q (met_fork block (met_then block (some_runs block) (met_then block (target_runs block t block.null (m + 1) _) b.met)) (none_runs block) e.met))) (omega arith);
-          ends = λ h. reaches_then block p.reaches (reaches_then block q.reaches (reaches_then block r.reaches (e.ends h)));
+          ends = λ h. reaches_then block p.reaches (reaches_then block q.reaches (elim h [
+            | inl u ↦ reaches_then block r.reaches (e.ends u)
+            | inr u ↦ reaches_then block i.reaches (all_break body hb u (m + 1 + target_size t) (F.iterating l m block.null t body els ∷ s))
+          ]));
         }
     stm_goes (S.try l body hds els fin) (hb, hh, on, he, hf) n s =
         try_goes l body hds els fin (all_go body hb) (tests_go hds body hh) (all_go els he) (all_go fin hf) (some_act body hds hh) on n s
@@ -353,6 +413,74 @@ module _ {V : Type 0} (block : Around V) where
         let p = exp_runs block c n false (F.matched l k (n + size c) e (handler_way block l (n + size c) x b e s) (F.tests k (handler_body (n + size c) x + stms_size b) r e s)) in
         let q = match_goes l k (n + size c) x b r e block.null s (all_go b hb) (tests_go r body hr) in
         record { met = met_to block (met_then block p q.met) (omega (arith, body_at (n + size c) x)); ends = λ h. reaches_then block p.reaches (q.ends h) }
+
+    -- where a `break` in them leaves the loop around, it is reached
+    stm_breaks : (st : Stm) → Reached_within st → Breaks st → (n : ℕ) (s : Nest V) → Reaches block (begin_stm block st n s (Done s)) (Broken s)
+    stm_breaks (S.break l) h u n s = then here (got tt, refl)
+    stm_breaks (S.choice l bs els) (hb, he) u n s =
+        subst (λ c. Reaches block c (Broken s)) (choice_is l bs els n s) (branches_break bs hb els (all_break els he) u n s)
+    stm_breaks (S.while l c body els) (hb, he) u n s =
+        let p = exp_runs block c n false (F.asked l (n + size c) (F.stms (n + size c + 1) body (F.looping l n c body els ∷ s)) (F.stms (n + size c + 1 + stms_size body) els s)) in
+        reaches_then block p.reaches (reaches_then block turn_false (all_break els he u (n + size c + 1 + stms_size body) s))
+    stm_breaks (S.for l t it body els) (hb, he) u n s =
+        let m = n + size it + 1 in
+        let p = exp_runs block it n false (F.iterated l (n + size it) (F.for_over l m t body els s)) in
+        let q : Runs block (deliver block block.null (F.iterated l (n + size it) (F.for_over l m t body els s))) (n + size it) m (begin_next block l m false block.null t body els s) = iter_runs block in
+        let r : Runs block (begin_next block l m false block.null t body els s) m (m + 1) _ = none_runs block in
+        reaches_then block p.reaches (reaches_then block q.reaches (reaches_then block r.reaches (all_break els he u (m + 1 + target_size t + stms_size body) s)))
+    stm_breaks (S.try l body hds els fin) (hb, hh, on, he, hf) u n s =
+        let k = n + 1 + stms_size body in
+        let m = k + handlers_size hds + stms_size els in
+        let around = F.ensuring n m fin ∷ s in
+        let p : Runs block (begin_stm block (S.try l body hds els fin) n s (Done s)) n (n + 1) _ = deed_runs block in
+        let c = to_finally body hds els (n + 1) k around in
+        let g = all_go body hb (n + 1) (F.guarded k hds els ∷ around) in
+        reaches_then block p.reaches (elim u [
+          | inl v ↦ reaches_then block (elim v.0 [
+            | inl w ↦ all_break body hb w (n + 1) (F.guarded k hds els ∷ around)
+            | inr w ↦ elim w [
+              | inl y ↦ handlers_break body hds els (n + 1) k around (some_act body hds hh) y.1 (tests_break hds body hh y.1)
+              | inr y ↦ reaches_then block (g.ends y.0) (all_break els he y.1 (k + handlers_size hds) around)
+            ]
+          ]) (finally_passes fin n m s (all_go fin hf) v.1)
+          | inr v ↦ reaches_then block c.1 (finally_breaks fin n m s c.0 v (all_break fin hf v))
+        ])
+    stm_breaks (S.with l is body) h u n s =
+        subst (λ c. Reaches block c (Broken s)) (with_is l is body n s) (items_break is body (all_break body h u) n s)
+    stm_breaks st h u n s = absurd u
+
+    all_break : (ss : Stms) → All_reached ss → One_breaks ss → Block_breaks ss
+    all_break S.none h u n s = absurd u
+    all_break (S.more st ss) (h, on, hs) u n s = elim u [
+      | inl v ↦ stm_breaks st h v n (F.rest (n + stm_size st) ss ∷ s)
+      | inr v ↦ reaches_then block ((stm_goes st h n (F.rest (n + stm_size st) ss ∷ s)).ends v.0) (all_break ss hs v.1 (n + stm_size st) s)
+    ]
+
+    branches_break : (bs : Branches) → Branches_reached bs → (els : Stms) → (One_breaks els → Block_breaks els) → A_branch_breaks bs ⊎ One_breaks els → (n : ℕ) (s : Nest V)
+        → Reaches block (begin_branches block bs els n s (Done s)) (Broken s)
+    branches_break S.no_branches h els e u n s = elim u [ inl x ↦ absurd x | inr x ↦ e x n s ]
+    branches_break (S.branch k c body r) (hb, hr) els e u n s =
+        let p = exp_runs block c n false (F.asked k (n + size c) (F.stms (n + size c + 1) body s) (F.branches (n + size c + 1 + stms_size body) r els s)) in
+        reaches_then block p.reaches (elim u [
+          | inl x ↦ elim x [
+            | inl y ↦ reaches_then block turn_true (all_break body hb y (n + size c + 1) s)
+            | inr y ↦ reaches_then block turn_false (branches_break r hr els e (inl y) (n + size c + 1 + stms_size body) s)
+          ]
+          | inr x ↦ reaches_then block turn_false (branches_break r hr els e (inr x) (n + size c + 1 + stms_size body) s)
+        ])
+
+    tests_break : (hds : Handlers) (body : Stms) → Handlers_reached body hds → A_handler_breaks hds → Tests_break hds
+    tests_break S.no_handlers body h u k n e s x = absurd u
+    tests_break (S.handler l S.absent x b r) body (some, hb, hr) u k n e s z = elim u [
+      | inl y ↦ reaches_then block turn_true (way_breaks l n x b e s (all_break b hb y))
+      | inr y ↦ reaches_then block turn_false (tests_break r body hr y k (handler_body n x + stms_size b) e s _)
+    ]
+    tests_break (S.handler l (S.given c) x b r) body (some, hb, hr) u k n e s z =
+        let p = exp_runs block c n false (F.matched l k (n + size c) e (handler_way block l (n + size c) x b e s) (F.tests k (handler_body (n + size c) x + stms_size b) r e s)) in
+        reaches_then block p.reaches (elim u [
+          | inl y ↦ reaches_then block turn_true (way_breaks l (n + size c) x b e s (all_break b hb y))
+          | inr y ↦ reaches_then block turn_false (tests_break r body hr y k (handler_body (n + size c) x + stms_size b) e s _)
+        ])
 
   pub all_met : (ss : Stms) → All_reached ss → (n : ℕ) (s : Nest V) → Met block (begin_all block ss n s (Done s)) n (n + stms_size ss)
   all_met ss h n s = (all_go ss h n s).met

@@ -199,15 +199,17 @@ module _ {V : Type 0} (block : Around V) where
   turn (noting a k s) = note a (after_deed k s)
   turn (closed e) = over e
 
-  -- how many notes and unmarked asks come before the next act or the end, at most: three for each frame, and one for each name that is made anew and each cell
+  -- how many notes and unmarked asks come, at most, before the next act, the cells of what begins there, or the end: three for each frame, and one
+  -- for each name that is made anew and each cell
   abbrev pub most_silent : Control V → ℕ
   most_silent (silent_deed a (F.made_anew xs l n i t cs r) s) = suc (length xs)
   most_silent (silent_value a (F.celled l n g op before behind w)) = suc (length behind)
   most_silent c = 3 * suc (length (nest_at c))
 
-  -- control behind so many of them, where none of them raises
+  -- control behind so many of them, where none of them raises; all cells, and all names that are made anew, at once
   abbrev pub unhindered : Control V → (most : ℕ) → Control V
-  unhindered (silent_value a w) (suc m) = unhindered (deliver block.null w) m
+  unhindered (silent_value a (F.celled l n g op before behind w)) m = begin_operation block [] l n g op before w
+  unhindered (silent_deed a (F.made_anew xs l n i t cs r) s) m = take_item l n i t cs r
   unhindered (silent_deed a k s) (suc m) = unhindered (go k) m
   unhindered (noting a k s) (suc m) = unhindered (go k) m
   unhindered c m = c

@@ -1,5 +1,5 @@
--- Which statements can come to their end, as far as their form tells, and in which blocks each statement can be reached. A reply may be any,
--- so both ways of each test are open, and each act may raise. That a `break` leaves a loop isn't counted: a loop ends as its `else` part does.
+-- Which statements can come to their end, and which can break the loop around, as far as their form tells, and in which blocks each statement can be
+-- reached. A reply may be any, so both ways of each test are open, and each act may raise.
 use Rattle.std.specs.Prelude.{◌≤◌, ◌⊎◌}
 use Rattle.pt_tree.specs.Syntax as S
 use Rattle.pt_tree.specs.Syntax.{Stm, Stms, Branches, Handlers}
@@ -15,8 +15,8 @@ abbrev mutual
   Ends (S.break l) = ⊥
   Ends (S.continue l) = ⊥
   Ends (S.choice l bs els) = A_branch_ends bs ⊎ All_end els
-  Ends (S.while l c body els) = All_end els
-  Ends (S.for l t it body els) = All_end els
+  Ends (S.while l c body els) = All_end els ⊎ One_breaks body
+  Ends (S.for l t it body els) = All_end els ⊎ One_breaks body
   -- a handler begins only where the body has an act that raises
   Ends (S.try l body hs els fin) = ((All_end body × All_end els) ⊎ ((1 ≤ stms_size body) × A_handler_ends hs)) × All_end fin
   -- an exit may swallow a raise
@@ -34,6 +34,30 @@ abbrev mutual
   pub A_handler_ends : Handlers → Type 0
   A_handler_ends S.no_handlers = ⊥
   A_handler_ends (S.handler l c x body r) = All_end body ⊎ A_handler_ends r
+
+  -- a `break` in it leaves the loop around; in the body of a loop it leaves that one
+  pub Breaks : Stm → Type 0
+  Breaks (S.break l) = Unit {0}
+  Breaks (S.choice l bs els) = A_branch_breaks bs ⊎ One_breaks els
+  Breaks (S.while l c body els) = One_breaks els
+  Breaks (S.for l t it body els) = One_breaks els
+  -- a `finally` part that ends lets it go on, and one that breaks replaces what led to it
+  Breaks (S.try l body hs els fin) =
+      ((One_breaks body ⊎ (((1 ≤ stms_size body) × A_handler_breaks hs) ⊎ (All_end body × One_breaks els))) × All_end fin) ⊎ One_breaks fin
+  Breaks (S.with l is body) = One_breaks body
+  Breaks st = ⊥
+
+  pub One_breaks : Stms → Type 0
+  One_breaks S.none = ⊥
+  One_breaks (S.more st ss) = Breaks st ⊎ (Ends st × One_breaks ss)
+
+  pub A_branch_breaks : Branches → Type 0
+  A_branch_breaks S.no_branches = ⊥
+  A_branch_breaks (S.branch l c body r) = One_breaks body ⊎ A_branch_breaks r
+
+  pub A_handler_breaks : Handlers → Type 0
+  A_handler_breaks S.no_handlers = ⊥
+  A_handler_breaks (S.handler l c x body r) = One_breaks body ⊎ A_handler_breaks r
 
 -- where there is a next statement, or an `else` part of a `try`, what stands before comes to its end
 abbrev pub Leads_on : Type 0 → Stms → Type 0

@@ -2,18 +2,28 @@
 use Rattle.std.specs.Prelude.{◌≡◌, ℕ, ◌<◌, [], ◌∷◌, Some, length}
 use Rattle.pt_tree.specs.Blocks.{Code, acts_of_code}
 use Rattle.pt_tree.specs.Syntax.{Stms}
-use Rattle.pt_control.specs.Turn.{Around}
+use Rattle.pt_control.specs.Turn as T
+use Rattle.pt_control.specs.Turn.{Around, Turn}
 use Rattle.pt_control.specs.Frames.{by, raise, Completion, Frame, Nest, Way, Control, closed}
 use Rattle.pt_control.specs.Bases.{way_base}
 use Rattle.pt_control.specs.CompletionTable.{row, onward}
 use Rattle.pt_control.specs.Completions.{end_of, follow, complete}
-use Rattle.pt_control.specs.Control.{go}
+use Rattle.pt_control.specs.Control.{go, turn, most_silent, unhindered}
 use Rattle.pt_control.specs.Endings.{Code_reached}
 use Rattle.pt_control.specs.ClosedParts.{parts_of, Among}
 use Rattle.pt_control.specs.Jump.{Target, starts, starts_of, on_line, parts, verdict, permitted, Landing, jump, lands}
 use Rattle.pt_control.specs.Reached.{IsRow, Reaches, Meets, start_code}
 
+abbrev pub IsActOrEnd : {S V : Type 0} → Turn S V → Type 0
+IsActOrEnd (T.act (Some m) a k) = Unit {0}
+IsActOrEnd (T.over e) = Unit {0}
+IsActOrEnd t = ⊥
+
 module _ {V : Type 0} where
+  -- behind the notes and unmarked asks, if none of them raises, an act or the end is next
+  abbrev pub ComesToAct : Around V → Control V → Type 0
+  ComesToAct block c = IsActOrEnd (turn block (unhindered block c (most_silent block c)))
+
   -- each act that comes from there is the row with its number
   abbrev pub GoesByRows : Code → Around V → Control V → Type 0
   GoesByRows code block c = (d : Control V) → Reaches block c d → IsRow (acts_of_code code) block d

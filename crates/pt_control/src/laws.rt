@@ -2,12 +2,13 @@
 
 ghost use Rattle.std.specs.Prelude.{◌≡◌, ℕ, List, None};
 ghost use Rattle.pt_tree.specs.Blocks.{Code};
-ghost use Rattle.pt_tree.specs.Syntax.{Name, Stms, absent, global, handler, more, no_handlers, none, pass, return, try};
+ghost use Rattle.pt_tree.specs.Syntax.{Exp, Name, Stms, absent, break, global, handler, more, no_handlers, none, pass, return, try, while};
 ghost use Rattle.pt_control.specs.ClosedParts.{All_apart, parts_of};
-ghost use Rattle.pt_control.specs.Control.{turn};
+ghost use Rattle.pt_control.specs.Control.{go, turn};
 ghost use Rattle.pt_control.specs.Endings.{All_reached};
-ghost use Rattle.pt_control.specs.Frames.{Completion, Control, Frame, Nest};
-ghost use Rattle.pt_control.specs.Laws.{ClosesBy, LandsByRows, LandsPermitted, LiesInParts, MeetsAllRows, RaisesByRows, StartsByRows, TakesOff};
+ghost use Rattle.pt_control.specs.Frames.{Completion, Control, Frame, Nest, Way};
+ghost use Rattle.pt_control.specs.Laws.{ClosesBy, ComesToAct, LandsByRows, LandsPermitted, LiesInParts, MeetsAllRows, RaisesByRows, StartsByRows, TakesOff};
+ghost use Rattle.pt_control.specs.Reached.{Leads, start_code};
 ghost use Rattle.pt_control.specs.Samples.{counting, generating, jumping, nested_body};
 ghost use Rattle.pt_control.specs.Turn.{Around, move, stuck};
 
@@ -40,13 +41,14 @@ pub fn each_row_is_met<V>()
     ensures { (block : Around V) (code : Code) (first : V) → MeetsAllRows code block first }
 {}
 
-/// Statements that can be reached, and two that cannot: one behind a `return`, and a handler of a
-/// body without an act.
+/// Statements that can be reached, also behind a loop that only a `break` leaves, and two that
+/// cannot: one behind a `return`, and a handler of a body without an act.
 pub fn statements_are_reached()
     ensures counting { All_reached counting }
     ensures generating { All_reached generating }
     ensures nested { All_reached nested_body }
     ensures jumping { All_reached jumping }
+    ensures behind_a_break { (l : ℕ) (c : Exp) → All_reached (more (while l c (more (break l) none) (more (return l absent) none)) (more (pass l) none)) }
     ensures behind_a_return { (l : ℕ) (ss : Stms) → All_reached (more (return l absent) (more (pass l) ss)) → ⊥ }
     ensures caught_return { (l : ℕ) → All_reached (more (try l (more (return l absent) none) (handler l absent None (more (pass l) none) no_handlers) none none) (more (pass l) none)) }
     ensures nothing_to_catch { (l : ℕ) (xs : List Name) → All_reached (more (try l (more (global l xs) none) (handler l absent None none no_handlers) none none) none) → ⊥ }
@@ -72,4 +74,14 @@ pub fn a_permitted_jump_lands<V>()
 pub fn no_two_parts_are_the_same()
     ensures apart { (block : Stms) → All_apart (parts_of block 0) }
     ensures of_block { (block : Stms) (line : ℕ) → LiesInParts block line }
+{}
+
+/// From a block's start, from where a jump lands and behind each reply, an act or the end of the
+/// block is next, behind as many notes and unmarked asks as `most_silent` says, if none of them
+/// raises. So a decision has a destination.
+#[tactic(auto, using(crate::proofs::NextActs::behind_starts, crate::proofs::NextActs::behind_ways, crate::proofs::NextActs::behind_replies))]
+pub fn an_act_comes_next<V>()
+    ensures starts { (block : Around V) (code : Code) (first : V) → ComesToAct block (start_code block code first) }
+    ensures lands { (block : Around V) (k : Way V) → ComesToAct block (go block k) }
+    ensures replied { (block : Around V) (c d : Control V) → Leads (turn block c) d → ComesToAct block d }
 {}

@@ -6,7 +6,7 @@ mod laws;
 mod rows;
 
 pub use laws::{
-    a_permitted_jump_lands, completions_go_the_ways_of_the_table,
+    a_permitted_jump_lands, an_act_comes_next, completions_go_the_ways_of_the_table,
     each_mark_behind_a_jump_is_its_row, each_mark_is_its_row, each_row_is_met,
     no_two_parts_are_the_same, statements_are_reached, turns_are_never_stuck,
 };

@@ -1,0 +1,620 @@
+"""Runs definitions of `crates/*/specs/*.antt`, at the level of values.
+
+A definition becomes a Python function, its clauses in order. Values: numbers and truths are Python's, a list is () or (first, rest),
+a constructor a tuple that begins with its name, a record a dict by its fields, a pair ("×", a, b), a function takes one argument
+after the other. Types and proofs are never looked at. What an argument named in BY_NAME is worth is found where it is used."""
+import os
+import re
+
+BY_NAME = {"after", "none_left", "destination"}
+WORD = re.compile(
+    r'\s*(?:("(?:[^"\\]|\\.)*")|([^\W\d][\w\']*(?:\.[\w][\w\']*)*)|(\d+)|(\+\+|==|&&|\|\||[∷≡→×λ⊎≤<(){}\[\],;=.:+\-*/%^])|(\S))')
+LEVELS = [("||",), ("&&",), ("==", "≡", "<", "≤", "⊎", "×"), ("∷", "++"), ("+", "-"), ("*", "/", "%"), ("^",)]
+
+
+def words(text):
+    out, at = [], 0
+    while at < len(text):
+        m = WORD.match(text, at)
+        if not m or m.end() == at:
+            break
+        at = m.end()
+        for kind, word in zip(("text", "name", "number", "sign", "sign"), m.groups()):
+            if word is not None:
+                out.append((kind, word))
+    return out
+
+
+class Reader:
+    """An expression or a pattern from words."""
+
+    def __init__(self, ws):
+        self.ws, self.at = ws, 0
+
+    def sees(self, word):
+        return self.at < len(self.ws) and self.ws[self.at][1] == word and self.ws[self.at][0] != "text"
+
+    def take(self, word):
+        if not self.sees(word):
+            raise SyntaxError(f"{word} wanted in {self.ws[max(0, self.at - 6):self.at + 6]}")
+        self.at += 1
+
+    def next(self):
+        self.at += 1
+        return self.ws[self.at - 1]
+
+    def expression(self):
+        if self.sees("λ"):
+            self.at += 1
+            names = []
+            while not self.sees("."):
+                if self.sees("("):
+                    self.at += 1
+                    while not self.sees(":"):
+                        names.append(self.next()[1])
+                    self.skip_to(")")
+                else:
+                    names.append(self.next()[1])
+            self.take(".")
+            return ("lambda", names, self.expression())
+        if self.sees("if"):
+            self.at += 1
+            test = self.expression()
+            self.take("then")
+            yes = self.expression()
+            self.take("else")
+            return ("if", test, yes, self.expression())
+        if self.sees("let"):
+            self.at += 1
+            name = self.next()[1]
+            if self.sees(":"):
+                while not self.sees("="):
+                    self.at += 1
+            self.take("=")
+            value = self.expression()
+            self.take("in")
+            return ("let", name, value, self.expression())
+        return self.binary(0)
+
+    def skip_to(self, closing):
+        """To behind the sign that closes what is open."""
+        depth = 1
+        while depth:
+            word = self.next()[1]
+            depth += word in ("(", "{")
+            depth -= word in (")", "}")
+
+    def binary(self, level):
+        if level == len(LEVELS):
+            return self.application()
+        left = self.binary(level + 1)
+        while self.at < len(self.ws) and self.ws[self.at][0] == "sign" and self.ws[self.at][1] in LEVELS[level]:
+            sign = self.next()[1]
+            if self.sees("if") or self.sees("λ") or self.sees("let"):
+                right = self.expression()
+            else:
+                right = self.binary(level if level in (0, 1, 3) else level + 1)
+            left = ("sign", sign, left, right)
+        return left
+
+    def begins(self):
+        if self.at >= len(self.ws):
+            return False
+        kind, word = self.ws[self.at]
+        if kind == "name":
+            return word not in ("then", "else", "in")
+        return kind in ("number", "text") or word in ("(", "[", "{")
+
+    def application(self):
+        f, arguments = self.atom(), []
+        while self.begins():
+            if self.sees("{"):
+                self.at += 1
+                self.skip_to("}")
+                continue
+            arguments.append(self.atom())
+        return ("apply", f, arguments) if arguments else f
+
+    def atom(self):
+        kind, word = self.next()
+        if kind == "number":
+            return ("number", int(word))
+        if kind == "text":
+            return ("text", word[1:-1])
+        if word == "record":
+            base = None if self.sees("{") else self.atom()
+            self.take("{")
+            fields = []
+            while not self.sees("}"):
+                name = self.next()[1]
+                self.take("=")
+                fields.append((name, self.expression()))
+                if self.sees(";"):
+                    self.at += 1
+            self.take("}")
+            return ("record", base, fields)
+        if kind == "name":
+            return self.fields(("name", word.split(".")))
+        if word == "[":
+            self.take("]")
+            return ("nil",)
+        if word == "(":
+            items = [self.expression()]
+            while self.sees(","):
+                self.at += 1
+                items.append(self.expression())
+            self.take(")")
+            e = items[-1]
+            for item in reversed(items[:-1]):
+                e = ("pair", item, e)
+            return self.fields(e)
+        raise SyntaxError(f"{word} begins nothing in {self.ws[max(0, self.at - 6):self.at + 6]}")
+
+    def fields(self, e):
+        while self.sees(".") and self.at + 1 < len(self.ws) and self.ws[self.at + 1][0] in ("name", "number"):
+            self.at += 1
+            for part in self.next()[1].split("."):
+                e = ("field", e, part)
+        return e
+
+
+def arguments_of(ws):
+    """The explicit arguments of a type, each with its name if it has one."""
+    out, part, depth, parts = [], [], 0, []
+    for kind, word in ws:
+        depth += word in ("(", "{")
+        depth -= word in (")", "}")
+        if word == "→" and depth == 0:
+            parts.append(part)
+            part = []
+        else:
+            part.append(word)
+    for part in parts:
+        groups, depth, group = [], 0, []
+        for word in part:
+            if depth == 0 and word in ("(", "{"):
+                group = []
+                groups.append((word, group))
+            elif depth == 0:
+                groups = [("", part)]
+                break
+            else:
+                group.append(word)
+            depth += word in ("(", "{")
+            depth -= word in (")", "}")
+        for opening, group in groups:
+            group = group[:-1] if opening else group
+            level, names = 0, None
+            for i, word in enumerate(group):
+                level += word in ("(", "{")
+                level -= word in (")", "}")
+                if word == ":" and level == 0 and opening:
+                    names = group[:i]
+                    break
+            if opening == "{":
+                continue
+            out += names if names else [None]
+    return out
+
+
+class Definition:
+    def __init__(self, module, name, around, signature):
+        self.module, self.name, self.around = module, name, around
+        self.clauses, self.arguments, self.code = [], arguments_of(signature), None
+
+
+class Module:
+    def __init__(self, path):
+        self.path, self.definitions, self.constructors, self.names, self.aliases = path, {}, {}, {}, {}
+
+
+PREFIX = re.compile(r"((pub|abbrev|unfoldable)\s+)+")
+
+
+class Definitions:
+    """Those of a folder of crates."""
+
+    def __init__(self, crates, primitives):
+        self.crates, self.modules, self.primitives = crates, {}, primitives
+        self.space = {"field": field, "wrong": wrong, "once": once}
+        self.count = 0
+
+    def file_of(self, path):
+        parts = path.split(".")
+        if parts[0] != "Rattle" or parts[1] == "std" or "specs" not in parts or "declared" in parts:
+            return None
+        name = os.path.join(self.crates, parts[1], "specs", *parts[3:]) + ".antt"
+        return name if os.path.exists(name) else None
+
+    def module(self, path):
+        if path not in self.modules:
+            self.modules[path] = Module(path)
+            self.read(self.modules[path], self.file_of(path))
+        return self.modules[path]
+
+    def read(self, module, name):
+        items = []
+        depth = 0
+        with open(name, encoding="utf-8") as f:
+            for line in f:
+                line = re.sub(r"--.*", "", line).rstrip()
+                if not line.strip():
+                    continue
+                indent = len(line) - len(line.lstrip())
+                text = line.strip()
+                if items and (depth > 0 or (indent > items[-1][0] and not items[-1][2])):
+                    items[-1][1] += " " + text
+                else:
+                    bare = PREFIX.sub("", text)
+                    items.append([indent, text, bare == "mutual" or bool(re.match(r"(data|record|module)\b.*where$", bare))])
+                    depth = 0
+                depth += sum(text.count(c) for c in "({[") - sum(text.count(c) for c in ")}]")
+        blocks = []
+        for indent, text, opens in items:
+            while blocks and indent <= blocks[-1][0]:
+                blocks.pop()
+            bare = PREFIX.sub("", text)
+            if text.startswith("use "):
+                self.use(module, text[4:])
+            elif opens:
+                kind = bare.split()[0]
+                self.count += 1
+                blocks.append((indent, kind, [(self.count, p) for p in self.parameters(bare)] if kind == "module" else []))
+            elif blocks and blocks[-1][1] in ("data", "record"):
+                if blocks[-1][1] == "data":
+                    for constructor in bare.split(" : ")[0].split():
+                        module.constructors[constructor] = len(arguments_of(words(bare.split(" : ", 1)[1])))
+            else:
+                self.item(module, bare, [p for b in blocks for p in b[2]])
+
+    @staticmethod
+    def parameters(header):
+        """The explicit parameters of a `module _ (..) where`."""
+        return arguments_of([w for w in words(header)[2:-1]] + [("sign", "→")])
+
+    def use(self, module, text):
+        m = re.match(r"(.*)\.\{(.*)\}$", text)
+        if m:
+            for name in m.group(2).split(","):
+                name = name.strip()
+                if name:
+                    origin, _, alias = name.partition(" as ")
+                    module.names[alias.strip() or origin.strip()] = (m.group(1), origin.strip())
+        else:
+            path, alias = text.split(" as ")
+            module.aliases[alias.strip()] = path.strip()
+
+    def item(self, module, bare, around):
+        ws = words(bare)
+        depth = 0
+        for i, (kind, word) in enumerate(ws):
+            depth += word in ("(", "{")
+            depth -= word in (")", "}")
+            if depth == 0 and word in (":", "=") and kind == "sign":
+                break
+        else:
+            raise SyntaxError(bare)
+        if word == ":":
+            module.definitions[ws[0][1]] = Definition(module, ws[0][1], around, ws[i + 1:])
+        elif ws[0][1] in module.definitions:
+            module.definitions[ws[0][1]].clauses.append((ws[1:i], ws[i + 1:]))
+
+    # names
+    def find(self, module, parts):
+        """What a name means: ("definition", d), ("constructor", name, arity), ("primitive", p), or None; and the fields behind."""
+        if len(parts) > 1 and parts[0] in module.aliases:
+            return self.meaning(module.aliases[parts[0]], parts[1]), parts[2:]
+        if parts[0] in module.definitions:
+            return ("definition", module.definitions[parts[0]]), parts[1:]
+        if parts[0] in module.constructors:
+            return ("constructor", parts[0], module.constructors[parts[0]]), parts[1:]
+        if parts[0] in module.names:
+            return self.meaning(*module.names[parts[0]]), parts[1:]
+        return None, parts
+
+    def meaning(self, path, name):
+        if self.file_of(path):
+            m = self.module(path)
+            if name in m.constructors:
+                return ("constructor", name, m.constructors[name])
+            return ("definition", m.definitions[name]) if name in m.definitions else None
+        if path.startswith("Rattle.std."):
+            return ("primitive", name) if name in self.primitives else None
+        return ("constructor", name, None)
+
+    # definitions as Python functions
+    def function(self, d):
+        if d.code is None:
+            self.count += 1
+            d.code = f"{re.sub(r'[^a-zA-Z0-9_]', '_', d.name)}_{self.count}"
+            self.space[d.code] = lambda *xs: self.compiled(d)(*xs)
+        return d.code
+
+    def compiled(self, d):
+        source = Compiler(self, d).source()
+        exec(compile(source, f"{d.module.path}.{d.name}", "exec"), self.space)
+        return self.space[d.code]
+
+    def get(self, path, name):
+        d = self.module(path).definitions[name]
+        self.function(d)
+        return lambda *xs: self.space[d.code](*xs)
+
+
+def field(value, name):
+    return value[int(name) + 1] if type(value) is tuple else value[name]
+
+
+def wrong(name, *values):
+    raise ValueError(f"no clause of {name} for {[v[0] if isinstance(v, tuple) and v else v for v in values]}")
+
+
+def once(f):
+    value = f()
+    return lambda: value
+
+
+class Compiler:
+    def __init__(self, all_, d):
+        self.all, self.d, self.module = all_, d, d.module
+        self.fresh = 0
+
+    def source(self):
+        d = self.d
+        clauses = [(self.patterns(ws), Reader(body)) for ws, body in d.clauses]
+        self.arity = len(clauses[0][0])
+        names = [f"p_{p}" for _, p in d.around] + [f"a{i}" for i in range(self.arity)]
+        lines = [f"def {d.code}({', '.join(names)}):"]
+        for patterns, body in clauses:
+            self.variables = {p: f"p_{p}" for _, p in d.around}
+            tests = []
+            for i, p in enumerate(patterns):
+                self.match(p, f"a{i}", tests, self.by_name(d, i))
+            lines.append("  while True:")
+            lines += ["    " + t for t in tests]
+            lines.append("    return " + self.expression(body.expression()))
+        lines.append(f"  wrong({d.name!r}, {', '.join(n for n in names)})")
+        return "\n".join(lines)
+
+    @staticmethod
+    def by_name(d, i):
+        return i < len(d.arguments) and d.arguments[i] in BY_NAME
+
+    def patterns(self, ws):
+        reader = Reader(ws)
+        out = []
+        while reader.begins():
+            if reader.sees("{"):
+                reader.at += 1
+                reader.skip_to("}")
+            else:
+                out.append(reader.atom())
+        return out
+
+    def match(self, p, place, tests, by_name=False):
+        kind = p[0]
+        if kind == "nil":
+            tests.append(f"if {place} != (): break")
+        elif kind == "number":
+            tests.append(f"if {place} != {p[1]}: break")
+        elif kind == "pair":
+            self.match(p[1], f"{place}[1]", tests)
+            self.match(p[2], f"{place}[2]", tests)
+        elif kind == "sign":
+            tests.append(f"if {place} == (): break")
+            self.match(p[2], f"{place}[0]", tests)
+            self.match(p[3], f"{place}[1]", tests)
+        elif kind == "name":
+            self.match_name(p[1], [], place, tests, by_name)
+        else:
+            self.match_name(p[1][1], p[2], place, tests, False)
+
+    def match_name(self, parts, inner, place, tests, by_name):
+        what, _ = self.all.find(self.module, parts)
+        if what == ("primitive", "true") or what == ("primitive", "false"):
+            tests.append(f"if {place} is not {what[1] == 'true'}: break")
+        elif what == ("primitive", "zero"):
+            tests.append(f"if {place} != 0: break")
+        elif what == ("primitive", "suc"):
+            tests.append(f"if {place} == 0: break")
+            self.match(inner[0], f"({place} - 1)", tests)
+        elif what and (what[0] == "constructor" or self.all.primitives[what[1]] == "constructor"):
+            tests.append(f"if {place}[0] != {what[1]!r}: break")
+            for i, q in enumerate(inner):
+                self.match(q, f"{place}[{i + 1}]", tests)
+        else:
+            name = f"v_{parts[0]}".replace("'", "_q")
+            self.variables[parts[0]] = name + "()" if by_name else name
+            tests.append(f"{name} = {place}")
+
+    # expressions
+    def expression(self, e):
+        kind = e[0]
+        if kind == "number":
+            return str(e[1])
+        if kind == "text":
+            return repr(e[1])
+        if kind == "nil":
+            return "()"
+        if kind == "pair":
+            return f"('×', {self.expression(e[1])}, {self.expression(e[2])})"
+        if kind == "if":
+            return f"({self.expression(e[2])} if {self.expression(e[1])} else {self.expression(e[3])})"
+        if kind == "lambda":
+            return self.function(e[1], e[2])
+        if kind == "let":
+            return f"{self.function([e[1]], e[3])}({self.expression(e[2])})"
+        if kind == "record":
+            fields = ", ".join(f"{n!r}: {self.expression(v)}" for n, v in e[2])
+            return f"{{**{self.expression(e[1])}, {fields}}}" if e[1] else f"{{{fields}}}"
+        if kind == "field":
+            return self.projection(self.expression(e[1]), [e[2]])
+        if kind == "sign":
+            return self.sign(e[1], self.expression(e[2]), self.expression(e[3]))
+        if kind == "name":
+            return self.name(e[1], [])
+        if e[1][0] == "name":
+            return self.name(e[1][1], e[2])
+        return self.applied(self.expression(e[1]), e[2])
+
+    def function(self, names, body):
+        before = dict(self.variables)
+        made = []
+        for name in names:
+            self.fresh += 1
+            made.append(f"l{self.fresh}")
+            self.variables[name] = made[-1]
+        text = self.expression(body)
+        self.variables = before
+        for name in reversed(made):
+            text = f"(lambda {name}: {text})"
+        return text
+
+    @staticmethod
+    def projection(text, fields):
+        for f in fields:
+            text = f"field({text}, {f!r})" if f.isdigit() else f"{text}[{f!r}]"
+        return text
+
+    def applied(self, text, arguments):
+        for a in arguments:
+            text = f"{text}({self.expression(a)})"
+        return text
+
+    @staticmethod
+    def sign(sign, a, b):
+        if sign == "∷":
+            return f"({a}, {b})"
+        if sign == "++":
+            return f"joined({a}, {b})"
+        if sign == "&&":
+            return f"({a} and {b})"
+        if sign == "||":
+            return f"({a} or {b})"
+        if sign == "-":
+            return f"max({a} - {b}, 0)"
+        if sign == "/":
+            return f"({a} // {b})"
+        return f"({a} {'**' if sign == '^' else sign} {b})"
+
+    def name(self, parts, arguments):
+        if parts[0] in self.variables and parts[0] not in self.module.aliases:
+            return self.applied(self.projection(self.variables[parts[0]], parts[1:]), arguments)
+        what, fields = self.all.find(self.module, parts)
+        if parts == ["tt"]:
+            return "('tt',)"
+        if parts[0] in ("elim", "absurd"):
+            return "wrong('what has no value')"
+        if what is None:
+            raise NameError(f"{'.'.join(parts)} in {self.module.path}.{self.d.name}")
+        if fields:
+            return self.applied(self.projection(self.call(what, []), fields), arguments)
+        return self.call(what, arguments)
+
+    def call(self, what, arguments):
+        if what[0] == "constructor":
+            arity = len(arguments) if what[2] is None else what[2]
+            return self.saturated(lambda xs: "(" + ", ".join([repr(what[1])] + xs) + ("," if not xs else "") + ")", arity, arguments)
+        if what[0] == "primitive":
+            return self.primitive(what[1], arguments)
+        d = what[1]
+        code = self.all.function(d)
+        around = []
+        if d.module is self.module and d.around and d.around == self.d.around[:len(d.around)]:
+            around = [f"p_{p}" for _, p in d.around]
+        arity = len(d.around) - len(around) + len(self.patterns(d.clauses[0][0]))
+        if arity == 0 and not around:
+            self.all.space.setdefault("value_" + code, None)
+            text = f"{code}()"
+            return self.applied(text, arguments)
+        shift = len(d.around) - len(around)
+        lazy = [i >= shift and self.by_name(d, i - shift) for i in range(arity)]
+        return self.saturated(lambda xs: f"{code}({', '.join(around + xs)})", arity, arguments, lazy)
+
+    def saturated(self, make, arity, arguments, lazy=()):
+        given = []
+        for i, a in enumerate(arguments[:arity]):
+            if i < len(lazy) and lazy[i]:
+                text = self.expression(a)
+                given.append(text[:-2] if re.fullmatch(r"v_\w+\(\)", text) else f"(lambda: {text})")
+            else:
+                given.append(self.expression(a))
+        missing = []
+        for i in range(len(arguments), arity):
+            self.fresh += 1
+            missing.append(f"m{self.fresh}")
+            given.append(f"(lambda: m{self.fresh})" if i < len(lazy) and lazy[i] else missing[-1])
+        text = make(given)
+        for m in reversed(missing):
+            text = f"(lambda {m}: {text})"
+        return self.applied(text, arguments[arity:])
+
+    def primitive(self, name, arguments):
+        p = self.all.primitives[name]
+        if p == "constructor":
+            arity = {"Some": 1, "pos": 1, "negsuc": 1, "Ok": 1, "Err": 1, "inl": 1, "inr": 1}.get(name, 0)
+            return self.saturated(lambda xs: "(" + ", ".join([repr(name)] + xs) + ("," if not xs else "") + ")", arity, arguments)
+        if not callable(p):
+            return p
+        self.all.space["std_" + name] = p
+        arity = p.__code__.co_argcount
+        return self.saturated(lambda xs: f"std_{name}({', '.join(xs)})", arity, arguments)
+
+
+# words of std
+
+def listed(items):
+    out = ()
+    for item in reversed(list(items)):
+        out = (item, out)
+    return out
+
+
+def items(xs):
+    out = []
+    while xs != ():
+        out.append(xs[0])
+        xs = xs[1]
+    return out
+
+
+def joined(xs, ys):
+    for x in reversed(items(xs)):
+        ys = (x, ys)
+    return ys
+
+
+def filter_map(f, xs):
+    return listed(y[1] for y in map(f, items(xs)) if y[0] == "Some")
+
+
+def slice_get(xs, n):
+    xs = items(xs)
+    return ("Some", xs[n]) if n < len(xs) else ("None",)
+
+
+STD = {
+    "true": "True", "false": "False", "zero": "0", "suc": lambda n: n + 1,
+    "Some": "constructor", "None": "constructor", "pos": "constructor", "negsuc": "constructor", "inl": "constructor", "inr": "constructor",
+    "map": lambda f, xs: listed(map(f, items(xs))),
+    "reverse": lambda xs: listed(reversed(items(xs))),
+    "length": lambda xs: len(items(xs)),
+    "drop": lambda n, xs: listed(items(xs)[n:]),
+    "take": lambda n, xs: listed(items(xs)[:n]),
+    "list_any": lambda f, xs: any(map(f, items(xs))),
+    "filter_map": filter_map,
+    "slice_get": slice_get,
+    "option_map": lambda f, o: ("Some", f(o[1])) if o[0] == "Some" else o,
+    "unwrap_or": lambda o, x: o[1] if o[0] == "Some" else x,
+    "nat_le": lambda a, b: a <= b,
+    "nat_lt": lambda a, b: a < b,
+    "not": lambda b: not b,
+    "cond": lambda b, x, y: x if b else y,
+    "codes": lambda t: listed(t.encode()),
+}
+
+
+def load(crates):
+    all_ = Definitions(crates, STD)
+    all_.space["joined"] = joined
+    return all_
