@@ -14,7 +14,7 @@ use Rattle.pt_refine_expr.specs.Faults.{Fault, bad_target, excluded, is_clean, f
 use Rattle.pt_refine_expr.specs.Narrow.{clause, comprehension, entry, generator, made, narrow_exp, narrow_all, narrow_bare, narrow_opt, narrow_operator, narrow_pieces, narrow_pair, narrow_entries, narrow_links, narrow_args, narrow_clauses, narrow_params, narrow_formals, narrow_target, narrow_targets, pair}
 use Rattle.pt_refine_expr.specs.Targets.{alone, opened, behind_item, are_targets, is_inside_target}
 use Rattle.pt_refine_expr.specs.Ways.{both, three, four}
-use Rattle.pt_refine_expr.proofs.Bare.{field-bare, parenthesized-bare}
+use Rattle.pt_refine_expr.proofs.Bare.{parenthesized-bare}
 
 pub one : {A B : Type 0} (f : A → B) (o : Option A) → is_some (option_map f o) ≡ is_some o
 one f None = refl
@@ -164,7 +164,7 @@ mutual
   law_pieces : (n : ℕ) (ps : Pieces) → is_some (narrow_pieces n ps) ≡ is_clean (faults_pieces ps)
   law_pieces n W.no_pieces = refl
   law_pieces n (W.literal l t r) = one (T.literal l t) (narrow_pieces n r) ∙ law_pieces n r
-  law_pieces n (W.field l e c ps r) = ap is_some (field-bare n l e c ps r) ∙ threes (λ x. T.field l x c) (narrow_bare l n e) (narrow_pieces (n + blocks_exp e) ps) (narrow_pieces (n + blocks_exp e + blocks_pieces ps) r) (faults_exp e) (faults_pieces ps) (faults_pieces r) (bare-same l n e ∙ law_exp n e) (law_pieces (n + blocks_exp e) ps) (law_pieces (n + blocks_exp e + blocks_pieces ps) r)
+  law_pieces n (W.field l e c ps r) = threes (λ x. T.field l x c) (narrow_exp n e) (narrow_pieces (n + blocks_exp e) ps) (narrow_pieces (n + blocks_exp e + blocks_pieces ps) r) (faults_exp e) (faults_pieces ps) (faults_pieces r) (law_exp n e) (law_pieces (n + blocks_exp e) ps) (law_pieces (n + blocks_exp e + blocks_pieces ps) r)
 
   law_pair : (n : ℕ) (g : Entry) → is_some (narrow_pair n g) ≡ is_clean (faults_entry g)
   law_pair n (W.pair k v) = two pair (narrow_exp n k) (narrow_exp (n + blocks_exp k) v) (faults_exp k) (faults_exp v) (law_exp n k) (law_exp (n + blocks_exp k) v)

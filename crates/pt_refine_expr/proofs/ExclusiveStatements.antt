@@ -43,10 +43,11 @@ base-kept false o x f is = refl
 law_only : (n : ℕ) (e : Exp) → is_some (only_base n (W.positional e W.no_args)) ≡ is_clean (faults_args (W.positional e W.no_args))
 law_only n e = one T.given (narrow_exp n e) ∙ law_exp n e ∙ ap is_clean (sym (append-nil (faults_exp e)))
 
-law_base : (n : ℕ) (args : Args) → is_some (narrow_base n args) ≡ is_clean (faults_base args ++ faults_args args)
-law_base n W.no_args = refl
-law_base n (W.positional e W.no_args) = base-kept (is_base (W.positional e W.no_args)) (only_base n (W.positional e W.no_args)) (faults_args (W.positional e W.no_args)) (excluded (args_line (W.positional e W.no_args))) (law_only n e)
-law_base n args = refl
+law_base : (n : ℕ) (args : Args) (comma : Bool) → is_some (narrow_base n args comma) ≡ is_clean (faults_base args comma ++ faults_args args)
+law_base n W.no_args comma = refl
+law_base n (W.positional e W.no_args) true = refl
+law_base n (W.positional e W.no_args) false = base-kept (is_base (W.positional e W.no_args) false) (only_base n (W.positional e W.no_args)) (faults_args (W.positional e W.no_args)) (excluded (args_line (W.positional e W.no_args))) (law_only n e)
+law_base n args comma = refl
 
 law_decorators : (n : ℕ) (ds : Decorators) → is_some (narrow_decorators n ds) ≡ is_clean (faults_decorators ds)
 law_decorators n W.no_decorators = refl
@@ -91,7 +92,7 @@ mutual
   law_stm n (W.try l body hs els fin) = fours (T.try l) (narrow_stms (n) body) (narrow_handlers (n + blocks_stms body) hs) (narrow_stms (n + blocks_stms body + blocks_handlers hs) els) (narrow_stms (n + blocks_stms body + blocks_handlers hs + blocks_stms els) fin) (faults_stms body) (faults_handlers hs) (faults_stms els) (faults_stms fin) (law_stms (n) body) (law_handlers (n + blocks_stms body) hs) (law_stms (n + blocks_stms body + blocks_handlers hs) els) (law_stms (n + blocks_stms body + blocks_handlers hs + blocks_stms els) fin)
   law_stm n (W.with l is body) = two (T.with l) (narrow_items (n) is) (narrow_stms (n + blocks_items is) body) (faults_items is) (faults_stms body) (law_items (n) is) (law_stms (n + blocks_items is) body)
   law_stm n (W.def l ds dl x ps r body) = fours (λ es. T.def l es dl (n + blocks_decorators ds) x) (narrow_decorators (n) ds) (narrow_params (1 + (n + blocks_decorators ds)) ps) (narrow_opt (1 + (n + blocks_decorators ds) + blocks_params ps) r) (narrow_stms (1 + (n + blocks_decorators ds) + blocks_params ps) body) (faults_decorators ds) (faults_params ps) (faults_opt r) (faults_stms body) (law_decorators (n) ds) (law_params (1 + (n + blocks_decorators ds)) ps) (law_opt (1 + (n + blocks_decorators ds) + blocks_params ps) r) (law_stms (1 + (n + blocks_decorators ds) + blocks_params ps) body)
-  law_stm n (W.class l ds cl x args body) = class-law (λ es. T.class l es cl (n + blocks_decorators ds) x) (narrow_decorators n ds) (narrow_base (1 + (n + blocks_decorators ds)) args) (narrow_stms (1 + (n + blocks_decorators ds) + blocks_args args) body) (faults_decorators ds) (faults_base args) (faults_args args) (faults_stms body) (law_decorators n ds) (law_base (1 + (n + blocks_decorators ds)) args) (law_stms (1 + (n + blocks_decorators ds) + blocks_args args) body)
+  law_stm n (W.class l ds cl x args comma body) = class-law (λ es. T.class l es cl (n + blocks_decorators ds) x) (narrow_decorators n ds) (narrow_base (1 + (n + blocks_decorators ds)) args comma) (narrow_stms (1 + (n + blocks_decorators ds) + blocks_args args) body) (faults_decorators ds) (faults_base args comma) (faults_args args) (faults_stms body) (law_decorators n ds) (law_base (1 + (n + blocks_decorators ds)) args comma) (law_stms (1 + (n + blocks_decorators ds) + blocks_args args) body)
 
   pub law_stms : (n : ℕ) (ss : Stms) → is_some (narrow_stms n ss) ≡ is_clean (faults_stms ss)
   law_stms n W.none = refl
