@@ -23,8 +23,9 @@ use Rattle.pt_refine_expr.specs.StatementNarrow.{narrow_script}
 use Rattle.pt_refine_expr.specs.Told.{IsTold, no_memory, told_target, told_excluded}
 use Rattle.pt_refine_expr.specs.declared.narrowing.Narrowing.{Narrowing}
 use Rattle.pt_refine_expr.specs.declared.narrowing.Narrowing.TheVariants as narrowing
-use Rattle.pt_refine_expr.proofs.Exclusive.{law_exp}
-use Rattle.pt_refine_expr.proofs.ExclusiveStatements.{law_stms}
+use Rattle.pt_refine_expr.proofs.Agreement.{agreed}
+use Rattle.pt_refine_expr.proofs.OnePass.{agrees-exp}
+use Rattle.pt_refine_expr.proofs.StatementOnePass.{agrees-stms}
 use Rattle.pt_front.specs.declared.syntax.SyntaxErr.{SyntaxErr}
 use Rattle.pt_front.specs.declared.syntax.SyntaxErr.TheVariants.{Unexpected, BadTarget, Excluded, Limit}
 use Rattle.pt_front.specs.Syntax.{of_narrowing, AreWide, AreScript, HaveFault, AreNoScript, BeginWide, IsExpr, HasFault, IsNoExpr}
@@ -119,7 +120,7 @@ module _ (ts : List Token) where
 
   script_or_fault : (s : T.Stms) (n : Narrowing) → n ≢ narrowing.Memory → AreScript ts s → HaveFault ts n → ⊥
   script_or_fault s n some a f =
-      let clean : true ≡ is_clean (faults_stms (stms_from a.wide)) = sym (ap is_some a.is_narrow) ∙ law_stms 1 (stms_from a.wide) in
+      let clean : true ≡ is_clean (faults_stms (stms_from a.wide)) = sym (ap is_some a.is_narrow) ∙ agreed (agrees-stms 1 (stms_from a.wide)) in
       let same : is_clean (faults_stms (stms_from a.wide)) ≡ is_clean (faults_stms (stms_from f.wide)) =
       ap (λ ss. is_clean (faults_stms (stms_from ss))) (wide_once a.wide f.wide a.are_wide f.are_wide) in
       let bad = told_some _ n f.is_told some in cc
@@ -182,7 +183,7 @@ module _ (ts : List Token) (at : ℕ) where
   expr_or_why x n e a (none u b i) = begun_or_err a.wide n u cause.Unexpected (λ h. cc) a.begins b
   expr_or_why x n e a (over u b i) = begun_or_err a.wide n u cause.Limit (λ h. cc) a.begins b
   expr_or_why x n e a (left_out k p f i) =
-      let clean : true ≡ is_clean (faults_exp a.wide) = sym (ap is_some a.is_narrow) ∙ law_exp 1 a.wide in
+      let clean : true ≡ is_clean (faults_exp a.wide) = sym (ap is_some a.is_narrow) ∙ agreed (agrees-exp 1 a.wide) in
       let same : is_clean (faults_exp a.wide) ≡ is_clean (faults_exp f.wide) = ap (λ w. is_clean (faults_exp w)) (begun_once a.wide f.wide n f.next a.begins f.begins).0 in
       let bad = told_some _ k f.is_told p in cc
 

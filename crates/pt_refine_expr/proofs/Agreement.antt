@@ -1,10 +1,10 @@
 -- Steps one after another agree with the parts that they make.
-use Rattle.std.proofs.Common.{◌≡◌, ℕ, Bool, true, false, List, [], ◌∷◌, ◌++◌, refl, Option, Some, None, subst}
-use Rattle.std.specs.Prelude.{is_some, option_map, if◌then◌else◌, Result, Ok, Err}
+use Rattle.std.proofs.Common.{◌≡◌, ℕ, Bool, true, false, List, [], ◌∷◌, ◌++◌, refl, Option, None, subst}
+use Rattle.std.specs.Prelude.{is_some, option_map, if◌then◌else◌, Result}
 use Rattle.pt_refine_expr.specs.Faults.{Fault, is_clean}
 use Rattle.pt_refine_expr.specs.Ways as way
 use Rattle.pt_refine_expr.specs.Agreement.{Agrees, whole, faulty}
-use Rattle.pt_refine_expr.specs.Steps.{Step, behind, done, stop, made, both, three, four, uncounted_from}
+use Rattle.pt_refine_expr.specs.Steps.{Step, behind, done, stop, made, both, three, uncounted_from}
 
 -- so a part is in the language exactly where it has no faults
 pub agreed : {A : Type 0} {fs : List Fault} {o : Option A} {m : ℕ} {r : Result (A × ℕ) Fault} → Agrees fs o m r → is_some o ≡ is_clean fs

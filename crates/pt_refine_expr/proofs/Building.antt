@@ -241,10 +241,6 @@ pub left-out : {A P Q : Type 0} (f : A → P) (r : Result A Unnarrowed) (e : Unn
 left-out f (Ok a) e o p n k m is left whole = absurd is
 left-out f (Err x) e o p n k m is left whole = λ out. whole (left (sym is ∙ out))
 
-pub left-out-before : {A P Q R : Type 0} (f : A → P → P) (r : Result A Unnarrowed) (e : Unnarrowed) (o : Option Q) (p q : R → Option P) (n : ℕ) (k : R → ℕ) (m : ℕ) (l : R → ℕ) → IsErrAnd r (λ y. y ≡ e) → Left e o → ((s : R) → o ≡ None → p s ≡ None) → Puts f r p q n k m l
-left-out-before f (Ok a) e o p q n k m l is left whole = absurd is
-left-out-before f (Err x) e o p q n k m l is left whole = λ s out. whole s (left (sym is ∙ out))
-
 pub both-second : {A B P : Type 0} (f : A → B → P) (q : ℕ → Option B) (o : Option A) (n i : ℕ) → i ≡ n → q i ≡ None → both f o (q n) ≡ None
 both-second f q o n i after none = ap (λ t. both f o (q t)) (sym after) ∙ ap (both f o) none ∙ both-none f o
 

@@ -1,6 +1,4 @@
 pub mod Bare
-pub mod Exclusive
-pub mod ExclusiveStatements
 pub mod Others
 pub mod Stops
 pub mod OtherStatements

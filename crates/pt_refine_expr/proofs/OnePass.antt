@@ -1,7 +1,7 @@
 -- Refinement in one pass makes what the definitions of trees and of faults say: the tree of the language with its blocks counted, or the
 -- first fault.
-use Rattle.std.proofs.Common.{◌≡◌, ◌∙◌, ℕ, ◌+◌, Bool, true, false, List, [], ◌∷◌, ◌++◌, append_assoc, refl, sym, ap, subst, Option, Some, None, arith}
-use Rattle.std.specs.Prelude.{option_map, if◌then◌else◌, Result, Ok, Err}
+use Rattle.std.proofs.Common.{◌≡◌, ℕ, ◌+◌, Bool, true, false, List, [], ◌∷◌, ◌++◌, append_assoc, refl, ap, Option, Some, None, arith}
+use Rattle.std.specs.Prelude.{option_map, if◌then◌else◌}
 use Rattle.pt_wide.specs.declared.expression.Comprehension.TheVariants as form
 use Rattle.pt_wide.specs.declared.expression.WideBinOp.{WideBinOp}
 use Rattle.pt_wide.specs.declared.expression.WideBinOp.TheVariants as operator
@@ -11,7 +11,7 @@ use Rattle.pt_tree.specs.Syntax as T
 use Rattle.pt_wide.specs.Syntax as W
 use Rattle.pt_wide.specs.Syntax.{Exp, Exps, Opt, Pieces, Entry, Entries, Links, Args, Clauses, Params, Formals}
 use Rattle.pt_refine_expr.specs.Blocks.{blocks_exp, blocks_all, blocks_opt, blocks_pieces, blocks_entry, blocks_entries, blocks_links, blocks_args, blocks_clauses, blocks_params, blocks_formals}
-use Rattle.pt_refine_expr.specs.Faults.{Fault, bad_target, excluded, faults_exp, faults_all, faults_opt, faults_pieces, faults_entry, faults_entries, faults_links, faults_args, faults_clauses, faults_params, faults_formals, faults_operator, faults_slash, faults_star, faults_target, faults_targets}
+use Rattle.pt_refine_expr.specs.Faults.{Fault, bad_target, excluded, faults_exp, faults_all, faults_opt, faults_pieces, faults_entry, faults_entries, faults_links, faults_args, faults_clauses, faults_params, faults_formals, faults_operator, faults_target, faults_targets}
 use Rattle.pt_refine_expr.specs.Narrow.{clause, comprehension, entry, generator, made, narrow_exp, narrow_all, narrow_opt, narrow_operator, narrow_pieces, narrow_pair, narrow_entries, narrow_links, narrow_args, narrow_clauses, narrow_params, narrow_formals, narrow_target, narrow_targets, pair}
 use Rattle.pt_refine_expr.specs.Refine as R
 use Rattle.pt_refine_expr.specs.Refine.{head, put, refine_exp, refine_all, refine_opt, refine_operator, refine_pieces, refine_pair, refine_entries, refine_links, refine_args, refine_clauses, refine_params, refine_formals, refine_target, refine_targets}
@@ -143,16 +143,6 @@ mutual
   agrees-pieces : (n : ℕ) (ps : Pieces) → Agrees (faults_pieces ps) (narrow_pieces n ps) (n + blocks_pieces ps) (refine_pieces ps n)
   agrees-pieces n W.no_pieces = counted (whole T.no_pieces n) (omega arith)
   agrees-pieces n (W.literal l t r) = agrees-made (T.literal l t) (agrees-pieces n r)
-  agrees-pieces n (W.field l (W.tuple m es) c ps r) = counted (agrees-three (λ x. T.field l x c) (refine_pieces ps) (refine_pieces r) (agrees-made (T.tuple l) (agrees-all n es)) (agrees-pieces _ ps) (agrees-pieces _ r)) (omega arith)
-  agrees-pieces n (W.field l (W.comprehension m form.Generator e W.no_clauses) c ps r) =
-      counted (agrees-three (λ x. T.field l x c) (refine_pieces ps) (refine_pieces r) (narrowed (faulty (excluded m) (faults_exp e ++ []) (n + (1 + blocks_exp e + 0))) (none-generated l n (narrow_exp (1 + n) e)))
-      (agrees-pieces _ ps) (agrees-pieces _ r)) (omega arith)
-  agrees-pieces n (W.field l (W.comprehension m form.Generator e (W.for_each fl t it cs q)) c ps r) = counted (agrees-three (λ x. T.field l x c) (refine_pieces ps) (refine_pieces r)
-      (counted {k = n + (1 + blocks_exp e + blocks_clauses (W.for_each fl t it cs q))} (agrees-generator fl (refine_target Inside t) (refine_exp it) (refine_all cs) (refine_clauses q) l n (refine_exp e)
-      (agrees-exp (1 + n) e) (agrees-target _ Inside t) (agrees-exp _ it) (agrees-all _ cs) (agrees-clauses _ q)) (omega arith))
-      (agrees-pieces _ ps) (agrees-pieces _ r)) (omega arith)
-  agrees-pieces n (W.field l (W.comprehension m form.List e cs) c ps r) = counted (agrees-three (λ x. T.field l x c) (refine_pieces ps) (refine_pieces r) (agrees-exp n (W.comprehension m form.List e cs)) (agrees-pieces _ ps) (agrees-pieces _ r)) (omega arith)
-  agrees-pieces n (W.field l (W.comprehension m form.Set e cs) c ps r) = counted (agrees-three (λ x. T.field l x c) (refine_pieces ps) (refine_pieces r) (agrees-exp n (W.comprehension m form.Set e cs)) (agrees-pieces _ ps) (agrees-pieces _ r)) (omega arith)
   agrees-pieces n (W.field l e c ps r) = counted (agrees-three (λ x. T.field l x c) (refine_pieces ps) (refine_pieces r) (agrees-exp n e) (agrees-pieces _ ps) (agrees-pieces _ r)) (omega arith)
 
   agrees-pair : (n : ℕ) (g : Entry) → Agrees (faults_entry g) (narrow_pair n g) (n + blocks_entry g) (refine_pair g n)

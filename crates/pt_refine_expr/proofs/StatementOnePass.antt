@@ -1,7 +1,7 @@
 -- Refinement of statements in one pass makes what the definitions of trees and of faults say.
-use Rattle.std.proofs.Common.{◌≡◌, ◌∙◌, ℕ, ◌+◌, zero, suc, Bool, true, false, List, [], ◌∷◌, ◌++◌, append_assoc, refl, sym, ap, Option, Some, None, arith}
+use Rattle.std.proofs.Common.{◌≡◌, ℕ, ◌+◌, zero, suc, Bool, true, false, List, [], ◌∷◌, ◌++◌, append_assoc, sym, ap, Option, Some, None, arith}
 use Rattle.std.proofs.lemmas.List.{append-nil}
-use Rattle.std.specs.Prelude.{if◌then◌else◌, Result, Ok, Err}
+use Rattle.std.specs.Prelude.{if◌then◌else◌, Result}
 use Rattle.pt_tree.specs.declared.statement.Alias.{Alias}
 use Rattle.pt_refine_expr.specs.declared.stars.Stars.TheVariants.{Never, Inside}
 use Rattle.pt_tree.specs.Syntax as T
@@ -10,17 +10,17 @@ use Rattle.pt_wide.specs.Syntax.{Exp, Exps, Opt, Args, Decorators, Items, Stm, S
 use Rattle.pt_refine_expr.specs.Blocks.{blocks_exp, blocks_all, blocks_opt, blocks_args, blocks_params}
 use Rattle.pt_refine_expr.specs.StatementBlocks.{blocks_decorators, blocks_items, blocks_stm, blocks_stms, blocks_branches, blocks_handlers}
 use Rattle.pt_refine_expr.specs.Faults.{Fault, bad_target, excluded, faults_exp, faults_args, faults_opt, faults_place}
-use Rattle.pt_refine_expr.specs.StatementFaults.{args_line, faults_as, faults_assigned, faults_base, faults_branches, faults_decorators, faults_group, faults_handlers, faults_items, faults_origin, faults_stm, faults_stms, is_base, is_generator}
-use Rattle.pt_refine_expr.specs.Narrow.{narrow_exp, narrow_place}
-use Rattle.pt_refine_expr.specs.StatementNarrow.{narrow_as, narrow_assigned, narrow_base, narrow_branches, narrow_decorators, narrow_from, narrow_handlers, narrow_items, narrow_stm, narrow_stms, only_base}
-use Rattle.pt_refine_expr.specs.Refine.{refine_exp, refine_opt, refine_params, refine_place, refine_target, refine_targets}
+use Rattle.pt_refine_expr.specs.StatementFaults.{args_line, faults_as, faults_assigned, faults_base, faults_branches, faults_decorators, faults_group, faults_handlers, faults_items, faults_origin, faults_stm, faults_stms, is_base}
+use Rattle.pt_refine_expr.specs.Narrow.{narrow_place}
+use Rattle.pt_refine_expr.specs.StatementNarrow.{narrow_as, narrow_assigned, narrow_base, narrow_branches, narrow_decorators, narrow_from, narrow_handlers, narrow_items, narrow_stm, narrow_stms}
+use Rattle.pt_refine_expr.specs.Refine.{refine_exp, refine_opt, refine_params, refine_place}
 use Rattle.pt_refine_expr.specs.StatementRefine.{refine_as, refine_assigned, refine_base, refine_branches, refine_decorators, refine_from, refine_handlers, refine_items, refine_stm, refine_stms, where_plain}
 use Rattle.pt_refine_expr.specs.StatementRefine as R
 use Rattle.pt_refine_expr.specs.Steps.{Step, behind, four, start, stop, three, uncounted}
 use Rattle.pt_refine_expr.specs.Targets.{exp_line}
 use Rattle.pt_refine_expr.specs.Ways as way
 use Rattle.pt_refine_expr.specs.Agreement.{Agrees, whole, faulty}
-use Rattle.pt_refine_expr.proofs.Agreement.{agrees-made, agrees-both, agrees-three, agrees-four, agrees-uncounted, counted, listed, narrowed}
+use Rattle.pt_refine_expr.proofs.Agreement.{agrees-made, agrees-both, agrees-three, agrees-four, agrees-uncounted, counted, listed}
 use Rattle.pt_refine_expr.proofs.OnePass.{agrees-exp, agrees-opt, agrees-params, agrees-target, agrees-targets}
 
 pub agrees-place : (n : ℕ) (e : Exp) → Agrees (faults_place e) (narrow_place n e) (n + blocks_exp e) (refine_place e n)
@@ -48,11 +48,12 @@ agrees-kept : {A : Type 0} {fs : List Fault} {o : Option A} {m n : ℕ} (b : Boo
 agrees-kept true f s a = a
 agrees-kept {fs = fs} {m = m} false f s a = faulty f fs m
 
-agrees-base : (n : ℕ) (args : Args) → Agrees (faults_base args ++ faults_args args) (narrow_base n args) (n + blocks_args args) (refine_base args n)
-agrees-base n W.no_args = counted (whole T.absent n) (omega arith)
-agrees-base n (W.positional e W.no_args) = counted (agrees-kept {n = n} (is_base (W.positional e W.no_args)) (excluded (exp_line e)) (R.only_base (W.positional e W.no_args))
+agrees-base : (n : ℕ) (args : Args) (comma : Bool) → Agrees (faults_base args comma ++ faults_args args) (narrow_base n args comma) (n + blocks_args args) (refine_base args comma n)
+agrees-base n W.no_args comma = counted (whole T.absent n) (omega arith)
+agrees-base n (W.positional e W.no_args) true = faulty (excluded (exp_line e)) (faults_args (W.positional e W.no_args)) _
+agrees-base n (W.positional e W.no_args) false = counted (agrees-kept {n = n} (is_base (W.positional e W.no_args) false) (excluded (exp_line e)) (R.only_base (W.positional e W.no_args))
     (listed (agrees-made T.given (agrees-exp n e)) (sym (append-nil (faults_exp e))))) (omega arith)
-agrees-base n args = faulty (excluded (args_line args)) (faults_args args) _
+agrees-base n args comma = faulty (excluded (args_line args)) (faults_args args) _
 
 agrees-decorators : (n : ℕ) (ds : Decorators) → Agrees (faults_decorators ds) (narrow_decorators n ds) (n + blocks_decorators ds) (refine_decorators ds n)
 agrees-decorators n W.no_decorators = counted (whole T.no_decorators n) (omega arith)
@@ -111,8 +112,8 @@ mutual
   agrees-stm n (W.with l is body) = counted (agrees-both (T.with l) (refine_stms body) (agrees-items n is) (agrees-stms _ body)) (omega arith)
   agrees-stm n (W.def l ds dl x ps r body) = counted (agrees-started (λ es b. T.def l es dl b x) (refine_params ps) (uncounted (refine_opt r)) (refine_stms body) (agrees-decorators n ds)
       (agrees-params (1 + (n + blocks_decorators ds)) ps) (agrees-uncounted (1 + (n + blocks_decorators ds) + blocks_params ps) (agrees-opt _ r)) (agrees-stms _ body)) (omega arith)
-  agrees-stm n (W.class l ds cl x args body) = counted (listed (agrees-begun (λ es b. T.class l es cl b x) (refine_base args) (refine_stms body) (agrees-decorators n ds)
-      (agrees-base (1 + (n + blocks_decorators ds)) args) (agrees-stms _ body)) (base-inside (faults_decorators ds) (faults_base args) (faults_args args) (faults_stms body))) (omega arith)
+  agrees-stm n (W.class l ds cl x args comma body) = counted (listed (agrees-begun (λ es b. T.class l es cl b x) (refine_base args comma) (refine_stms body) (agrees-decorators n ds)
+      (agrees-base (1 + (n + blocks_decorators ds)) args comma) (agrees-stms _ body)) (base-inside (faults_decorators ds) (faults_base args comma) (faults_args args) (faults_stms body))) (omega arith)
 
   pub agrees-stms : (n : ℕ) (ss : Stms) → Agrees (faults_stms ss) (narrow_stms n ss) (n + blocks_stms ss) (refine_stms ss n)
   agrees-stms n W.none = counted (whole T.none n) (omega arith)

@@ -12,7 +12,7 @@ use Rattle.pt_tree.specs.Syntax as T
 use Rattle.pt_wide.specs.Syntax as W
 use Rattle.pt_wide.specs.Syntax.{Exp, Exps, Opt, Pieces, Entry, Entries, Links, Args, Clauses, Params, Formals}
 use Rattle.pt_refine_expr.specs.Targets.{alone, opened, behind_item, are_targets, is_inside_target}
-use Rattle.pt_refine_expr.specs.Blocks.{blocks_exp, blocks_all, blocks_opt, blocks_pieces, blocks_entry, blocks_clauses, blocks_params, blocks_formals}
+use Rattle.pt_refine_expr.specs.Blocks.{blocks_exp, blocks_all, blocks_opt, blocks_pieces, blocks_entry, blocks_params, blocks_formals}
 use Rattle.pt_refine_expr.specs.Ways.{both, three, four}
 
 abbrev pub narrow_operator : WideBinOp → Option BinOp
@@ -111,9 +111,6 @@ abbrev mutual
   pub narrow_pieces : (before : ℕ) → Pieces → Option T.Pieces
   narrow_pieces n W.no_pieces = Some T.no_pieces
   narrow_pieces n (W.literal l t r) = option_map (T.literal l t) (narrow_pieces n r)
-  -- what has no brackets of its own starts where its field does
-  narrow_pieces n (W.field l (W.tuple m es) c ps r) = three (λ x. T.field l x c) (option_map (T.tuple l) (narrow_all n es)) (narrow_pieces (n + blocks_all es) ps) (narrow_pieces (n + blocks_all es + blocks_pieces ps) r)
-  narrow_pieces n (W.field l (W.comprehension m form.Generator e cs) c ps r) = three (λ x. T.field l x c) (generator l n (narrow_exp (1 + n) e) (narrow_clauses (1 + n + blocks_exp e) cs)) (narrow_pieces (n + (1 + blocks_exp e + blocks_clauses cs)) ps) (narrow_pieces (n + (1 + blocks_exp e + blocks_clauses cs) + blocks_pieces ps) r)
   narrow_pieces n (W.field l e c ps r) = three (λ x. T.field l x c) (narrow_exp n e) (narrow_pieces (n + blocks_exp e) ps) (narrow_pieces (n + blocks_exp e + blocks_pieces ps) r)
 
   pub narrow_pair : (before : ℕ) → Entry → Option Pair
@@ -176,7 +173,7 @@ bare_line form.List l m = m
 bare_line form.Set l m = m
 bare_line form.Generator l m = l
 
--- what stands in parentheses or in a field that starts on the line
+-- what stands in parentheses that start on the line
 abbrev pub narrow_bare : (line before : ℕ) → Exp → Option T.Exp
 narrow_bare l n (W.tuple m es) = narrow_exp n (W.tuple l es)
 narrow_bare l n (W.comprehension m form e cs) = narrow_exp n (W.comprehension (bare_line form l m) form e cs)

@@ -1,18 +1,16 @@
 -- What a node of a wide tree is in the tree of the language, or its first fault (Language Reference 6, 7.2). Parentheses vanish, and each
 -- block has the number of blocks that start before it, the module being one of them.
-use Rattle.std.specs.Prelude.{ℕ, ◌+◌, Option, Some, None, Result, if◌then◌else◌}
+use Rattle.std.specs.Prelude.{ℕ, Option, Some, None, if◌then◌else◌}
 use Rattle.pt_base.specs.declared.operators.BinOp.{BinOp}
-use Rattle.pt_base.specs.declared.numbers.Line.{Line}
 use Rattle.pt_wide.specs.declared.expression.WideBinOp.{WideBinOp}
 use Rattle.pt_wide.specs.declared.expression.WideBinOp.TheVariants as operator
-use Rattle.pt_wide.specs.declared.expression.Comprehension.{Comprehension}
 use Rattle.pt_wide.specs.declared.expression.Comprehension.TheVariants as form
 use Rattle.pt_refine_expr.specs.declared.stars.Stars.{Stars}
 use Rattle.pt_refine_expr.specs.declared.stars.Stars.TheVariants.{Never, Inside, Here}
 use Rattle.pt_tree.specs.Syntax as T
 use Rattle.pt_wide.specs.Syntax as W
 use Rattle.pt_wide.specs.Syntax.{Exp, Exps, Opt, Pieces, Entry, Entries, Links, Args, Clauses, Params, Formals}
-use Rattle.pt_refine_expr.specs.Faults.{Fault, bad_target, excluded}
+use Rattle.pt_refine_expr.specs.Faults.{bad_target, excluded}
 use Rattle.pt_refine_expr.specs.Narrow.{Pair, pair, entry, conditions}
 use Rattle.pt_refine_expr.specs.Targets.{alone, opened, behind_item, are_targets, is_inside_target, exp_line}
 use Rattle.pt_refine_expr.specs.Steps.{Step, done, stop, start, after, made, both, three, uncounted}
@@ -110,10 +108,6 @@ abbrev mutual
   pub refine_pieces : Pieces → Step T.Pieces
   refine_pieces W.no_pieces = done T.no_pieces
   refine_pieces (W.literal l t r) = made (T.literal l t) (refine_pieces r)
-  -- what has no brackets of its own starts where its field does
-  refine_pieces (W.field l (W.tuple m es) c ps r) = three (λ x. T.field l x c) (made (T.tuple l) (refine_all es)) (refine_pieces ps) (refine_pieces r)
-  refine_pieces (W.field l (W.comprehension m form.Generator e W.no_clauses) c ps r) = stop (excluded m)
-  refine_pieces (W.field l (W.comprehension m form.Generator e (W.for_each fl t it cs q)) c ps r) = three (λ x. T.field l x c) (after start (λ b. three (generator l b) (refine_exp e) (three (head fl) (refine_target Inside t) (refine_exp it) (refine_all cs)) (refine_clauses q))) (refine_pieces ps) (refine_pieces r)
   refine_pieces (W.field l e c ps r) = three (λ x. T.field l x c) (refine_exp e) (refine_pieces ps) (refine_pieces r)
 
   -- `**` in the display of a dictionary is left out

@@ -1,5 +1,5 @@
 -- Small wide trees whose faults, and whose trees, are known.
-use Rattle.std.specs.Prelude.{ℕ, None, codes}
+use Rattle.std.specs.Prelude.{ℕ, None, codes, true, false}
 use Rattle.pt_base.specs.declared.operators.BinOp.TheVariants.{Add}
 use Rattle.pt_wide.specs.declared.expression.Comprehension.TheVariants as form
 use Rattle.pt_wide.specs.declared.expression.WideBinOp.TheVariants.{MatMul}
@@ -91,7 +91,7 @@ abbrev pub entered_star_row : Stm
 entered_star_row = W.with 1 (W.with_item 1 (read 1) (W.given (W.parenthesized 1 (W.tuple 1 (two (read 1) (star 2))))) W.no_items) (W.more (W.pass 3) W.none)
 
 abbrev class : Args → Stm
-class args = W.class 1 W.no_decorators 1 x args (W.more (W.pass 9) W.none)
+class args = W.class 1 W.no_decorators 1 x args false (W.more (W.pass 9) W.none)
 
 -- `class x(x, x): pass`, with an argument a line
 abbrev pub bases_row : Stm
@@ -100,6 +100,10 @@ bases_row = class (W.positional (read 2) (W.positional (read 3) W.no_args))
 -- `class x(x): pass`
 abbrev pub base_row : Stm
 base_row = class (W.positional (read 2) W.no_args)
+
+-- `class x(x,): pass`
+abbrev pub comma_row : Stm
+comma_row = W.class 1 W.no_decorators 1 x (W.positional (read 2) W.no_args) true (W.more (W.pass 9) W.none)
 
 -- `for x in x`
 abbrev each : Clauses

@@ -35,7 +35,7 @@ abbrev mutual
   blocks_stm (W.try l body hs els fin) = blocks_stms body + blocks_handlers hs + blocks_stms els + blocks_stms fin
   blocks_stm (W.with l is body) = blocks_items is + blocks_stms body
   blocks_stm (W.def l ds dl x ps r body) = blocks_decorators ds + 1 + blocks_params ps + blocks_stms body
-  blocks_stm (W.class l ds cl x args body) = blocks_decorators ds + 1 + blocks_args args + blocks_stms body
+  blocks_stm (W.class l ds cl x args comma body) = blocks_decorators ds + 1 + blocks_args args + blocks_stms body
 
   pub blocks_stms : Stms → ℕ
   blocks_stms W.none = 0

@@ -28,11 +28,12 @@ abbrev pub is_generator : Exp → Bool
 is_generator (W.comprehension l form.Generator e cs) = true
 is_generator e = false
 
--- a class has one base at most, which no brackets of the class are part of
-abbrev pub is_base : Args → Bool
-is_base W.no_args = true
-is_base (W.positional e W.no_args) = if is_generator e then false else true
-is_base args = false
+-- a class has one base at most, which no brackets of the class are part of, and no comma behind it
+abbrev pub is_base : Args → (trailing_comma : Bool) → Bool
+is_base W.no_args comma = true
+is_base (W.positional e W.no_args) true = false
+is_base (W.positional e W.no_args) false = if is_generator e then false else true
+is_base args comma = false
 
 abbrev pub args_line : Args → ℕ
 args_line W.no_args = 0
@@ -42,8 +43,8 @@ args_line (W.spread l e r) = l
 args_line (W.spread_named l e r) = l
 
 -- the fault is the first argument of a class
-abbrev pub faults_base : Args → List Fault
-faults_base args = if is_base args then [] else excluded (args_line args) ∷ []
+abbrev pub faults_base : Args → (trailing_comma : Bool) → List Fault
+faults_base args comma = if is_base args comma then [] else excluded (args_line args) ∷ []
 
 -- `except*`
 abbrev pub faults_group : (line : ℕ) → (star : Bool) → List Fault
@@ -81,7 +82,7 @@ abbrev mutual
   faults_stm (W.try l body hs els fin) = faults_stms body ++ faults_handlers hs ++ faults_stms els ++ faults_stms fin
   faults_stm (W.with l is body) = faults_items is ++ faults_stms body
   faults_stm (W.def l ds dl x ps r body) = faults_decorators ds ++ faults_params ps ++ faults_opt r ++ faults_stms body
-  faults_stm (W.class l ds cl x args body) = faults_decorators ds ++ faults_base args ++ faults_args args ++ faults_stms body
+  faults_stm (W.class l ds cl x args comma body) = faults_decorators ds ++ faults_base args comma ++ faults_args args ++ faults_stms body
 
   pub faults_stms : Stms → List Fault
   faults_stms W.none = []

@@ -1,5 +1,5 @@
 -- What wide statements are in the tree of the language; `None` where the plain grammar doesn't allow them (Language Reference 7, 8).
-use Rattle.std.specs.Prelude.{ℕ, ◌+◌, zero, suc, List, Option, Some, None, option_map, if◌then◌else◌}
+use Rattle.std.specs.Prelude.{Bool, ℕ, ◌+◌, zero, suc, List, Option, Some, None, option_map, if◌then◌else◌}
 use Rattle.pt_tree.specs.declared.statement.Alias.{Alias}
 use Rattle.pt_refine_expr.specs.declared.stars.Stars.TheVariants.{Never, Inside}
 use Rattle.pt_tree.specs.Syntax as T
@@ -28,8 +28,8 @@ abbrev pub only_base : (before : ℕ) → Args → Option T.Opt
 only_base n (W.positional e W.no_args) = option_map T.given (narrow_exp n e)
 only_base n args = Some T.absent
 
-abbrev pub narrow_base : (before : ℕ) → Args → Option T.Opt
-narrow_base n args = if is_base args then only_base n args else None
+abbrev pub narrow_base : (before : ℕ) → Args → (trailing_comma : Bool) → Option T.Opt
+narrow_base n args comma = if is_base args comma then only_base n args else None
 
 abbrev pub narrow_decorators : (before : ℕ) → Decorators → Option T.Decorators
 narrow_decorators n W.no_decorators = Some T.no_decorators
@@ -64,7 +64,7 @@ abbrev mutual
   narrow_stm n (W.with l is body) = both (T.with l) (narrow_items n is) (narrow_stms (n + blocks_items is) body)
   -- a function or class starts at its keyword, behind its decorators
   narrow_stm n (W.def l ds dl x ps r body) = four (λ ds'. T.def l ds' dl (n + blocks_decorators ds) x) (narrow_decorators n ds) (narrow_params (1 + (n + blocks_decorators ds)) ps) (narrow_opt (1 + (n + blocks_decorators ds) + blocks_params ps) r) (narrow_stms (1 + (n + blocks_decorators ds) + blocks_params ps) body)
-  narrow_stm n (W.class l ds cl x args body) = three (λ ds'. T.class l ds' cl (n + blocks_decorators ds) x) (narrow_decorators n ds) (narrow_base (1 + (n + blocks_decorators ds)) args) (narrow_stms (1 + (n + blocks_decorators ds) + blocks_args args) body)
+  narrow_stm n (W.class l ds cl x args comma body) = three (λ ds'. T.class l ds' cl (n + blocks_decorators ds) x) (narrow_decorators n ds) (narrow_base (1 + (n + blocks_decorators ds)) args comma) (narrow_stms (1 + (n + blocks_decorators ds) + blocks_args args) body)
 
   pub narrow_stms : (before : ℕ) → Stms → Option T.Stms
   narrow_stms n W.none = Some T.none

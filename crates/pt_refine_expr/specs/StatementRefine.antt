@@ -8,7 +8,7 @@ use Rattle.pt_wide.specs.Syntax.{Exps, Opt, Args, Decorators, Items, Stm, Stms, 
 use Rattle.pt_refine_expr.specs.Faults.{excluded}
 use Rattle.pt_refine_expr.specs.StatementFaults.{is_base, args_line}
 use Rattle.pt_refine_expr.specs.Refine.{refine_exp, refine_opt, refine_params, refine_place, refine_target, refine_targets}
-use Rattle.pt_refine_expr.specs.Steps.{Step, done, stop, start, after, made, both, three, four, five, uncounted}
+use Rattle.pt_refine_expr.specs.Steps.{Step, done, stop, start, made, both, three, four, five, uncounted}
 
 abbrev pub refine_assigned : Exps → Step T.Tgts
 refine_assigned W.no_exps = done T.no_targets
@@ -27,8 +27,8 @@ abbrev pub only_base : Args → Step T.Opt
 only_base (W.positional e W.no_args) = made T.given (refine_exp e)
 only_base args = done T.absent
 
-abbrev pub refine_base : Args → Step T.Opt
-refine_base args = if is_base args then only_base args else stop (excluded (args_line args))
+abbrev pub refine_base : Args → (trailing_comma : Bool) → Step T.Opt
+refine_base args comma = if is_base args comma then only_base args else stop (excluded (args_line args))
 
 abbrev pub refine_decorators : Decorators → Step T.Decorators
 refine_decorators W.no_decorators = done T.no_decorators
@@ -68,7 +68,7 @@ abbrev mutual
   refine_stm (W.with l is body) = both (T.with l) (refine_items is) (refine_stms body)
   -- a function or class starts at its keyword, behind its decorators
   refine_stm (W.def l ds dl x ps r body) = five (λ ds' b. T.def l ds' dl b x) (refine_decorators ds) start (refine_params ps) (uncounted (refine_opt r)) (refine_stms body)
-  refine_stm (W.class l ds cl x args body) = four (λ ds' b. T.class l ds' cl b x) (refine_decorators ds) start (refine_base args) (refine_stms body)
+  refine_stm (W.class l ds cl x args comma body) = four (λ ds' b. T.class l ds' cl b x) (refine_decorators ds) start (refine_base args comma) (refine_stms body)
 
   pub refine_stms : Stms → Step T.Stms
   refine_stms W.none = done T.none

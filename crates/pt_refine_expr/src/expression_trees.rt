@@ -408,8 +408,7 @@ fn piece(n: &mut Narrower, part: &WidePiece) -> Result<Piece, Unnarrowed>
             conversion,
             spec,
         } => {
-            let value = bare(n, *line, value.get())?;
-            let value = Boxed::new(n.alloc(), value)?;
+            let value = boxed(n, value.get())?;
             let spec = pieces(n, spec.as_slice())?;
             Ok(Piece::Field {
                 line: *line,

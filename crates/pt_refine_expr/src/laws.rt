@@ -51,6 +51,7 @@ pub fn small_statements_have_their_faults()
     ensures deleted_star { faults_stm row.deleted_star_row ≡ bad_target 2 ∷ [] }
     ensures entered_star { faults_stm row.entered_star_row ≡ bad_target 2 ∷ [] }
     ensures bases { faults_stm row.bases_row ≡ excluded 2 ∷ [] }
+    ensures comma { faults_stm row.comma_row ≡ excluded 2 ∷ [] }
     ensures base { faults_stm row.base_row ≡ [] }
     ensures generator_base { faults_stm row.generator_base_row ≡ excluded 2 ∷ [] }
     ensures grouped_generator_base { faults_stm row.grouped_generator_base_row ≡ [] }

@@ -1,7 +1,7 @@
 //! The first fault of statements (Language Reference 7, 8). Each check stops at the first fault of
 //! its part, in source order.
 
-ghost use Rattle.std.specs.Prelude.{◌≡◌, map, option_map};
+ghost use Rattle.std.specs.Prelude.{◌≡◌, false, map, option_map};
 ghost use Rattle.pt_refine_expr.specs.Faults.{faults_opt, faults_place};
 ghost use Rattle.pt_refine_expr.specs.First.{first_of, stop_of};
 ghost use Rattle.pt_refine_expr.specs.StatementFaults.{faults_as, faults_assigned, faults_base, faults_branches, faults_decorators, faults_group, faults_handlers, faults_items, faults_origin, faults_stm, faults_stms, is_generator as is_generator_of, args_line, is_base as is_base_of};
@@ -107,7 +107,7 @@ fn argument_line(argument: &WideArgument) -> Line
 
 /// Whether it is the one base that a class may have.
 fn is_base(argument: &WideArgument) -> bool
-    ensures { result ≡ is_base_of (argument_of argument.now no_args) }
+    ensures { result ≡ is_base_of (argument_of argument.now no_args) false }
 {
     match argument {
         WideArgument::Positional(value) => !is_generator(value),
@@ -117,17 +117,24 @@ fn is_base(argument: &WideArgument) -> bool
     }
 }
 
-/// The arguments of a class, which has one base at most.
-fn check_base(arguments: &[WideArgument]) -> Result<(), Fault>
-    ensures { stop_of result ≡ first_of (faults_base (chained no_args (map argument_of arguments.now))) }
+/// The arguments of a class, which has one base at most, and no comma behind it.
+fn check_base(arguments: &[WideArgument], trailing_comma: bool) -> Result<(), Fault>
+    ensures { stop_of result ≡ first_of (faults_base (chained no_args (map argument_of arguments.now)) trailing_comma) }
 {
     match arguments.first() {
         None => Ok(()),
         Some(first) => {
-            if arguments.len() > 1 || !is_base(first) {
-                return Err(Fault::Excluded {
-                    line: argument_line(first),
-                });
+            let fault = Fault::Excluded {
+                line: argument_line(first),
+            };
+            if trailing_comma {
+                return Err(fault);
+            }
+            if arguments.len() > 1 {
+                return Err(fault);
+            }
+            if !is_base(first) {
+                return Err(fault);
             }
             Ok(())
         }
@@ -262,11 +269,12 @@ fn check_statement(s: &WideStmt) -> Result<(), Fault>
         WideStmtNode::Class {
             decorators,
             arguments,
+            trailing_comma,
             body,
             ..
         } => {
             check_decorators(decorators.as_slice())?;
-            check_base(arguments.as_slice())?;
+            check_base(arguments.as_slice(), *trailing_comma)?;
             check_arguments(arguments.as_slice())?;
             check_statements(body.as_slice())
         }

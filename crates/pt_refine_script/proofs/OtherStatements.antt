@@ -1,5 +1,5 @@
 -- What is none of the kinds of statements that a function knows.
-use Rattle.std.proofs.Common.{◌≡◌, ◌∙◌, ap, refl, sym, ℕ, List, Option, None}
+use Rattle.std.proofs.Common.{◌≡◌, ◌∙◌, ap, refl, sym, ℕ, Bool, List, Option, None}
 use Rattle.pt_base.specs.declared.numbers.Line.{Line}
 use Rattle.pt_base.specs.declared.operators.BinOp.{BinOp}
 use Rattle.pt_tree.specs.declared.statement.Alias.{Alias}
@@ -93,10 +93,10 @@ pub defined-other : (before : ℕ) (s : WideStmt) → Not-defined s.node → nar
 defined-other b s never = ap (narrow_defined b) (stm-is s) ∙ defined-node b (out-WideStmtNode s.node) s.node s.line.0 refl never ∙ sym (ap (narrow_classed b) (stm-is s))
 
 abbrev Not-classed : WideStmtNode → Type 0
-Not-classed x = ((ds : List WideDecorator) (cl : Line) (y : List ℕ) (args : List WideArgument) (body : List WideStmt) → x ≡ node.Class ds cl y args body → ⊥)
+Not-classed x = ((ds : List WideDecorator) (cl : Line) (y : List ℕ) (args : List WideArgument) (comma : Bool) (body : List WideStmt) → x ≡ node.Class ds cl y args comma body → ⊥)
 
 classed-node : (b : ℕ) (n : Node) (x : WideStmtNode) (l : ℕ) → out-WideStmtNode x ≡ n → Not-classed x → narrow_classed b (plain-at n l) ≡ narrow_assignment b (plain-at n l)
-classed-node b (open_node.Class ds cl y args body) x l is not-Class = absurd (not-Class ds cl y args body (rolled-node x _ (node.Class ds cl y args body) is (node.outs-Class ds cl y args body)))
+classed-node b (open_node.Class ds cl y args comma body) x l is not-Class = absurd (not-Class ds cl y args comma body (rolled-node x _ (node.Class ds cl y args comma body) is (node.outs-Class ds cl y args comma body)))
 classed-node b n x l is never = refl
 
 pub classed-other : (before : ℕ) (s : WideStmt) → Not-classed s.node → narrow_classed before (stm_of s) ≡ narrow_assignment before (stm_of s)

@@ -96,13 +96,13 @@ not-some None none = refl
 not-some (Some x) none = cc
 
 -- what is no base leaves none
-pub base-left : (before : ℕ) (args : W.Args) → is_base args ≡ false → narrow_base before args ≡ None
-base-left n args wrong = ap (λ (b : Bool). if b then only_base n args else None) wrong
+pub base-left : (before : ℕ) (args : W.Args) (comma : Bool) → is_base args comma ≡ false → narrow_base before args comma ≡ None
+base-left n args comma wrong = ap (λ (b : Bool). if b then only_base n args else None) wrong
 
-pub many-bases : (gs : List WideArgument) → 1 < length gs → is_base (wide_args gs) ≡ false
-many-bases [] many = absurd (omega arith)
-many-bases (g ∷ []) many = absurd (omega arith)
-many-bases (g ∷ h ∷ gs) many = is_base-many g h gs
+pub many-bases : (gs : List WideArgument) (comma : Bool) → 1 < length gs → is_base (wide_args gs) comma ≡ false
+many-bases [] comma many = absurd (omega arith)
+many-bases (g ∷ []) comma many = absurd (omega arith)
+many-bases (g ∷ h ∷ gs) comma many = is_base-many g h gs comma
 
 pub one-argument : (gs : List WideArgument) (g : WideArgument) → Some g ≡ slice_get gs 0 → length gs ≤ 1 → wide_args gs ≡ V.argument_of g W.no_args
 one-argument [] g is few = cc

@@ -70,7 +70,7 @@ narrow_assignment n (W.assign l ts e) = narrow_stm n (W.assign l ts e)
 narrow_assignment n s = narrow_augmented n s
 
 abbrev pub narrow_classed : (before : ℕ) → W.Stm → Option T.Stm
-narrow_classed n (W.class l ds cl x args body) = narrow_stm n (W.class l ds cl x args body)
+narrow_classed n (W.class l ds cl x args comma body) = narrow_stm n (W.class l ds cl x args comma body)
 narrow_classed n s = narrow_assignment n s
 
 abbrev pub narrow_defined : (before : ℕ) → W.Stm → Option T.Stm

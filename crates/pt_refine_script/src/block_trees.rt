@@ -247,11 +247,12 @@ fn classed(n: &mut Narrower, s: &WideStmt) -> Result<Stmt, Unnarrowed>
             line: class_line,
             name,
             arguments,
+            trailing_comma,
             body,
         } => {
             let decorators = decorators(n, marks.as_slice())?;
             let block = n.start()?;
-            let base = base(n, arguments.as_slice())?;
+            let base = base(n, arguments.as_slice(), *trailing_comma)?;
             let body = statements(n, body.as_slice())?;
             let name = name.dup(n.alloc())?;
             Ok(Stmt {

@@ -30,6 +30,17 @@ pub fn no_generator(e: &WideExpr) -> Result<(), Unnarrowed>
     }
 }
 
+/// A base without a comma behind it.
+pub fn without_comma(trailing_comma: bool) -> Result<(), Unnarrowed>
+    ensures { trailing_comma ≡ is_err result }
+{
+    if trailing_comma {
+        Err(Unnarrowed::LeftOut)
+    } else {
+        Ok(())
+    }
+}
+
 /// `except` without a `*`.
 pub fn without_star(star: bool) -> Result<(), Unnarrowed>
     ensures { star ≡ is_err result }

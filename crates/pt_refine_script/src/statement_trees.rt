@@ -14,7 +14,7 @@ ghost use Rattle.pt_tree.specs.Syntax as P;
 ghost use Rattle.pt_wide.specs.Fold as W;
 ghost use Rattle.pt_wide.specs.StatementFold as WS;
 
-use crate::kept::{no_generator, only_one};
+use crate::kept::{no_generator, only_one, without_comma};
 use pt_base::{Boxed, Dup, Seq};
 use pt_refine_expr::{
     Narrower, Stars, Unnarrowed, boxed, copied_aliases, expression, parameters, target, targets,
@@ -169,9 +169,13 @@ fn imported(n: &Narrower, dots: u32, names: &Option<Seq<Alias>>) -> Result<Seq<A
     }
 }
 
-/// The base of a class, which has one at most.
-pub fn base(n: &mut Narrower, values: &[WideArgument]) -> Result<Option<Expr>, Unnarrowed>
-    ensures { Makes T.opt_exp result (narrow_base n.old (wide_args values.now)) n.old (blocks_args (wide_args values.now)) n.new }
+/// The base of a class, which has one at most, and no comma behind it.
+pub fn base(
+    n: &mut Narrower,
+    values: &[WideArgument],
+    trailing_comma: bool,
+) -> Result<Option<Expr>, Unnarrowed>
+    ensures { Makes T.opt_exp result (narrow_base n.old (wide_args values.now) trailing_comma) n.old (blocks_args (wide_args values.now)) n.new }
 {
     match values.first() {
         None => Ok(None),
@@ -179,6 +183,7 @@ pub fn base(n: &mut Narrower, values: &[WideArgument]) -> Result<Option<Expr>, U
             only_one(values)?;
             match first {
                 WideArgument::Positional(value) => {
+                    without_comma(trailing_comma)?;
                     no_generator(value)?;
                     let value = expression(n, value)?;
                     Ok(Some(value))

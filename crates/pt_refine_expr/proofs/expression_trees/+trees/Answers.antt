@@ -13,12 +13,12 @@ use Rattle.pt_wide.specs.Syntax as W
 use Rattle.pt_refine_expr.specs.Blocks.{blocks_all, blocks_args, blocks_clauses, blocks_entries, blocks_exp, blocks_formals, blocks_links, blocks_params, blocks_pieces}
 use Rattle.pt_refine_expr.specs.Narrow as N
 use Rattle.pt_refine_expr.specs.Narrow.{generator, narrow_all, narrow_args, narrow_bare, narrow_clauses, narrow_entries, narrow_exp, narrow_formals, narrow_links, narrow_opt, narrow_pair, narrow_params, narrow_pieces, narrow_target, narrow_targets}
-use Rattle.pt_refine_expr.specs.Narrowed.{clauses_of, formals_of, links_of, narrow_bare_target, narrow_choice, narrow_comprehension, narrow_operation, pair_of, pieces_of, wide_args, wide_clauses, wide_entries, wide_exps, wide_formals, wide_links, wide_pieces}
+use Rattle.pt_refine_expr.specs.Narrowed.{clauses_of, formals_of, links_of, narrow_bare_target, narrow_choice, narrow_comprehension, narrow_operation, pair_of, wide_args, wide_clauses, wide_entries, wide_exps, wide_formals, wide_links, wide_pieces}
 use Rattle.pt_refine_expr.specs.Targets.{alone, are_targets, behind_item, is_inside_target, opened}
 use Rattle.pt_refine_expr.specs.Ways.{both, three}
-use Rattle.pt_refine_expr.proofs.Bare.{field-bare, parenthesized-bare}
+use Rattle.pt_refine_expr.proofs.Bare.{parenthesized-bare}
 use Rattle.pt_refine_expr.proofs.Others.{bare-other, choice-other, comprehension-other, operation-other, target-left}
-use Rattle.pt_refine_expr.proofs.Building.{both-second, leaves, left-out, left-out-before, walk-left, at-made, at-made-entry, at-made-params, at-node, at-target, bare-is, bare-target-is, both-is, clause-made, clauses-chained, exps-chained, formal-made, left-at, left-none, made-back, made-behind, made-comprehension, made-generator, made-is, made-none, made-one, made-start, made-three, made-two, no-form, one-form, option-same-at, parameters-made, parenthesized-target, put-beside, put-both, put-four, put-is, put-literal, put-three, same-narrow, targets-chained, walk-begin, walk-end, walk-step}
+use Rattle.pt_refine_expr.proofs.Building.{both-second, leaves, left-out, walk-left, at-made, at-made-entry, at-made-params, at-node, at-target, bare-is, bare-target-is, both-is, clause-made, clauses-chained, exps-chained, formal-made, left-at, left-none, made-back, made-behind, made-comprehension, made-generator, made-is, made-none, made-one, made-start, made-three, made-two, no-form, one-form, option-same-at, parameters-made, parenthesized-target, put-beside, put-both, put-four, put-is, put-literal, put-three, same-narrow, targets-chained, walk-begin, walk-end, walk-step}
 use Rattle.pt_refine_expr.proofs.expression_trees.+trees.Goals as goal
 
 pub bare-returns-in_ok-constant-in-Constant : goal.bare-returns-in_ok-constant-in-Constant
@@ -181,10 +181,9 @@ piece-returns-in_ok-text-in-Literal t c =
 
 pub piece-returns-in_ok-spec-in-Field : goal.piece-returns-in_ok-spec-in-Field
 piece-returns-in_ok-spec-in-Field t c =
-    let inside = V.exp_of c.get.result.now in
     let spec = wide_pieces c.as_slice.result.now in
-    let parts : (r : W.Pieces) → V.piece_of c.args.part.now r ≡ W.field c.in-Field.line.0 inside c.in-Field.conversion spec r = λ r. wide.piece_of-Field c.args.part.now r c.in-Field.line c.get.result.now c.in-Field.conversion c.as_slice.result.now (c.in-Field.is ∙ rw (c.get.ensures, c.as_slice.ensures)) in
-    put-is (λ r. ap (narrow_pieces c.args.n.now) (parts r) ∙ field-bare c.args.n.now c.in-Field.line.0 inside c.in-Field.conversion spec r) (λ r. tree.piece_of-Field _ r _ _ _ _ refl ∙ ap (λ e. P.field c.in-Field.line.0 (T.exp_of e) c.in-Field.conversion (pieces_of c.in_ok-spec-in-Field.spec) r) c.in_ok-value-in-Field-2.ensures) (λ r. ap blocks_pieces (parts r)) (put-three (λ x y r. P.field c.in-Field.line.0 x c.in-Field.conversion y r) (λ m. narrow_pieces m spec) narrow_pieces blocks_pieces c.in_ok-value-in-Field.ensures c.in_ok-spec-in-Field.ensures)
+    let parts : (r : W.Pieces) → V.piece_of c.args.part.now r ≡ W.field c.in-Field.line.0 (V.exp_of c.get.result.now) c.in-Field.conversion spec r = λ r. wide.piece_of-Field c.args.part.now r c.in-Field.line c.get.result.now c.in-Field.conversion c.as_slice.result.now (c.in-Field.is ∙ rw (c.get.ensures, c.as_slice.ensures)) in
+    put-is (λ r. ap (narrow_pieces c.args.n.now) (parts r)) (λ r. tree.piece_of-Field _ r _ _ _ _ refl) (λ r. ap blocks_pieces (parts r)) (put-three (λ x y r. P.field c.in-Field.line.0 x c.in-Field.conversion y r) (λ m. narrow_pieces m spec) narrow_pieces blocks_pieces c.in_ok-value-in-Field.ensures c.in_ok-spec-in-Field.ensures)
 
 pub pair-returns-in_ok-value-in-Pair : goal.pair-returns-in_ok-value-in-Pair
 pair-returns-in_ok-value-in-Pair t c = at-made-entry (wide.entry_of-Pair c.args.entry.now c.in-Pair.key c.in-Pair.value c.in-Pair.is) (made-two N.pair (λ m. narrow_exp m (V.exp_of c.in-Pair.value)) c.in_ok-key-in-Pair.ensures c.in_ok-value-in-Pair.ensures)
@@ -506,15 +505,10 @@ parameters-returns-in_err-keyword_only t c =
     (λ none. ap (narrow_params c.args.n.now) parts ∙ both-second (λ qs js. P.parameters qs names.star js names.double_star) (λ m. narrow_formals m keyword) (narrow_formals c.args.n.now plain) (c.args.n.now + blocks_formals plain) _ c.in_ok-positional.ensures.after none)
 
 pub piece-returns-in_err-value-in-Field : goal.piece-returns-in_err-value-in-Field
-piece-returns-in_err-value-in-Field t c =
-    let inside = V.exp_of c.get.result.now in
-    let spec = wide_pieces c.in-Field.spec in
-    let parts : (r : W.Pieces) → V.piece_of c.args.part.now r ≡ W.field c.in-Field.line.0 inside c.in-Field.conversion spec r = λ r. wide.piece_of-Field c.args.part.now r c.in-Field.line c.get.result.now c.in-Field.conversion c.in-Field.spec (c.in-Field.is ∙ rw c.get.ensures) in
-    left-out-before T.piece_of c.from_residual-in_err-value-in-Field.result _ _ (λ r. narrow_pieces c.args.n.now (V.piece_of c.args.part.now r)) (narrow_pieces c.bare.new.n) c.args.n.now (λ r. blocks_pieces (V.piece_of c.args.part.now r)) c.bare.new.n blocks_pieces c.from_residual-in_err-value-in-Field.ensures.1 c.in_err-value-in-Field.ensures
-    (λ r none. ap (narrow_pieces c.args.n.now) (parts r) ∙ field-bare c.args.n.now c.in-Field.line.0 inside c.in-Field.conversion spec r ∙ ap (λ o. three (λ x. P.field c.in-Field.line.0 x c.in-Field.conversion) o (narrow_pieces (c.args.n.now + blocks_exp inside) spec) (narrow_pieces (c.args.n.now + blocks_exp inside + blocks_pieces spec) r)) none)
+piece-returns-in_err-value-in-Field t c = grind (arith, leaves, λ (r : W.Pieces). wide.piece_of-Field c.args.part.now r _ _ _ _ c.in-Field.is)
 
 pub piece-returns-in_err-spec-in-Field : goal.piece-returns-in_err-spec-in-Field
-piece-returns-in_err-spec-in-Field t c = grind (arith, leaves, λ (r : W.Pieces). wide.piece_of-Field c.args.part.now r _ _ _ _ c.in-Field.is, field-bare)
+piece-returns-in_err-spec-in-Field t c = grind (arith, leaves, λ (r : W.Pieces). wide.piece_of-Field c.args.part.now r _ _ _ _ c.in-Field.is)
 
 pub bare_target-returns-in_default : goal.bare_target-returns-in_default
 bare_target-returns-in_default t c = λ out. target-left c.args.start.0 c.args.n.now c.args.stars c.args.e.now (c.in_default.not-Name, c.in_default.not-Attribute, c.in_default.not-Item, c.in_default.not-Tuple, c.in_default.not-List, c.in_default.not-Parenthesized, c.in_default.not-Starred)

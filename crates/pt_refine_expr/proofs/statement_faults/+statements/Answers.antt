@@ -125,16 +125,16 @@ pub check_statement-returns-in_ok-check_value-in-Def : goal.check_statement-retu
 check_statement-returns-in_ok-check_value-in-Def t c = grind (arith, first-both, stm_of-Def c.args.s.now _ _ _ _ _ _ c.in-Def.is)
 
 pub check_statement-returns-in_err-check_decorators-in-Class : goal.check_statement-returns-in_err-check_decorators-in-Class
-check_statement-returns-in_err-check_decorators-in-Class t c = grind (arith, first-both, stm_of-Class c.args.s.now _ _ _ _ _ c.in-Class.is)
+check_statement-returns-in_err-check_decorators-in-Class t c = grind (arith, first-both, stm_of-Class c.args.s.now _ _ _ _ _ _ c.in-Class.is)
 
 pub check_statement-returns-in_err-check_base-in-Class : goal.check_statement-returns-in_err-check_base-in-Class
-check_statement-returns-in_err-check_base-in-Class t c = grind (arith, first-both, stm_of-Class c.args.s.now _ _ _ _ _ c.in-Class.is)
+check_statement-returns-in_err-check_base-in-Class t c = grind (arith, first-both, stm_of-Class c.args.s.now _ _ _ _ _ _ c.in-Class.is)
 
 pub check_statement-returns-in_err-check_arguments-in-Class : goal.check_statement-returns-in_err-check_arguments-in-Class
-check_statement-returns-in_err-check_arguments-in-Class t c = grind (arith, first-both, stm_of-Class c.args.s.now _ _ _ _ _ c.in-Class.is)
+check_statement-returns-in_err-check_arguments-in-Class t c = grind (arith, first-both, stm_of-Class c.args.s.now _ _ _ _ _ _ c.in-Class.is)
 
 pub check_statement-returns-in_ok-check_arguments-in-Class : goal.check_statement-returns-in_ok-check_arguments-in-Class
-check_statement-returns-in_ok-check_arguments-in-Class t c = grind (arith, first-both, stm_of-Class c.args.s.now _ _ _ _ _ c.in-Class.is)
+check_statement-returns-in_ok-check_arguments-in-Class t c = grind (arith, first-both, stm_of-Class c.args.s.now _ _ _ _ _ _ c.in-Class.is)
 
 pub check_statements-returns-in_err-check_statement : goal.check_statements-returns-in_err-check_statement
 check_statements-returns-in_err-check_statement t c = grind (arith, first-both, common_steps)

@@ -58,9 +58,9 @@ classed-returns-in_ok-name-in-Class t c =
     let made = T.decorators_of c.in_ok-decorators-in-Class.decorators in
     let base = E.opt_exp c.in_ok-base-in-Class.base in
     let body = T.stms_of c.in_ok-body-in-Class.body in
-    at-made-stm (narrow_classed c.args.n.now) (wide.stm_of-Class c.args.s.now c.as_slice.result.now c.in-Class.class_line c.in-Class.name c.as_slice-in-Class.result.now c.as_slice-in-Class-2.result.now (c.in-Class.is ∙ rw (c.as_slice.ensures, c.as_slice-in-Class.ensures, c.as_slice-in-Class-2.ensures)))
+    at-made-stm (narrow_classed c.args.n.now) (wide.stm_of-Class c.args.s.now c.as_slice.result.now c.in-Class.class_line c.in-Class.name c.as_slice-in-Class.result.now c.in-Class.trailing_comma c.as_slice-in-Class-2.result.now (c.in-Class.is ∙ rw (c.as_slice.ensures, c.as_slice-in-Class.ensures, c.as_slice-in-Class-2.ensures)))
     (made-is refl (tree.stm_of-Class _ _ _ _ _ _ _ refl ∙ ap (λ b. P.class line made at b c.in_ok-name-in-Class.name base body) (c.in_ok-block-in-Class.ensures.number ∙ c.in_ok-decorators-in-Class.ensures.after) ∙ ap (λ x. P.class line made at (n + blocks_decorators marks) x base body) c.in_ok-name-in-Class.ensures) refl
-    (made-class (λ ds e ss. P.class line ds at (n + blocks_decorators marks) c.in-Class.name e ss) (λ m. narrow_base m (wide_args c.as_slice-in-Class.result.now)) (λ m. narrow_stms m (stms_of c.as_slice-in-Class-2.result.now)) c.in_ok-decorators-in-Class.ensures c.in_ok-block-in-Class.ensures.started c.in_ok-base-in-Class.ensures c.in_ok-body-in-Class.ensures))
+    (made-class (λ ds e ss. P.class line ds at (n + blocks_decorators marks) c.in-Class.name e ss) (λ m. narrow_base m (wide_args c.as_slice-in-Class.result.now) c.in-Class.trailing_comma) (λ m. narrow_stms m (stms_of c.as_slice-in-Class-2.result.now)) c.in_ok-decorators-in-Class.ensures c.in_ok-block-in-Class.ensures.started c.in_ok-base-in-Class.ensures c.in_ok-body-in-Class.ensures))
 
 pub statements-loop-one-preserved : goal.statements-loop-one-preserved
 statements-loop-one-preserved t c =
@@ -177,13 +177,13 @@ pub defined-returns-in_default : goal.defined-returns-in_default
 defined-returns-in_default t c = same-narrow T.stm_of c.classed.result (narrow_classed c.args.n.now (stm_of c.args.s.now)) (narrow_defined c.args.n.now (stm_of c.args.s.now)) c.args.n.now (blocks_stm (stm_of c.args.s.now)) c.classed.new.n (defined-other c.args.n.now c.args.s.now (c.in_default.not-Def)) c.classed.ensures
 
 pub classed-returns-in_err-decorators-in-Class : goal.classed-returns-in_err-decorators-in-Class
-classed-returns-in_err-decorators-in-Class t c = grind (arith, leaves, wide.stm_of-Class c.args.s.now _ _ _ _ _ c.in-Class.is)
+classed-returns-in_err-decorators-in-Class t c = grind (arith, leaves, wide.stm_of-Class c.args.s.now _ _ _ _ _ _ c.in-Class.is)
 
 pub classed-returns-in_err-base-in-Class : goal.classed-returns-in_err-base-in-Class
-classed-returns-in_err-base-in-Class t c = grind (arith, leaves, wide.stm_of-Class c.args.s.now _ _ _ _ _ c.in-Class.is)
+classed-returns-in_err-base-in-Class t c = grind (arith, leaves, wide.stm_of-Class c.args.s.now _ _ _ _ _ _ c.in-Class.is)
 
 pub classed-returns-in_err-body-in-Class : goal.classed-returns-in_err-body-in-Class
-classed-returns-in_err-body-in-Class t c = grind (arith, leaves, wide.stm_of-Class c.args.s.now _ _ _ _ _ c.in-Class.is)
+classed-returns-in_err-body-in-Class t c = grind (arith, leaves, wide.stm_of-Class c.args.s.now _ _ _ _ _ _ c.in-Class.is)
 
 pub classed-returns-in_default : goal.classed-returns-in_default
 classed-returns-in_default t c = same-narrow T.stm_of c.assignment.result (narrow_assignment c.args.n.now (stm_of c.args.s.now)) (narrow_classed c.args.n.now (stm_of c.args.s.now)) c.args.n.now (blocks_stm (stm_of c.args.s.now)) c.assignment.new.n (classed-other c.args.n.now c.args.s.now (c.in_default.not-Class)) c.assignment.ensures

@@ -3,7 +3,8 @@ use Rattle.pt_refine_expr.specs.StatementFaults.{faults_stms}
 use Rattle.pt_wide.specs.StatementFold.{script_of, stms_of}
 use Rattle.pt_refine_expr.specs.First.{fault_of, first_of}
 use Rattle.pt_refine_expr.specs.StatementNarrow.{narrow_stms}
-use Rattle.pt_refine_expr.proofs.ExclusiveStatements.{law_stms}
+use Rattle.pt_refine_expr.proofs.Agreement.{agreed}
+use Rattle.pt_refine_expr.proofs.StatementOnePass.{agrees-stms}
 use Rattle.pt_refine_expr.specs.Told.{no_memory}
 use Rattle.pt_refine_expr.proofs.Telling.{never-left, told-first}
 use Rattle.pt_refine_script.proofs.scripts.narrow.Goals as goal
@@ -19,4 +20,4 @@ unreachable-requires c =
     let tree = stms_of c.as_slice.result.now in
     let same : script_of c.args.script.now ≡ tree = ap stms_of (sym c.as_slice.ensures) in
     let clean : None ≡ first_of (faults_stms tree) = sym (ap (option_map fault_of) c.in_default.is) ∙ c.first_fault.ensures ∙ ap (λ ss. first_of (faults_stms ss)) same in
-    never-left (narrow_stms c.new-narrower.result tree) (faults_stms tree) (law_stms c.new-narrower.result tree) clean (c.in-Err-LeftOut.ensures c.in-Err-LeftOut.field-0-is)
+    never-left (narrow_stms c.new-narrower.result tree) (faults_stms tree) (agreed (agrees-stms c.new-narrower.result tree)) clean (c.in-Err-LeftOut.ensures c.in-Err-LeftOut.field-0-is)

@@ -17,32 +17,39 @@ pub returns-in_ok-value-in-Positional : goal.returns-in_ok-value-in-Positional
 returns-in_ok-value-in-Positional c =
     let value = V.exp_of c.in-Positional.value in
     let one : wide_args c.args.values.now ≡ W.positional value W.no_args = base-is c.args.values.now c.in-Some.first.now c.in-Positional.value c.in-Some.ensures.value c.in-Positional.is c.in_ok-only_one-in-Some.ensures.ok in
-    made-is (ap (narrow_base c.args.n.now) one ∙ ap (λ (b : Bool). if (if b then false else true) then option_map P.given (narrow_exp c.args.n.now value) else None) c.in_ok-no_generator-in-Positional.ensures) refl (ap blocks_args one ∙ none-behind (blocks_exp value)) (made-one P.given c.in_ok-value-in-Positional.ensures)
+    made-is (ap (λ as'. narrow_base c.args.n.now as' c.args.trailing_comma) one ∙ ap (narrow_base c.args.n.now (W.positional value W.no_args)) c.in_ok-without_comma-in-Positional.ensures ∙ ap (λ (b : Bool). if (if b then false else true) then option_map P.given (narrow_exp c.args.n.now value) else None) c.in_ok-no_generator-in-Positional.ensures) refl (ap blocks_args one ∙ none-behind (blocks_exp value)) (made-one P.given c.in_ok-value-in-Positional.ensures)
 
 pub returns-in_err-only_one-in-Some : goal.returns-in_err-only_one-in-Some
 returns-in_err-only_one-in-Some c =
-    let none : narrow_base c.args.n.now (wide_args c.args.values.now) ≡ None = base-left c.args.n.now (wide_args c.args.values.now) (many-bases c.args.values.now c.in_err-only_one-in-Some.ensures.err) in
+    let none : narrow_base c.args.n.now (wide_args c.args.values.now) c.args.trailing_comma ≡ None = base-left c.args.n.now (wide_args c.args.values.now) c.args.trailing_comma (many-bases c.args.values.now c.args.trailing_comma c.in_err-only_one-in-Some.ensures.err) in
     grind (arith, none)
 
 pub returns-in_err-no_generator-in-Positional : goal.returns-in_err-no_generator-in-Positional
 returns-in_err-no_generator-in-Positional c =
     let value = V.exp_of c.in-Positional.value in
     let one : wide_args c.args.values.now ≡ W.positional value W.no_args = base-is c.args.values.now c.in-Some.first.now c.in-Positional.value c.in-Some.ensures.value c.in-Positional.is c.in_ok-only_one-in-Some.ensures.ok in
-    let none : narrow_base c.args.n.now (wide_args c.args.values.now) ≡ None = ap (narrow_base c.args.n.now) one ∙ ap (λ (b : Bool). if (if b then false else true) then option_map P.given (narrow_exp c.args.n.now value) else None) c.in_err-no_generator-in-Positional.ensures in
+    let none : narrow_base c.args.n.now (wide_args c.args.values.now) c.args.trailing_comma ≡ None = ap (λ as'. narrow_base c.args.n.now as' c.args.trailing_comma) one ∙ ap (narrow_base c.args.n.now (W.positional value W.no_args)) c.in_ok-without_comma-in-Positional.ensures ∙ ap (λ (b : Bool). if (if b then false else true) then option_map P.given (narrow_exp c.args.n.now value) else None) c.in_err-no_generator-in-Positional.ensures in
     grind (arith, none)
 
 pub returns-in_err-value-in-Positional : goal.returns-in_err-value-in-Positional
 returns-in_err-value-in-Positional c =
     let value = V.exp_of c.in-Positional.value in
     let one : wide_args c.args.values.now ≡ W.positional value W.no_args = base-is c.args.values.now c.in-Some.first.now c.in-Positional.value c.in-Some.ensures.value c.in-Positional.is c.in_ok-only_one-in-Some.ensures.ok in
-    let narrowed : narrow_base c.args.n.now (wide_args c.args.values.now) ≡ option_map P.given (narrow_exp c.args.n.now value) = ap (narrow_base c.args.n.now) one ∙ ap (λ (b : Bool). if (if b then false else true) then option_map P.given (narrow_exp c.args.n.now value) else None) c.in_ok-no_generator-in-Positional.ensures in
+    let narrowed : narrow_base c.args.n.now (wide_args c.args.values.now) c.args.trailing_comma ≡ option_map P.given (narrow_exp c.args.n.now value) = ap (λ as'. narrow_base c.args.n.now as' c.args.trailing_comma) one ∙ ap (narrow_base c.args.n.now (W.positional value W.no_args)) c.in_ok-without_comma-in-Positional.ensures ∙ ap (λ (b : Bool). if (if b then false else true) then option_map P.given (narrow_exp c.args.n.now value) else None) c.in_ok-no_generator-in-Positional.ensures in
     grind (arith, narrowed)
 
 pub returns-in-Named : goal.returns-in-Named
-returns-in-Named c = λ out. base-left c.args.n.now (wide_args c.args.values.now) (ap is_base (one-argument c.args.values.now c.in-Some.first.now c.in-Some.ensures.value c.in_ok-only_one-in-Some.ensures.ok ∙ argument_of-Named c.in-Some.first.now W.no_args _ _ _ c.in-Named.is))
+returns-in-Named c = λ out. base-left c.args.n.now (wide_args c.args.values.now) c.args.trailing_comma (ap (λ as'. is_base as' c.args.trailing_comma) (one-argument c.args.values.now c.in-Some.first.now c.in-Some.ensures.value c.in_ok-only_one-in-Some.ensures.ok ∙ argument_of-Named c.in-Some.first.now W.no_args _ _ _ c.in-Named.is))
 
 pub returns-in-Spread : goal.returns-in-Spread
-returns-in-Spread c = λ out. base-left c.args.n.now (wide_args c.args.values.now) (ap is_base (one-argument c.args.values.now c.in-Some.first.now c.in-Some.ensures.value c.in_ok-only_one-in-Some.ensures.ok ∙ argument_of-Spread c.in-Some.first.now W.no_args _ _ c.in-Spread.is))
+returns-in-Spread c = λ out. base-left c.args.n.now (wide_args c.args.values.now) c.args.trailing_comma (ap (λ as'. is_base as' c.args.trailing_comma) (one-argument c.args.values.now c.in-Some.first.now c.in-Some.ensures.value c.in_ok-only_one-in-Some.ensures.ok ∙ argument_of-Spread c.in-Some.first.now W.no_args _ _ c.in-Spread.is))
 
 pub returns-in-SpreadNamed : goal.returns-in-SpreadNamed
-returns-in-SpreadNamed c = λ out. base-left c.args.n.now (wide_args c.args.values.now) (ap is_base (one-argument c.args.values.now c.in-Some.first.now c.in-Some.ensures.value c.in_ok-only_one-in-Some.ensures.ok ∙ argument_of-SpreadNamed c.in-Some.first.now W.no_args _ _ c.in-SpreadNamed.is))
+returns-in-SpreadNamed c = λ out. base-left c.args.n.now (wide_args c.args.values.now) c.args.trailing_comma (ap (λ as'. is_base as' c.args.trailing_comma) (one-argument c.args.values.now c.in-Some.first.now c.in-Some.ensures.value c.in_ok-only_one-in-Some.ensures.ok ∙ argument_of-SpreadNamed c.in-Some.first.now W.no_args _ _ c.in-SpreadNamed.is))
+
+pub returns-in_err-without_comma-in-Positional : goal.returns-in_err-without_comma-in-Positional
+returns-in_err-without_comma-in-Positional c =
+    let value = V.exp_of c.in-Positional.value in
+    let one : wide_args c.args.values.now ≡ W.positional value W.no_args = base-is c.args.values.now c.in-Some.first.now c.in-Positional.value c.in-Some.ensures.value c.in-Positional.is c.in_ok-only_one-in-Some.ensures.ok in
+    let none : narrow_base c.args.n.now (wide_args c.args.values.now) c.args.trailing_comma ≡ None = ap (λ as'. narrow_base c.args.n.now as' c.args.trailing_comma) one ∙ ap (narrow_base c.args.n.now (W.positional value W.no_args)) c.in_err-without_comma-in-Positional.ensures in
+    grind (arith, none)

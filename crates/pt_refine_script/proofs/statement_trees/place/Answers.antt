@@ -6,7 +6,8 @@ use Rattle.pt_wide.proofs.Folds as wide
 use Rattle.pt_wide.specs.Fold as V
 use Rattle.pt_refine_expr.specs.Faults.{is_clean}
 use Rattle.pt_refine_expr.specs.Narrow.{narrow_exp, narrow_place}
-use Rattle.pt_refine_expr.proofs.ExclusiveStatements.{law_place}
+use Rattle.pt_refine_expr.proofs.Agreement.{agreed}
+use Rattle.pt_refine_expr.proofs.StatementOnePass.{agrees-place}
 use Rattle.pt_refine_expr.proofs.Others.{place-other}
 use Rattle.pt_refine_expr.proofs.Building.{at-made, leaves, made-is, made-none, made-one, made-two}
 use Rattle.pt_refine_script.proofs.StatementBuilding.{not-some}
@@ -31,4 +32,4 @@ pub returns-in_err-index-in-Item : goal.returns-in_err-index-in-Item
 returns-in_err-index-in-Item c = grind (arith, leaves, wide.exp_of-Item c.args.e.now _ _ c.in-Item.is)
 
 pub returns-in_default : goal.returns-in_default
-returns-in_default c = λ out. not-some (narrow_place c.args.n.now (V.exp_of c.args.e.now)) (law_place c.args.n.now (V.exp_of c.args.e.now) ∙ ap is_clean (place-other c.args.e.now (c.in_default.not-Name, c.in_default.not-Attribute, c.in_default.not-Item)))
+returns-in_default c = λ out. not-some (narrow_place c.args.n.now (V.exp_of c.args.e.now)) (agreed (agrees-place c.args.n.now (V.exp_of c.args.e.now)) ∙ ap is_clean (place-other c.args.e.now (c.in_default.not-Name, c.in_default.not-Attribute, c.in_default.not-Item)))
