@@ -2,7 +2,7 @@
 use Rattle.std.proofs.Common.{◌≡◌, ◌≢◌, ℕ, List, [], ◌∷◌, ◌++◌, Option, Some, None, Bool, true, false, inl, inr, refl, sym, ◌∙◌, ap, subst, arith}
 use Rattle.pt_tree.specs.Syntax.{Name}
 use Rattle.pt_wide.specs.Syntax as S
-use Rattle.pt_wide.specs.Syntax.{Exp, Opt, Args, Decorators, Stm}
+use Rattle.pt_wide.specs.Syntax.{Exp, Opt, Decorators, Stm}
 use Rattle.pt_wide.specs.StatementFold.{stms_from}
 use Rattle.pt_readers.specs.Reading.{next_of, behind, Part, Alike, Found, Refused, Carries, Within}
 use Rattle.pt_readers.proofs.Readers.{Binds, Shifts, Narrows, left, bad_refused, narrow_carries, then_on}
@@ -13,13 +13,12 @@ use Rattle.pt_grammar.specs.declared.sign.Keyword.TheVariants.{Class, Def, Pass}
 use Rattle.pt_grammar.specs.declared.sign.Layout.TheVariants.{Newline}
 use Rattle.pt_grammar.specs.Lexemes.{Lexeme, name, sign, sign_at}
 use Rattle.pt_grammar.specs.Nodes.{params_of, no_parameters}
-use Rattle.pt_grammar.specs.Grammar.{no_arguments}
 use Rattle.pt_parser.specs.Forms.{Reads, Is, is, Then, The, the, Identifier, identifier, closed, an_identifier, an_optional}
 use Rattle.pt_parser.specs.Simple.{an_expression, led}
-use Rattle.pt_parser.specs.Headings.{argument_list, at_sign, OneDecorator, decorators_from, Decorated, OneSignature, signature_of, Signature, Bases, no_bases, bases}
+use Rattle.pt_parser.specs.Headings.{at_sign, OneDecorator, decorators_from, Decorated, OneSignature, signature_of, Signature, OneBases, bases_of, BehindOpen, Bases, no_bases, bases}
 use Rattle.pt_parser.specs.Grammar.{Block, on_line, Suite, Compound, def_so, class_so, with_decorators, Definition, of_function, of_class, FunctionDef, function, ClassDef, a_class, ClassBody, Decoration}
 use Rattle.pt_parser.specs.Limits.{FitsArgs, FitsDecorators, FitsStm}
-use Rattle.pt_parser.specs.Parts.{Clear, Each, FitsBlock, FitsDecorator, some_decorators, a_signature, a_last, a_compound}
+use Rattle.pt_parser.specs.Parts.{Clear, Each, FitsBlock, FitsDecorator, some_decorators, a_signature, some_bases, a_last, a_compound}
 use Rattle.pt_parser.proofs.Tokens.{not_sign}
 use Rattle.pt_parser.proofs.Chains.{Ready, ready_is, ready_then, within_all, within_one, within_two, Follows, chain}
 use Rattle.pt_parser.proofs.Follow.{follow_at, expr_follow}
@@ -91,13 +90,13 @@ abbrev pub ClassBases : ℕ → List OneDecorator → ℕ → Name → Reads Stm
 ClassBases l ds m x = Then Bases (ClassBody l ds m x)
 
 abbrev pub ClassArgs : ℕ → List OneDecorator → ℕ → Name → Reads Stm
-ClassArgs l ds m x = Then argument_list.reads (ClassBody l ds m x)
+ClassArgs l ds m x = Then BehindOpen (ClassBody l ds m x)
 
 pub class_opens : (l : ℕ) (ds : List OneDecorator) (m : ℕ) (ts : List Lexeme) → Narrows ts (left a_compound (Then Identifier (ClassBases l ds m))) (left a_compound (ClassDef l ds m))
 class_opens l ds m ts = record { into = λ more s rest k. into k; out = λ more s rest a k n. (out k, n); stop = λ s o n. n; up = λ s f. f; down = λ s f. f }
   where
     into : {more rest : List Lexeme} {s : Stm} → Then Identifier (ClassBases l ds m) more s rest → ClassDef l ds m more s rest
-    into {more = more} (x, m1, i, (args, m2, q, (body, m4, (k, m3, the e, b), is))) = a_class i (subst (λ t. Bases m1 args (sign k t ∷ m3)) e q) b
+    into {more = more} (x, m1, i, (c, m2, q, (body, m4, (k, m3, the e, b), is))) = a_class i (subst (λ t. Bases m1 c (sign k t ∷ m3)) e q) b
 
     out : {more rest : List Lexeme} {s : Stm} → ClassDef l ds m more s rest → Then Identifier (ClassBases l ds m) more s rest
     out (a_class i q b) = (_, _, i, (_, _, q, (_, _, (_, _, the refl, b), is)))
@@ -105,68 +104,68 @@ class_opens l ds m ts = record { into = λ more s rest k. into k; out = λ more 
 pub no_args_fit : FitsArgs S.no_args
 no_args_fit = (omega arith, omega arith, omega arith)
 
-pub arguments_ready : (over : Bool) → Ready argument_list.fits over argument_list.reads
-arguments_ready over = record { word = sign 0 (mark Close) ∷ []; done = S.no_args; fits = within_all argument_list.fits over S.no_args no_args_fit; reads = λ z. no_arguments }
-
 module _ (l : ℕ) (ds : List OneDecorator) (m : ℕ) (f : Each FitsDecorator ds) where
-  class_ready : (over : Bool) (x : Name) (args : Args) → Within FitsArgs over args → Ready FitsStm over (ClassBody l ds m x args)
-  class_ready over x args g = ready_then FitsStm over a_last (λ body. Is (S.class l (decorators_from ds) m x args (stms_from body))) (last_ready over)
-      (λ body b. ready_is FitsStm over _ (within_two FitsArgs FitsBlock FitsStm over args body (S.class l (decorators_from ds) m x args (stms_from body)) (λ g b. (decorators_fit ds f, g, b)) g b))
+  abbrev one_class : Name → OneBases → List Stm → Stm
+  one_class x c body = S.class l (decorators_from ds) m x c.arguments c.trailing_comma (stms_from body)
+
+  class_ready : (over : Bool) (x : Name) (c : OneBases) → Within some_bases.fits over c → Ready FitsStm over (ClassBody l ds m x c)
+  class_ready over x c g = ready_then FitsStm over a_last (λ body. Is (one_class x c body)) (last_ready over)
+      (λ body b. ready_is FitsStm over _ (within_two some_bases.fits FitsBlock FitsStm over c body (one_class x c body) (λ g b. (decorators_fit ds f, g, b)) g b))
 
   bases_ready : (over : Bool) (x : Name) → Ready FitsStm over (ClassBases l ds m x)
-  bases_ready over x = let r = class_ready over x S.no_args (within_all FitsArgs over S.no_args no_args_fit) in
-      record { word = r.word; done = r.done; fits = r.fits; reads = λ z. (S.no_args, r.word ++ z, no_bases, r.reads z) }
+  bases_ready over x = let none = bases_of S.no_args false in let r = class_ready over x none (within_all some_bases.fits over none no_args_fit) in
+      record { word = r.word; done = r.done; fits = r.fits; reads = λ z. (none, r.word ++ z, no_bases, r.reads z) }
 
   pub class_name : Binds an_identifier (ClassBases l ds m) (left a_compound (Then Identifier (ClassBases l ds m)))
   class_name = chain a_compound an_identifier (ClassBases l ds m) record { apart = λ x mid s rest k n. tt; down = λ x mid s rest k g. tt; ready = λ over x g. bases_ready over x }
 
-  pub class_arguments : (x : Name) → Binds argument_list (ClassBody l ds m x) (left a_compound (ClassArgs l ds m x))
-  class_arguments x = chain a_compound argument_list (ClassBody l ds m x) record {
-    apart = λ args mid s rest k n. tt;
-    down = λ args mid s rest k g. down k g;
-    ready = λ over args g. class_ready over x args g;
+  pub class_bases : (x : Name) → Binds some_bases (ClassBody l ds m x) (left a_compound (ClassArgs l ds m x))
+  class_bases x = chain a_compound some_bases (ClassBody l ds m x) record {
+    apart = λ c mid s rest k n. tt;
+    down = λ c mid s rest k g. down k g;
+    ready = λ over c g. class_ready over x c g;
   }
     where
-      down : {args : Args} {mid rest : List Lexeme} {s : Stm} → ClassBody l ds m x args mid s rest → FitsStm s → FitsArgs args
+      down : {c : OneBases} {mid rest : List Lexeme} {s : Stm} → ClassBody l ds m x c mid s rest → FitsStm s → FitsArgs c.arguments
       down (body, m2, b, is) g = g.1
 
-  pub class_block : (x : Name) (args : Args) → FitsArgs args → Binds a_last (λ body. Is (S.class l (decorators_from ds) m x args (stms_from body))) (left a_compound (ClassBody l ds m x args))
-  class_block x args g = chain a_compound a_last (λ body. Is (S.class l (decorators_from ds) m x args (stms_from body))) record {
+  pub class_block : (x : Name) (c : OneBases) → FitsArgs c.arguments → Binds a_last (λ body. Is (S.class l (decorators_from ds) m x c.arguments c.trailing_comma (stms_from body))) (left a_compound (ClassBody l ds m x c))
+  class_block x c g = chain a_compound a_last (λ body. Is (one_class x c body)) record {
     apart = λ body mid s rest k n. apart body k n;
     down = λ body mid s rest k b. down body k b;
-    ready = λ over body b. ready_is FitsStm over _ (within_one FitsBlock FitsStm over body (S.class l (decorators_from ds) m x args (stms_from body)) (λ b. (decorators_fit ds f, g, b)) b);
+    ready = λ over body b. ready_is FitsStm over _ (within_one FitsBlock FitsStm over body (one_class x c body) (λ b. (decorators_fit ds f, g, b)) b);
   }
     where
-      apart : (body : List Stm) {mid rest : List Lexeme} {s : Stm} → Is (S.class l (decorators_from ds) m x args (stms_from body)) mid s rest → Clear (next_of rest) → Clear (next_of mid)
+      apart : (body : List Stm) {mid rest : List Lexeme} {s : Stm} → Is (one_class x c body) mid s rest → Clear (next_of rest) → Clear (next_of mid)
       apart body is n = n
 
-      down : (body : List Stm) {mid rest : List Lexeme} {s : Stm} → Is (S.class l (decorators_from ds) m x args (stms_from body)) mid s rest → FitsStm s → FitsBlock body
+      down : (body : List Stm) {mid rest : List Lexeme} {s : Stm} → Is (one_class x c body) mid s rest → FitsStm s → FitsBlock body
       down body is b = b.2
 
 pub bases_shifts : (l : ℕ) (ds : List OneDecorator) (m : ℕ) (x : Name) (k : ℕ) → Shifts (sign k (mark Open)) (left a_compound (ClassArgs l ds m x)) (left a_compound (ClassBases l ds m x))
 bases_shifts l ds m x k = record { intro = λ ts s rest q. into q; inv = λ ts s rest q n. (out q, n); stop = λ s o n. n; up = λ s f. f; down = λ s f. f }
   where
     into : {ts rest : List Lexeme} {s : Stm} → ClassArgs l ds m x ts s rest → ClassBases l ds m x (sign k (mark Open) ∷ ts) s rest
-    into (args, mid, q, b) = (args, mid, bases q, b)
+    into (c, mid, q, b) = (c, mid, bases q, b)
 
     clash : {A : Type 0} → Some (mark Open) ≡ Some (mark Colon) → A
     clash h = cc
 
     out : {ts rest : List Lexeme} {s : Stm} → ClassBases l ds m x (sign k (mark Open) ∷ ts) s rest → ClassArgs l ds m x ts s rest
-    out (args, mid, no_bases, b) = clash (suite_next b.2)
-    out (args, mid, bases q, b) = (args, mid, q, b)
+    out (c, mid, no_bases, b) = clash (suite_next b.2)
+    out (c, mid, bases q, b) = (c, mid, q, b)
 
 pub bases_none : (l : ℕ) (ds : List OneDecorator) (m : ℕ) (x : Name) (ts : List Lexeme) → sign_at (next_of ts) ≢ Some (mark Open)
-    → Narrows ts (left a_compound (ClassBody l ds m x S.no_args)) (left a_compound (ClassBases l ds m x))
-bases_none l ds m x ts n = record { into = λ more s rest k. (S.no_args, more, no_bases, k); out = λ more s rest a k o. (out (not_sign ts a n) k, o); stop = λ s o k. k; up = λ s f. f; down = λ s f. f }
+    → Narrows ts (left a_compound (ClassBody l ds m x (bases_of S.no_args false))) (left a_compound (ClassBases l ds m x))
+bases_none l ds m x ts n = record { into = λ more s rest k. (bases_of S.no_args false, more, no_bases, k); out = λ more s rest a k o. (out (not_sign ts a n) k, o); stop = λ s o k. k; up = λ s f. f; down = λ s f. f }
   where
-    out : {more rest : List Lexeme} {s : Stm} → sign_at (next_of more) ≢ Some (mark Open) → ClassBases l ds m x more s rest → ClassBody l ds m x S.no_args more s rest
-    out o (args, mid, no_bases, b) = b
-    out o (args, mid, bases q, b) = absurd (o refl)
+    out : {more rest : List Lexeme} {s : Stm} → sign_at (next_of more) ≢ Some (mark Open) → ClassBases l ds m x more s rest → ClassBody l ds m x (bases_of S.no_args false) more s rest
+    out o (c, mid, no_bases, b) = b
+    out o (c, mid, bases q, b) = absurd (o refl)
 
 pub bases_carries : {P : Part Lexeme Stm} {ts mid rest : List Lexeme} (l : ℕ) (ds : List OneDecorator) (m : ℕ) (x : Name) → Carries P ts (left a_compound (ClassBases l ds m x)) mid
-    → (sign_at (next_of mid) ≢ Some (mark Open)) × (rest ≡ mid) → Carries P ts (left a_compound (ClassBody l ds m x S.no_args)) rest
-bases_carries {P} {ts} {mid} l ds m x c n = subst (λ u. Carries P ts (left a_compound (ClassBody l ds m x S.no_args)) u) (sym n.1) (then_on c (narrow_carries (bases_none l ds m x mid n.0)))
+    → (sign_at (next_of mid) ≢ Some (mark Open)) × (rest ≡ mid) → Carries P ts (left a_compound (ClassBody l ds m x (bases_of S.no_args false))) rest
+bases_carries {P} {ts} {mid} l ds m x c n = subst (λ u. Carries P ts (left a_compound (ClassBody l ds m x (bases_of S.no_args false))) u) (sym n.1) (then_on c (narrow_carries (bases_none l ds m x mid n.0)))
 
 -- at their first words
 pub def_shifts : (l : ℕ) → Shifts (sign l (keyword Def)) (left a_compound (FunctionDef l [] l)) a_compound
@@ -209,7 +208,7 @@ definition_keeps {ds = ds} (of_function (function q b)) f = each_decorators ds f
 definition_keeps {ds = ds} (of_class (a_class i q b)) f = each_decorators ds f.0
 
 abbrev some_class : (l : ℕ) (ds : List OneDecorator) → Stm
-some_class l ds = S.class l (decorators_from ds) 0 [] S.no_args (stms_from (S.pass 0 ∷ []))
+some_class l ds = S.class l (decorators_from ds) 0 [] S.no_args false (stms_from (S.pass 0 ∷ []))
 
 abbrev class_word : List Lexeme
 class_word = sign 0 (keyword Class) ∷ (name 0 [] ∷ (sign 0 (mark Colon) ∷ (sign 0 (keyword Pass) ∷ (sign 0 (layout Newline) ∷ []))))

@@ -9,6 +9,7 @@ pub mod StatedLemmas
 pub mod BlockLemmas
 pub mod CompoundLemmas
 pub mod HeadLemmas
+pub mod BaseLemmas
 pub mod DefinitionLemmas
 pub mod TryLemmas
 pub mod NodeLemmas

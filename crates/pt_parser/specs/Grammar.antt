@@ -2,7 +2,7 @@
 use Rattle.std.specs.Prelude.{◌≡◌, ℕ, Bool, true, List, [], ◌∷◌, ◌++◌, Option}
 use Rattle.pt_tree.specs.Syntax.{Name}
 use Rattle.pt_wide.specs.Syntax as S
-use Rattle.pt_wide.specs.Syntax.{Exp, Opt, Args, Stm, Branches, Handlers}
+use Rattle.pt_wide.specs.Syntax.{Exp, Opt, Stm, Branches, Handlers}
 use Rattle.pt_wide.specs.StatementFold.{stms_from}
 use Rattle.pt_grammar.specs.declared.sign.Sign.{Sign}
 use Rattle.pt_grammar.specs.declared.sign.Sign.TheVariants.{Mark as mark, Word as word, Keyword as keyword, Layout as layout}
@@ -15,7 +15,7 @@ use Rattle.pt_grammar.specs.Nodes.{is_given, params_of}
 use Rattle.pt_parser.specs.Forms.{Reads, Is, Then, The, Identifier, UpTo}
 use Rattle.pt_parser.specs.Simple.{an_expression, expressions, places, Simple}
 use Rattle.pt_parser.specs.With.{OneItem, items_from, WithItems}
-use Rattle.pt_parser.specs.Headings.{at_sign, OneDecorator, decorators_from, Decorated, OneSignature, Signature, Bases, OneCatch, Catch}
+use Rattle.pt_parser.specs.Headings.{at_sign, OneDecorator, decorators_from, Decorated, OneSignature, Signature, OneBases, Bases, OneCatch, Catch}
 
 -- `if` or `elif`, the test and the block
 pub record OneBranch : Type 0 where
@@ -125,8 +125,9 @@ mutual
 
   -- behind the "class" on that line: NAME [ "(" [ args ] ")" ] ":" block
   pub data ClassDef : ℕ → List OneDecorator → ℕ → List Lexeme → Stm → List Lexeme → Type 0 where
-    a_class : {l m k : ℕ} {ds : List OneDecorator} {x : Name} {args : Args} {body : List Stm} {ts us mid rest : List Lexeme} → Identifier ts x us
-        → Bases us args (sign k (mark Colon) ∷ mid) → Block mid body rest → ClassDef l ds m ts (S.class l (decorators_from ds) m x args (stms_from body)) rest
+    a_class : {l m k : ℕ} {ds : List OneDecorator} {x : Name} {b : OneBases} {body : List Stm} {ts us mid rest : List Lexeme} → Identifier ts x us
+        → Bases us b (sign k (mark Colon) ∷ mid) → Block mid body rest
+        → ClassDef l ds m ts (S.class l (decorators_from ds) m x b.arguments b.trailing_comma (stms_from body)) rest
 
 abbrev pub Otherwise : Reads (List Stm)
 Otherwise = Afterwards (word Else)
@@ -159,8 +160,8 @@ abbrev pub Closing : ℕ → List Stm → List OneHandler → Reads Stm
 Closing l body hs = Then Otherwise (λ els. Finishing l body hs els)
 
 -- behind the heading of a class
-abbrev pub ClassBody : ℕ → List OneDecorator → ℕ → Name → Args → Reads Stm
-ClassBody l ds m x args = Then Suite (λ body. Is (S.class l (decorators_from ds) m x args (stms_from body)))
+abbrev pub ClassBody : ℕ → List OneDecorator → ℕ → Name → OneBases → Reads Stm
+ClassBody l ds m x b = Then Suite (λ body. Is (S.class l (decorators_from ds) m x b.arguments b.trailing_comma (stms_from body)))
 
 -- behind the "@" on this line: expr NEWLINE { "@" expr NEWLINE } and what they stand before
 abbrev pub Decoration : ℕ → Reads Stm

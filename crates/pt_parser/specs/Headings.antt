@@ -1,16 +1,16 @@
 -- What stands before the blocks of functions, classes and handlers (Language Reference 8.4, 8.7, 8.8).
-use Rattle.std.specs.Prelude.{◌≡◌, ℕ, Bool, true, false, List, [], ◌∷◌, ◌++◌, Option, Some, None}
+use Rattle.std.specs.Prelude.{◌≡◌, ℕ, ◌-◌, Bool, true, false, List, [], ◌∷◌, ◌++◌, length, take, drop, Option, Some, None}
 use Rattle.pt_base.specs.declared.operators.BinOp.TheVariants.{Mul}
 use Rattle.pt_tree.specs.Syntax.{Name}
 use Rattle.pt_wide.specs.declared.expression.WideBinOp.TheVariants.{Plain, MatMul}
 use Rattle.pt_wide.specs.Syntax as S
 use Rattle.pt_wide.specs.Syntax.{Exp, Opt, Args, Decorators}
-use Rattle.pt_readers.specs.Reading.{Part}
+use Rattle.pt_readers.specs.Reading.{Part, next_of}
 use Rattle.pt_grammar.specs.declared.sign.Sign.{Sign}
 use Rattle.pt_grammar.specs.declared.sign.Sign.TheVariants.{Operator, Mark as mark, Layout as layout}
-use Rattle.pt_grammar.specs.declared.sign.Mark.TheVariants.{Open, Close, Arrow}
+use Rattle.pt_grammar.specs.declared.sign.Mark.TheVariants.{Open, Close, Comma, Arrow}
 use Rattle.pt_grammar.specs.declared.sign.Layout.TheVariants.{Newline}
-use Rattle.pt_grammar.specs.Lexemes.{Lexeme, sign}
+use Rattle.pt_grammar.specs.Lexemes.{Lexeme, sign, sign_at}
 use Rattle.pt_grammar.specs.Nodes.{Gathered}
 use Rattle.pt_grammar.specs.Parts.{some_arguments, some_parameters}
 use Rattle.pt_parser.specs.Forms.{Reads, Is, Then, The, Identifier, Optional}
@@ -66,10 +66,34 @@ abbrev pub Signature : Reads OneSignature
 Signature = Then Identifier (λ x. Then (The (mark Open)) (λ k. Then parameter_list.reads (λ g. Then (The (mark Close)) (λ m.
     Then (Optional (mark Arrow) an_expression.reads) (λ r. Is (signature_of x g r))))))
 
+-- the arguments of a class, and whether a comma stands before their ")"
+pub record OneBases : Type 0 where
+  pub arguments : Args
+  pub trailing_comma : Bool
+
+abbrev pub bases_of : Args → Bool → OneBases
+bases_of args b = record { arguments = args; trailing_comma = b }
+
+abbrev pub is_comma : Option Sign → Bool
+is_comma (Some (mark Comma)) = true
+is_comma _ = false
+
+-- The last of these tokens but one is a comma.
+abbrev pub comma_before_last : List Lexeme → Bool
+comma_before_last ts = is_comma (sign_at (next_of (drop (length ts - 2) ts)))
+
+-- the tokens that stand before the rest
+abbrev pub tokens_before : List Lexeme → List Lexeme → List Lexeme
+tokens_before ts rest = take (length ts - length rest) ts
+
+-- behind "(": [ args ] ")"
+pub data BehindOpen : List Lexeme → OneBases → List Lexeme → Type 0 where
+  behind_open : {args : Args} {ts rest : List Lexeme} → argument_list.reads ts args rest → BehindOpen ts (bases_of args (comma_before_last (tokens_before ts rest))) rest
+
 -- [ "(" [ args ] ")" ]
-pub data Bases : List Lexeme → Args → List Lexeme → Type 0 where
-  no_bases : {rest : List Lexeme} → Bases rest S.no_args rest
-  bases : {l : ℕ} {args : Args} {ts rest : List Lexeme} → argument_list.reads ts args rest → Bases (sign l (mark Open) ∷ ts) args rest
+pub data Bases : List Lexeme → OneBases → List Lexeme → Type 0 where
+  no_bases : {rest : List Lexeme} → Bases rest (bases_of S.no_args false) rest
+  bases : {l : ℕ} {b : OneBases} {ts rest : List Lexeme} → BehindOpen ts b rest → Bases (sign l (mark Open) ∷ ts) b rest
 
 -- what a handler catches: whether a "*" follows its "except", the class, and the name for it
 pub record OneCatch : Type 0 where

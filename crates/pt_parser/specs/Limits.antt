@@ -58,7 +58,7 @@ abbrev mutual
   FitsStm (S.try l body hs els fin) = FitsStms body × FitsHandlers hs × FitsStms els × FitsStms fin
   FitsStm (S.with l is body) = FitsItems is × FitsStms body
   FitsStm (S.def l ds m x ps r body) = FitsDecorators ds × FitsParams ps × FitsOpt r × FitsStms body
-  FitsStm (S.class l ds m x args body) = FitsDecorators ds × FitsArgs args × FitsStms body
+  FitsStm (S.class l ds m x args comma body) = FitsDecorators ds × FitsArgs args × FitsStms body
 
   pub FitsStms : Stms → Type 0
   FitsStms S.none = Unit {0}

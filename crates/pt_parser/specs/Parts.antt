@@ -17,9 +17,9 @@ use Rattle.pt_grammar.specs.Nodes.{params_of}
 use Rattle.pt_tree.specs.Syntax.{Name}
 use Rattle.pt_parser.specs.Forms.{Reads, Is, Then, Separated, UpTo, an_identifier, an_optional}
 use Rattle.pt_parser.specs.Simple.{comma, an_expression, a_place, Renamed, Aliased, Imported, Dotted, Simple}
-use Rattle.pt_parser.specs.Headings.{at_sign, OneDecorator, Decorated, OneSignature, Signature, OneCatch, Catch}
+use Rattle.pt_parser.specs.Headings.{at_sign, OneDecorator, Decorated, OneSignature, Signature, OneBases, BehindOpen, OneCatch, Catch}
 use Rattle.pt_parser.specs.With.{OneItem, WithItem, WithItems, FitsItem}
-use Rattle.pt_parser.specs.Limits.{FitsExp, FitsOpt, FitsParams, FitsStm, FitsStms}
+use Rattle.pt_parser.specs.Limits.{FitsExp, FitsOpt, FitsArgs, FitsParams, FitsStm, FitsStms}
 use Rattle.pt_parser.specs.Grammar.{OneBranch, OneHandler, Block, Stmts, Stmt, Simples, Afterwards, Suite, Compound}
 use Rattle.pt_wide.specs.StatementFold.{stms_from}
 
@@ -102,6 +102,10 @@ some_decorators l = record { reads = Decorated l []; stops = λ ds next. sign_at
 
 abbrev pub a_signature : Part Lexeme OneSignature
 a_signature = record { reads = Signature; stops = λ h next. (an_optional (mark Arrow) an_expression).stops h.returns next; fits = λ h. FitsParams (params_of h.parameters) × FitsOpt h.returns }
+
+-- the arguments of a class behind "("
+abbrev pub some_bases : Part Lexeme OneBases
+some_bases = record { reads = BehindOpen; stops = λ b next. Unit {0}; fits = λ b. FitsArgs b.arguments }
 
 -- up to the colon, which stays
 abbrev pub a_catch : Part Lexeme OneCatch

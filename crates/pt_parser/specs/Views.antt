@@ -8,9 +8,11 @@ use Rattle.pt_wide.specs.Syntax.{Exp, Stm}
 use Rattle.pt_wide.specs.Fold.{exp_of, opt_exp}
 use Rattle.pt_wide.specs.StatementFold.{stm_of}
 use Rattle.pt_grammar.specs.ReadViews.{gathered_read}
+use Rattle.pt_grammar.specs.Views.{args_in}
 use Rattle.pt_parser.specs.declared.heads.Signature.{Signature}
+use Rattle.pt_parser.specs.declared.heads.Bases.{Bases}
 use Rattle.pt_parser.specs.declared.heads.Catch.{Catch}
-use Rattle.pt_parser.specs.Headings.{OneDecorator, a_decorator, OneSignature, signature_of, OneCatch, catch_of}
+use Rattle.pt_parser.specs.Headings.{OneDecorator, a_decorator, OneSignature, signature_of, OneBases, bases_of, OneCatch, catch_of}
 use Rattle.pt_parser.specs.declared.with_items.Held.{Held}
 use Rattle.pt_parser.specs.declared.with_items.Held.TheVariants as held
 use Rattle.pt_parser.specs.With.{OneItem, item_at}
@@ -28,6 +30,9 @@ decorator_in d = a_decorator d.line.0 (exp_of d.value)
 
 abbrev pub signature_in : Signature → OneSignature
 signature_in h = signature_of h.name (gathered_read h.parameters) (opt_exp h.returns)
+
+abbrev pub bases_in : Bases → OneBases
+bases_in b = bases_of (args_in b.arguments) b.trailing_comma
 
 abbrev pub catch_in : Catch → OneCatch
 catch_in c = catch_of c.star (opt_exp c.class) c.name

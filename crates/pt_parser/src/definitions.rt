@@ -4,17 +4,17 @@ ghost use Rattle.std.specs.Prelude.{◌≡◌, map};
 ghost use Rattle.pt_wide.specs.StatementFold.{stm_of};
 ghost use Rattle.pt_readers.specs.Settled.{Settled};
 ghost use Rattle.pt_readers.proofs.Readers.{left};
-ghost use Rattle.pt_grammar.specs.Views.{args_in};
 ghost use Rattle.pt_parser.specs.Grammar.{FunctionDef, ClassDef, ClassBody, Decoration};
 ghost use Rattle.pt_parser.specs.Limits.{FitsArgs};
 ghost use Rattle.pt_parser.specs.Parts.{Each, FitsDecorator, a_compound};
-ghost use Rattle.pt_parser.specs.Views.{decorator_in};
+ghost use Rattle.pt_parser.specs.Views.{bases_in, decorator_in};
 
+use crate::heads::Bases;
 use crate::signs::{CLASS, DEF, OPEN};
 use crate::{Statements, nodes};
 use pt_base::{Line, Seq, Text};
 use pt_readers::Halt;
-use pt_wide::{WideArgument, WideDecorator, WideStmt};
+use pt_wide::{WideDecorator, WideStmt};
 
 impl<'a> Statements<'a> {
     /// Behind `def`, which stands on that line; the statement starts on this one.
@@ -41,14 +41,14 @@ impl<'a> Statements<'a> {
         decorators: Seq<WideDecorator>,
         at: Line,
         name: Text,
-        arguments: Seq<WideArgument>,
+        bases: Bases,
     ) -> Result<WideStmt, Halt>
         requires decorators { Each FitsDecorator (map decorator_in decorators) }
-        requires arguments { FitsArgs (args_in arguments) }
-        ensures { Settled (left a_compound (ClassBody line.0 (map decorator_in decorators) at.0 name (args_in arguments))) stm_of self.old self.new result }
+        requires bases { FitsArgs (bases_in bases).arguments }
+        ensures { Settled (left a_compound (ClassBody line.0 (map decorator_in decorators) at.0 name (bases_in bases))) stm_of self.old self.new result }
     {
         let body = self.last()?;
-        Ok(nodes::class(line, decorators, at, name, arguments, body))
+        Ok(nodes::class(line, decorators, at, name, bases, body))
     }
 
     /// Behind `class`, which stands on that line; the statement starts on this one.
@@ -65,10 +65,14 @@ impl<'a> Statements<'a> {
         let name = self.identifier()?;
         if !self.take(OPEN) {
             let arguments = Seq::new(self.alloc);
-            return self.class_body(line, decorators, at, name, arguments);
+            let bases = Bases {
+                arguments,
+                trailing_comma: false,
+            };
+            return self.class_body(line, decorators, at, name, bases);
         }
-        let arguments = self.arguments()?;
-        self.class_body(line, decorators, at, name, arguments.items)
+        let bases = self.bases()?;
+        self.class_body(line, decorators, at, name, bases)
     }
 
     /// Behind the first `@`.

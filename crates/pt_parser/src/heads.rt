@@ -6,17 +6,20 @@ ghost use Rattle.pt_readers.specs.Settled.{Settled};
 ghost use Rattle.pt_readers.proofs.Readers.{left};
 ghost use Rattle.pt_grammar.specs.declared.sign.Sign.TheVariants.{Mark as mark_sign};
 ghost use Rattle.pt_grammar.specs.declared.sign.Mark.TheVariants.{Colon as colon_mark};
+ghost use Rattle.pt_grammar.specs.Lexemes.{lexemes};
 ghost use Rattle.pt_grammar.specs.Nodes.{is_given};
-ghost use Rattle.pt_parser.specs.Headings.{Caught};
-ghost use Rattle.pt_parser.specs.Parts.{a_sign_next, a_renamed, some_decorators, a_signature, a_catch};
-ghost use Rattle.pt_parser.specs.Views.{decorator_in, signature_in, catch_in};
+ghost use Rattle.pt_parser.specs.Headings.{Caught, comma_before_last as comma_before_last_of};
+ghost use Rattle.pt_parser.specs.Parts.{a_sign_next, a_renamed, some_decorators, a_signature, some_bases, a_catch};
+ghost use Rattle.pt_parser.specs.Views.{decorator_in, signature_in, bases_in, catch_in};
 
-use crate::signs::{ARROW, AS, AT, CLOSE, COLON, NEWLINE, OPEN, STAR};
+use crate::signs::{ARROW, AS, AT, CLOSE, COLON, COMMA, NEWLINE, OPEN, STAR};
 use crate::{Statements, nodes};
 use pt_base::{Boxed, Line, Seq, Text};
+use pt_grammar::Lexemes;
 use pt_grammar::deep::Parameters;
+use pt_lexer::Token;
 use pt_readers::Halt;
-use pt_wide::{WideDecorator, WideExpr};
+use pt_wide::{WideArgument, WideDecorator, WideExpr};
 
 /// A function's name, its parameters, and the annotation of its result.
 #[derive(Drop)]
@@ -24,6 +27,13 @@ pub struct Signature {
     pub name: Text,
     pub parameters: Parameters,
     pub returns: Option<Boxed<WideExpr>>,
+}
+
+/// The arguments of a class, and whether a comma stands before their `)`.
+#[derive(Drop)]
+pub struct Bases {
+    pub arguments: Seq<WideArgument>,
+    pub trailing_comma: bool,
 }
 
 /// What a handler catches: whether a `*` follows its `except`, the class, and the name for it.
@@ -44,6 +54,14 @@ impl Catch {
             None => false,
         }
     }
+}
+
+/// Whether the last of these tokens but one is a comma.
+fn comma_before_last(tokens: &[Token]) -> bool
+    ensures { result ≡ comma_before_last_of (lexemes tokens.now) }
+{
+    let at = tokens.len().saturating_sub(2);
+    Lexemes::new(&tokens[at..]).is(COMMA)
 }
 
 impl<'a> Statements<'a> {
@@ -77,6 +95,19 @@ impl<'a> Statements<'a> {
             name,
             parameters,
             returns,
+        })
+    }
+
+    /// What stands behind the `(` of a class, with its `)` (Language Reference 8.8).
+    pub(crate) fn bases(&mut self) -> Result<Bases, Halt>
+        ensures { Settled some_bases bases_in self.old self.new result }
+    {
+        let tokens = self.as_slice();
+        let arguments = self.arguments()?;
+        let read = tokens.len() - self.len();
+        Ok(Bases {
+            arguments: arguments.items,
+            trailing_comma: comma_before_last(&tokens[..read]),
         })
     }
 

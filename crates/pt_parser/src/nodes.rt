@@ -12,13 +12,10 @@ ghost use Rattle.pt_parser.specs.With.{items_from};
 ghost use Rattle.pt_parser.specs.Views.{item_in, branch_in, branch_parts, decorator_in, catch_in, handler_in};
 ghost use Rattle.pt_wide.specs.Syntax as S;
 
-use crate::heads::{Catch, Signature};
+use crate::heads::{Bases, Catch, Signature};
 use pt_base::{BinOp, Boxed, Line, Seq, Text};
 use pt_tree::Alias;
-use pt_wide::{
-    WideArgument, WideBranch, WideDecorator, WideExpr, WideHandler, WideItem, WideStmt,
-    WideStmtNode,
-};
+use pt_wide::{WideBranch, WideDecorator, WideExpr, WideHandler, WideItem, WideStmt, WideStmtNode};
 
 /// What is in the box, if it is there.
 pub(crate) fn unboxed(value: Option<Boxed<WideExpr>>) -> Option<WideExpr>
@@ -286,16 +283,17 @@ pub(crate) fn class(
     decorators: Seq<WideDecorator>,
     at: Line,
     name: Text,
-    arguments: Seq<WideArgument>,
+    bases: Bases,
     body: Seq<WideStmt>,
 ) -> WideStmt
-    ensures { stm_of result ≡ S.class line.0 (decorators_from (map decorator_in decorators)) at.0 name (args_in arguments) (stms_of body) }
+    ensures { stm_of result ≡ S.class line.0 (decorators_from (map decorator_in decorators)) at.0 name (args_in bases.arguments) bases.trailing_comma (stms_of body) }
 {
     let node = WideStmtNode::Class {
         decorators,
         line: at,
         name,
-        arguments,
+        arguments: bases.arguments,
+        trailing_comma: bases.trailing_comma,
         body,
     };
     WideStmt { line, node }

@@ -57,6 +57,13 @@ impl<'a> Statements<'a> {
         self.expressions.lexemes.peek()
     }
 
+    /// The tokens that are left.
+    pub(crate) fn as_slice(&self) -> &'a [Token]
+        ensures { lexemes_of result.now ≡ self.now }
+    {
+        self.expressions.lexemes.as_slice()
+    }
+
     /// How many tokens are left.
     pub(crate) fn len(&self) -> usize
         ensures { result ≡ length self.now }

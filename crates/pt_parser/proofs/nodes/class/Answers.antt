@@ -7,5 +7,5 @@ use Rattle.pt_parser.proofs.NodeLemmas.{decorators_same}
 use Rattle.pt_parser.proofs.nodes.class.Goals as goal
 
 pub returns : goal.returns
-returns c = stm_of-Class _ _ _ _ _ _ refl
-    ∙ ap (λ ds. S.class c.args.line.0 ds c.args.at.0 c.args.name (args_in c.args.arguments) (stms_of c.args.body)) (decorators_same c.args.decorators)
+returns c = stm_of-Class _ _ _ _ _ _ _ refl
+    ∙ ap (λ ds. S.class c.args.line.0 ds c.args.at.0 c.args.name (args_in c.args.bases.arguments) c.args.bases.trailing_comma (stms_of c.args.body)) (decorators_same c.args.decorators)

@@ -6,7 +6,7 @@ use Rattle.pt_readers.proofs.Readers.{carries_all, narrow_carries, then_on}
 use Rattle.pt_readers.proofs.Exits.{passed, carried, fails_at, goes_on, carried_all, shift_on, is_so, is_not, found_shorter, some_more}
 use Rattle.pt_parser.specs.Limits.{FitsStm}
 use Rattle.pt_parser.specs.Parts.{Clear, Each, FitsBlock, FitsBranch, FitsHandler, a_stmt, a_compound, some_stmts}
-use Rattle.pt_parser.specs.Views.{item_in, branch_in, branch_parts, decorator_in, signature_in, catch_in, handler_in}
+use Rattle.pt_parser.specs.Views.{item_in, branch_in, branch_parts, decorator_in, signature_in, bases_in, catch_in, handler_in}
 use Rattle.pt_parser.proofs.Tokens.{sign_next}
 use Rattle.pt_parser.proofs.Chains.{is_found}
 use Rattle.pt_parser.proofs.Ends.{before_binds, before_is}
@@ -14,9 +14,8 @@ use Rattle.pt_parser.proofs.UpTo.{each_snoc}
 use Rattle.pt_parser.proofs.BlockLemmas.{before_all, block_snoc, line_narrow, lines_shifts, indent_binds, rest_binds, none_carries, after_shifts, ending_binds, suite_colon, compound_narrow, compound_binds, simples_stmt, simples_binds, close_shifts, next_carries, next_binds, stmt_shorter}
 use Rattle.pt_parser.proofs.CompoundLemmas.{while_shifts, while_test, while_body, while_else, for_shifts, for_target, for_in, for_over, for_body, for_else, chosen_opens, choice_test, choice_body, elif_shifts, last_carries, last_binds, branches_fit, if_shifts, is_at}
 use Rattle.pt_grammar.specs.Nodes.{is_given}
-use Rattle.pt_grammar.specs.Views.{args_in}
 use Rattle.pt_parser.specs.Grammar.{handler_at}
-use Rattle.pt_parser.proofs.DefinitionLemmas.{decorators_fit, function_opens, function_signature, function_body, class_opens, class_name, class_arguments, class_block, bases_shifts, bases_carries, def_shifts, class_shifts, decoration_shifts, function_shifts, class_behind, decoration_binds, definition_bad}
+use Rattle.pt_parser.proofs.DefinitionLemmas.{decorators_fit, function_opens, function_signature, function_body, class_opens, class_name, class_bases, class_block, bases_shifts, bases_carries, def_shifts, class_shifts, decoration_shifts, function_shifts, class_behind, decoration_binds, definition_bad}
 use Rattle.pt_parser.proofs.EnterLemmas.{with_shifts, with_binds, with_body, items_fit}
 use Rattle.pt_parser.proofs.TryLemmas.{handlers_fit, try_shifts, try_body, last_shifts, last_block, first_handler, tried_bad, handler_opens, handler_catch, handler_block, else_block, finally_binds, handler_shifts, closing_carries, finishing_carries, else_shifts as else_shifts_of_try, last_carries as last_carries_of_try}
 use Rattle.pt_parser.proofs.reader.Statements.+statements.Goals as goal
@@ -241,12 +240,12 @@ function-returns t c = rw c.function.ensures ((goes_on (goes_on (narrow_carries 
 -- classes
 pub class_body-returns-in_err-body : goal.class_body-returns-in_err-body
 class_body-returns-in_err-body t c = fails_at _ _ _ _ _ _ c.from_residual.ensures.1 carries_all
-    (class_block c.args.line.0 (map decorator_in c.args.decorators) c.args.at.0 c.requires.decorators c.args.name (args_in c.args.arguments) c.requires.arguments) c.in_err-body.ensures
+    (class_block c.args.line.0 (map decorator_in c.args.decorators) c.args.at.0 c.requires.decorators c.args.name (bases_in c.args.bases) c.requires.bases) c.in_err-body.ensures
 
 pub class_body-returns : goal.class_body-returns
 class_body-returns t c = rw c.class.ensures ((goes_on carries_all
-    (class_block c.args.line.0 (map decorator_in c.args.decorators) c.args.at.0 c.requires.decorators c.args.name (args_in c.args.arguments) c.requires.arguments) c.in_ok-body.ensures).found _ _
-    (is_found a_compound _ _ c.in_ok-body.ensures.stops (decorators_fit (map decorator_in c.args.decorators) c.requires.decorators, c.requires.arguments, c.in_ok-body.ensures.fits)))
+    (class_block c.args.line.0 (map decorator_in c.args.decorators) c.args.at.0 c.requires.decorators c.args.name (bases_in c.args.bases) c.requires.bases) c.in_ok-body.ensures).found _ _
+    (is_found a_compound _ _ c.in_ok-body.ensures.stops (decorators_fit (map decorator_in c.args.decorators) c.requires.decorators, c.requires.bases, c.in_ok-body.ensures.fits)))
 
 pub class-returns-in_err-name : goal.class-returns-in_err-name
 class-returns-in_err-name t c = fails_at _ _ _ _ _ _ c.from_residual.ensures.1 (narrow_carries (class_opens c.args.line.0 (map decorator_in c.args.decorators) c.args.at.0 _))
@@ -259,17 +258,17 @@ class-returns-then-not-take t c = carried_all stm_of _ _
     (c.take.ensures.none (grind arith)))
     (rw c.new-arguments.ensures at c.class_body.ensures)
 
-pub class-returns-in_err-arguments : goal.class-returns-in_err-arguments
-class-returns-in_err-arguments t c = let n = c.take.ensures.found (grind arith) in fails_at _ _ _ _ _ _ c.from_residual-in_err-arguments.ensures.1
+pub class-returns-in_err-bases : goal.class-returns-in_err-bases
+class-returns-in_err-bases t c = let n = c.take.ensures.found (grind arith) in fails_at _ _ _ _ _ _ c.from_residual-in_err-bases.ensures.1
     (shift_on (goes_on (narrow_carries (class_opens c.args.line.0 (map decorator_in c.args.decorators) c.args.at.0 _)) (class_name c.args.line.0 (map decorator_in c.args.decorators) c.args.at.0 c.requires) c.in_ok-name.ensures)
     (bases_shifts c.args.line.0 (map decorator_in c.args.decorators) c.args.at.0 c.in_ok-name.name _) (sign_next _ n.0) n.1)
-    (class_arguments c.args.line.0 (map decorator_in c.args.decorators) c.args.at.0 c.requires c.in_ok-name.name) c.in_err-arguments.ensures
+    (class_bases c.args.line.0 (map decorator_in c.args.decorators) c.args.at.0 c.requires c.in_ok-name.name) c.in_err-bases.ensures
 
 pub class-returns : goal.class-returns
 class-returns t c = let n = c.take.ensures.found (grind arith) in carried_all stm_of _ _
     (goes_on (shift_on (goes_on (narrow_carries (class_opens c.args.line.0 (map decorator_in c.args.decorators) c.args.at.0 _)) (class_name c.args.line.0 (map decorator_in c.args.decorators) c.args.at.0 c.requires) c.in_ok-name.ensures)
     (bases_shifts c.args.line.0 (map decorator_in c.args.decorators) c.args.at.0 c.in_ok-name.name _) (sign_next _ n.0) n.1)
-    (class_arguments c.args.line.0 (map decorator_in c.args.decorators) c.args.at.0 c.requires c.in_ok-name.name) c.in_ok-arguments.ensures)
+    (class_bases c.args.line.0 (map decorator_in c.args.decorators) c.args.at.0 c.requires c.in_ok-name.name) c.in_ok-bases.ensures)
     c.class_body-2.ensures
 
 -- decorators, and what they stand before
