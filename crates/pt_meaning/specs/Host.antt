@@ -125,11 +125,11 @@ operated (T.binary o) (a ∷ b ∷ []) w = resulting (result_of o a b) w
 operated (T.call rs) (f ∷ vs) w = if are_plain rs then called f vs w else leaves Feature
 operated op vs w = leaves Feature
 
-abbrev pub sought : Seek Value → World → Outcome Value Value World
-sought (const k) w = valued k w
-sought (load x) w = named x.scope x.name w
-sought (operate op vs) w = operated op vs w
-sought s w = leaves Feature
+abbrev pub evaluated : Seek Value → World → Outcome Value Value World
+evaluated (const k) w = valued k w
+evaluated (load x) w = named x.scope x.name w
+evaluated (operate op vs) w = operated op vs w
+evaluated s w = leaves Feature
 
 -- a name of the module is bound
 abbrev pub bound : Scope → Name → Value → World → Outcome Value (Unit {0}) World
@@ -142,7 +142,7 @@ done_by (discard v) w = goes (got tt) w
 done_by d w = leaves Feature
 
 abbrev pub answer : (a : Ask Value) → World → Outcome Value (Answer Value a) World
-answer (seek s) w = sought s w
+answer (seek s) w = evaluated s w
 answer (deed d) w = done_by d w
 answer a w = leaves Feature
 

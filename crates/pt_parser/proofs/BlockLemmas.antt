@@ -18,7 +18,7 @@ use Rattle.pt_grammar.specs.declared.sign.Keyword.TheVariants.{Class, Def, Elif,
 use Rattle.pt_grammar.specs.declared.sign.Layout.TheVariants.{Newline, Indent, Dedent, End}
 use Rattle.pt_grammar.specs.Lexemes.{Lexeme, name, int, str, f_text, sign, unknown, sign_at}
 use Rattle.pt_parser.specs.Forms.{Reads, Is, is, Then, The, the, UpTo, closed, a_sign}
-use Rattle.pt_parser.specs.Simple.{Simple, led, imported_from, stated}
+use Rattle.pt_parser.specs.Simple.{Simple, keyword_statement, imported_from, assignment_or_expression}
 use Rattle.pt_parser.specs.Grammar.{Simples, Block, on_line, indented, Stmts, no_stmt, one_stmt, Stmt, compound, simples, Afterwards, nothing_after, block_after, Suite, Compound, if_so, while_so, for_each, try_so, def_so, class_so, with_decorators, with_so}
 use Rattle.pt_parser.specs.Limits.{FitsStm, FitsStms}
 use Rattle.pt_parser.specs.Parts.{IsEnd, IsClause, Clear, BeginsCompound, no_clause, Each, closing, FitsBlock, a_simple, some_simples, a_compound, a_stmt, some_stmts, a_block, IsAfterwards, an_afterwards, a_last, a_suite}
@@ -180,7 +180,7 @@ simple_no_newline (Some (sign l s)) b h = other s b cc
 
 -- simple statements on one line
 simple_ready : (over : Bool) → Ready a_simple.fits over a_simple.reads
-simple_ready over = record { word = sign 0 (keyword Pass) ∷ []; done = S.pass 0; fits = within_all a_simple.fits over (S.pass 0) tt; reads = λ z. led is }
+simple_ready over = record { word = sign 0 (keyword Pass) ∷ []; done = S.pass 0; fits = within_all a_simple.fits over (S.pass 0) tt; reads = λ z. keyword_statement is }
 
 pub simples_closable : Closable (mark Semicolon) (layout Newline) a_simple
 simples_closable = record {
@@ -322,7 +322,7 @@ lines_shifts l = record { intro = λ ts all rest k. into k; inv = λ ts all rest
     out (indented q u) = (_, _, the refl, (_, _, q, u))
 
 stmt_ready : (over : Bool) → Ready FitsBlock over (Stmt [])
-stmt_ready over = record { word = sign 0 (keyword Pass) ∷ (sign 0 (layout Newline) ∷ []); done = S.pass 0 ∷ []; fits = within_all FitsBlock over (S.pass 0 ∷ []) (tt, tt); reads = λ z. simples (_, _, led is, closed refl) }
+stmt_ready over = record { word = sign 0 (keyword Pass) ∷ (sign 0 (layout Newline) ∷ []); done = S.pass 0 ∷ []; fits = within_all FitsBlock over (S.pass 0 ∷ []) (tt, tt); reads = λ z. simples (_, _, keyword_statement is, closed refl) }
 
 rest_ready : (over : Bool) → Ready FitsBlock over Rest
 rest_ready over = ready_then FitsBlock over (a_stmt []) (λ ss. Stmts (layout Dedent) ss) (stmt_ready over)
@@ -339,7 +339,7 @@ rest_binds = chain a_block (a_stmt []) (λ ss. Stmts (layout Dedent) ss) record 
 }
 
 pub block_ready : (over : Bool) → Ready FitsBlock over Block
-block_ready over = record { word = sign 0 (keyword Pass) ∷ (sign 0 (layout Newline) ∷ []); done = S.pass 0 ∷ []; fits = within_all FitsBlock over (S.pass 0 ∷ []) (tt, tt); reads = λ z. on_line (_, _, led is, closed refl) }
+block_ready over = record { word = sign 0 (keyword Pass) ∷ (sign 0 (layout Newline) ∷ []); done = S.pass 0 ∷ []; fits = within_all FitsBlock over (S.pass 0 ∷ []) (tt, tt); reads = λ z. on_line (_, _, keyword_statement is, closed refl) }
 
 -- ":" and a block
 pub suite_colon : Binds (a_sign (mark Colon)) (λ l. Block) a_suite

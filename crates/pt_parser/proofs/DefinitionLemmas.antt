@@ -14,7 +14,7 @@ use Rattle.pt_grammar.specs.declared.sign.Layout.TheVariants.{Newline}
 use Rattle.pt_grammar.specs.Lexemes.{Lexeme, name, sign, sign_at}
 use Rattle.pt_grammar.specs.Nodes.{params_of, no_parameters}
 use Rattle.pt_parser.specs.Forms.{Reads, Is, is, Then, The, the, Identifier, identifier, closed, an_identifier, an_optional}
-use Rattle.pt_parser.specs.Simple.{an_expression, led}
+use Rattle.pt_parser.specs.Simple.{an_expression, keyword_statement}
 use Rattle.pt_parser.specs.Headings.{at_sign, OneDecorator, decorators_from, Decorated, OneSignature, signature_of, Signature, OneBases, bases_of, BehindOpen, Bases, no_bases, bases}
 use Rattle.pt_parser.specs.Grammar.{Block, on_line, Suite, Compound, def_so, class_so, with_decorators, Definition, of_function, of_class, FunctionDef, function, ClassDef, a_class, ClassBody, Decoration}
 use Rattle.pt_parser.specs.Limits.{FitsArgs, FitsDecorators, FitsStm}
@@ -218,7 +218,7 @@ definition_ready over l ds f = record {
   word = class_word;
   done = some_class l ds;
   fits = within_one (Each FitsDecorator) FitsStm over ds (some_class l ds) (λ f. (decorators_fit ds f, no_args_fit, (tt, tt))) f;
-  reads = λ z. of_class (a_class identifier no_bases (on_line (_, _, led is, closed refl)));
+  reads = λ z. of_class (a_class identifier no_bases (on_line (_, _, keyword_statement is, closed refl)));
 }
 
 pub decoration_binds : (l : ℕ) → Binds (some_decorators l) (λ ds. Definition l ds) (left a_compound (Decoration l))

@@ -17,7 +17,7 @@ use Rattle.pt_grammar.specs.Parts.{IsComma, StopsItems, item_rank, last_of}
 use Rattle.pt_grammar.specs.Signs.{begins_sign, begins_item}
 use Rattle.pt_wide.specs.Fold.{all_of}
 use Rattle.pt_parser.specs.Forms.{Reads, Is, is, Then, Optional, an_optional}
-use Rattle.pt_parser.specs.Simple.{Behind, Nothing, ImportedFrom, Stated, annotated, augmented, assigned, only_value, Simple, led, imported_from, stated, comma, an_expression, expressions, several_places, Returned, returned_nothing, returned, Raised, raised_again, raised}
+use Rattle.pt_parser.specs.Simple.{Behind, Nothing, ImportedFrom, AssignmentOrExpression, annotated, augmented, assigned, only_value, Simple, keyword_statement, imported_from, assignment_or_expression, comma, an_expression, expressions, several_places, Returned, returned_nothing, returned, Raised, raised_again, raised}
 use Rattle.pt_parser.specs.Limits.{FitsExp, FitsOpt, FitsTargets, FitsStm}
 use Rattle.pt_parser.specs.Parts.{IsEnd, keyword_in, a_list, a_simple}
 use Rattle.pt_parser.proofs.Chains.{Ready, ready_is, ready_then, within_all, within_one, within_two, Follows, chain}
@@ -210,37 +210,37 @@ cause_binds l e fe = chain a_simple (an_optional (word From) an_expression) (λ 
     down is f = f.1
 
 -- no keyword of a statement, and no `from`, begins a value
-stated_begins : {ts rest : List Lexeme} {s : Stm} → Stated ts s rest → Begins (next_of ts)
+stated_begins : {ts rest : List Lexeme} {s : Stm} → AssignmentOrExpression ts s rest → Begins (next_of ts)
 stated_begins (annotated q k) = values_begins (place_value q)
 stated_begins (augmented q p) = values_begins (place_value q)
 stated_begins (assigned q a) = values_begins (target_value q)
 stated_begins (only_value q) = values_begins q
 
 pub keyword_shifts : (l : ℕ) (k : Keyword) → Shifts (sign l (keyword k)) (left a_simple (Behind l k)) a_simple
-keyword_shifts l k = record { intro = λ ts s rest b. led b; inv = λ ts s rest q n. (out q, n); stop = λ s o n. n; up = λ s f. f; down = λ s f. f }
+keyword_shifts l k = record { intro = λ ts s rest b. keyword_statement b; inv = λ ts s rest q n. (out q, n); stop = λ s o n. n; up = λ s f. f; down = λ s f. f }
   where
     out : {ts rest : List Lexeme} {s : Stm} → Simple (sign l (keyword k) ∷ ts) s rest → Behind l k ts s rest
-    out (led b) = b
-    out (stated q) = absurd (stated_begins q)
+    out (keyword_statement b) = b
+    out (assignment_or_expression q) = absurd (stated_begins q)
 
 pub from_shifts : (l : ℕ) → Shifts (sign l (word From)) (left a_simple (ImportedFrom l)) a_simple
 from_shifts l = record { intro = λ ts s rest b. imported_from b; inv = λ ts s rest q n. (out q, n); stop = λ s o n. n; up = λ s f. f; down = λ s f. f }
   where
     out : {ts rest : List Lexeme} {s : Stm} → Simple (sign l (word From) ∷ ts) s rest → ImportedFrom l ts s rest
     out (imported_from b) = b
-    out (stated q) = absurd (stated_begins q)
+    out (assignment_or_expression q) = absurd (stated_begins q)
 
-pub stated_narrows : (ts : List Lexeme) → keyword_in (sign_at (next_of ts)) ≡ None → sign_at (next_of ts) ≢ Some (word From) → Narrows ts (left a_simple Stated) a_simple
-stated_narrows ts m n = record { into = λ more s rest k. stated k; out = λ more s rest a k e. (out a k, e); stop = λ s o e. e; up = λ s f. f; down = λ s f. f }
+pub stated_narrows : (ts : List Lexeme) → keyword_in (sign_at (next_of ts)) ≡ None → sign_at (next_of ts) ≢ Some (word From) → Narrows ts (left a_simple AssignmentOrExpression) a_simple
+stated_narrows ts m n = record { into = λ more s rest k. assignment_or_expression k; out = λ more s rest a k e. (out a k, e); stop = λ s o e. e; up = λ s f. f; down = λ s f. f }
   where
     no_keyword : {k : Keyword} → Some k ≡ keyword_in (sign_at (next_of ts)) → ⊥
     no_keyword h = cc
 
-    out : {more rest : List Lexeme} {s : Stm} → Alike more ts → Simple more s rest → Stated more s rest
-    out a (stated k) = k
-    out (inl a) (led b) = absurd (no_keyword (ap (λ o. keyword_in (sign_at o)) a))
+    out : {more rest : List Lexeme} {s : Stm} → Alike more ts → Simple more s rest → AssignmentOrExpression more s rest
+    out a (assignment_or_expression k) = k
+    out (inl a) (keyword_statement b) = absurd (no_keyword (ap (λ o. keyword_in (sign_at o)) a))
     out (inl a) (imported_from b) = absurd (n (sym (ap sign_at a)))
-    out (inr a) (led b) = cc
+    out (inr a) (keyword_statement b) = cc
     out (inr a) (imported_from b) = cc
 
 -- the other keywords begin no simple statement
@@ -263,17 +263,17 @@ not_led ts s rest l _ a b c d e f g h i j q = nothing_is q
 
 pub led_bad : (l : ℕ) (k : Keyword) (ts : List Lexeme) → next_of ts ≡ Some (sign l (keyword k))
     → k ≢ Pass → k ≢ Break → k ≢ Continue → k ≢ Return → k ≢ Raise → k ≢ Global → k ≢ Nonlocal → k ≢ Del → k ≢ Assert → k ≢ Import → Refused a_simple false ts ts
-led_bad l k ts at a b c d e f g h i j = bad_refused a_simple ts (λ more r s rest q n. out r q) (sign 0 (keyword Pass) ∷ []) (S.pass 0) tt (λ z. led is)
+led_bad l k ts at a b c d e f g h i j = bad_refused a_simple ts (λ more r s rest q n. out r q) (sign 0 (keyword Pass) ∷ []) (S.pass 0) tt (λ z. keyword_statement is)
   where
     by_sign : {more rest : List Lexeme} {s : Stm} → sign_at (next_of more) ≡ Some (keyword k) → Simple more s rest → ⊥
-    by_sign u (led {k = k'} q) = let v : k ≡ k' = cc in not_led _ _ _ _ k' (λ w. a (v ∙ w)) (λ w. b (v ∙ w)) (λ w. c (v ∙ w)) (λ w. d (v ∙ w)) (λ w. e (v ∙ w)) (λ w. f (v ∙ w)) (λ w. g (v ∙ w)) (λ w. h (v ∙ w)) (λ w. i (v ∙ w)) (λ w. j (v ∙ w)) q
+    by_sign u (keyword_statement {k = k'} q) = let v : k ≡ k' = cc in not_led _ _ _ _ k' (λ w. a (v ∙ w)) (λ w. b (v ∙ w)) (λ w. c (v ∙ w)) (λ w. d (v ∙ w)) (λ w. e (v ∙ w)) (λ w. f (v ∙ w)) (λ w. g (v ∙ w)) (λ w. h (v ∙ w)) (λ w. i (v ∙ w)) (λ w. j (v ∙ w)) q
     by_sign u (imported_from q) = cc
-    by_sign u (stated q) = begins_not _ u (stated_begins q)
+    by_sign u (assignment_or_expression q) = begins_not _ u (stated_begins q)
 
     empty : {rest : List Lexeme} {s : Stm} (more : List Lexeme) → more ≡ [] → Simple more s rest → ⊥
-    empty more u (led q) = cc
+    empty more u (keyword_statement q) = cc
     empty more u (imported_from q) = cc
-    empty more u (stated q) = subst (λ v. Begins (next_of v)) u (stated_begins q)
+    empty more u (assignment_or_expression q) = subst (λ v. Begins (next_of v)) u (stated_begins q)
 
     out : {more rest : List Lexeme} {s : Stm} → Alike more ts → Simple more s rest → ⊥
     out (inl u) q = by_sign (ap sign_at (u ∙ at)) q
@@ -321,6 +321,6 @@ begins_simple (Some (sign l (word From))) b = tt
 begins_simple _ b = b
 
 pub simple_begins : {ts rest : List Lexeme} {s : Stm} → Simple ts s rest → BeginsSimple (next_of ts)
-simple_begins (led {l = l} {k = k} q) = leads _ _ _ l k q
+simple_begins (keyword_statement {l = l} {k = k} q) = leads _ _ _ l k q
 simple_begins (imported_from q) = tt
-simple_begins (stated q) = begins_simple _ (stated_begins q)
+simple_begins (assignment_or_expression q) = begins_simple _ (stated_begins q)

@@ -13,7 +13,7 @@ use Rattle.pt_grammar.specs.declared.sign.Mark.TheVariants.{Colon, Assign, Semic
 use Rattle.pt_grammar.specs.Nodes.{line_of}
 use Rattle.pt_grammar.specs.Lexemes.{Lexeme, sign, sign_at}
 use Rattle.pt_parser.specs.Forms.{Reads, Is, is, Then, Optional, an_optional}
-use Rattle.pt_parser.specs.Simple.{an_expression, a_place, values, places, Assigned, last_value, one_target, Annotation, Stated, annotated, augmented, assigned, only_value}
+use Rattle.pt_parser.specs.Simple.{an_expression, a_place, values, places, Assigned, last_value, one_target, Annotation, AssignmentOrExpression, annotated, augmented, assigned, only_value}
 use Rattle.pt_parser.specs.Limits.{FitsExp, FitsOpt, FitsExps, FitsStm}
 use Rattle.pt_parser.specs.Parts.{IsEnd, Each, operator_in, a_simple}
 use Rattle.pt_parser.specs.Targets.{is_place, is_target}
@@ -107,7 +107,7 @@ assign_ends l xs v ts n = record { into = λ more s rest k. into k; out = λ mor
     out m (at_assign h a) = absurd (m refl)
 
 -- the first value
-pub stated_binds : Binds values Continued (left a_simple Stated)
+pub stated_binds : Binds values Continued (left a_simple AssignmentOrExpression)
 stated_binds = record {
   intro = λ ts v mid s rest q k. into q k;
   inv = λ ts s rest k n. out k n;
@@ -116,16 +116,16 @@ stated_binds = record {
   extend = λ v. ([], S.assign (line_of v) S.no_exps v, λ z. as_value at_end);
 }
   where
-    into_after : {ts mid rest : List Lexeme} {v : Exp} {s : Stm} → values.reads ts v mid → After (line_of v) [] v mid s rest → Stated ts s rest
+    into_after : {ts mid rest : List Lexeme} {v : Exp} {s : Stm} → values.reads ts v mid → After (line_of v) [] v mid s rest → AssignmentOrExpression ts s rest
     into_after q at_end = only_value q
     into_after q (at_assign h a) = assigned (value_target q h) a
 
-    into : {ts mid rest : List Lexeme} {v : Exp} {s : Stm} → values.reads ts v mid → Continued v mid s rest → Stated ts s rest
+    into : {ts mid rest : List Lexeme} {v : Exp} {s : Stm} → values.reads ts v mid → Continued v mid s rest → AssignmentOrExpression ts s rest
     into q (as_value k) = into_after q k
     into q (as_annotated h k) = annotated (value_place q h) k
     into q (as_augmented h (w, mid, p, is)) = augmented (value_place q h) p
 
-    out : {ts rest : List Lexeme} {s : Stm} → Stated ts s rest → IsEnd (next_of rest)
+    out : {ts rest : List Lexeme} {s : Stm} → AssignmentOrExpression ts s rest → IsEnd (next_of rest)
         → (v : Exp) × (mid : List Lexeme) × values.reads ts v mid × values.stops v (next_of mid) × Continued v mid s rest
     out (annotated {m = m} {t = t} q k) n = (t, _, place_value q, refl, as_annotated (place_is q) k)
     out {rest = rest} (augmented {m = m} {t = t} {v = v} {o = o} q p) n = (t, _, place_value q, refl, as_augmented (place_is q) (v, rest, p, is))

@@ -14,7 +14,7 @@ use Rattle.pt_grammar.specs.declared.sign.Layout.TheVariants.{Newline}
 use Rattle.pt_grammar.specs.Lexemes.{Lexeme, sign, sign_at}
 use Rattle.pt_grammar.specs.Nodes.{is_given}
 use Rattle.pt_parser.specs.Forms.{Reads, Is, is, Then, The, the, closed}
-use Rattle.pt_parser.specs.Simple.{led}
+use Rattle.pt_parser.specs.Simple.{keyword_statement}
 use Rattle.pt_parser.specs.Headings.{OneCatch, Catch}
 use Rattle.pt_parser.specs.Grammar.{OneHandler, handler_at, handlers_from, Block, on_line, Afterwards, nothing_after, block_after, Otherwise, Suite, Compound, try_so, Tried, with_handlers, at_last, Handling, handling, Handled, more_handlers, no_more_handlers, Attempt, Finishing, Closing}
 use Rattle.pt_parser.specs.Limits.{FitsOpt, FitsStm, FitsHandlers}
@@ -73,7 +73,7 @@ tried_ready over l body f = record {
   word = last_word;
   done = S.try l (stms_from body) S.no_handlers S.none (stms_from (S.pass 0 ∷ []));
   fits = within_one FitsBlock FitsStm over body (S.try l (stms_from body) S.no_handlers S.none (stms_from (S.pass 0 ∷ []))) (λ f. (f, tt, tt, (tt, tt))) f;
-  reads = λ z. at_last (on_line (_, _, led is, closed refl));
+  reads = λ z. at_last (on_line (_, _, keyword_statement is, closed refl));
 }
 
 pub try_body : (l : ℕ) → Binds a_suite (λ body. Tried l body) (left a_compound (Attempt l))

@@ -122,16 +122,16 @@ abbrev pub Annotation : Exp → Reads Stm
 Annotation t = Then an_expression.reads (λ a. Then (Optional (mark Assign) values.reads) (λ v. Is (S.annotated (line_of t) t a v)))
 
 -- target ":" expr [ "=" value ] | target AUGMENT value | { targets "=" } value
-pub data Stated : List Lexeme → Stm → List Lexeme → Type 0 where
-  annotated : {m : ℕ} {ts mid rest : List Lexeme} {t : Exp} {s : Stm} → a_place.reads ts t (sign m (mark Colon) ∷ mid) → Annotation t mid s rest → Stated ts s rest
+pub data AssignmentOrExpression : List Lexeme → Stm → List Lexeme → Type 0 where
+  annotated : {m : ℕ} {ts mid rest : List Lexeme} {t : Exp} {s : Stm} → a_place.reads ts t (sign m (mark Colon) ∷ mid) → Annotation t mid s rest → AssignmentOrExpression ts s rest
   augmented : {m : ℕ} {ts mid rest : List Lexeme} {t v : Exp} {o : BinOp} → a_place.reads ts t (sign m (Augmented o) ∷ mid) → values.reads mid v rest
-      → Stated ts (S.augmented (line_of t) t o v) rest
+      → AssignmentOrExpression ts (S.augmented (line_of t) t o v) rest
   assigned : {m : ℕ} {ts mid rest : List Lexeme} {t : Exp} {s : Stm} → places.reads ts t (sign m (mark Assign) ∷ mid) → Assigned (line_of t) (t ∷ []) mid s rest
-      → Stated ts s rest
-  only_value : {ts rest : List Lexeme} {v : Exp} → values.reads ts v rest → Stated ts (S.assign (line_of v) S.no_exps v) rest
+      → AssignmentOrExpression ts s rest
+  only_value : {ts rest : List Lexeme} {v : Exp} → values.reads ts v rest → AssignmentOrExpression ts (S.assign (line_of v) S.no_exps v) rest
 
 -- simple, on the line of its first token
 pub data Simple : List Lexeme → Stm → List Lexeme → Type 0 where
-  led : {l : ℕ} {k : Keyword} {ts rest : List Lexeme} {s : Stm} → Behind l k ts s rest → Simple (sign l (keyword k) ∷ ts) s rest
+  keyword_statement : {l : ℕ} {k : Keyword} {ts rest : List Lexeme} {s : Stm} → Behind l k ts s rest → Simple (sign l (keyword k) ∷ ts) s rest
   imported_from : {l : ℕ} {ts rest : List Lexeme} {s : Stm} → ImportedFrom l ts s rest → Simple (sign l (word From) ∷ ts) s rest
-  stated : {ts rest : List Lexeme} {s : Stm} → Stated ts s rest → Simple ts s rest
+  assignment_or_expression : {ts rest : List Lexeme} {s : Stm} → AssignmentOrExpression ts s rest → Simple ts s rest

@@ -164,7 +164,7 @@ impl<'a> Statements<'a> {
             return self.choice(line);
         }
         if self.take(WHILE) {
-            return self.repetition(line);
+            return self.while_statement(line);
         }
         if self.take(FOR) {
             return self.iteration(line);
@@ -180,7 +180,7 @@ impl<'a> Statements<'a> {
             return self.class(line, decorators, line);
         }
         if self.take(WITH) {
-            return self.entering(line);
+            return self.with_statement(line);
         }
         self.skip();
         self.decorated(line)
@@ -207,13 +207,13 @@ impl<'a> Statements<'a> {
 
     /// Behind `while` (Language Reference 8.2).
     #[cycle(statements)]
-    fn repetition(&mut self, line: Line) -> Result<WideStmt, Halt>
+    fn while_statement(&mut self, line: Line) -> Result<WideStmt, Halt>
         ensures { Settled (left a_compound (Repetition line.0)) stm_of self.old self.new result }
     {
         let test = self.expression()?;
         let body = self.suite()?;
         let otherwise = self.afterwards(ELSE)?;
-        Ok(nodes::repetition(line, test, body, otherwise))
+        Ok(nodes::while_statement(line, test, body, otherwise))
     }
 
     /// Behind `for` (Language Reference 8.3).
@@ -231,7 +231,7 @@ impl<'a> Statements<'a> {
 
     /// Behind `with` (Language Reference 8.5).
     #[cycle(statements)]
-    fn entering(&mut self, line: Line) -> Result<WideStmt, Halt>
+    fn with_statement(&mut self, line: Line) -> Result<WideStmt, Halt>
         ensures { Settled (left a_compound (Entering line.0)) stm_of self.old self.new result }
     {
         let items = self.with_items()?;

@@ -2,6 +2,7 @@
 //! Reference 7 to 9).
 #![tactic(auto)]
 
+mod assignment_or_expression;
 mod attempts;
 mod blocks;
 mod definitions;
@@ -14,7 +15,6 @@ mod reader;
 mod script;
 mod signs;
 mod simple;
-mod stated;
 mod targets;
 mod with_items;
 

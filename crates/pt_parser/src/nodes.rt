@@ -192,7 +192,7 @@ pub(crate) fn annotated(
 }
 
 #[tactic(auto, using(pt_wide::proofs::StatementFolds::statements))]
-pub(crate) fn repetition(
+pub(crate) fn while_statement(
     line: Line,
     test: Boxed<WideExpr>,
     body: Seq<WideStmt>,

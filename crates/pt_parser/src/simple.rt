@@ -108,7 +108,7 @@ impl<'a> Statements<'a> {
     }
 
     /// A simple statement that the next token, a keyword on this line, begins.
-    fn led(&mut self, line: Line, keyword: Keyword) -> Result<WideStmt, Halt>
+    fn keyword_statement(&mut self, line: Line, keyword: Keyword) -> Result<WideStmt, Halt>
         requires { next_of self.old ≡ Some (sign line.0 (keyword_sign keyword)) }
         ensures { Settled a_simple stm_of self.old self.new result }
     {
@@ -163,11 +163,11 @@ impl<'a> Statements<'a> {
     {
         let line = self.line();
         if let Some(keyword) = self.keyword() {
-            return self.led(line, keyword);
+            return self.keyword_statement(line, keyword);
         }
         if self.take(FROM) {
             return self.importing_from(line);
         }
-        self.stated()
+        self.assignment_or_expression()
     }
 }

@@ -12,7 +12,7 @@ ghost use Rattle.pt_tree.specs.StatementFold.{script_of};
 use crate::end::{End, File, Out};
 use pt_base::{Budget, Failure, Shelf, ShelfErr, Sink};
 use pt_front::front;
-use pt_session::{RunEnd, RunErr, first_unbuilt, run};
+use pt_session::{RunEnd, RunErr, first_unsupported, run};
 use pt_tree::Script;
 use std::alloc::Global;
 
@@ -58,7 +58,7 @@ fn built_script(alloc: Global, text: &[u8]) -> Result<Script, End>
         Err(Failure::Refused(error)) => return Err(End::Refused { error }),
         Err(Failure::Memory) => return Err(End::Memory),
     };
-    match first_unbuilt(&script) {
+    match first_unsupported(&script) {
         Some(line) => Err(End::Unbuilt { line }),
         None => Ok(script),
     }

@@ -14,7 +14,7 @@ use Rattle.pt_meaning.specs.declared.value.Value.{Value}
 use Rattle.pt_meaning.specs.declared.value.Value.TheVariants as value
 use Rattle.pt_meaning.specs.Run.{Outcome, goes, leaves, Ending, ended, outside, spent, on_outcome}
 use Rattle.pt_meaning.specs.Host as H
-use Rattle.pt_meaning.specs.Host.{World, host, answer, sought, called, operated, valued, named, done_by, resulting, given, are_plain}
+use Rattle.pt_meaning.specs.Host.{World, host, answer, evaluated, called, operated, valued, named, done_by, resulting, given, are_plain}
 use Rattle.pt_session.specs.declared.code.Code.{Code}
 use Rattle.pt_session.specs.declared.code.Placed.{Placed}
 use Rattle.pt_session.specs.View as view
@@ -69,12 +69,12 @@ operated_on (T.binary o) (a ∷ b ∷ []) w r w' e = stays w w' (resulting_on _ 
 operated_on (T.call rs) (f ∷ vs) w r w' e = plain_on (are_plain rs) f vs w r w' e
 operated_on o vs w r w' e = absurd (cc)
 
-sought_on : (a : Seek Value) (w : World) (r : Reply Value Value) (w' : World) → sought a w ≡ goes r w' → Grows w w'
-sought_on (const k) w r w' e = valued_on k w r w' e
-sought_on (load x) w r w' e = named_on x.scope x.name w r w' e
-sought_on (operate o vs) w r w' e = operated_on o vs w r w' e
-sought_on (T.yielding v) w r w' e = absurd (cc)
-sought_on (T.cell_of x) w r w' e = absurd (cc)
+evaluated_on : (a : Seek Value) (w : World) (r : Reply Value Value) (w' : World) → evaluated a w ≡ goes r w' → Grows w w'
+evaluated_on (const k) w r w' e = valued_on k w r w' e
+evaluated_on (load x) w r w' e = named_on x.scope x.name w r w' e
+evaluated_on (operate o vs) w r w' e = operated_on o vs w r w' e
+evaluated_on (T.yielding v) w r w' e = absurd (cc)
+evaluated_on (T.cell_of x) w r w' e = absurd (cc)
 
 -- binding a name writes nothing
 bound_on : (s : Scope) (x : List ℕ) (v : Value) (w : World) (r : Reply Value (Unit {0})) (w' : World) → H.bound s x v w ≡ goes r w' → Grows w w'
@@ -87,7 +87,7 @@ deed_on (discard v) w r w' e = stays w w' (same_goes _ r w w' e).1
 deed_on a w r w' e = absurd (cc)
 
 answer_on : (a : Ask Value) (w : World) (r : Reply Value (Answer Value a)) (w' : World) → answer a w ≡ goes r w' → Grows w w'
-answer_on (seek a) w r w' e = sought_on a w r w' e
+answer_on (seek a) w r w' e = evaluated_on a w r w' e
 answer_on (deed a) w r w' e = deed_on a w r w' e
 answer_on a w r w' e = absurd (cc)
 

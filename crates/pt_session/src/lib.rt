@@ -11,4 +11,4 @@ mod unbuilt;
 
 pub use laws::compiled_code_means_the_script;
 pub use runner::{RunEnd, RunErr, run};
-pub use unbuilt::first_unbuilt;
+pub use unbuilt::first_unsupported;

@@ -194,7 +194,7 @@ fn statement(s: &Stmt) -> Option<Line>
 /// The line of the first node of a script that isn't built, in the order of the source and a node
 /// before its parts; `None` where all of the script is built. It takes no memory but a stack that
 /// is as deep as the tree.
-pub fn first_unbuilt(script: &Script) -> Option<Line>
+pub fn first_unsupported(script: &Script) -> Option<Line>
     ensures { option_map (λ l. l.0) result ≡ unbuilt_of (script_of script.now) }
 {
     for s in script.body.as_slice() {

@@ -97,7 +97,7 @@ pub compound-returns-then-take : goal.compound-returns-then-take
 compound-returns-then-take t c = let n = c.take.ensures.found c.if-take.true in carried_all stm_of _ _ (shift_on carries_all (if_shifts _) (sign_next _ n.0) n.1) (rw c.line-line.ensures at c.choice.ensures)
 
 pub compound-returns-then-take-2 : goal.compound-returns-then-take-2
-compound-returns-then-take-2 t c = let m = c.take.ensures.none c.if-take.false in let n = rw m.1 at (c.take-2.ensures.found c.if-take-2.true) in carried_all stm_of _ _ (shift_on carries_all (while_shifts _) (sign_next _ n.0) n.1) (rw c.line-line.ensures at c.repetition.ensures)
+compound-returns-then-take-2 t c = let m = c.take.ensures.none c.if-take.false in let n = rw m.1 at (c.take-2.ensures.found c.if-take-2.true) in carried_all stm_of _ _ (shift_on carries_all (while_shifts _) (sign_next _ n.0) n.1) (rw c.line-line.ensures at c.while_statement.ensures)
 
 pub compound-returns-then-take-3 : goal.compound-returns-then-take-3
 compound-returns-then-take-3 t c =
@@ -142,7 +142,7 @@ compound-returns-then-take-7 t c =
     let f = rw e.1 at (c.take-5.ensures.none c.if-take-5.false) in
     let g = rw f.1 at (c.take-6.ensures.none c.if-take-6.false) in
     let n = rw g.1 at (c.take-7.ensures.found c.if-take-7.true) in
-    carried_all stm_of _ _ (shift_on carries_all (with_shifts _) (sign_next _ n.0) n.1) (rw c.line-line.ensures at c.entering.ensures)
+    carried_all stm_of _ _ (shift_on carries_all (with_shifts _) (sign_next _ n.0) n.1) (rw c.line-line.ensures at c.with_statement.ensures)
 
 pub compound-returns : goal.compound-returns
 compound-returns t c =
@@ -155,29 +155,29 @@ compound-returns t c =
     let h = rw g.1 at (c.take-7.ensures.none c.if-take-7.false) in
     carried_all stm_of _ _ (shift_on carries_all (decoration_shifts _) (sign_next _ (is_at _ c.requires a.0 b.0 d.0 e.0 f.0 g.0 h.0)) (c.skip.ensures ∙ rw h.1 refl)) (rw c.line-line.ensures at c.decorated.ensures)
 
-pub entering-returns-in_err-items : goal.entering-returns-in_err-items
-entering-returns-in_err-items t c = fails_at _ _ _ _ _ _ c.from_residual.ensures.1 carries_all (with_binds c.args.line.0) c.in_err-items.ensures
+pub with_statement-returns-in_err-items : goal.with_statement-returns-in_err-items
+with_statement-returns-in_err-items t c = fails_at _ _ _ _ _ _ c.from_residual.ensures.1 carries_all (with_binds c.args.line.0) c.in_err-items.ensures
 
-pub entering-returns-in_err-body : goal.entering-returns-in_err-body
-entering-returns-in_err-body t c = fails_at _ _ _ _ _ _ c.from_residual-in_err-body.ensures.1 (goes_on carries_all (with_binds c.args.line.0) c.in_ok-items.ensures)
+pub with_statement-returns-in_err-body : goal.with_statement-returns-in_err-body
+with_statement-returns-in_err-body t c = fails_at _ _ _ _ _ _ c.from_residual-in_err-body.ensures.1 (goes_on carries_all (with_binds c.args.line.0) c.in_ok-items.ensures)
     (with_body c.args.line.0 (map item_in c.in_ok-items.items) c.in_ok-items.ensures.fits) c.in_err-body.ensures
 
-pub entering-returns : goal.entering-returns
-entering-returns t c = rw c.with.ensures ((goes_on (goes_on carries_all (with_binds c.args.line.0) c.in_ok-items.ensures)
+pub with_statement-returns : goal.with_statement-returns
+with_statement-returns t c = rw c.with.ensures ((goes_on (goes_on carries_all (with_binds c.args.line.0) c.in_ok-items.ensures)
     (with_body c.args.line.0 (map item_in c.in_ok-items.items) c.in_ok-items.ensures.fits) c.in_ok-body.ensures).found _ _
     (is_found a_compound _ _ c.in_ok-body.ensures.stops (items_fit (map item_in c.in_ok-items.items) c.in_ok-items.ensures.fits, c.in_ok-body.ensures.fits)))
 
-pub repetition-returns-in_err-test : goal.repetition-returns-in_err-test
-repetition-returns-in_err-test t c = fails_at _ _ _ _ _ _ c.from_residual.ensures.1 carries_all (while_test c.args.line.0) c.in_err-test.ensures
+pub while_statement-returns-in_err-test : goal.while_statement-returns-in_err-test
+while_statement-returns-in_err-test t c = fails_at _ _ _ _ _ _ c.from_residual.ensures.1 carries_all (while_test c.args.line.0) c.in_err-test.ensures
 
-pub repetition-returns-in_err-body : goal.repetition-returns-in_err-body
-repetition-returns-in_err-body t c = fails_at _ _ _ _ _ _ c.from_residual-in_err-body.ensures.1 (goes_on carries_all (while_test c.args.line.0) c.in_ok-test.ensures) (while_body c.args.line.0 (exp_of c.in_ok-test.test) c.in_ok-test.ensures.fits) c.in_err-body.ensures
+pub while_statement-returns-in_err-body : goal.while_statement-returns-in_err-body
+while_statement-returns-in_err-body t c = fails_at _ _ _ _ _ _ c.from_residual-in_err-body.ensures.1 (goes_on carries_all (while_test c.args.line.0) c.in_ok-test.ensures) (while_body c.args.line.0 (exp_of c.in_ok-test.test) c.in_ok-test.ensures.fits) c.in_err-body.ensures
 
-pub repetition-returns-in_err-otherwise : goal.repetition-returns-in_err-otherwise
-repetition-returns-in_err-otherwise t c = fails_at _ _ _ _ _ _ c.from_residual-in_err-otherwise.ensures.1 (goes_on (goes_on carries_all (while_test c.args.line.0) c.in_ok-test.ensures) (while_body c.args.line.0 (exp_of c.in_ok-test.test) c.in_ok-test.ensures.fits) c.in_ok-body.ensures) (while_else c.args.line.0 (exp_of c.in_ok-test.test) (map stm_of c.in_ok-body.body) c.in_ok-test.ensures.fits c.in_ok-body.ensures.fits) c.in_err-otherwise.ensures
+pub while_statement-returns-in_err-otherwise : goal.while_statement-returns-in_err-otherwise
+while_statement-returns-in_err-otherwise t c = fails_at _ _ _ _ _ _ c.from_residual-in_err-otherwise.ensures.1 (goes_on (goes_on carries_all (while_test c.args.line.0) c.in_ok-test.ensures) (while_body c.args.line.0 (exp_of c.in_ok-test.test) c.in_ok-test.ensures.fits) c.in_ok-body.ensures) (while_else c.args.line.0 (exp_of c.in_ok-test.test) (map stm_of c.in_ok-body.body) c.in_ok-test.ensures.fits c.in_ok-body.ensures.fits) c.in_err-otherwise.ensures
 
-pub repetition-returns : goal.repetition-returns
-repetition-returns t c = rw c.repetition.ensures ((goes_on (goes_on (goes_on carries_all (while_test c.args.line.0) c.in_ok-test.ensures) (while_body c.args.line.0 (exp_of c.in_ok-test.test) c.in_ok-test.ensures.fits) c.in_ok-body.ensures) (while_else c.args.line.0 (exp_of c.in_ok-test.test) (map stm_of c.in_ok-body.body) c.in_ok-test.ensures.fits c.in_ok-body.ensures.fits) c.in_ok-otherwise.ensures).found _ _ (is_found a_compound _ _ c.in_ok-otherwise.ensures.stops (c.in_ok-test.ensures.fits, c.in_ok-body.ensures.fits, c.in_ok-otherwise.ensures.fits)))
+pub while_statement-returns : goal.while_statement-returns
+while_statement-returns t c = rw c.while_statement.ensures ((goes_on (goes_on (goes_on carries_all (while_test c.args.line.0) c.in_ok-test.ensures) (while_body c.args.line.0 (exp_of c.in_ok-test.test) c.in_ok-test.ensures.fits) c.in_ok-body.ensures) (while_else c.args.line.0 (exp_of c.in_ok-test.test) (map stm_of c.in_ok-body.body) c.in_ok-test.ensures.fits c.in_ok-body.ensures.fits) c.in_ok-otherwise.ensures).found _ _ (is_found a_compound _ _ c.in_ok-otherwise.ensures.stops (c.in_ok-test.ensures.fits, c.in_ok-body.ensures.fits, c.in_ok-otherwise.ensures.fits)))
 
 pub iteration-returns-in_err-target : goal.iteration-returns-in_err-target
 iteration-returns-in_err-target t c = fails_at _ _ _ _ _ _ c.from_residual.ensures.1 carries_all (for_target c.args.line.0) c.in_err-target.ensures

@@ -31,8 +31,8 @@ decreases-compound l = 6 * length l.self.now + 3
 abbrev pub decreases-choice : goal.decreases-choice
 decreases-choice l = 6 * length l.self.now + 2
 
-abbrev pub decreases-repetition : goal.decreases-repetition
-decreases-repetition l = 6 * length l.self.now + 2
+abbrev pub decreases-while_statement : goal.decreases-while_statement
+decreases-while_statement l = 6 * length l.self.now + 2
 
 abbrev pub decreases-iteration : goal.decreases-iteration
 decreases-iteration l = 6 * length l.self.now + 2
@@ -57,8 +57,8 @@ invariant-choice-more l = record {
 abbrev pub decreases-choice-more : goal.decreases-choice-more
 decreases-choice-more l = length l.self
 
-abbrev pub decreases-entering : goal.decreases-entering
-decreases-entering l = 6 * length l.self.now + 2
+abbrev pub decreases-with_statement : goal.decreases-with_statement
+decreases-with_statement l = 6 * length l.self.now + 2
 
 abbrev pub decreases-function : goal.decreases-function
 decreases-function l = 6 * length l.self.now + 2

@@ -12,4 +12,4 @@ returns-then-take c = let n = c.take.ensures.found c.if-take.true in
 
 pub returns : goal.returns
 returns c = let n = c.take.ensures.none c.if-take.false in
-    carried_all stm_of _ _ (narrow_carries (stated_narrows _ (sym c.keyword.ensures ∙ c.in_default.is) n.0)) (rw n.1 at c.stated.ensures)
+    carried_all stm_of _ _ (narrow_carries (stated_narrows _ (sym c.keyword.ensures ∙ c.in_default.is) n.0)) (rw n.1 at c.assignment_or_expression.ensures)

@@ -8,7 +8,7 @@ ghost use Rattle.pt_readers.specs.Settled.{Settled};
 ghost use Rattle.pt_readers.proofs.Readers.{left};
 ghost use Rattle.pt_grammar.specs.Nodes.{line_of};
 ghost use Rattle.pt_grammar.specs.Lexemes.{sign_at};
-ghost use Rattle.pt_parser.specs.Simple.{Annotation, Stated};
+ghost use Rattle.pt_parser.specs.Simple.{Annotation, AssignmentOrExpression};
 ghost use Rattle.pt_parser.specs.Limits.{FitsExp};
 ghost use Rattle.pt_parser.specs.Parts.{operator_in, a_simple};
 ghost use Rattle.pt_parser.specs.Left.{After, Augmentation};
@@ -80,8 +80,8 @@ impl<'a> Statements<'a> {
     }
 
     /// A simple statement that begins with a value.
-    pub(crate) fn stated(&mut self) -> Result<WideStmt, Halt>
-        ensures { Settled (left a_simple Stated) stm_of self.old self.new result }
+    pub(crate) fn assignment_or_expression(&mut self) -> Result<WideStmt, Halt>
+        ensures { Settled (left a_simple AssignmentOrExpression) stm_of self.old self.new result }
     {
         let first = self.value()?;
         let line = first.get().line;

@@ -12,7 +12,7 @@ use Rattle.pt_grammar.proofs.LineLemmas.{line_is}
 use Rattle.pt_parser.specs.Targets.{is_place}
 use Rattle.pt_parser.proofs.Tokens.{sign_next}
 use Rattle.pt_parser.proofs.StatedLemmas.{stated_binds, continued_bad, annotation_shifts, augmentation_shifts, value_narrows, operator_sign}
-use Rattle.pt_parser.proofs.reader.Statements.stated.Goals as goal
+use Rattle.pt_parser.proofs.reader.Statements.assignment_or_expression.Goals as goal
 
 pub returns-in_err-first : goal.returns-in_err-first
 returns-in_err-first c = fails_at _ _ _ _ _ _ c.from_residual.ensures.1 carries_all stated_binds c.in_err-first.ensures

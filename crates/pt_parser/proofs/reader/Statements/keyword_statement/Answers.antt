@@ -7,7 +7,7 @@ use Rattle.std.proofs.Common.{ap, ◌∙◌, Some}
 use Rattle.pt_grammar.specs.declared.sign.Sign.TheVariants.{Keyword as keyword}
 use Rattle.pt_grammar.specs.Lexemes.{sign}
 use Rattle.pt_parser.proofs.SimpleLemmas.{keyword_shifts, led_bad}
-use Rattle.pt_parser.proofs.reader.Statements.led.Goals as goal
+use Rattle.pt_parser.proofs.reader.Statements.keyword_statement.Goals as goal
 
 pub returns-in-Pass : goal.returns-in-Pass
 returns-in-Pass c = carried_all stm_of _ _ (shift_on carries_all (keyword_shifts _ Pass) (c.requires ∙ ap (λ k. Some (sign c.args.line.0 (keyword k))) c.in-Pass.is) c.skip.ensures) (rw c.pass.ensures at c.ended.ensures)
