@@ -120,8 +120,8 @@ class Proof:
         waiting = [it for it in self.left - begun if not self.left.intersection(self.needs[it])]
         return sorted(waiting, key=self.heights.get, reverse=True)
 
-    def begin(self, name, is_alone):
-        """Proves a crate in a free copy; the program, which is the last, in place. rt chooses the processors of one that is alone."""
+    def begin(self, name, jobs):
+        """Proves a crate in a free copy, by so many processes; the program, which is the last, in place."""
         folder = TOP if name == PROGRAM else self.free.pop()
         if folder != TOP:
             for part in ("incremental", "rlib"):
@@ -131,8 +131,7 @@ class Proof:
                     hand_on("rlib", it, TOP, folder)
         # (what is built of a program ends with a run of it, on an empty script)
         command = ["rt", "run", "--", "run", os.devnull] if name == PROGRAM else ["rt", "lib"]
-        if not is_alone:
-            command += ["--jobs", "1"]
+        command[2:2] = ["--jobs", str(jobs)]
         with open(f"{TOP}/{LOGS}/{name}.log", "w", encoding="utf-8") as log:
             how = {"stdin": subprocess.DEVNULL, "stdout": log, "stderr": log}
             child = subprocess.Popen(command, cwd=f"{folder}/crates/{name}", start_new_session=True, **how)
@@ -159,9 +158,11 @@ class Proof:
                 ready = self.ready() if self.is_sound else []
                 if not ready and not self.running:
                     return not self.left
-                is_alone = len(ready) + len(self.running) == 1
+                # What is left over goes to the crate with the longest way above it.
+                spare = len(self.free) - len(ready)
                 for name in ready[: len(self.free)]:
-                    self.begin(name, is_alone)
+                    self.begin(name, 1 + max(spare, 0))
+                    spare = 0
                 time.sleep(INTERVAL)
                 for child in [it for it in self.running if it.poll() is not None]:
                     self.end(child)
