@@ -3,6 +3,7 @@
   check.py [--crates FOLDER] [--from N] [--many N] [--plans N] [--show SEED]
 """
 import argparse
+import ast
 import collections
 import os
 import pickle
@@ -14,15 +15,16 @@ import types
 import warnings
 
 from host import DISABLE, NONE, Function, Generator, Raised
-from record import KINDS, TOOL, Recorder, describe
+from record import CALLS, KINDS, TOOL, Recorder, callee, describe
 from run import Runner
-from scripts import script
+from scripts import HEAD, script
 
 EVENTS = {"starts": "PY_START", "resumes": "PY_RESUME", "returns": "PY_RETURN", "yields": "PY_YIELD", "throws": "PY_THROW", "unwinds": "PY_UNWIND",
-          "line": "LINE", "raises": "RAISE"}
+          "line": "LINE", "raises": "RAISE", "calls": "CALL", "returns_from": "C_RETURN", "raises_from": "C_RAISE"}
 TRACED = {"starts": "call", "resumes": "call", "throws": "call", "line": "line", "returns": "return", "yields": "return", "unwinds": "return",
           "raises": "exception"}
-BITS = {"PY_START": 0, "PY_RESUME": 1, "PY_RETURN": 2, "PY_YIELD": 3, "PY_THROW": 4, "PY_UNWIND": 5, "LINE": 9, "RAISE": 12}
+BITS = {"PY_START": 0, "PY_RESUME": 1, "PY_RETURN": 2, "PY_YIELD": 3, "PY_THROW": 4, "PY_UNWIND": 5, "CALL": 6, "C_RETURN": 7, "C_RAISE": 8,
+        "LINE": 9, "RAISE": 12}
 
 
 class HookFault(Exception):
@@ -56,6 +58,8 @@ class Plan:
                 try:
                     frame.f_lineno = line
                     recorder.done.append("jumped")
+                    recorder.target = (recorder.frames[frame], line)
+                    recorder.last["trace", recorder.frames[frame]] = line
                 except ValueError as e:
                     recorder.done.append("refused")
         return function
@@ -94,8 +98,8 @@ def resume(space):
 class Hooks:
     """The same hooks on the side of the definitions."""
 
-    def __init__(self, runner, plan):
-        self.runner, self.plan = runner, plan
+    def __init__(self, runner, text, plan):
+        self.runner, self.plan, self.lines = runner, plan, text.split("\n")
         self.heard = {"trace": [], "tool": []}
         self.done = []
         self.reasons, self.target = [], None
@@ -132,6 +136,8 @@ class Hooks:
         what = event["what"]
         kind = names[what[0]]
         told = describe(what[1]) if what[0] in ("returns", "yields", "throws", "unwinds", "raises") else ""
+        if kind in CALLS:
+            told = callee(what[1])
         if names is TRACED and what[0] == "unwinds":
             told = "None"
         if names is TRACED and what[0] == "throws":
@@ -146,7 +152,7 @@ class Hooks:
 
     def traced(self, function, is_second, event, store):
         told = (*self.told(event, TRACED), is_second, event["frame"])
-        if of_ended_iteration(self, "trace", told) or of_jump(self, told):
+        if of_ended_iteration(self, "trace", told) or of_jump(self, "trace", told):
             return function
         n = len(self.heard["trace"])
         self.heard["trace"].append(told)
@@ -172,7 +178,7 @@ class Hooks:
 
     def tool(self, hook, event, here, store):
         told = (*self.told(event, EVENTS), False, event["frame"])
-        if of_ended_iteration(self, "tool", told):
+        if of_ended_iteration(self, "tool", told) or of_spread_call(self, "tool", told):
             return None
         n = len(self.heard["tool"])
         self.heard["tool"].append(told)
@@ -224,15 +230,20 @@ def of_ended_iteration(recorder, stream, event):
     return event[0] in ("RAISE", "exception") and event[3] == "<StopIteration>" and event[1][0] != "__next__"
 
 
-def of_jump(hooks, event):
-    """The line that a jump goes to is told here."""
-    if event[0] == "line" and hooks.target == (event[-1], event[2]):
-        hooks.target = None
-        return True
-    return False
+def of_jump(recorder, stream, event):
+    """The line that a jump goes to is told here, and by CPython not always. This is taken out of both."""
+    if stream != "trace" or recorder.target is None or recorder.target[0] != event[-1]:
+        return False
+    line, recorder.target = recorder.target[1], None
+    return event[0] == "line" and event[2] == line
 
 
-RULES = [of_class_head, of_same_line, of_hook, of_ended_iteration]
+def of_spread_call(recorder, stream, event):
+    """A call of a function with arguments that are spread is told here alone. This is taken out of both."""
+    return event[0] == "CALL" and event[3] == "<function>" and "(*" in recorder.lines[event[2] - 1]
+
+
+RULES = [of_class_head, of_same_line, of_hook, of_ended_iteration, of_jump, of_spread_call]
 
 
 def alike(events):
@@ -258,7 +269,7 @@ class Check:
 
     def one(self, text, plan):
         recorder = Recorder(text, plan, RULES).run()
-        hooks = Hooks(self.runner, plan)
+        hooks = Hooks(self.runner, text, plan)
         blocks, world, outputs, ending = self.runner.run(text, hooks)
         end = ending[1] if ending[0] == "ends" else ("stuck",)
         out = "".join(o[1] for o in outputs if o[0] == "prints")
@@ -283,7 +294,15 @@ class Check:
         return None, recorder, hooks
 
 
-STATEMENT = re.compile(r"\s*(?!else:|elif |except|finally:|@|class |def )\S")
+def starts_of(body):
+    """The lines on which statements start, but not those of functions and classes in them."""
+    for s in body:
+        yield s.lineno
+        if not isinstance(s, (ast.FunctionDef, ast.ClassDef)):
+            for part in ("body", "orelse", "finalbody"):
+                yield from starts_of(getattr(s, part, []))
+            for h in getattr(s, "handlers", []):
+                yield from starts_of(h.body)
 
 
 def plan_for(r, text, recorder):
@@ -291,6 +310,7 @@ def plan_for(r, text, recorder):
     program's own, so a trace function and a tool are there together only where neither raises."""
     lines = text.split("\n")
     trace, tool = {}, {}
+    starts = sorted(set(starts_of(ast.parse(text).body)))
     streams = r.choice([("trace",), ("tool",), ("trace", "tool")])
     by_script = r.random() < 0.6
     for _ in range(r.randint(1, 3)):
@@ -300,8 +320,9 @@ def plan_for(r, text, recorder):
         # CPython has nothing around what stands for the head of a `try`
         may_raise = len(streams) == 1 and lines[line - 1].strip() != "try:"
         if stream == "trace":
-            near = [k for k in range(max(1, line - 6), min(len(lines), line + 7)) if STATEMENT.match(lines[k - 1]) and k != line]
-            may_jump = near and kind == "line" and block[0] == "<module>" and len(streams) == 1 and by_script
+            near = [k for k in starts if abs(k - line) < 9 and k != line]
+            # behind the head, since CPython makes the names of annotations there
+            may_jump = near and kind == "line" and block[0] == "<module>" and line > len(HEAD) and len(streams) == 1 and by_script
             # None at the call of a generator that goes on ends its tracing, where CPython leaves it
             goes_on = kind == "call" and (line != block[1] or block[0] == "<genexpr>")
             trace[n] = r.choice(["second" if goes_on else "none", "second", "unset", "lines_off", "resume"] + ["raise"] * 3 * may_raise + ["jump"] * 6 * bool(may_jump))
@@ -316,6 +337,8 @@ def may_be_disabled(kind, line, lines):
     """Whether an act, and an instruction of CPython, stand for the same place: not where CPython has several for one act."""
     if kind in ("PY_START", "PY_YIELD", "PY_RESUME"):
         return True
+    if kind in CALLS:
+        return False
     loops = re.match(r"\s*(for|while|with|if|elif|except|return)\b", lines[line - 1])
     return kind == "LINE" and not loops and not any("finally:" in x for x in lines) and not re.search(r" (for|if|and|or) ", lines[line - 1])
 

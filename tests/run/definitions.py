@@ -6,7 +6,7 @@ after the other. Types and proofs are never looked at. What an argument named in
 import os
 import re
 
-BY_NAME = {"after", "none_left", "destination"}
+BY_NAME = {"after", "none_left", "destination", "all", "otherwise"}
 WORD = re.compile(
     r'\s*(?:("(?:[^"\\]|\\.)*")|([^\W\d][\w\']*(?:\.[\w][\w\']*)*)|(\d+)|(\+\+|==|&&|\|\||[∷≡→×λ⊎≤<(){}\[\],;=.:+\-*/%^])|(\S))')
 LEVELS = [("||",), ("&&",), ("==", "≡", "<", "≤", "⊎", "×"), ("∷", "++"), ("+", "-"), ("*", "/", "%"), ("^",)]

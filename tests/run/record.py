@@ -10,7 +10,27 @@ from host import Function, Generator, Method, OfGenerator
 FILE = "<script>"
 M = sys.monitoring
 TOOL = 3
-KINDS = ["PY_START", "PY_RESUME", "PY_RETURN", "PY_YIELD", "PY_THROW", "PY_UNWIND", "LINE", "RAISE"]
+KINDS = ["PY_START", "PY_RESUME", "PY_RETURN", "PY_YIELD", "PY_THROW", "PY_UNWIND", "LINE", "RAISE", "CALL", "C_RETURN", "C_RAISE"]
+CALLS = ("CALL", "C_RETURN", "C_RAISE")
+
+
+def callee(f):
+    """What is called, in the same words for both. CPython calls the function of a method."""
+    if isinstance(f, (types.MethodType, Method)):
+        return "<function>"
+    if isinstance(f, (types.MethodDescriptorType, types.WrapperDescriptorType, types.MethodWrapperType)):
+        return "<builtin>"
+    return describe(f)
+
+
+def is_own_call(kind, f):
+    """What CPython alone calls: to make a class, to begin a generator expression, for an `assert`, to leave a `with`. A class of the script
+    is a builtin for CPython."""
+    if f is builtins.__build_class__ or f is AssertionError:
+        return True
+    if isinstance(f, types.FunctionType) and f.__name__ == "<genexpr>" or isinstance(f, types.MethodType) and f.__name__ == "__exit__":
+        return True
+    return kind != "CALL" and isinstance(f, type) and f.__module__ == "script"
 
 
 def describe(v, depth=3):
@@ -43,7 +63,7 @@ class Recorder:
         self.lines = text.split("\n")
         self.heard = {"trace": [], "tool": []}
         self.done, self.frames = [], {}
-        self.raised, self.last = {"trace": [], "tool": []}, {}
+        self.raised, self.last, self.target = {"trace": [], "tool": []}, {}, None
         self.code = compile(self.text, FILE, "exec", dont_inherit=True)
         self.space = {"__name__": "script", "__builtins__": builtins}
         self.first, self.other = self.function("hook", self.trace), self.function("hook", self.second)
@@ -108,8 +128,10 @@ class Recorder:
         def called(code, place, *arguments):
             if code.co_filename != FILE:
                 return None
+            if kind in CALLS and is_own_call(kind, arguments[0]):
+                return None
             frame = sys._getframe(2 if self.plan.by_script else 1)
-            told = "" if kind in ("PY_START", "PY_RESUME", "LINE") else describe(arguments[0])
+            told = "" if kind in ("PY_START", "PY_RESUME", "LINE") else callee(arguments[0]) if kind in CALLS else describe(arguments[0])
             n = self.hears("tool", kind, frame, place if kind == "LINE" else frame.f_lineno, told)
             return None if n is None else self.plan.tool(n, self, kind)
         return called
