@@ -1,0 +1,9 @@
+pub mod Slots
+pub mod CodeObject
+pub mod Landing
+pub mod Takers
+pub mod Ways
+pub mod Instructions
+pub mod Machine
+pub mod Destinations
+pub mod Needs
