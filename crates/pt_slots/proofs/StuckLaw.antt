@@ -11,12 +11,12 @@ use Rattle.pt_instr.specs.Effects.{effect_of}
 use Rattle.pt_code.specs.View.{Ins}
 use Rattle.pt_control.specs.Turn.{Operation, Turn}
 use Rattle.pt_slots.specs.Slots as S
-use Rattle.pt_slots.specs.Slots.{raise, return, jump_to, Completion, normal, by, Slot, value, iterator, Slots, State, on}
+use Rattle.pt_slots.specs.Slots.{raise, return, jump_to, Completion, normal, by, Slot, value, iterator, Slots, State, on, thrown_to}
 use Rattle.pt_slots.specs.CodeObject.{CodeObject}
-use Rattle.pt_slots.specs.Takers.{Next, values, cells, one, two, three, an_iterator, an_exception, a_completion, the_value}
-use Rattle.pt_slots.specs.Ways.{unmarked, gives_known, branches, lets_go}
+use Rattle.pt_slots.specs.Pops.{Next, values, cells, one, two, three, an_iterator, an_exception, the_value}
+use Rattle.pt_slots.specs.Steps.{unmarked, gives_known, branches, lets_go}
 use Rattle.pt_slots.specs.Instructions.{operates, jumps, perform}
-use Rattle.pt_slots.specs.Machine.{turn, here}
+use Rattle.pt_slots.specs.Machine.{turn, here, thrown_here}
 use Rattle.pt_slots.specs.Needs.{is_stuck, begin_with, has_value_at, have, needs}
 
 and_true : (b : Bool) → (b && true) ≡ b
@@ -248,3 +248,13 @@ module _ {V : Type 0} where
 
     pub stuck_at : (ss : Slots V) → code.at pc ≡ Some i → is_stuck (turn code (on pc ss)) ≡ not (have ss (needs code.pool i.instr))
     stuck_at ss e = at_place (code.at pc) ss e
+
+    stuck_sent_here : (o : Option Ins) (e : V) (ss : Slots V) → o ≡ Some i → is_stuck (thrown_here code pc o e ss) ≡ not (begin_with (kind.Value ∷ kind.Iter ∷ []) ss)
+    stuck_sent_here o e ss eq = subst (λ o. is_stuck (thrown_here code pc o e ss) ≡ not (begin_with (kind.Value ∷ kind.Iter ∷ []) ss)) (sym eq) (sent ss)
+      where
+        sent : (ss : Slots V) → is_stuck (thrown_here code pc (Some i) e ss) ≡ not (begin_with (kind.Value ∷ kind.Iter ∷ []) ss)
+        sent (value v ∷ iterator a ∷ ss) = refl
+        sent ss = refl
+
+    pub stuck_sent : (e : V) (ss : Slots V) → code.at pc ≡ Some i → is_stuck (turn code (thrown_to pc e ss)) ≡ not (begin_with (kind.Value ∷ kind.Iter ∷ []) ss)
+    stuck_sent e ss eq = stuck_sent_here (code.at pc) e ss eq

@@ -1,5 +1,5 @@
 -- What each instruction does, as a table. The slots that are taken stand in the order in which acts give them, the last on top.
-use Rattle.std.specs.Prelude.{ℕ, suc, ◌+◌, ◌-◌, List, [], ◌∷◌, ◌++◌, length, map, replicate, Bool, true, false, Option, Some, None, if◌then◌else◌, codes}
+use Rattle.std.specs.Prelude.{ℕ, suc, ◌+◌, ◌-◌, List, [], ◌∷◌, ◌++◌, length, map, replicate, true, false, Option, Some, None, if◌then◌else◌, codes}
 use Rattle.std.specs.Str.{bytes_eq}
 use Rattle.pt_tree.specs.declared.expression.Conversion.{Conversion}
 use Rattle.pt_tree.specs.declared.expression.Conversion.TheVariants as tree
@@ -11,10 +11,10 @@ use Rattle.pt_instr.specs.declared.Instr.TheVariants as instr
 use Rattle.pt_code.specs.View.{Ins}
 use Rattle.pt_control.specs.Turn as T
 use Rattle.pt_control.specs.Turn.{Role, Operation, Turn, got, seek, test, iter_of, next_of, enter, unpack}
-use Rattle.pt_slots.specs.Slots.{return, jump_to, normal, Slot, value, cell, iterator, exception, pending, exit, raise_of, left_of, Slots, State, on, reraises}
+use Rattle.pt_slots.specs.Slots.{return, jump_to, normal, value, cell, iterator, pending, exit, raise_of, left_of, Slots, State, on, reraises}
 use Rattle.pt_slots.specs.CodeObject.{CodeObject, local, global, named}
-use Rattle.pt_slots.specs.Takers.{values, cells, one, two, three, an_iterator, movable, an_exception, a_completion, an_exit, the_value, giving}
-use Rattle.pt_slots.specs.Ways.{unmarked, dropped, kept, asks, gives, does, throws, goes, leaves, known, gives_known, branches, with_item, delegates, lets_go}
+use Rattle.pt_slots.specs.Pops.{values, cells, one, two, three, an_iterator, movable, an_exception, a_completion, an_exit, the_value, giving}
+use Rattle.pt_slots.specs.Steps.{unmarked, dropped, kept, asks, gives, does, throws, goes, leaves, known, gives_known, branches, with_item, delegates, lets_go}
 
 abbrev pub conversion_of : Formatting → Option Conversion
 conversion_of formatting.Plain = None

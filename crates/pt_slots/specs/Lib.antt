@@ -1,9 +1,11 @@
 pub mod Slots
 pub mod CodeObject
 pub mod Landing
-pub mod Takers
-pub mod Ways
+pub mod Pops
+pub mod Steps
 pub mod Instructions
 pub mod Machine
 pub mod Destinations
 pub mod Needs
+pub mod Traces
+pub mod Samples

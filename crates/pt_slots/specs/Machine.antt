@@ -6,8 +6,8 @@ use Rattle.pt_control.specs.Turn.{raised_again, Reply, got, raised, Turn, note, 
 use Rattle.pt_slots.specs.Slots.{raise, iterator, Slots, State, on, thrown_to, reraises, off}
 use Rattle.pt_slots.specs.CodeObject.{CodeObject}
 use Rattle.pt_slots.specs.Landing.{land}
-use Rattle.pt_slots.specs.Takers.{one, an_iterator}
-use Rattle.pt_slots.specs.Ways.{delegates}
+use Rattle.pt_slots.specs.Pops.{one, an_iterator}
+use Rattle.pt_slots.specs.Steps.{delegates}
 use Rattle.pt_slots.specs.Instructions.{perform}
 
 module _ {V : Type 0} (code : CodeObject V) where

@@ -1,12 +1,12 @@
--- What an instruction needs of the slots, by the row of its effect; where it hasn't that, the state is stuck.
-use Rattle.std.specs.Prelude.{ℕ, zero, suc, List, [], ◌∷◌, length, reverse, drop, Bool, true, false, ◌&&◌, ◌||◌, Option, Some, None}
+-- What an instruction needs of the slots, by the row of its effect; and which turns begin an act.
+use Rattle.std.specs.Prelude.{◌≡◌, ℕ, zero, suc, List, [], ◌∷◌, length, reverse, drop, Bool, true, false, ◌&&◌, ◌||◌, Option, Some, None}
 use Rattle.pt_instr.specs.declared.Instr.{Instr}
 use Rattle.pt_instr.specs.declared.Instr.TheVariants as instr
 use Rattle.pt_instr.specs.declared.effects.Effect.{Effect}
 use Rattle.pt_instr.specs.declared.kinds.Kind.{Kind}
 use Rattle.pt_instr.specs.declared.kinds.Kind.TheVariants as kind
 use Rattle.pt_instr.specs.Effects.{effect_of}
-use Rattle.pt_control.specs.Turn.{Turn, stuck}
+use Rattle.pt_control.specs.Turn.{Mark, Turn, act, note, move, over, stuck}
 use Rattle.pt_slots.specs.Slots.{Slot, value, cell, iterator, exception, pending, exit, Slots}
 use Rattle.pt_slots.specs.CodeObject.{Pool}
 
@@ -57,3 +57,11 @@ captured_by pool i = zero
 
 abbrev pub needs : Pool → Instr → Effect
 needs pool i = effect_of i (captured_by pool i)
+
+-- a turn is an act with a mark, or is no act where there is none
+abbrev pub Begins : {S V : Type 0} → Option Mark → Turn S V → Type 0
+Begins m (act n a next) = n ≡ m
+Begins m (move s) = None ≡ m
+Begins m (note a next) = ⊥
+Begins m (over e) = ⊥
+Begins m stuck = Unit {0}

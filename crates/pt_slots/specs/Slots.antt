@@ -1,5 +1,5 @@
 -- What the machine of code holds in place of a nest of syntax: slots of six kinds, the top first (Library Reference, "dis": the evaluation stack).
-use Rattle.std.specs.Prelude.{ℕ, List, [], ◌∷◌, Bool, true, false, Option, Some, None}
+use Rattle.std.specs.Prelude.{ℕ, List, [], ◌∷◌, Bool, true, Option, Some, None}
 use Rattle.pt_instr.specs.declared.kinds.Kind.{Kind}
 use Rattle.pt_instr.specs.declared.kinds.Kind.TheVariants as kind
 use Rattle.pt_ranges.specs.declared.handlers.Handler.{Handler}

@@ -1,5 +1,5 @@
 -- How slots are taken from the top, and given: where one is missing or of another kind, the state is stuck.
-use Rattle.std.specs.Prelude.{ℕ, zero, suc, List, [], ◌∷◌, Option, Some, None}
+use Rattle.std.specs.Prelude.{ℕ, zero, suc, List, ◌∷◌}
 use Rattle.pt_control.specs.Turn.{Row, Turn, stuck}
 use Rattle.pt_slots.specs.Slots.{Completion, Slot, value, cell, iterator, exception, pending, exit, Slots, State}
 

@@ -1,5 +1,5 @@
 -- How an instruction goes on. A mark makes an act of what is asked. What asks for nothing is a move; with a mark it is an act that asks for nothing.
-use Rattle.std.specs.Prelude.{ℕ, List, [], ◌∷◌, Bool, Option, Some, None, option_map, if◌then◌else◌}
+use Rattle.std.specs.Prelude.{ℕ, ◌∷◌, Bool, Option, Some, None, option_map, if◌then◌else◌}
 use Rattle.pt_ranges.specs.declared.lines.ActMark.{ActMark}
 use Rattle.pt_tree.specs.declared.expression.Constant.{Constant}
 use Rattle.pt_tree.specs.declared.expression.Constant.TheVariants as constant
