@@ -9,7 +9,7 @@ use Rattle.pt_instr.specs.declared.kinds.Kind.{Kind}
 use Rattle.pt_instr.specs.declared.kinds.Kind.TheVariants as kind
 use Rattle.pt_instr.specs.Effects.{effect_of}
 use Rattle.pt_code.specs.View.{Ins}
-use Rattle.pt_control.specs.Turn.{Operation, Turn}
+use Rattle.pt_control.specs.Turn.{Operation, Turn, stuck}
 use Rattle.pt_slots.specs.Slots as S
 use Rattle.pt_slots.specs.Slots.{raise, return, jump_to, Completion, normal, by, Slot, value, iterator, Slots, State, on, thrown_to}
 use Rattle.pt_slots.specs.CodeObject.{CodeObject}
@@ -258,3 +258,12 @@ module _ {V : Type 0} where
 
     pub stuck_sent : (e : V) (ss : Slots V) → code.at pc ≡ Some i → is_stuck (turn code (thrown_to pc e ss)) ≡ not (begin_with (kind.Value ∷ kind.Iter ∷ []) ss)
     stuck_sent e ss eq = stuck_sent_here (code.at pc) e ss eq
+
+  nowhere_here : (code : CodeObject V) (pc : ℕ) (o : Option Ins) (ss : Slots V) → o ≡ None → here code pc o ss ≡ stuck
+  nowhere_here code pc o ss eq = subst (λ o. here code pc o ss ≡ stuck) (sym eq) refl
+
+  nowhere_sent : (code : CodeObject V) (pc : ℕ) (o : Option Ins) (e : V) (ss : Slots V) → o ≡ None → thrown_here code pc o e ss ≡ stuck
+  nowhere_sent code pc o e ss eq = subst (λ o. thrown_here code pc o e ss ≡ stuck) (sym eq) refl
+
+  pub stuck_nowhere : (code : CodeObject V) (pc : ℕ) (e : V) (ss : Slots V) → code.at pc ≡ None → (turn code (on pc ss) ≡ stuck) × (turn code (thrown_to pc e ss) ≡ stuck)
+  stuck_nowhere code pc e ss eq = (nowhere_here code pc (code.at pc) ss eq, nowhere_sent code pc (code.at pc) e ss eq)

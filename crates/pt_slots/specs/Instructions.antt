@@ -30,7 +30,7 @@ last_named n xs = replicate (n - length xs) T.positional ++ map T.named xs
 
 abbrev pub role_of : Name → Role
 role_of [] = T.positional
-role_of (c ∷ cs) = if bytes_eq (c ∷ cs) (codes "*") then T.spread else (if bytes_eq (c ∷ cs) (codes "**") then T.spread_named else T.named (c ∷ cs))
+role_of x = if bytes_eq x (codes "*") then T.spread else (if bytes_eq x (codes "**") then T.spread_named else T.named x)
 
 module _ {V : Type 0} (code : CodeObject V) (pc : ℕ) (i : Ins) where
   -- an operation on so many values

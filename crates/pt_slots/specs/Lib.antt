@@ -9,3 +9,4 @@ pub mod Destinations
 pub mod Needs
 pub mod Traces
 pub mod Samples
+pub mod Laws

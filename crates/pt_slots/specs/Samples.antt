@@ -139,8 +139,8 @@ counting_code = code_object (constant.Int (pos 0) ∷ constant.Int (pos 2) ∷ c
     [])
 
 -- a `return` that a `finally` part holds, and a `break` that replaces it
-abbrev pub nested_body_code : CodeObject ℕ
-nested_body_code = code_object (constant.Int (pos 3) ∷ constant.Int (pos 1) ∷ constant.Str (codes "f") ∷ constant.Int (pos 2) ∷ constant.None ∷ []) ((codes "range") ∷ (codes "i") ∷ (codes "print") ∷ []) [] (handler 8 11 12 1 true ∷ handler 7 18 19 1 true ∷ []) (
+abbrev pub nested_code : CodeObject ℕ
+nested_code = code_object (constant.Int (pos 3) ∷ constant.Int (pos 1) ∷ constant.Str (codes "f") ∷ constant.Int (pos 2) ∷ constant.None ∷ []) ((codes "range") ∷ (codes "i") ∷ (codes "print") ∷ []) [] (handler 8 11 12 1 true ∷ handler 7 18 19 1 true ∷ []) (
     acts 0 2 (load 0) ∷ acts 1 2 (const 0) ∷ acts 2 2 (instr.Call 1) ∷ acts 3 2 instr.Iter ∷ acts 4 2 (next 23) ∷
     acts 5 2 (store 1) ∷ acts 6 3 instr.Nop ∷ acts 7 4 instr.Nop ∷ acts 8 5 (const 1) ∷ acts 9 5 instr.Return ∷ moves (jump 11) ∷
     moves instr.Normal ∷ acts 10 7 (load 2) ∷ acts 11 7 (const 2) ∷ acts 12 7 (instr.Call 1) ∷ acts 13 7 instr.Pop ∷
@@ -149,8 +149,8 @@ nested_body_code = code_object (constant.Int (pos 3) ∷ constant.Int (pos 1) �
     [])
 
 -- handlers, one with a name
-abbrev pub names_its_exception_code : CodeObject ℕ
-names_its_exception_code = code_object (constant.None ∷ []) ((codes "x") ∷ (codes "ValueError") ∷ (codes "e") ∷ (codes "print") ∷ []) [] (handler 2 4 5 0 false ∷ handler 10 11 12 1 true ∷ handler 1 19 20 0 false ∷ []) (
+abbrev pub handled_code : CodeObject ℕ
+handled_code = code_object (constant.None ∷ []) ((codes "x") ∷ (codes "ValueError") ∷ (codes "e") ∷ (codes "print") ∷ []) [] (handler 2 4 5 0 false ∷ handler 10 11 12 1 true ∷ handler 1 19 20 0 false ∷ []) (
     acts 0 1 instr.Nop ∷ acts 1 2 instr.Nop ∷ acts 2 3 (load 0) ∷ acts 3 3 instr.Raise ∷ moves (jump 19) ∷ acts 4 4 (load 1) ∷
     acts 5 4 instr.Match ∷ moves (jump_unless 18) ∷ moves instr.Caught ∷ acts 6 4 (store 2) ∷ acts 7 5 instr.Nop ∷
     moves instr.Normal ∷ moves (const 0) ∷ moves (store 2) ∷ moves (unbind 2) ∷ moves instr.EndFinally ∷ moves instr.EndHandler ∷
@@ -177,13 +177,13 @@ counting_given =
     value 23 ∷ truth true ∷ value 25 ∷ value 26 ∷ value 27 ∷ done ∷ value 29 ∷ value 30 ∷ value 31 ∷ truth false ∷ value 33 ∷
     value 34 ∷ value 35 ∷ done ∷ []
 
-abbrev pub nested_body_given : List Given
-nested_body_given =
+abbrev pub nested_given : List Given
+nested_given =
     value 11 ∷ value 12 ∷ value 13 ∷ value 14 ∷ item (Some 15) ∷ done ∷ done ∷ done ∷ value 19 ∷ done ∷ value 21 ∷ value 22 ∷
     value 23 ∷ done ∷ done ∷ value 26 ∷ done ∷ []
 
-abbrev pub names_its_exception_given : List Given
-names_its_exception_given =
+abbrev pub handled_given : List Given
+handled_given =
     done ∷ done ∷ value 13 ∷ throws 14 ∷ value 15 ∷ truth true ∷ done ∷ done ∷ []
 
 abbrev pub falls_through_given : List Given
