@@ -6,7 +6,6 @@ use Rattle.pt_instr.specs.declared.Instr.{Instr}
 use Rattle.pt_instr.specs.declared.Instr.TheVariants as instr
 use Rattle.pt_code.specs.View.{Ins}
 use Rattle.pt_control.specs.Turn.{Turn, stuck}
-use Rattle.pt_slots.specs.Slots as S
 use Rattle.pt_slots.specs.Slots.{raise, return, jump_to, Completion, normal, by, Slot, value, cell, iterator, exception, pending, exit, Slots, State, on}
 use Rattle.pt_slots.specs.CodeObject.{CodeObject}
 use Rattle.pt_slots.specs.Pops.{Next, values, cells, one, two, three, an_iterator, movable, an_exception, a_completion, an_exit, the_value}
