@@ -24,41 +24,46 @@ pub record Placed : Type 0 where
   pub instr : Instr
   pub mark : Option ActMark
 
+-- (its place is known once it is laid)
 abbrev marked : Bool → (act line : ℕ) → Instr → Placed
 marked g n l j = record { instr = j; mark = Some (record { pc = record { 0 = 0 }; act = record { 0 = n }; line = record { 0 = l }; again = g }) }
 
-abbrev acts : (act line : ℕ) → Instr → Placed
+abbrev pub acts : (act line : ℕ) → Instr → Placed
 acts n l j = marked false n l j
 
 -- with this act a re-test begins
-abbrev again : (act line : ℕ) → Instr → Placed
+abbrev pub again : (act line : ℕ) → Instr → Placed
 again n l j = marked true n l j
 
-abbrev moves : Instr → Placed
+abbrev pub moves : Instr → Placed
 moves j = record { instr = j; mark = None }
 
 abbrev handler : (from to target depth : ℕ) → (always : Bool) → Handler
 handler f t p d a = record { from = record { 0 = f }; to = record { 0 = t }; target = record { 0 = p }; depth = d; always = a }
 
+abbrev mark_at : (pc : ℕ) → Option ActMark → Option ActMark
+mark_at pc None = None
+mark_at pc (Some m) = Some (record m { pc = record { 0 = pc } })
+
 abbrev placed : List Handler → Placed → (pc : ℕ) → Ins
-placed rows p pc = record { instr = p.instr; mark = p.mark; next = pc + 1; rows = filter (λ row. covers row (record { 0 = pc })) rows }
+placed rows p pc = record { instr = p.instr; mark = mark_at pc p.mark; next = pc + 1; rows = filter (λ row. covers row (record { 0 = pc })) rows }
 
 -- what stands at a place, so many instructions before which are passed
-abbrev laid : List Handler → List Placed → (left pc : ℕ) → Option Ins
+abbrev pub laid : List Handler → List Placed → (left pc : ℕ) → Option Ins
 laid rows [] n pc = None
 laid rows (p ∷ ps) zero pc = Some (placed rows p pc)
 laid rows (p ∷ ps) (suc n) pc = laid rows ps n pc
 
-abbrev item_at : {A : Type 0} → A → List A → ℕ → A
+abbrev pub item_at : {A : Type 0} → A → List A → ℕ → A
 item_at a [] n = a
 item_at a (x ∷ xs) zero = x
 item_at a (x ∷ xs) (suc n) = item_at a xs n
 
-abbrev truth_of : Bool → ℕ
+abbrev pub truth_of : Bool → ℕ
 truth_of true = 1
 truth_of false = 2
 
-abbrev known_truth : ℕ → Option Bool
+abbrev pub known_truth : ℕ → Option Bool
 known_truth zero = None
 known_truth (suc zero) = Some true
 known_truth (suc (suc zero)) = Some false
