@@ -4,28 +4,30 @@ use Rattle.pt_ranges.specs.declared.handlers.Handler.{Handler}
 use Rattle.pt_tree.specs.declared.expression.Conversion.{Conversion}
 use Rattle.pt_base.specs.declared.operators.CompareOp.{CompareOp}
 use Rattle.pt_tree.specs.Syntax as S
-use Rattle.pt_tree.specs.Syntax.{Exp, Exps, Opt, Pieces, Links, Formals}
-use Rattle.pt_tree.specs.Sizes.{size}
+use Rattle.pt_tree.specs.Syntax.{Name, Exp, Exps, Opt, Pieces, Links, Made, Clauses, Place, Tgt, Tgts, Formals}
+use Rattle.pt_tree.specs.Sizes.{size, target_size}
 use Rattle.pt_instr.specs.declared.Instr.{Instr}
 use Rattle.pt_instr.specs.declared.Instr.TheVariants as instr
 use Rattle.pt_code.specs.View.{Ins}
 use Rattle.pt_control.specs.Turn as T
 use Rattle.pt_control.specs.Turn.{Mark, mark, Around, Variable, Operation, Seek, Delegated, returned, resumed, Reply, got, raised, Turn, act, move}
 use Rattle.pt_control.specs.Frames as F
-use Rattle.pt_control.specs.Frames.{Operand, Nest, Way, Wait, Over, Control, for_value, for_truth, for_iter, for_delegate}
-use Rattle.pt_control.specs.Bases.{base, way_base, over_base, around}
-use Rattle.pt_control.specs.Expressions.{begin_operation, begin_exp, begin_defaults, next_operand, begin_spec, cells_of, making, of_exps, of_pieces, of_args, of_formals}
+use Rattle.pt_control.specs.Frames.{Operand, Nest, Way, Wait, Over, Rounds, Stores, Control, for_value, for_truth, for_iter, for_delegate}
+use Rattle.pt_control.specs.Bases.{base, way_base, over_base, rounds_base, around, around_way, around_rounds, rounds_line}
+use Rattle.pt_control.specs.Expressions.{begin_operation, begin_exp, begin_defaults, next_operand, begin_spec, cells_of, making, of_exps, of_pieces, of_args, of_formals, begin_made, begin_last, begin_clauses, take_item, built_as}
+use Rattle.pt_control.specs.Statements.{begin_store, begin_stores, each_gets, count as count_targets}
 use Rattle.pt_control.specs.Completions.{complete}
 use Rattle.pt_control.specs.Control as control
 use Rattle.pt_slots.specs.Slots.{raise, Slot, value, cell, iterator, Slots, State, on}
 use Rattle.pt_slots.specs.CodeObject.{CodeObject}
 use Rattle.pt_slots.specs.Landing.{land}
-use Rattle.pt_slots.specs.Steps.{after, branches, decided, delegated}
+use Rattle.pt_slots.specs.Pops.{giving, the_value}
+use Rattle.pt_slots.specs.Steps.{after, branches, decided, delegated, with_item}
 use Rattle.pt_slots.specs.Instructions.{perform}
 use Rattle.pt_slots.specs.Machine as machine
 use Rattle.pt_slots.specs.Machine.{here, thrown_here}
-use Rattle.pt_comp_expr.specs.Places.{count, above, cells_above, iterators_above, act_mark, ins, Act_at, Null_at, Seek_at, Made_at, Op_at, Exp_at, Behind_at, Spec_at, Links_at, Formals_at, First_at}
-use Rattle.pt_comp_expr.specs.Law.{On_top, same, push, Waits_on, at_end, at_operands, at_yielded, at_formatted, at_comparing, at_compared, at_linked, at_anded, at_ored, at_asked, at_iterated, behind_jump, over_value, Way_on, at_value, at_given, at_linked_on, Over_on, over_generator, over_delegated, Inside, inside, Lands, lands, m_value, m_cell, m_truth, m_iter, m_delegate, Comes, there, moves, given, left, Same, same_act, Follows, Begins}
+use Rattle.pt_comp_expr.specs.Places.{count, above, cells_above, iterators_above, act_mark, ins, Act_at, Null_at, Seek_at, Made_at, Op_at, Exp_at, Behind_at, Spec_at, Links_at, Formals_at, First_at, Clauses_at, Item_at, Target_at, Targets_at, Renewed_at}
+use Rattle.pt_comp_expr.specs.Law.{On_top, same, push, Waits_on, at_end, at_operands, at_yielded, at_formatted, at_comparing, at_compared, at_linked, at_anded, at_ored, at_asked, at_iterated, at_built, at_listed, at_set, at_keyed, at_entered, at_attribute, at_container, at_index, behind_jump, over_value, Way_on, at_value, at_given, at_linked_on, way_behind_jump, at_stores, at_clauses, at_round, at_renewed, Rounds_on, at_result, at_clause, Makes, makes, makes_in, stored, Stores_at, Last_at, Item_taken, Over_on, over_generator, over_delegated, over_comprehension, over_clause, Inside, inside, Lands, lands, m_value, m_cell, m_truth, m_deed, m_item, m_unpack, m_iter, m_delegate, Comes, there, moves, given, left, Same, same_act, Follows, Begins}
 use Rattle.pt_comp_expr.proofs.Lists.{exps_behind, entries_behind, args_behind, pieces_behind, part_behind, formals_behind, last_behind}
 
 module _ {V : Type 0} where
@@ -44,6 +46,21 @@ module _ {V : Type 0} where
   on_cells : (cs : List V) (ss ts : Slots V) → On_top ss ts → On_top ss (cells_above cs ts)
   on_cells [] ss ts o = o
   on_cells (c ∷ cs) ss ts o = push (cell c) (cells_above cs ts) (on_cells cs ss ts o)
+
+  stored_popped : (st : Stores V) (ss ts : Slots V) → On_top (stored st ss) ts → On_top ss ts
+  stored_popped F.no_more ss ts o = o
+  stored_popped (F.and_store t v st) ss ts o = stored_popped st ss ts (popped (value v) (stored st ss) ts o)
+
+  -- what is unpacked is due to the targets
+  giving_stored : (ts : Tgts) (vs : T.Row V (count_targets ts)) (ss : Slots V) → giving (count_targets ts) vs ss ≡ stored (each_gets ts vs) ss
+  giving_stored S.no_targets u ss = refl
+  giving_stored (S.more_targets t ts) (v, vs) ss = ap (λ us. value v ∷ us) (giving_stored ts vs ss)
+
+module _ {V : Type 0} (block : Around V) (code : CodeObject V) (rows : List Handler) where
+  gets_at : (ts : Tgts) (vs : T.Row V (count_targets ts)) (n : ℕ) (v : List ℕ) (p q : ℕ)
+      → Targets_at block code rows ts n v p q → Stores_at block code rows (each_gets ts vs) n v p q
+  gets_at S.no_targets u n v p q h = h
+  gets_at (S.more_targets t ts) (w, vs) n v p q (m, ht, hs) = (m, ht, gets_at ts vs (n + target_size t) v m q hs)
 
 module _ {V : Type 0} (block : Around V) (code : CodeObject V) (rows : List Handler) (outer : Wait V) (lowest : Slots V) (end : ℕ) where
   abbrev C : Control V → State V → Type 0
@@ -66,6 +83,14 @@ module _ {V : Type 0} (block : Around V) (code : CodeObject V) (rows : List Hand
     raise_wait _ _ ts _ v (at_ored l n es w ss p q h k) o = raise_wait w ss ts q v k o
     raise_wait _ _ ts _ v (at_asked l n t f ss p q other h ht hf) o = raise_way f ss ts other v hf o
     raise_wait _ _ ts _ v (at_iterated l n i ss p q h k) o = raise_over i ss ts q v k o
+    raise_wait _ _ ts _ v (at_built l n a i t cs m w ss p p' head end' q hs hr hn k) o = raise_wait w ss ts q v k (popped _ ss ts o)
+    raise_wait _ _ ts _ v (at_listed l n d head made r ss p q h mk hr) o = raise_rounds r d ss ts head v hr o
+    raise_wait _ _ ts _ v (at_set l n d head made r ss p q h mk hr) o = raise_rounds r d ss ts head v hr o
+    raise_wait _ _ ts _ v (at_keyed l n d head e made r ss p q h mk hr) o = raise_rounds r d ss ts head v hr o
+    raise_wait _ _ ts _ v (at_entered l n d head key made r ss p q h mk hr) o = raise_rounds r d ss ts head v hr (popped _ ss ts o)
+    raise_wait _ _ ts _ v (at_attribute l n x u k ss p q h hk) o = raise_way k ss ts q v hk (popped _ ss ts o)
+    raise_wait _ _ ts _ v (at_container l n i u k ss p q h hk) o = raise_way k ss ts q v hk (popped _ ss ts o)
+    raise_wait _ _ ts _ v (at_index l n a u k ss p q h hk) o = raise_way k ss ts q v hk (popped _ ss ts (popped _ (value u ∷ ss) ts o))
     raise_wait _ _ ts _ v (behind_jump w ss p m q h k) o = raise_wait w ss ts q v k o
     raise_wait _ _ ts _ v (over_value u w ss p m q hs hp k) o = raise_wait w ss ts q v k (popped _ ss ts o)
 
@@ -74,16 +99,44 @@ module _ {V : Type 0} (block : Around V) (code : CodeObject V) (rows : List Hand
     raise_way _ _ ts _ v (at_value n e w ss p q h k) o = raise_wait w ss ts q v k o
     raise_way _ _ ts _ v (at_given u w ss p k) o = raise_wait w ss ts p v k (popped _ ss ts o)
     raise_way _ _ ts _ v (at_linked_on l n a c b r w ss p q h k) o = raise_wait w ss ts q v k (popped _ ss ts o)
+    raise_way _ _ ts _ v (way_behind_jump k ss p m q h hk) o = raise_way k ss ts q v hk o
+    raise_way _ _ ts _ v (at_stores n st k ss p q h hk) o = raise_way k ss ts q v hk (stored_popped st ss ts o)
+    raise_way _ _ ts _ v (at_clauses n d head cs r ss p q h hr) o = raise_rounds r d ss ts head v hr o
+    raise_way _ _ ts _ v (at_round d r ss p hr) o = raise_rounds r d ss ts p v hr o
+    raise_way _ _ ts _ v (at_renewed xs l n d p head end' next i t cs r ss h hi hr) o = raise_rounds r d ss ts next v hr (popped _ ss ts o)
+
+    raise_rounds : (r : Rounds V) (d : ℕ) (ss ts : Slots V) (p : ℕ) (v : V) → Rounds_on block code rows outer lowest end r d ss p → On_top ss ts
+        → C (complete block (F.by (F.raise v)) (rounds_base r)) (land code rows (raise v) ts)
+    raise_rounds _ _ _ ts _ v (at_result l n m made w ss p k) o = raise_wait w ss ts p v k (popped _ ss ts o)
+    raise_rounds _ _ _ ts _ v (at_clause l n d i t cs r ss p head end' h hr) o = raise_rounds r d ss ts head v hr (popped _ ss ts o)
 
     raise_over : (i : Over V) (ss ts : Slots V) (q : ℕ) (v : V) → Over_on block code rows outer lowest end i ss q → On_top ss ts
         → C (complete block (F.by (F.raise v)) (over_base i)) (land code rows (raise v) ts)
     raise_over _ _ ts _ v (over_generator l n b w ss p q h k) o = raise_wait w ss ts q v k o
     raise_over _ _ ts _ v (over_delegated l n w ss p m q hn h k) o = raise_wait w ss ts q v k o
+    raise_over _ _ ts _ v (over_comprehension l n a t cs m w ss p p1 p2 head end' q hm hs hr hn k) o = raise_wait w ss ts q v k o
+    raise_over _ _ ts _ v (over_clause l n d t cs r ss p head end' h hr) o = raise_rounds r d ss ts head v hr o
+
+  inside_rounds : (r : Rounds V) (d : ℕ) (ss ts : Slots V) (p : ℕ) → Rounds_on block code rows outer lowest end r d ss p → On_top ss ts
+      → Inside block code rows outer lowest end (rounds_base r) ts
+  inside_rounds _ _ _ ts _ (at_result l n m made w ss p k) o = inside w ss ts p k (popped _ ss ts o)
+  inside_rounds _ _ _ ts _ (at_clause l n d i t cs r ss p head end' h hr) o = inside_rounds r d ss ts head hr (popped _ ss ts o)
 
   inside_way : (k : Way V) (ss ts : Slots V) (q : ℕ) → Way_on block code rows outer lowest end k ss q → On_top ss ts → Inside block code rows outer lowest end (way_base k) ts
   inside_way _ _ ts _ (at_value n e w ss p q h k) o = inside w ss ts q k o
   inside_way _ _ ts _ (at_given u w ss p k) o = inside w ss ts p k (popped _ ss ts o)
   inside_way _ _ ts _ (at_linked_on l n a c b r w ss p q h k) o = inside w ss ts q k (popped _ ss ts o)
+  inside_way _ _ ts _ (way_behind_jump k ss p m q h hk) o = inside_way k ss ts q hk o
+  inside_way _ _ ts _ (at_stores n st k ss p q h hk) o = inside_way k ss ts q hk (stored_popped st ss ts o)
+  inside_way _ _ ts _ (at_clauses n d head cs r ss p q h hr) o = inside_rounds r d ss ts head hr o
+  inside_way _ _ ts _ (at_round d r ss p hr) o = inside_rounds r d ss ts p hr o
+  inside_way _ _ ts _ (at_renewed xs l n d p head end' next i t cs r ss h hi hr) o = inside_rounds r d ss ts next hr (popped _ ss ts o)
+
+  -- the result of a comprehension lies below its iterators
+  found : (r : Rounds V) (d : ℕ) (ss : Slots V) (p : ℕ) (made : V) (next : V → Turn (State V) V) → Rounds_on block code rows outer lowest end r d ss p → Makes r made
+      → the_value (suc d) ss next ≡ next made
+  found _ _ _ _ made next (at_result l n m _ w ss p k) (makes _ _ _ _ _) = refl
+  found _ _ _ _ made next (at_clause l n d i t cs r ss p head end' h hr) (makes_in _ _ _ _ _ _ _ mk) = found r d ss head made next hr mk
 
   -- an instruction is done; a move is made
   turn_at : (p : ℕ) (i : Ins) (ss : Slots V) (t : Turn (State V) V) → code.at p ≡ Some i → perform code p i i.instr ss ≡ t → machine.turn code (on p ss) ≡ t
@@ -165,7 +218,9 @@ module _ {V : Type 0} (block : Around V) (code : CodeObject V) (rows : List Hand
         begin_exp_comes f n g _ ss p m hf (at_operands l _ _ [] (of_args l args) w ss m q (args_behind block code rows args _ l _ 1 (around w) m q h) k)
     begin_exp_comes (S.lambda l b (S.parameters ps s ks d) e) n g w ss p q h k =
         first_plain_comes ps ks (making block b ps ks) l n g w _ ss p q h (λ h. first_keyword_comes ks (making block b ps ks) l n g w ss p q h k) k
-    begin_exp_comes (S.comprehension l m a t it cs) n g w ss p q h k = elim h [ ]
+    begin_exp_comes (S.comprehension l m a t it cs) n g w ss p q (head, end', (m0, hi, (m1, ht, (m2, hm, (m3, hs, hr)))), hn) k =
+        begin_exp_comes it n g _ ss p m0 hi (at_iterated a _ _ ss m0 m1 ht
+        (over_comprehension l _ a t cs m w ss m1 m2 m3 head end' q hm hs hr hn k))
     begin_exp_comes (S.generator l b e a t it cs) n g w ss p q (m, hi, (m', h, hg)) k =
         begin_exp_comes it n g _ ss p m hi (at_iterated a _ _ ss m m' h (over_generator l _ b w ss m' q hg k))
     begin_exp_comes (S.yield l S.absent) n g w ss p q (m, hn, h) k =
@@ -232,6 +287,70 @@ module _ {V : Type 0} (block : Around V) (code : CodeObject V) (rows : List Hand
       next_operand_comes (F.field_of a e d sp ∷ of_pieces (S.field b f g sq r)) T.join l n [] _ (value v ∷ ss) p m2
       (m, he, (m1, hs, pieces_behind block code rows (S.field b f g sq r) T.join l _ 1 (around w) m1 m2 hp)) (at_operands l _ (T.format c) (v ∷ []) [] w ss m2 q h k)
 
+  -- a value goes to a target
+  store_comes : (t : Tgt) (v : V) (n : ℕ) (k : Way V) (ss : Slots V) (p q : ℕ)
+      → Target_at block code rows t n (around_way k) p q → Way_on block code rows outer lowest end k ss q → C (begin_store block t v n k) (on p (value v ∷ ss))
+  store_comes (S.single (S.name_at l x)) v n k ss p q h hk =
+      there _ _ (m_deed (Some (mark n l false)) _ k (way_base k) _ (ins h.instr (act_mark p n l false) q rows) ss (on q ss) _
+      (turn_at p _ _ _ h.stands (h.does v ss)) refl refl (inside_way k ss ss q hk same) (lands k ss q hk))
+  store_comes (S.single (S.attribute_at l a x)) v n k ss p q (m, ha, h) hk =
+      begin_exp_comes a n false _ (value v ∷ ss) p m ha (at_attribute l _ x v k ss m q h hk)
+  store_comes (S.single (S.item_at l a i)) v n k ss p q (m, ha, h) hk =
+      begin_exp_comes a n false _ (value v ∷ ss) p m ha (at_container l _ i v k ss m q h hk)
+  store_comes (S.several l f ts) v n k ss p q (m, h, hts) hk =
+      there _ _ (m_unpack (mark n l false) v (n + 1) ts k _ (ins h.instr (act_mark p n l false) m rows) ss m q
+      (turn_at p _ _ _ h.stands (h.does v ss)) refl hts hk (inside_way k ss ss q hk same))
+  store_comes (S.starred l t) v n k ss p q h hk = store_comes t v n k ss p q h hk
+
+  stores_come : (st : Stores V) (n : ℕ) (k : Way V) (ss : Slots V) (p q : ℕ) (c : Control V)
+      → Stores_at block code rows st n (around_way k) p q → Way_on block code rows outer lowest end k ss q → C c (on q ss) → C (begin_stores block st n k c) (on p (stored st ss))
+  stores_come F.no_more n k ss p q c h hk a = subst (λ r. C c (on r ss)) (sym h) a
+  stores_come (F.and_store t v st) n k ss p q c (m, ht, hs) hk a =
+      store_comes t v n (F.stores (n + target_size t) st k) (stored st ss) p m ht (at_stores _ st k ss m q hs hk)
+
+  -- the next item, and what is done with it
+  item_comes : (l n : ℕ) (i : V) (t : Tgt) (cs : Clauses) (r : Rounds V) (d : ℕ) (ss : Slots V) (p next end' : ℕ)
+      → Item_taken block code rows l n t cs r d p next end' → Rounds_on block code rows outer lowest end r d ss next → C (take_item l n i t cs r) (on p (iterator i ∷ ss))
+  item_comes l n i t cs r d ss p next end' (m, hn, (m', ht, hc)) hr =
+      there _ _ (m_item (mark n l false) i (n + 1) t _ _ _ (ins (instr.Next (record { 0 = next })) (act_mark p n l false) m rows) ss m m' next
+      (turn_at p _ _ _ hn refl) refl refl ht
+      (at_clauses _ (suc d) p cs (F.round_of l n i t cs r) (iterator i ∷ ss) m' end' hc (at_clause l n d i t cs r ss p next end' (m, hn, (m', ht, hc)) hr))
+      (at_round d r ss next hr) (inside_rounds r d ss ss next hr same))
+
+  renewed_come : (xs : List Variable) (l n : ℕ) (i : V) (t : Tgt) (cs : Clauses) (r : Rounds V) (d : ℕ) (ss : Slots V) (p head next end' : ℕ)
+      → Renewed_at block code rows xs p head → Item_taken block code rows l n t cs r d head next end' → Rounds_on block code rows outer lowest end r d ss next
+      → C (control.make_anew xs l n i t cs r) (on p (iterator i ∷ ss))
+  renewed_come [] l n i t cs r d ss p head next end' h hi hr =
+      subst (λ u. C (take_item l n i t cs r) (on u (iterator i ∷ ss))) (sym h) (item_comes l n i t cs r d ss head next end' hi hr)
+  renewed_come (x ∷ xs) l n i t cs r d ss p head next end' (m, h, hs) hi hr =
+      there _ _ (m_deed None (T.fresh x) (F.made_anew xs l n i t cs r) (rounds_base r) _ (ins h.instr None m rows) (iterator i ∷ ss) (on m (iterator i ∷ ss)) _
+      (turn_at p _ _ _ h.stands (h.does (iterator i ∷ ss))) refl refl (inside_rounds r d ss (iterator i ∷ ss) next hr (push _ _ same))
+      (lands _ _ m (at_renewed xs l n d m head end' next i t cs r ss hs hi hr)))
+
+  made_item_comes : (m : Made) (l n d head : ℕ) (v : V) (r : Rounds V) (ss : Slots V) (p q : ℕ)
+      → Item_at block code rows m l n d head (around_rounds r) p q → Makes r v → Rounds_on block code rows outer lowest end r d ss head
+      → C (begin_made block m l n v r) (on p ss)
+  made_item_comes (S.a_list e) l n d head v r ss p q (m, he, h) mk hr = begin_exp_comes e n false _ ss p m he (at_listed l _ d head v r ss m q h mk hr)
+  made_item_comes (S.a_set e) l n d head v r ss p q (m, he, h) mk hr = begin_exp_comes e n false _ ss p m he (at_set l _ d head v r ss m q h mk hr)
+  made_item_comes (S.a_dict a e) l n d head v r ss p q (m, ha, h) mk hr = begin_exp_comes a n false _ ss p m ha (at_keyed l _ d head e v r ss m q h mk hr)
+
+  last_comes : (o r : Rounds V) (n d head : ℕ) (ss : Slots V) (p q : ℕ)
+      → Last_at block code rows o n d head p q → ((v : V) → Makes o v → Makes r v) → around_rounds o ≡ around_rounds r → Rounds_on block code rows outer lowest end r d ss head
+      → C (begin_last block o n r) (on p ss)
+  last_comes (F.collecting l a m v w) r n d head ss p q h f e hr =
+      made_item_comes m l n d head v r ss p q (subst (λ u. Item_at block code rows m l n d head u p q) e h) (f v (makes l a m v w)) hr
+  last_comes (F.generating l e s) r n d head ss p q h f eq hr = elim h [ ]
+  last_comes (F.round_of l a i t cs o) r n d head ss p q h f e hr = last_comes o r n d head ss p q h (λ v mk. f v (makes_in l a i t cs o v mk)) e hr
+
+  clauses_come : (cs : Clauses) (n d head : ℕ) (r : Rounds V) (ss : Slots V) (p q : ℕ)
+      → Clauses_at block code rows cs (rounds_line r) n d head (around_rounds r) (Last_at block code rows r) p q → Rounds_on block code rows outer lowest end r d ss head
+      → C (begin_clauses block cs n r) (on p ss)
+  clauses_come S.no_clauses n d head r ss p q h hr = last_comes r r n d head ss p q h (λ v mk. mk) refl hr
+  clauses_come (S.only_if c cs) n d head r ss p q (m, hc, (m', hj, h)) hr =
+      begin_exp_comes c n false _ ss p m hc (at_asked (rounds_line r) _ _ _ ss m m' head hj (at_clauses _ d head cs r ss m' q h hr) (at_round d r ss head hr))
+  clauses_come (S.for_each l t it cs) n d head r ss p q (inner, (m, hi, hit), hn) hr =
+      begin_exp_comes it n false _ ss p m hi (at_iterated l _ _ ss m inner hit (over_clause l _ d t cs r ss inner head q hn hr))
+
   -- a test with a mark asks, also of a truth that is known
   branch_asks : (p n l q : ℕ) (j : Instr) (o : Option Bool) (t f : V → Slots V → State V) (v : V) (ss : Slots V)
       → branches code (ins j (act_mark p n l false) q rows) o t f v ss
@@ -279,14 +398,50 @@ module _ {V : Type 0} (block : Around V) (code : CodeObject V) (rows : List Hand
       (turn_at p _ _ _ hj (branch_asks p n l q (instr.JumpUnless (record { 0 = other })) (code.is_truth v) _ _ v ss)) refl (inside_way f ss _ other hf same) (lands t ss q ht) (lands f ss other hf))
   deliver_comes v _ _ _ (at_iterated l n o ss p q h k) =
       there _ _ (m_iter _ v o _ (ins instr.Iter (act_mark p n l false) q rows) ss q (turn_at p _ _ _ h refl) refl k)
+  deliver_comes v _ _ _ (at_built l n a i t cs m w ss p p' head end' q hs hr hn k) =
+      moved _ p _ _ _ hs refl (renewed_come _ a n i t cs (F.collecting l n m v w) 0 (value v ∷ ss) p' head q end' hr hn (at_result l n m v w ss q k))
+  deliver_comes v _ _ _ (at_listed l n d head made r ss p q (m, h, hj) mk hr) =
+      there _ _ (m_deed (Some (mark n l false)) (T.add_to_list made v) (F.round r) (rounds_base r) _ (ins (instr.ListAdd (suc d)) (act_mark p n l false) m rows) ss (on m ss) _
+      (turn_at p _ _ _ h (found r d ss head made _ hr mk)) refl refl (inside_rounds r d ss ss head hr same)
+      (lands _ ss m (way_behind_jump _ ss m q head hj (at_round d r ss head hr))))
+  deliver_comes v _ _ _ (at_set l n d head made r ss p q (m, h, hj) mk hr) =
+      there _ _ (m_deed (Some (mark n l false)) (T.add_to_set made v) (F.round r) (rounds_base r) _ (ins (instr.SetAdd (suc d)) (act_mark p n l false) m rows) ss (on m ss) _
+      (turn_at p _ _ _ h (found r d ss head made _ hr mk)) refl refl (inside_rounds r d ss ss head hr same)
+      (lands _ ss m (way_behind_jump _ ss m q head hj (at_round d r ss head hr))))
+  deliver_comes v _ _ _ (at_keyed l n d head e made r ss p q (m, he, h) mk hr) =
+      begin_exp_comes e n false _ (value v ∷ ss) p m he (at_entered l _ d head v made r ss m q h mk hr)
+  deliver_comes v _ _ _ (at_entered l n d head key made r ss p q (m, h, hj) mk hr) =
+      there _ _ (m_deed (Some (mark n l false)) (T.add_to_dict made key v) (F.round r) (rounds_base r) _ (ins (instr.DictAdd (suc d)) (act_mark p n l false) m rows) ss (on m ss) _
+      (turn_at p _ _ _ h (found r d ss head made _ hr mk)) refl refl (inside_rounds r d ss ss head hr same)
+      (lands _ ss m (way_behind_jump _ ss m q head hj (at_round d r ss head hr))))
+  deliver_comes v _ _ _ (at_attribute l n x u k ss p q h hk) =
+      there _ _ (m_deed (Some (mark n l false)) (T.set_attribute (block.spelled x) v u) k (way_base k) _ (ins h.instr (act_mark p n l false) q rows) ss (on q ss) _
+      (turn_at p _ _ _ h.stands (h.does u v ss)) refl refl (inside_way k ss ss q hk same) (lands k ss q hk))
+  deliver_comes v _ _ _ (at_container l n i u k ss p q (m, hi, h) hk) =
+      begin_exp_comes i n false _ (value v ∷ value u ∷ ss) p m hi (at_index l _ v u k ss m q h hk)
+  deliver_comes v _ _ _ (at_index l n a u k ss p q h hk) =
+      there _ _ (m_deed (Some (mark n l false)) (T.set_item a v u) k (way_base k) _ (ins instr.SetItem (act_mark p n l false) q rows) ss (on q ss) _
+      (turn_at p _ _ _ h refl) refl refl (inside_way k ss ss q hk same) (lands k ss q hk))
   deliver_comes v _ _ _ (behind_jump w ss p m q h k) = moved _ p _ _ _ h refl (deliver_comes v w ss q k)
   deliver_comes v _ _ _ (over_value u w ss p m q hs hp k) = moved _ p _ _ _ hs refl (moved _ m _ _ _ hp refl (deliver_comes v w ss q k))
 
-  way_comes : (k : Way V) (t : State V) → Lands block code rows outer lowest end k t → C (control.go block k) t
-  way_comes _ _ (lands _ _ _ (at_value n e w ss p q h k)) = begin_exp_comes e n false w ss p q h k
-  way_comes _ _ (lands _ _ _ (at_given v w ss p k)) = deliver_comes v w ss p k
-  way_comes _ _ (lands _ _ _ (at_linked_on l n a o b r w ss p q (m, hb, h) k)) =
+  next_round_comes : (r : Rounds V) (d : ℕ) (ss : Slots V) (p : ℕ) → Rounds_on block code rows outer lowest end r d ss p → C (control.next_round block r) (on p ss)
+  next_round_comes _ _ _ _ (at_result l n m made w ss p k) = deliver_comes made w ss p k
+  next_round_comes _ _ _ _ (at_clause l n d i t cs r ss p head end' h hr) = item_comes l n i t cs r d ss p head end' h hr
+
+  way_on_comes : (k : Way V) (ss : Slots V) (p : ℕ) → Way_on block code rows outer lowest end k ss p → C (control.go block k) (on p ss)
+  way_on_comes _ _ _ (at_value n e w ss p q h k) = begin_exp_comes e n false w ss p q h k
+  way_on_comes _ _ _ (at_given v w ss p k) = deliver_comes v w ss p k
+  way_on_comes _ _ _ (at_linked_on l n a o b r w ss p q (m, hb, h) k) =
       begin_exp_comes b n false _ (value a ∷ ss) p m hb (at_compared l _ a o r w ss m q h k)
+  way_on_comes _ _ _ (way_behind_jump k ss p m q h hk) = moved _ p _ _ _ h refl (way_on_comes k ss q hk)
+  way_on_comes _ _ _ (at_stores n st k ss p q h hk) = stores_come st n k ss p q (control.go block k) h hk (way_on_comes k ss q hk)
+  way_on_comes _ _ _ (at_clauses n d head cs r ss p q h hr) = clauses_come cs n d head r ss p q h hr
+  way_on_comes _ _ _ (at_round d r ss p hr) = next_round_comes r d ss p hr
+  way_on_comes _ _ _ (at_renewed xs l n d p head end' next i t cs r ss h hi hr) = renewed_come xs l n i t cs r d ss p head next end' h hi hr
+
+  way_comes : (k : Way V) (t : State V) → Lands block code rows outer lowest end k t → C (control.go block k) t
+  way_comes _ _ (lands k ss p h) = way_on_comes k ss p h
 
   delegate_comes : (l n : ℕ) (it u : V) (w : Wait V) (ss : Slots V) (p q : ℕ) → Act_at block code rows instr.Delegate n l false p q → W w ss q
       → C (for_delegate (mark n l false) it (got u) w) (on p (value u ∷ iterator it ∷ ss))
@@ -296,6 +451,10 @@ module _ {V : Type 0} (block : Around V) (code : CodeObject V) (rows : List Hand
   take_iter_comes i _ _ _ (over_generator l n b w ss p q h k) =
       made_comes (block.captured b) (T.generator b) iterators_above l n false [] (i ∷ []) (i ∷ []) w ss p q h refl (push _ _ same) k
   take_iter_comes i _ _ _ (over_delegated l n w ss p m q hn h k) = null_comes _ p m _ hn (delegate_comes l n i block.null w ss m q h k)
+  take_iter_comes i _ _ _ (over_comprehension l n a t cs m w ss p p1 p2 head end' q hm hs hr hn k) =
+      made_comes [] (built_as m) above l n false [] [] [] _ (iterator i ∷ ss) p p1 hm refl same
+      (at_built l (n + 1) a i t cs m w ss p1 p2 head end' q hs hr hn k)
+  take_iter_comes i _ _ _ (over_clause l n d t cs r ss p head end' h hr) = item_comes l n i t cs r d ss p head end' h hr
 
   -- a raise lands, whichever instruction it comes from
   lands_by : (c : Control V) (v : V) (i : Ins) (ts : Slots V) → i.rows ≡ rows → C c (land code rows (raise v) ts) → C c (land code i.rows (raise v) ts)
@@ -328,6 +487,29 @@ module _ {V : Type 0} (block : Around V) (code : CodeObject V) (rows : List Hand
   iter_replies o i ss q e k (got v) = take_iter_comes v o ss q k
   iter_replies o i ss q e k (raised v) = lands_by _ v i ss e (raise_over o ss ss q v k same)
 
+  deed_replies : (k : Way V) (s : Nest V) (i : Ins) (ts : Slots V) (u : State V) → i.rows ≡ rows → Inside block code rows outer lowest end s ts
+      → Lands block code rows outer lowest end k u → (r : Reply V (Unit {0})) → C (control.after_deed block k s r) (after code i ts (λ x. u) r)
+  deed_replies k s i ts u e h hk (got x) = way_comes k u hk
+  deed_replies k s i ts u e h hk (raised v) = lands_by _ v i ts e (raise_inside s ts v h)
+
+  item_replies : (it : V) (n : ℕ) (tg : Tgt) (k f : Way V) (i : Ins) (ss : Slots V) (q q' to : ℕ) → i.rows ≡ rows → i.next ≡ q
+      → Target_at block code rows tg n (around_way k) q q' → Way_on block code rows outer lowest end k (iterator it ∷ ss) q' → Way_on block code rows outer lowest end f ss to
+      → Inside block code rows outer lowest end (way_base k) ss
+      → (r : Reply V (Option V)) → C (control.after_item block n tg k f r) (after code i ss (with_item code i to it ss) r)
+  item_replies it n tg k f i ss q q' to e en ht hk hf h (got (Some v)) =
+      subst (λ u. C (begin_store block tg v n (F.stores (n + target_size tg) F.no_more k)) (on u (value v ∷ iterator it ∷ ss))) (sym en)
+      (store_comes tg v n (F.stores (n + target_size tg) F.no_more k) (iterator it ∷ ss) q q' ht (at_stores _ F.no_more k (iterator it ∷ ss) q' q' refl hk))
+  item_replies it n tg k f i ss q q' to e en ht hk hf h (got None) = way_on_comes f ss to hf
+  item_replies it n tg k f i ss q q' to e en ht hk hf h (raised v) = lands_by _ v i ss e (raise_inside (way_base k) ss v h)
+
+  unpack_replies : (n : ℕ) (ts : Tgts) (k : Way V) (i : Ins) (ss : Slots V) (q q' : ℕ) → i.rows ≡ rows
+      → Targets_at block code rows ts n (around_way k) q q' → Way_on block code rows outer lowest end k ss q' → Inside block code rows outer lowest end (way_base k) ss
+      → (r : Reply V (T.Row V (count_targets ts))) → C (control.after_unpack block n ts k (way_base k) r) (after code i ss (λ vs. on q (giving (count_targets ts) vs ss)) r)
+  unpack_replies n ts k i ss q q' e hts hk h (got vs) =
+      subst (λ u. C (begin_stores block (each_gets ts vs) n k (control.go block k)) (on q u)) (sym (giving_stored ts vs ss))
+      (stores_come (each_gets ts vs) n k ss q q' (control.go block k) (gets_at block code rows ts vs n (around_way k) q q' hts) hk (way_on_comes k ss q' hk))
+  unpack_replies n ts k i ss q q' e hts hk h (raised v) = lands_by _ v i ss e (raise_inside (way_base k) ss v h)
+
   delegate_replies : (l n : ℕ) (it u : V) (w : Wait V) (ss : Slots V) (p q : ℕ) → Act_at block code rows instr.Delegate n l false p q → W w ss q
       → (r : Reply V (Delegated V)) → C (control.after_delegate block (mark n l false) it w r)
       (after code (ins instr.Delegate (act_mark p n l false) q rows) ss (delegated code p (ins instr.Delegate (act_mark p n l false) q rows) it u ss) r)
@@ -346,6 +528,10 @@ module _ {V : Type 0} (block : Around V) (code : CodeObject V) (rows : List Hand
   follows _ _ (m_cell x l n g op lower cs vs before xs w t i ss ts p q e er o u h f k) =
       same_at _ t _ e (same_act _ _ _ _ (cell_replies l n g op lower cs vs before xs w i ss ts p q er o u h f k))
   follows _ _ (m_truth m v t f s st i ts next e er h ht hf) = same_at _ st _ e (same_act _ _ _ _ (truth_replies t f s i ts next er h ht hf))
+  follows c _ (m_deed m d k s t i ts u _ e ec er h hk) =
+      subst (λ y. Same block code rows outer lowest end y (machine.turn code t)) (sym ec) (same_at _ t _ e (same_act m (T.deed d) _ _ (deed_replies k s i ts u er h hk)))
+  follows _ _ (m_item m it n tg k f t i ss q q' to e er en ht hk hf h) = same_at _ t _ e (same_act _ _ _ _ (item_replies it n tg k f i ss q q' to er en ht hk hf h))
+  follows _ _ (m_unpack m v n ts k t i ss q q' e er hts hk h) = same_at _ t _ e (same_act _ _ _ _ (unpack_replies n ts k i ss q q' er hts hk h))
   follows _ _ (m_iter m v o t i ss q e er k) = same_at _ t _ e (same_act _ _ _ _ (iter_replies o i ss q er k))
   follows _ _ (m_delegate l n it u r w t ss p q h e k) = same_at _ t _ e (same_act _ _ _ _ (delegate_replies l n it u w ss p q h k))
 

@@ -1,14 +1,14 @@
 -- Where the code of an expression stands: a relation of two places, by recursion over the tree. Each instruction is known by what it does. The numbers of acts
--- are spelled as control spells them. A comprehension isn't among the forms here.
-use Rattle.std.specs.Prelude.{◌≡◌, ℕ, ◌+◌, suc, List, [], ◌∷◌, ◌++◌, reverse, Bool, false, Option, Some, None}
+-- are spelled as control spells them.
+use Rattle.std.specs.Prelude.{map, ◌≡◌, ℕ, ◌+◌, suc, List, [], ◌∷◌, ◌++◌, reverse, Bool, false, Option, Some, None}
 use Rattle.pt_base.specs.declared.operators.CompareOp.{CompareOp}
 use Rattle.pt_ranges.specs.declared.lines.ActMark.{ActMark}
 use Rattle.pt_ranges.specs.declared.handlers.Handler.{Handler}
 use Rattle.pt_tree.specs.declared.expression.Constant.TheVariants.{Str}
 use Rattle.pt_tree.specs.declared.expression.Conversion.{Conversion}
 use Rattle.pt_tree.specs.Syntax as S
-use Rattle.pt_tree.specs.Syntax.{Exp, Exps, Opt, Pieces, Entries, Links, Args, Formals}
-use Rattle.pt_tree.specs.Sizes.{size, pieces_size, joins}
+use Rattle.pt_tree.specs.Syntax.{Exp, Exps, Opt, Pieces, Entries, Links, Args, Made, Clauses, Place, Tgt, Tgts, Formals}
+use Rattle.pt_tree.specs.Sizes.{size, pieces_size, joins, target_size}
 use Rattle.pt_instr.specs.declared.Instr.{Instr}
 use Rattle.pt_instr.specs.declared.Instr.TheVariants as instr
 use Rattle.pt_code.specs.View.{Ins}
@@ -16,10 +16,13 @@ use Rattle.pt_control.specs.Turn as T
 use Rattle.pt_control.specs.Turn.{Around, Variable, Operation, Seek, Turn, move}
 use Rattle.pt_control.specs.Frames as F
 use Rattle.pt_control.specs.Frames.{Operand}
-use Rattle.pt_control.specs.Expressions.{roles, making, cells_of}
+use Rattle.pt_control.specs.Expressions.{roles, making, cells_of, target_names, clause_names, built_as}
+use Rattle.pt_control.specs.Statements as statements
+use Rattle.pt_control.specs.Statements.{star_of}
 use Rattle.pt_slots.specs.Slots.{Slots, value, cell, iterator, on}
 use Rattle.pt_slots.specs.CodeObject.{CodeObject}
-use Rattle.pt_slots.specs.Steps.{asks, gives}
+use Rattle.pt_slots.specs.Pops.{giving}
+use Rattle.pt_slots.specs.Steps.{asks, gives, does}
 use Rattle.pt_slots.specs.Instructions.{perform}
 
 -- one stretch of code behind another
@@ -91,6 +94,30 @@ module _ {V : Type 0} (block : Around V) (code : CodeObject V) (rows : List Hand
     pub stands : Ins_at instr None from to
     pub does : (ss : Slots V) → perform code from (ins instr None to rows) instr ss ≡ asks code (ins instr None to rows) (T.seek (T.cell_of x)) ss (λ v. on to (cell v ∷ ss))
 
+  -- one that binds a name, one that sets an attribute, and one that makes a name anew without an act
+  pub record Stores (x : Variable) (m : Option ActMark) (from to : ℕ) : Type 0 where
+    pub instr : Instr
+    pub stands : Ins_at instr m from to
+    pub does : (v : V) (ss : Slots V) → perform code from (ins instr m to rows) instr (value v ∷ ss) ≡ does code (ins instr m to rows) (T.store x v) ss
+
+  pub record Sets (x : S.Name) (m : Option ActMark) (from to : ℕ) : Type 0 where
+    pub instr : Instr
+    pub stands : Ins_at instr m from to
+    pub does : (v a : V) (ss : Slots V)
+        → perform code from (ins instr m to rows) instr (value a ∷ value v ∷ ss) ≡ does code (ins instr m to rows) (T.set_attribute x a v) ss
+
+  pub record Renews (x : Variable) (from to : ℕ) : Type 0 where
+    pub instr : Instr
+    pub stands : Ins_at instr None from to
+    pub does : (ss : Slots V) → perform code from (ins instr None to rows) instr ss ≡ does code (ins instr None to rows) (T.fresh x) ss
+
+  -- one that unpacks a value for so many targets
+  pub record Unpacks (n : ℕ) (star : Option ℕ) (m : Option ActMark) (from to : ℕ) : Type 0 where
+    pub instr : Instr
+    pub stands : Ins_at instr m from to
+    pub does : (v : V) (ss : Slots V)
+        → perform code from (ins instr m to rows) instr (value v ∷ ss) ≡ asks code (ins instr m to rows) (T.unpack v n star) ss (λ vs. on to (giving n vs ss))
+
   -- an operation on k operands, behind the cells that are left; c of them are there
   abbrev pub Made_at : (cells : List Variable) → Operation → (lower : List V → Slots V → Slots V) → (l n : ℕ) → (g : Bool) → (k c : ℕ) → ℕ → ℕ → Type 0
   Made_at [] op lower l n g k c = λ from. Operates op lower k c (act_mark from n l g) from
@@ -99,6 +126,10 @@ module _ {V : Type 0} (block : Around V) (code : CodeObject V) (rows : List Hand
   -- an operation on values, none of whose cells is there
   abbrev pub Op_at : Operation → (l n : ℕ) → (g : Bool) → (k : ℕ) → ℕ → ℕ → Type 0
   Op_at op l n g k = Made_at (cells_of block op) op above l n g k 0
+
+  abbrev pub Renewed_at : List Variable → ℕ → ℕ → Type 0
+  Renewed_at [] = here
+  Renewed_at (x ∷ xs) = Renews x ⨾ Renewed_at xs
 
   -- 6.2 to 6.15; v are the comprehensions around. A list of operands ends in their operation, of which k values are there
   abbrev mutual
@@ -138,7 +169,12 @@ module _ {V : Type 0} (block : Around V) (code : CodeObject V) (rows : List Hand
     Exp_at (S.lambda l b (S.parameters ps s ks d) e) n g v =
         First_at ps n g v (First_at ks n g v (Op_at (making block b ps ks) l n g 0) (λ m k. Op_at (making block b ps ks) l m false k))
         (λ m k. Formals_at ks m k v (λ m k. Op_at (making block b ps ks) l m false k))
-    Exp_at (S.comprehension l m k t it cs) n g v = λ from to. ⊥
+    Exp_at (S.comprehension l m k t it cs) n g v = λ from to. (head : ℕ) × (end : ℕ)
+        × (Exp_at it n g v ⨾ Act_at instr.Iter (n + size it) k false ⨾ Made_at [] (built_as m) above l (n + size it + 1) false 0 0 ⨾ Move_at instr.Swap
+        ⨾ Renewed_at (map (block.variable ((n + size it + 1 + 1) ∷ v)) (target_names t ++ clause_names cs))) from head
+        × (Act_at (instr.Next (record { 0 = to })) (n + size it + 1 + 1) k false ⨾ Target_at t (n + size it + 1 + 1 + 1) ((n + size it + 1 + 1) ∷ v)
+        ⨾ Clauses_at cs l (n + size it + 1 + 1 + 1 + target_size t) 1 head ((n + size it + 1 + 1) ∷ v)
+        (λ j d h. Item_at m l j d h ((n + size it + 1 + 1) ∷ v))) head end
     Exp_at (S.generator l b e k t it cs) n g v =
         Exp_at it n g v ⨾ Act_at instr.Iter (n + size it) k false ⨾ Made_at (block.captured b) (T.generator b) iterators_above l (n + size it + 1) false 1 0
     Exp_at (S.yield l S.absent) n g v = Null_at ⨾ Act_at instr.Yield n l g
@@ -214,6 +250,38 @@ module _ {V : Type 0} (block : Around V) (code : CodeObject V) (rows : List Hand
     First_at S.no_formals n g v none behind = none
     First_at (S.formal a x t S.absent r) n g v none behind = First_at r n g v none behind
     First_at (S.formal a x t (S.given d) r) n g v none behind = Exp_at d n g v ⨾ Formals_at r (n + size d) 1 v behind
+
+    -- the clauses for one item, behind which stands what is done with it; d iterators lie above the result, and the next item is taken at head
+    pub Clauses_at : Clauses → (l n d head : ℕ) → (v : List ℕ) → (item : (n d head : ℕ) → ℕ → ℕ → Type 0) → ℕ → ℕ → Type 0
+    Clauses_at S.no_clauses l n d head v item = item n d head
+    Clauses_at (S.only_if c cs) l n d head v item =
+        Exp_at c n false v ⨾ Act_at (instr.JumpUnless (record { 0 = head })) (n + size c) l false ⨾ Clauses_at cs l (n + size c + 1) d head v item
+    Clauses_at (S.for_each k t it cs) l n d head v item = λ from to. (inner : ℕ)
+        × (Exp_at it n false v ⨾ Act_at instr.Iter (n + size it) k false) from inner
+        × (Act_at (instr.Next (record { 0 = head })) (n + size it + 1) k false ⨾ Target_at t (n + size it + 1 + 1) v
+        ⨾ Clauses_at cs l (n + size it + 1 + 1 + target_size t) (suc d) inner v item) inner to
+
+    -- the item is added to the result
+    pub Item_at : Made → (l n d head : ℕ) → (v : List ℕ) → ℕ → ℕ → Type 0
+    Item_at (S.a_list e) l n d head v = Exp_at e n false v ⨾ Act_at (instr.ListAdd (suc d)) (n + size e) l false ⨾ Move_at (instr.Jump (record { 0 = head }))
+    Item_at (S.a_set e) l n d head v = Exp_at e n false v ⨾ Act_at (instr.SetAdd (suc d)) (n + size e) l false ⨾ Move_at (instr.Jump (record { 0 = head }))
+    Item_at (S.a_dict k e) l n d head v =
+        Exp_at k n false v ⨾ Exp_at e (n + size k) false v ⨾ Act_at (instr.DictAdd (suc d)) (n + size k + size e) l false ⨾ Move_at (instr.Jump (record { 0 = head }))
+
+    -- a value is bound to a target (7.2)
+    pub Target_at : Tgt → (n : ℕ) → (v : List ℕ) → ℕ → ℕ → Type 0
+    Target_at (S.single p) n v = Place_at p n v
+    Target_at (S.several l f ts) n v = λ from. ((λ from. Unpacks (statements.count ts) (star_of ts) (act_mark from n l false) from) ⨾ Targets_at ts (n + 1) v) from
+    Target_at (S.starred l t) n v = Target_at t n v
+
+    pub Targets_at : Tgts → (n : ℕ) → (v : List ℕ) → ℕ → ℕ → Type 0
+    Targets_at S.no_targets n v = here
+    Targets_at (S.more_targets t ts) n v = Target_at t n v ⨾ Targets_at ts (n + target_size t) v
+
+    pub Place_at : Place → (n : ℕ) → (v : List ℕ) → ℕ → ℕ → Type 0
+    Place_at (S.name_at l x) n v = λ from. Stores (block.variable v x) (act_mark from n l false) from
+    Place_at (S.attribute_at l a x) n v = Exp_at a n false v ⨾ (λ from. Sets (block.spelled x) (act_mark from (n + size a) l false) from)
+    Place_at (S.item_at l a i) n v = Exp_at a n false v ⨾ Exp_at i (n + size a) false v ⨾ Act_at instr.SetItem (n + size a + size i) l false
 
   -- operands that are left, and their operation, of which k values are there
   abbrev pub Behind_at : List Operand → Operation → (l n k : ℕ) → (v : List ℕ) → ℕ → ℕ → Type 0

@@ -1,4 +1,4 @@
--- An expression that holds every form but a comprehension, and its code.
+-- An expression that holds every form, and its code.
 use Rattle.std.specs.Prelude.{ℕ, pos, List, [], ◌∷◌, codes, Some, None}
 use Rattle.pt_base.specs.declared.operators.BinOp.TheVariants as binary
 use Rattle.pt_base.specs.declared.operators.UnOp.TheVariants as unary
@@ -24,7 +24,8 @@ sample_block = record { null = 0; variable = λ within x. local x; spelled = λ 
 
 -- ( d and not e if a < b <= c else d or 7 or e,
 --   f(1, *g, k=-h, **o), a.x(1 + b, k=[]), a[1::c], a[:c:], f"x={x!r:>{w}}{y:d}",
---   lambda p, q=1, *, r=z: p, (v for v in t), {"k": (yield {1})}, (yield), (yield from u), None)
+--   lambda p, q=1, *, r=z: p, (v for v in t), {"k": (yield {1})}, (yield), [x for x in t if x],
+--   {k: v for k, *v in t for a.x in u for b[0] in w}, {x for [x] in t}, (yield from u), None)
 abbrev pub every_form : Exp
 every_form =
     (S.tuple 1 (S.more_exps (S.conditional 1 (S.compare 1 (S.name 1 (codes "a")) comparison.Less (S.name 1 (codes "b")) (S.link comparison.LessEqual
@@ -41,8 +42,14 @@ every_form =
     1)))) S.no_formals)) None (S.formal 9 (codes "r") S.absent (S.given (S.name 9 (codes "z"))) S.no_formals) None) (S.name 9 (codes "p")))
     (S.more_exps (S.generator 10 2 (S.name 10 (codes "v")) 10 (S.single (S.name_at 10 (codes "v"))) (S.name 10 (codes "t")) S.no_clauses) (S.more_exps
     (S.dict 11 (S.entry (S.constant 11 (constant.Str (codes "k"))) (S.yield 11 (S.given (S.set 11 (S.more_exps (S.constant 11 (constant.Int (pos 1)))
-    S.no_exps)))) S.no_entries)) (S.more_exps (S.yield 12 S.absent) (S.more_exps (S.yield_from 12 (S.name 12 (codes "u"))) (S.more_exps (S.constant 13
-    constant.None) S.no_exps)))))))))))))
+    S.no_exps)))) S.no_entries)) (S.more_exps (S.yield 12 S.absent) (S.more_exps (S.comprehension 14 (S.a_list (S.name 14 (codes "x"))) 14 (S.single
+    (S.name_at 14 (codes "x"))) (S.name 14 (codes "t")) (S.only_if (S.name 14 (codes "x")) S.no_clauses)) (S.more_exps (S.comprehension 15 (S.a_dict
+    (S.name 15 (codes "k")) (S.name 15 (codes "v"))) 15 (S.several 15 S.as_tuple (S.more_targets (S.single (S.name_at 15 (codes "k"))) (S.more_targets
+    (S.starred 15 (S.single (S.name_at 15 (codes "v")))) S.no_targets))) (S.name 15 (codes "t")) (S.for_each 16 (S.single (S.attribute_at 16 (S.name
+    16 (codes "a")) (codes "x"))) (S.name 16 (codes "u")) (S.for_each 17 (S.single (S.item_at 17 (S.name 17 (codes "b")) (S.constant 17 (constant.Int
+    (pos 0))))) (S.name 17 (codes "w")) S.no_clauses))) (S.more_exps (S.comprehension 18 (S.a_set (S.name 18 (codes "x"))) 18 (S.several 18 S.as_list
+    (S.more_targets (S.single (S.name_at 18 (codes "x"))) S.no_targets)) (S.name 18 (codes "t")) S.no_clauses) (S.more_exps (S.yield_from 12 (S.name
+    12 (codes "u"))) (S.more_exps (S.constant 13 constant.None) S.no_exps))))))))))))))))
 
 abbrev placed : List Placed
 placed =
@@ -71,16 +78,33 @@ placed =
     acts 55 10 (instr.Local (record { 0 = 13 })) ∷ acts 56 10 instr.Iter ∷ moves (instr.PushCell (record { 0 = 0 })) ∷
     acts 57 10 (instr.MakeGenerator (record { 0 = 2 })) ∷ acts 58 11 (instr.Const (record { 0 = 6 })) ∷
     acts 59 11 (instr.Const (record { 0 = 1 })) ∷ acts 60 11 (instr.Set 1) ∷ acts 61 11 instr.Yield ∷ acts 62 11 (instr.Dict 1) ∷
-    moves (instr.Const (record { 0 = 2 })) ∷ acts 63 12 instr.Yield ∷ acts 64 12 (instr.Local (record { 0 = 14 })) ∷ acts 65 12 instr.Iter ∷
-    moves (instr.Const (record { 0 = 2 })) ∷ acts 66 12 instr.Delegate ∷ acts 67 13 (instr.Const (record { 0 = 2 })) ∷
-    acts 68 1 (instr.Tuple 12) ∷
+    moves (instr.Const (record { 0 = 2 })) ∷ acts 63 12 instr.Yield ∷ acts 64 14 (instr.Local (record { 0 = 13 })) ∷ acts 65 14 instr.Iter ∷
+    acts 66 14 (instr.List 0) ∷ moves instr.Swap ∷ moves (instr.FreshLocal (record { 0 = 9 })) ∷
+    acts 67 14 (instr.Next (record { 0 = 89 })) ∷ acts 68 14 (instr.SetLocal (record { 0 = 9 })) ∷
+    acts 69 14 (instr.Local (record { 0 = 9 })) ∷ acts 70 14 (instr.JumpUnless (record { 0 = 82 })) ∷
+    acts 71 14 (instr.Local (record { 0 = 9 })) ∷ acts 72 14 (instr.ListAdd 2) ∷ moves (instr.Jump (record { 0 = 82 })) ∷
+    acts 73 15 (instr.Local (record { 0 = 13 })) ∷ acts 74 15 instr.Iter ∷ acts 75 15 (instr.Dict 0) ∷ moves instr.Swap ∷
+    moves (instr.FreshLocal (record { 0 = 14 })) ∷ moves (instr.FreshLocal (record { 0 = 15 })) ∷
+    acts 76 15 (instr.Next (record { 0 = 114 })) ∷ acts 77 15 (instr.UnpackStar 1 0) ∷ acts 78 15 (instr.SetLocal (record { 0 = 14 })) ∷
+    acts 79 15 (instr.SetLocal (record { 0 = 15 })) ∷ acts 80 16 (instr.Local (record { 0 = 16 })) ∷ acts 81 16 instr.Iter ∷
+    acts 82 16 (instr.Next (record { 0 = 95 })) ∷ acts 83 16 (instr.Local (record { 0 = 0 })) ∷
+    acts 84 16 (instr.SetAttr (record { 0 = 0 })) ∷ acts 85 17 (instr.Local (record { 0 = 10 })) ∷ acts 86 17 instr.Iter ∷
+    acts 87 17 (instr.Next (record { 0 = 101 })) ∷ acts 88 17 (instr.Local (record { 0 = 1 })) ∷
+    acts 89 17 (instr.Const (record { 0 = 7 })) ∷ acts 90 17 instr.SetItem ∷ acts 91 15 (instr.Local (record { 0 = 14 })) ∷
+    acts 92 15 (instr.Local (record { 0 = 15 })) ∷ acts 93 15 (instr.DictAdd 4) ∷ moves (instr.Jump (record { 0 = 106 })) ∷
+    acts 94 18 (instr.Local (record { 0 = 13 })) ∷ acts 95 18 instr.Iter ∷ acts 96 18 (instr.Set 0) ∷ moves instr.Swap ∷
+    moves (instr.FreshLocal (record { 0 = 9 })) ∷ acts 97 18 (instr.Next (record { 0 = 125 })) ∷ acts 98 18 (instr.Unpack 1) ∷
+    acts 99 18 (instr.SetLocal (record { 0 = 9 })) ∷ acts 100 18 (instr.Local (record { 0 = 9 })) ∷ acts 101 18 (instr.SetAdd 2) ∷
+    moves (instr.Jump (record { 0 = 119 })) ∷ acts 102 12 (instr.Local (record { 0 = 16 })) ∷ acts 103 12 instr.Iter ∷
+    moves (instr.Const (record { 0 = 2 })) ∷ acts 104 12 instr.Delegate ∷ acts 105 13 (instr.Const (record { 0 = 2 })) ∷
+    acts 106 1 (instr.Tuple 15) ∷
     []
 
 abbrev constants : List Constant
-constants = constant.Int (pos 7) ∷ constant.Int (pos 1) ∷ constant.None ∷ constant.Str (codes "x=") ∷ constant.Str (codes ">") ∷ constant.Str (codes "d") ∷ constant.Str (codes "k") ∷ []
+constants = constant.Int (pos 7) ∷ constant.Int (pos 1) ∷ constant.None ∷ constant.Str (codes "x=") ∷ constant.Str (codes ">") ∷ constant.Str (codes "d") ∷ constant.Str (codes "k") ∷ constant.Int (pos 0) ∷ []
 
 abbrev names : List Name
-names = (codes "a") ∷ (codes "b") ∷ (codes "c") ∷ (codes "d") ∷ (codes "e") ∷ (codes "f") ∷ (codes "g") ∷ (codes "h") ∷ (codes "o") ∷ (codes "x") ∷ (codes "w") ∷ (codes "y") ∷ (codes "z") ∷ (codes "t") ∷ (codes "u") ∷ []
+names = (codes "a") ∷ (codes "b") ∷ (codes "c") ∷ (codes "d") ∷ (codes "e") ∷ (codes "f") ∷ (codes "g") ∷ (codes "h") ∷ (codes "o") ∷ (codes "x") ∷ (codes "w") ∷ (codes "y") ∷ (codes "z") ∷ (codes "t") ∷ (codes "k") ∷ (codes "v") ∷ (codes "u") ∷ []
 
 abbrev texts : List Name
 texts = (codes "x") ∷ []

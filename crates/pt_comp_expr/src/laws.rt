@@ -11,15 +11,15 @@ ghost use Rattle.pt_comp_expr.specs.Samples.{every_form, every_form_code, sample
 /// match. From all states that match, both have the same act or the same ask without a mark, and
 /// behind each reply they come to states that match again, until the expression has its value,
 /// which is then one slot more than lay there before, or until a raise leaves it. Whatever waits
-/// for the expression, and whatever the slots below: comprehensions aren't among the forms.
+/// for the expression, and whatever the slots below.
 #[tactic(auto, using(crate::proofs::Steps::follows))]
 pub fn the_code_of_an_expression_follows_it<V>()
     ensures begins { (block : Around V) (code : CodeObject V) → AllBegin block code }
     ensures follows { (block : Around V) (code : CodeObject V) → AllFollow block code }
 {}
 
-/// An expression that holds every form but a comprehension has code that stands so.
+/// An expression that holds every form has code that stands so.
 #[tactic(auto, using(crate::proofs::Sample::stands))]
 pub fn every_form_has_code()
-    ensures { Exp_at sample_block every_form_code [] every_form 0 false [] 0 83 }
+    ensures { Exp_at sample_block every_form_code [] every_form 0 false [] 0 131 }
 {}
