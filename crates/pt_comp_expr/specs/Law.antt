@@ -53,7 +53,8 @@ module _ {V : Type 0} (block : Around V) (code : CodeObject V) (rows : List Hand
 
   -- the next item of a clause is taken at a place, or that of the clause around; and then the clauses behind
   abbrev pub Item_taken : (l n : ℕ) → Tgt → Clauses → Rounds V → (d at at_end : ℕ) → ℕ → Type 0
-  Item_taken l n t cs r d at at_end = (Act_at block code rows (instr.Next (record { 0 = at_end })) n l false ⨾ Target_at block code rows t (n + 1) (around_rounds r)
+  Item_taken l n t cs r d at at_end = (Act_at block code rows (instr.Next (record { 0 = at_end })) n l false
+      ⨾ Target_at block code rows t (n + 1) (around_rounds r)
       ⨾ Clauses_at block code rows cs (rounds_line r) (n + 1 + target_size t) (suc d) at (around_rounds r) (Last_at r)) at
 
 module _ {V : Type 0} (block : Around V) (code : CodeObject V) (rows : List Handler) (outer : Wait V) (lowest : Slots V) (end : ℕ) where
@@ -62,19 +63,22 @@ module _ {V : Type 0} (block : Around V) (code : CodeObject V) (rows : List Hand
     pub data Waits_on : Wait V → Slots V → ℕ → Type 0 where
       at_end : Waits_on outer lowest end
       at_operands : (l n : ℕ) (op : Operation) (before : List V) (behind : List Operand) (w : Wait V) (ss : Slots V) (p q : ℕ)
-          → Behind_at block code rows behind op l n (suc (count before)) (around w) p q → Waits_on w ss q → Waits_on (F.operands l n op before behind w) (above before ss) p
+          → Behind_at block code rows behind op l n (suc (count before)) (around w) p q → Waits_on w ss q
+          → Waits_on (F.operands l n op before behind w) (above before ss) p
       at_yielded : (l n : ℕ) (w : Wait V) (ss : Slots V) (p q : ℕ)
           → Act_at block code rows instr.Yield n l false p q → Waits_on w ss q → Waits_on (F.yielded l n w) ss p
       at_formatted : (l n : ℕ) (c : Option Conversion) (sp : Pieces) (w : Wait V) (ss : Slots V) (p q : ℕ)
           → Spec_at block code rows sp l n c (around w) p q → Waits_on w ss q → Waits_on (F.formatted l n c sp w) ss p
       at_comparing : (l n : ℕ) (o : CompareOp) (b : Exp) (r : Links) (w : Wait V) (ss : Slots V) (p q : ℕ)
-          → (Exp_at block code rows b n false (around w) ⨾ Links_at block code rows r o l (n + size b) (around w)) p q → Waits_on w ss q → Waits_on (F.comparing l n o b r w) ss p
+          → (Exp_at block code rows b n false (around w) ⨾ Links_at block code rows r o l (n + size b) (around w)) p q → Waits_on w ss q
+          → Waits_on (F.comparing l n o b r w) ss p
       at_compared : (l n : ℕ) (a : V) (o : CompareOp) (r : Links) (w : Wait V) (ss : Slots V) (p q : ℕ)
           → Links_at block code rows r o l n (around w) p q → Waits_on w ss q → Waits_on (F.compared l n a o r w) (value a ∷ ss) p
       at_linked : (l n : ℕ) (a : V) (o : CompareOp) (b : Exp) (r : Links) (w : Wait V) (ss : Slots V) (p other to : ℕ)
           → (Act_at block code rows (instr.JumpUnlessKeep (record { 0 = other })) n l false ⨾ Exp_at block code rows b (n + 1) false (around w)
           ⨾ Links_at block code rows r o l (n + 1 + size b) (around w) ⨾ Move_at block code rows (instr.Jump (record { 0 = to }))) p other
-          → (Move_at block code rows instr.Swap ⨾ Move_at block code rows instr.Pop) other to → Waits_on w ss to → Waits_on (F.linked l n a o b r w) (value a ∷ ss) p
+          → (Move_at block code rows instr.Swap ⨾ Move_at block code rows instr.Pop) other to → Waits_on w ss to
+          → Waits_on (F.linked l n a o b r w) (value a ∷ ss) p
       at_anded : (l n : ℕ) (es : Exps) (w : Wait V) (ss : Slots V) (p q : ℕ)
           → Ands_at block code rows es l n (around w) q p q → Waits_on w ss q → Waits_on (F.anded l n es w) ss p
       at_ored : (l n : ℕ) (es : Exps) (w : Wait V) (ss : Slots V) (p q : ℕ)
@@ -129,7 +133,8 @@ module _ {V : Type 0} (block : Around V) (code : CodeObject V) (rows : List Hand
       at_stores : (n : ℕ) (st : Stores V) (k : Way V) (ss : Slots V) (p q : ℕ)
           → Stores_at block code rows st n (around_way k) p q → Way_on k ss q → Way_on (F.stores n st k) (stored st ss) p
       at_clauses : (n d head : ℕ) (cs : Clauses) (r : Rounds V) (ss : Slots V) (p q : ℕ)
-          → Clauses_at block code rows cs (rounds_line r) n d head (around_rounds r) (Last_at block code rows r) p q → Rounds_on r d ss head → Way_on (F.clauses n cs r) ss p
+          → Clauses_at block code rows cs (rounds_line r) n d head (around_rounds r) (Last_at block code rows r) p q → Rounds_on r d ss head
+          → Way_on (F.clauses n cs r) ss p
       at_round : (d : ℕ) (r : Rounds V) (ss : Slots V) (p : ℕ) → Rounds_on r d ss p → Way_on (F.round r) ss p
       at_renewed : (xs : List Variable) (l n d p head end' next : ℕ) (i : V) (t : Tgt) (cs : Clauses) (r : Rounds V) (ss : Slots V)
           → Renewed_at block code rows xs p head → Item_taken block code rows l n t cs r d head next end' → Rounds_on r d ss next
@@ -137,14 +142,16 @@ module _ {V : Type 0} (block : Around V) (code : CodeObject V) (rows : List Hand
 
     -- the same at the next item of the innermost clause; d iterators lie above the result
     pub data Rounds_on : Rounds V → (d : ℕ) → Slots V → ℕ → Type 0 where
-      at_result : (l n : ℕ) (m : Made) (made : V) (w : Wait V) (ss : Slots V) (p : ℕ) → Waits_on w ss p → Rounds_on (F.collecting l n m made w) 0 (value made ∷ ss) p
+      at_result : (l n : ℕ) (m : Made) (made : V) (w : Wait V) (ss : Slots V) (p : ℕ) → Waits_on w ss p
+          → Rounds_on (F.collecting l n m made w) 0 (value made ∷ ss) p
       at_clause : (l n d : ℕ) (i : V) (t : Tgt) (cs : Clauses) (r : Rounds V) (ss : Slots V) (p head end' : ℕ)
           → Item_taken block code rows l n t cs r d p head end' → Rounds_on r d ss head → Rounds_on (F.round_of l n i t cs r) (suc d) (iterator i ∷ ss) p
 
     -- the same where an iterator is due
     pub data Over_on : Over V → Slots V → ℕ → Type 0 where
       over_generator : (l n b : ℕ) (w : Wait V) (ss : Slots V) (p q : ℕ)
-          → Made_at block code rows (block.captured b) (T.generator b) iterators_above l n false 1 0 p q → Waits_on w ss q → Over_on (F.generator_over l n b w) ss p
+          → Made_at block code rows (block.captured b) (T.generator b) iterators_above l n false 1 0 p q → Waits_on w ss q
+          → Over_on (F.generator_over l n b w) ss p
       over_delegated : (l n : ℕ) (w : Wait V) (ss : Slots V) (p m q : ℕ)
           → Null_at block code rows p m → Act_at block code rows instr.Delegate n l false m q → Waits_on w ss q → Over_on (F.delegated_over l n w) ss p
       over_comprehension : (l n k : ℕ) (t : Tgt) (cs : Clauses) (m : Made) (w : Wait V) (ss : Slots V) (p p1 p2 head end' q : ℕ)
@@ -171,11 +178,13 @@ module _ {V : Type 0} (block : Around V) (code : CodeObject V) (rows : List Hand
         → Match (for_value m a w) t
     m_cell : (x : Variable) (l n : ℕ) (g : Bool) (op : Operation) (lower : List V → Slots V → Slots V) (cs vs before : List V) (xs : List Variable) (w : Wait V)
         (t : State V) (i : Ins) (ss ts : Slots V) (p q : ℕ)
-        → machine.turn code t ≡ act None (T.seek (T.cell_of x)) (after code i ts (λ v. on p (cell v ∷ cells_above cs (lower vs ss)))) → i.rows ≡ rows → On_top ss ts
+        → machine.turn code t ≡ act None (T.seek (T.cell_of x)) (after code i ts (λ v. on p (cell v ∷ cells_above cs (lower vs ss)))) → i.rows ≡ rows
+        → On_top ss ts
         → On_top ss (lower vs ss) → Made_at block code rows xs op lower l n g (count vs) (suc (count cs)) p q → before ≡ cs ++ vs → Waits_on w ss q
         → Match (silent_value (T.cell_of x) (F.celled l n g op before xs w)) t
     m_truth : (m : Mark) (v : V) (t f : Way V) (s : Nest V) (st : State V) (i : Ins) (ts : Slots V) (next : Bool → State V)
-        → machine.turn code st ≡ act (Some m) (T.test (T.branch v)) (after code i ts next) → i.rows ≡ rows → Inside s ts → Lands t (next true) → Lands f (next false)
+        → machine.turn code st ≡ act (Some m) (T.test (T.branch v)) (after code i ts next) → i.rows ≡ rows → Inside s ts → Lands t (next true)
+        → Lands f (next false)
         → Match (for_truth m (T.branch v) t f s) st
     m_deed : (m : Option Mark) (d : Deed V) (k : Way V) (s : Nest V) (t : State V) (i : Ins) (ts : Slots V) (u : State V) (c : Control V)
         → machine.turn code t ≡ act m (T.deed d) (after code i ts (λ x. u)) → control.turn block c ≡ act m (T.deed d) (control.after_deed block k s)
@@ -185,7 +194,8 @@ module _ {V : Type 0} (block : Around V) (code : CodeObject V) (rows : List Hand
         → Target_at block code rows tg n (around_way k) q q' → Way_on k (iterator it ∷ ss) q' → Way_on f ss to
         → Inside (way_base k) ss → Match (for_item m it n tg k f) t
     m_unpack : (m : Mark) (v : V) (n : ℕ) (ts : Tgts) (k : Way V) (t : State V) (i : Ins) (ss : Slots V) (q q' : ℕ)
-        → machine.turn code t ≡ act (Some m) (T.unpack v (statements.count ts) (statements.star_of ts)) (after code i ss (λ vs. on q (giving (statements.count ts) vs ss)))
+        → machine.turn code t
+        ≡ act (Some m) (T.unpack v (statements.count ts) (statements.star_of ts)) (after code i ss (λ vs. on q (giving (statements.count ts) vs ss)))
         → i.rows ≡ rows → Targets_at block code rows ts n (around_way k) q q' → Way_on k ss q' → Inside (way_base k) ss
         → Match (for_unpack m v n ts k (way_base k)) t
     m_iter : (m : Mark) (v : V) (o : Over V) (t : State V) (i : Ins) (ss : Slots V) (q : ℕ)
@@ -220,7 +230,8 @@ module _ {V : Type 0} (block : Around V) (code : CodeObject V) (rows : List Hand
 module _ {V : Type 0} (block : Around V) (code : CodeObject V) where
   -- wherever the code of an expression stands
   abbrev pub AllBegin : Type 0
-  AllBegin = (rows : List Handler) (outer : Wait V) (lowest : Slots V) (end : ℕ) (e : Exp) (n : ℕ) (g : Bool) (from : ℕ) → Begins block code rows outer lowest end e n g from
+  AllBegin = (rows : List Handler) (outer : Wait V) (lowest : Slots V) (end : ℕ) (e : Exp) (n : ℕ) (g : Bool) (from : ℕ)
+      → Begins block code rows outer lowest end e n g from
 
   abbrev pub AllFollow : Type 0
   AllFollow = (rows : List Handler) (outer : Wait V) (lowest : Slots V) (end : ℕ) → Follows block code rows outer lowest end

@@ -92,7 +92,8 @@ module _ {V : Type 0} (block : Around V) (code : CodeObject V) (rows : List Hand
   pub record Cell_at (x : Variable) (from to : ℕ) : Type 0 where
     pub instr : Instr
     pub stands : Ins_at instr None from to
-    pub does : (ss : Slots V) → perform code from (ins instr None to rows) instr ss ≡ asks code (ins instr None to rows) (T.seek (T.cell_of x)) ss (λ v. on to (cell v ∷ ss))
+    pub does : (ss : Slots V)
+        → perform code from (ins instr None to rows) instr ss ≡ asks code (ins instr None to rows) (T.seek (T.cell_of x)) ss (λ v. on to (cell v ∷ ss))
 
   -- one that binds a name, one that sets an attribute, and one that makes a name anew without an act
   pub record Stores (x : Variable) (m : Option ActMark) (from to : ℕ) : Type 0 where
@@ -266,12 +267,14 @@ module _ {V : Type 0} (block : Around V) (code : CodeObject V) (rows : List Hand
     Item_at (S.a_list e) l n d head v = Exp_at e n false v ⨾ Act_at (instr.ListAdd (suc d)) (n + size e) l false ⨾ Move_at (instr.Jump (record { 0 = head }))
     Item_at (S.a_set e) l n d head v = Exp_at e n false v ⨾ Act_at (instr.SetAdd (suc d)) (n + size e) l false ⨾ Move_at (instr.Jump (record { 0 = head }))
     Item_at (S.a_dict k e) l n d head v =
-        Exp_at k n false v ⨾ Exp_at e (n + size k) false v ⨾ Act_at (instr.DictAdd (suc d)) (n + size k + size e) l false ⨾ Move_at (instr.Jump (record { 0 = head }))
+        Exp_at k n false v ⨾ Exp_at e (n + size k) false v ⨾ Act_at (instr.DictAdd (suc d)) (n + size k + size e) l false
+        ⨾ Move_at (instr.Jump (record { 0 = head }))
 
     -- a value is bound to a target (7.2)
     pub Target_at : Tgt → (n : ℕ) → (v : List ℕ) → ℕ → ℕ → Type 0
     Target_at (S.single p) n v = Place_at p n v
-    Target_at (S.several l f ts) n v = λ from. ((λ from. Unpacks (statements.count ts) (star_of ts) (act_mark from n l false) from) ⨾ Targets_at ts (n + 1) v) from
+    Target_at (S.several l f ts) n v = λ from. ((λ from. Unpacks (statements.count ts) (star_of ts) (act_mark from n l false) from)
+        ⨾ Targets_at ts (n + 1) v) from
     Target_at (S.starred l t) n v = Target_at t n v
 
     pub Targets_at : Tgts → (n : ℕ) → (v : List ℕ) → ℕ → ℕ → Type 0

@@ -101,10 +101,12 @@ placed =
     []
 
 abbrev constants : List Constant
-constants = constant.Int (pos 7) ∷ constant.Int (pos 1) ∷ constant.None ∷ constant.Str (codes "x=") ∷ constant.Str (codes ">") ∷ constant.Str (codes "d") ∷ constant.Str (codes "k") ∷ constant.Int (pos 0) ∷ []
+constants = constant.Int (pos 7) ∷ constant.Int (pos 1) ∷ constant.None ∷ constant.Str (codes "x=") ∷ constant.Str (codes ">") ∷
+    constant.Str (codes "d") ∷ constant.Str (codes "k") ∷ constant.Int (pos 0) ∷ []
 
 abbrev names : List Name
-names = (codes "a") ∷ (codes "b") ∷ (codes "c") ∷ (codes "d") ∷ (codes "e") ∷ (codes "f") ∷ (codes "g") ∷ (codes "h") ∷ (codes "o") ∷ (codes "x") ∷ (codes "w") ∷ (codes "y") ∷ (codes "z") ∷ (codes "t") ∷ (codes "k") ∷ (codes "v") ∷ (codes "u") ∷ []
+names = (codes "a") ∷ (codes "b") ∷ (codes "c") ∷ (codes "d") ∷ (codes "e") ∷ (codes "f") ∷ (codes "g") ∷ (codes "h") ∷ (codes "o") ∷ (codes "x") ∷
+    (codes "w") ∷ (codes "y") ∷ (codes "z") ∷ (codes "t") ∷ (codes "k") ∷ (codes "v") ∷ (codes "u") ∷ []
 
 abbrev texts : List Name
 texts = (codes "x") ∷ []

@@ -104,7 +104,8 @@ module _ {V : Type 0} (code : CodeObject V) (pc : ℕ) (i : Ins) where
   perform instr.Super ss = operates code.extras.super 2 ss
   -- functions, classes and generator expressions, with the cells that their blocks take along (6.2.8, 6.14, 8.7, 8.8)
   perform (instr.MakeFunction b n l) ss =
-      cells (code.pool.captures b.0) [] ss (λ cs below. values n cs below (λ vs under. gives code i (T.operate (T.function b.0 (code.pool.texts l.0)) vs) under))
+      cells (code.pool.captures b.0) [] ss
+      (λ cs below. values n cs below (λ vs under. gives code i (T.operate (T.function b.0 (code.pool.texts l.0)) vs) under))
   perform (instr.MakeClass b) ss =
       cells (code.pool.captures b.0) [] ss (λ cs below. one below (λ base under. gives code i (T.operate (T.class b.0) (base ∷ cs)) under))
   perform (instr.MakeGenerator b) ss =
@@ -136,7 +137,8 @@ module _ {V : Type 0} (code : CodeObject V) (pc : ℕ) (i : Ins) where
   perform instr.Enter ss = one ss (λ v below. asks code i (enter v) below (λ p. on i.next (value p.1 ∷ exit p.0 ∷ below)))
   perform instr.Normal ss = goes code i (on i.next (pending normal ∷ ss)) ss
   perform instr.Exit ss =
-      a_completion ss (λ c below. an_exit below (λ w under. asks code i (test (T.exit_of w (raise_of c))) under (λ b. on i.next (pending (left_of b c) ∷ under))))
+      a_completion ss (λ c below. an_exit below
+      (λ w under. asks code i (test (T.exit_of w (raise_of c))) under (λ b. on i.next (pending (left_of b c) ∷ under))))
   perform instr.EndFinally ss = a_completion ss (λ c below. lets_go code i c below)
   -- modules (7.11)
   perform (instr.Import t) ss = operates (T.import (code.pool.text t.0)) 0 ss

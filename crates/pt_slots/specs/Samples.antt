@@ -136,7 +136,8 @@ gathering =
 
 -- of the script that counts
 abbrev pub counting_code : CodeObject ℕ
-counting_code = code_object (constant.Int (pos 0) ∷ constant.Int (pos 2) ∷ constant.Int (pos 1) ∷ constant.None ∷ []) ((codes "x") ∷ (codes "print") ∷ []) [] [] (
+counting_code = code_object (constant.Int (pos 0) ∷ constant.Int (pos 2) ∷ constant.Int (pos 1) ∷ constant.None ∷ []) ((codes "x") ∷ (codes "print") ∷
+    []) [] [] (
     acts 0 1 (const 0) ∷ acts 1 1 (store 0) ∷ acts 2 2 (load 0) ∷ acts 3 2 (const 1) ∷ acts 4 2 (instr.Compare Less) ∷
     acts 5 2 (jump_unless 14) ∷ acts 6 3 (load 0) ∷ acts 7 3 (const 2) ∷ acts 8 3 (instr.InPlace Add) ∷ acts 9 3 (store 0) ∷
     again 2 2 (load 0) ∷ acts 3 2 (const 1) ∷ acts 4 2 (instr.Compare Less) ∷ acts 5 2 (jump_if 6) ∷ acts 10 4 (load 1) ∷
@@ -145,7 +146,8 @@ counting_code = code_object (constant.Int (pos 0) ∷ constant.Int (pos 2) ∷ c
 
 -- a `return` that a `finally` part holds, and a `break` that replaces it
 abbrev pub nested_code : CodeObject ℕ
-nested_code = code_object (constant.Int (pos 3) ∷ constant.Int (pos 1) ∷ constant.Str (codes "f") ∷ constant.Int (pos 2) ∷ constant.None ∷ []) ((codes "range") ∷ (codes "i") ∷ (codes "print") ∷ []) [] (handler 8 12 12 1 true ∷ handler 7 19 19 1 true ∷ []) (
+nested_code = code_object (constant.Int (pos 3) ∷ constant.Int (pos 1) ∷ constant.Str (codes "f") ∷ constant.Int (pos 2) ∷ constant.None ∷
+    []) ((codes "range") ∷ (codes "i") ∷ (codes "print") ∷ []) [] (handler 8 12 12 1 true ∷ handler 7 19 19 1 true ∷ []) (
     acts 0 2 (load 0) ∷ acts 1 2 (const 0) ∷ acts 2 2 (instr.Call 1) ∷ acts 3 2 instr.Iter ∷ acts 4 2 (next 23) ∷
     acts 5 2 (store 1) ∷ acts 6 3 instr.Nop ∷ acts 7 4 instr.Nop ∷ acts 8 5 (const 1) ∷ acts 9 5 instr.Return ∷ moves (jump 11) ∷
     moves instr.Normal ∷ acts 10 7 (load 2) ∷ acts 11 7 (const 2) ∷ acts 12 7 (instr.Call 1) ∷ acts 13 7 instr.Pop ∷
@@ -155,7 +157,8 @@ nested_code = code_object (constant.Int (pos 3) ∷ constant.Int (pos 1) ∷ con
 
 -- handlers, one with a name
 abbrev pub handled_code : CodeObject ℕ
-handled_code = code_object (constant.None ∷ []) ((codes "x") ∷ (codes "ValueError") ∷ (codes "e") ∷ (codes "print") ∷ []) [] (handler 2 4 5 0 false ∷ handler 10 12 12 1 true ∷ handler 1 19 20 0 false ∷ []) (
+handled_code = code_object (constant.None ∷ []) ((codes "x") ∷ (codes "ValueError") ∷ (codes "e") ∷ (codes "print") ∷ []) [] (handler 2 4 5 0 false ∷
+    handler 10 12 12 1 true ∷ handler 1 19 20 0 false ∷ []) (
     acts 0 1 instr.Nop ∷ acts 1 2 instr.Nop ∷ acts 2 3 (load 0) ∷ acts 3 3 instr.Raise ∷ moves (jump 19) ∷ acts 4 4 (load 1) ∷
     acts 5 4 instr.Match ∷ moves (jump_unless 18) ∷ moves instr.Caught ∷ acts 6 4 (store 2) ∷ acts 7 5 instr.Nop ∷
     moves instr.Normal ∷ moves (const 0) ∷ moves (store 2) ∷ moves (unbind 2) ∷ moves instr.EndFinally ∷ moves instr.EndHandler ∷
@@ -166,7 +169,8 @@ handled_code = code_object (constant.None ∷ []) ((codes "x") ∷ (codes "Value
 
 -- a comprehension, a chain of comparisons and an argument that is spread
 abbrev pub gathering_code : CodeObject ℕ
-gathering_code = code_object (constant.None ∷ []) ((codes "d") ∷ (codes "x") ∷ (codes "a") ∷ (codes "b") ∷ (codes "f") ∷ (codes "c") ∷ []) (([] ∷ (codes "*") ∷ []) ∷ []) [] (
+gathering_code = code_object (constant.None ∷ []) ((codes "d") ∷ (codes "x") ∷ (codes "a") ∷ (codes "b") ∷ (codes "f") ∷ (codes "c") ∷
+    []) (([] ∷ (codes "*") ∷ []) ∷ []) [] (
     acts 0 1 (load 0) ∷ acts 1 1 instr.Iter ∷ acts 2 1 (instr.List 0) ∷ moves instr.Swap ∷ moves (fresh 1) ∷ acts 3 1 (next 26) ∷
     acts 4 1 (store 1) ∷ acts 5 2 (load 2) ∷ acts 6 2 (load 1) ∷ moves instr.Copy ∷ moves instr.Rot3 ∷
     acts 7 2 (instr.Compare Less) ∷ acts 8 2 (jump_unless_keep 16) ∷ acts 9 2 (load 3) ∷ acts 10 2 (instr.Compare Less) ∷

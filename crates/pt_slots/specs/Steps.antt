@@ -66,7 +66,8 @@ module _ {V : Type 0} (code : CodeObject V) where
   decided b on_true on_false v ss = if b then on_true v ss else on_false v ss
 
   abbrev pub branches : Ins → Option Bool → (if_true if_false : V → Slots V → State V) → V → Slots V → Turn (State V) V
-  branches i (Some b) on_true on_false v ss = unmarked i.mark (decided b on_true on_false v ss) (asks i (T.test (T.branch v)) ss (λ b. decided b on_true on_false v ss))
+  branches i (Some b) on_true on_false v ss = unmarked i.mark (decided b on_true on_false v ss)
+      (asks i (T.test (T.branch v)) ss (λ b. decided b on_true on_false v ss))
   branches i None on_true on_false v ss = asks i (T.test (T.branch v)) ss (λ b. decided b on_true on_false v ss)
 
   -- the next item, above its iterator (8.3)
