@@ -1,0 +1,75 @@
+-- Instructions that stand for operations: what they take is what the operation has.
+use Rattle.std.proofs.Common.{◌≡◌, ℕ, List, [], ◌∷◌, ◌++◌, Option, refl, sym, ap, ◌∙◌, reverse, append_assoc, arith}
+use Rattle.std.proofs.lemmas.List.{reverse-append}
+use Rattle.pt_ranges.specs.declared.lines.ActMark.{ActMark}
+use Rattle.pt_ranges.specs.declared.handlers.Handler.{Handler}
+use Rattle.pt_instr.specs.declared.Instr.{Instr}
+use Rattle.pt_control.specs.Turn as T
+use Rattle.pt_control.specs.Turn.{Around, Operation, Turn}
+use Rattle.pt_slots.specs.Slots.{Slots}
+use Rattle.pt_slots.specs.CodeObject.{CodeObject}
+use Rattle.pt_slots.specs.Pops.{Next, values, cells, an_iterator}
+use Rattle.pt_slots.specs.Steps.{gives}
+use Rattle.pt_slots.specs.Instructions.{perform, operates}
+use Rattle.pt_comp_expr.specs.Places.{count, above, cells_above, iterators_above, ins, Ins_at, Operates}
+
+module _ {V : Type 0} where
+  turned : (v : V) (vs acc : List V) → reverse vs ++ v ∷ acc ≡ reverse (v ∷ vs) ++ acc
+  turned v vs acc = sym (ap (λ u. u ++ acc) (reverse-append (v ∷ []) vs) ∙ append_assoc (reverse vs) (v ∷ []) acc)
+
+  -- values that lie on top are taken in their order
+  values_taken : (vs acc : List V) (ss : Slots V) (next : Next V (List V)) → values (count vs) acc (above vs ss) next ≡ next (reverse vs ++ acc) ss
+  values_taken [] acc ss next = refl
+  values_taken (v ∷ vs) acc ss next = values_taken vs (v ∷ acc) ss next ∙ ap (λ u. next u ss) (turned v vs acc)
+
+  cells_taken : (cs acc : List V) (ss : Slots V) (next : Next V (List V)) → cells (count cs) acc (cells_above cs ss) next ≡ next (reverse cs ++ acc) ss
+  cells_taken [] acc ss next = refl
+  cells_taken (c ∷ cs) acc ss next = cells_taken cs (c ∷ acc) ss next ∙ ap (λ u. next u ss) (turned c cs acc)
+
+  append_none : (xs : List V) → xs ++ [] ≡ xs
+  append_none [] = refl
+  append_none (x ∷ xs) = ap (λ ys. x ∷ ys) (append_none xs)
+
+  behind_cells : (cs vs : List V) → reverse vs ++ (reverse cs ++ []) ≡ reverse (cs ++ vs)
+  behind_cells cs vs = ap (λ u. reverse vs ++ u) (append_none (reverse cs)) ∙ sym (reverse-append cs vs)
+
+module _ {V : Type 0} (block : Around V) (code : CodeObject V) (rows : List Handler) where
+  -- one that takes cells and values
+  pub takes_both : (op : Operation) (k c : ℕ) (j : Instr) (m : Option ActMark) (from to : ℕ) → Ins_at block code rows j m from to
+      → ((ss : Slots V) → perform code from (ins j m to rows) j ss
+      ≡ cells c [] ss (λ cs below. values k cs below (λ vs under. gives code (ins j m to rows) (T.operate op vs) under)))
+      → Operates block code rows op above k c m from to
+  takes_both op k c j m from to h e = record { instr = j; stands = h; does = does }
+    where
+      does : (cs vs : List V) (ss : Slots V) → count cs ≡ c → count vs ≡ k
+          → perform code from (ins j m to rows) j (cells_above cs (above vs ss)) ≡ gives code (ins j m to rows) (T.operate op (reverse (cs ++ vs))) ss
+      does cs vs ss ec ev =
+          e (cells_above cs (above vs ss))
+          ∙ ap (λ c. cells c [] (cells_above cs (above vs ss)) (λ cs below. values k cs below (λ vs under. gives code (ins j m to rows) (T.operate op vs) under))) (sym ec)
+          ∙ cells_taken cs [] (above vs ss) (λ cs below. values k cs below (λ vs under. gives code (ins j m to rows) (T.operate op vs) under))
+          ∙ ap (λ k. values k (reverse cs ++ []) (above vs ss) (λ vs under. gives code (ins j m to rows) (T.operate op vs) under)) (sym ev)
+          ∙ values_taken vs (reverse cs ++ []) ss (λ vs under. gives code (ins j m to rows) (T.operate op vs) under)
+          ∙ ap (λ u. gives code (ins j m to rows) (T.operate op u) ss) (behind_cells cs vs)
+
+  -- one that takes values alone
+  pub takes_values : (op : Operation) (k : ℕ) (j : Instr) (m : Option ActMark) (from to : ℕ) → Ins_at block code rows j m from to
+      → ((ss : Slots V) → perform code from (ins j m to rows) j ss ≡ operates code from (ins j m to rows) op k ss)
+      → Operates block code rows op above k 0 m from to
+  takes_values op k j m from to h e = takes_both op k 0 j m from to h e
+
+  -- one that takes cells and an iterator
+  pub takes_iterator : (op : Operation) (c : ℕ) (j : Instr) (m : Option ActMark) (from to : ℕ) → Ins_at block code rows j m from to
+      → ((ss : Slots V) → perform code from (ins j m to rows) j ss
+      ≡ cells c [] ss (λ cs below. an_iterator below (λ it under. gives code (ins j m to rows) (T.operate op (it ∷ cs)) under)))
+      → Operates block code rows op iterators_above 1 c m from to
+  takes_iterator op c j m from to h e = record { instr = j; stands = h; does = does }
+    where
+      does : (cs vs : List V) (ss : Slots V) → count cs ≡ c → count vs ≡ 1
+          → perform code from (ins j m to rows) j (cells_above cs (iterators_above vs ss)) ≡ gives code (ins j m to rows) (T.operate op (reverse (cs ++ vs))) ss
+      does cs [] ss ec ev = absurd (let never : ⊥ = omega arith in never)
+      does cs (v ∷ []) ss ec ev =
+          e (cells_above cs (iterators_above (v ∷ []) ss))
+          ∙ ap (λ c. cells c [] (cells_above cs (iterators_above (v ∷ []) ss)) (λ cs below. an_iterator below (λ it under. gives code (ins j m to rows) (T.operate op (it ∷ cs)) under))) (sym ec)
+          ∙ cells_taken cs [] (iterators_above (v ∷ []) ss) (λ cs below. an_iterator below (λ it under. gives code (ins j m to rows) (T.operate op (it ∷ cs)) under))
+          ∙ ap (λ u. gives code (ins j m to rows) (T.operate op u) ss) (behind_cells cs (v ∷ []))
+      does cs (v ∷ u ∷ vs) ss ec ev = absurd (let never : ⊥ = omega arith in never)

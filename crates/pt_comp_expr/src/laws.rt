@@ -1,0 +1,25 @@
+//! Laws of the code of expressions, each the contract of a function that does nothing.
+
+ghost use Rattle.std.specs.Prelude.{[], false};
+ghost use Rattle.pt_control.specs.Turn.{Around};
+ghost use Rattle.pt_slots.specs.CodeObject.{CodeObject};
+ghost use Rattle.pt_comp_expr.specs.Law.{AllBegin, AllFollow};
+ghost use Rattle.pt_comp_expr.specs.Places.{Exp_at};
+ghost use Rattle.pt_comp_expr.specs.Samples.{every_form, every_form_code, sample_block};
+
+/// Where the code of an expression stands, code and control come from its beginning to states that
+/// match. From all states that match, both have the same act or the same ask without a mark, and
+/// behind each reply they come to states that match again, until the expression has its value,
+/// which is then one slot more than lay there before, or until a raise leaves it. Whatever waits
+/// for the expression, and whatever the slots below.
+#[tactic(auto, using(crate::proofs::Steps::follows))]
+pub fn the_code_of_an_expression_follows_it<V>()
+    ensures begins { (block : Around V) (code : CodeObject V) → AllBegin block code }
+    ensures follows { (block : Around V) (code : CodeObject V) → AllFollow block code }
+{}
+
+/// An expression that holds every form has code that stands so.
+#[tactic(auto, using(crate::proofs::Sample::stands))]
+pub fn every_form_has_code()
+    ensures { Exp_at sample_block every_form_code [] every_form 0 false [] 0 131 }
+{}

@@ -1,0 +1,2 @@
+pub mod StuckLaw
+pub mod MarkLaw

@@ -1,0 +1,12 @@
+pub mod Slots
+pub mod CodeObject
+pub mod Landing
+pub mod Pops
+pub mod Steps
+pub mod Instructions
+pub mod Machine
+pub mod Destinations
+pub mod Needs
+pub mod Traces
+pub mod Samples
+pub mod Laws
