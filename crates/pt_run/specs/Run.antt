@@ -1,0 +1,130 @@
+-- A run under a bound on acts, with a debugger that is asked at events (Language Reference 4; bounded evaluation).
+use Rattle.std.specs.Prelude.{◌≡◌, ℕ, List, [], ◌∷◌, ◌++◌, map, Bool, true, false, Option, Some, None}
+use Rattle.pt_control.specs.Turn.{Mark}
+use Rattle.pt_run.specs.Machine.{BlockId, Machine}
+use Rattle.pt_run.specs.Events.{Event}
+use Rattle.pt_run.specs.Host.{Host}
+use Rattle.pt_run.specs.State.{Telling, State}
+use Rattle.pt_run.specs.Views.{view}
+use Rattle.pt_run.specs.Outcome.{Output, begins, prints, gives, logs, replies, refuses, View, Ending, Question, Advice, go, Step, goes, consults, ends, is_stuck}
+use Rattle.pt_run.specs.Hooks.{take_advice}
+use Rattle.pt_run.specs.Step.{step}
+
+-- what a debugger says: its replies for the log, its advice, and what it is from then on
+pub record DebuggerAnswer (D : Type 0) : Type 0 where
+  pub texts : List (List ℕ)
+  pub advice : Advice
+  pub debugger : D
+
+-- a debugger is any function of its own state, of a question and of what it sees
+abbrev pub Debugger : (D N V W : Type 0) → Type 0
+Debugger D N V W = Question V → View N V W → D → DebuggerAnswer D
+
+-- a debugger and the state of a run
+pub record Session (D S N V W : Type 0) : Type 0 where
+  pub debugger : D
+  pub state : State S N V W
+
+pub data Move (D S N V W : Type 0) : Type 0 where
+  moves : List (Output V) → Session D S N V W → Move D S N V W
+  stops : List (Output V) → Ending N V W → Move D S N V W
+  halts : Move D S N V W
+
+module _ {D S N V W : Type 0} (machine : Machine S V) (host : Host N V W) (ask : Debugger D N V W) where
+  abbrev replies_of : List (List ℕ) → List (Output V)
+  replies_of xs = map replies xs
+
+  -- the debugger's advice is taken
+  abbrev move_by_advice : (before : List (Output V)) → D → Step S N V W → Move D S N V W
+  move_by_advice os d (goes ps s) = moves (os ++ ps) (record { debugger = d; state = s })
+  move_by_advice os d (consults q t s) = halts
+  move_by_advice os d (ends e) = stops os e
+  move_by_advice os d is_stuck = halts
+
+  abbrev consult : DebuggerAnswer D → Telling S V → State S N V W → Move D S N V W
+  consult d t s = move_by_advice (replies_of d.texts) d.debugger (take_advice machine host d.advice t s)
+
+  abbrev view_of : State S N V W → View N V W
+  view_of s = record { frames = view machine s; world = s.world }
+
+  abbrev move_by : D → Step S N V W → Move D S N V W
+  move_by d (goes os s) = moves os (record { debugger = d; state = s })
+  move_by d (consults q t s) = consult (ask q (view_of s) d) t s
+  move_by d (ends e) = stops [] e
+  move_by d is_stuck = halts
+
+  -- a step with the debugger's answer, if it is asked
+  abbrev pub move : (n : ℕ) → Session D S N V W → Move D S N V W
+  move n x = move_by x.debugger (step machine host n x.state)
+
+-- what comes of a run: all that it writes and tells, the units that it took, and its ending
+pub record Outcome (N V W : Type 0) : Type 0 where
+  pub outputs : List (Output V)
+  pub units : ℕ
+  pub ending : Ending N V W
+
+abbrev pub outcome : {N V W : Type 0} → List (Output V) → ℕ → Ending N V W → Outcome N V W
+outcome os n e = record { outputs = os; units = n; ending = e }
+
+module _ {D S N V W : Type 0} (machine : Machine S V) (host : Host N V W) (ask : Debugger D N V W) (n : ℕ) where
+  -- by so many moves from one session to another
+  pub data Goes : Session D S N V W → List (Output V) → Session D S N V W → Type 0 where
+    here : (x : Session D S N V W) → Goes x [] x
+    further : (x y z : Session D S N V W) (os ps : List (Output V)) → move machine host ask n x ≡ moves os y → Goes y ps z → Goes x (os ++ ps) z
+
+  -- a run that may take n units comes to an outcome
+  pub data Runs : Session D S N V W → Outcome N V W → Type 0 where
+    ends_so : (x : Session D S N V W) (os : List (Output V)) (e : Ending N V W) →
+        move machine host ask n x ≡ stops os e → Runs x (outcome os x.state.units e)
+    goes_on : (x y : Session D S N V W) (os : List (Output V)) (o : Outcome N V W) →
+        move machine host ask n x ≡ moves os y → Runs y o → Runs x (outcome (os ++ o.outputs) o.units o.ending)
+
+-- where what is written goes
+pub data Sink : Type 0 where
+  to_out : Sink
+  to_log : Sink
+
+pub record Write : Type 0 where
+  pub sink : Sink
+  pub text : List ℕ
+
+abbrev write : Sink → List ℕ → Write
+write k x = record { sink = k; text = x }
+
+abbrev some : {X : Type 0} → Bool → X → List X → List X
+some true x xs = x ∷ xs
+some false x xs = xs
+
+-- the writes of a run, those to out and those to the log in one order; the lines of events if they are wanted
+abbrev pub writes : {V : Type 0} → (events : Bool) → List (Output V) → List Write
+writes b [] = []
+writes b (prints x ∷ os) = write to_out x ∷ writes b os
+writes b (logs x ∷ os) = some b (write to_log x) (writes b os)
+writes b (replies x ∷ os) = write to_log x ∷ writes b os
+writes b (o ∷ os) = writes b os
+
+-- the events, in order
+abbrev pub events : {V : Type 0} → List (Output V) → List (Event V)
+events [] = []
+events (gives e ∷ os) = e ∷ events os
+events (o ∷ os) = events os
+
+-- the acts
+pub record Act : Type 0 where
+  pub block : BlockId
+  pub mark : Mark
+
+abbrev pub acts : {V : Type 0} → List (Output V) → List Act
+acts [] = []
+acts (begins b m ∷ os) = record { block = b; mark = m } ∷ acts os
+acts (o ∷ os) = acts os
+
+-- what is printed
+abbrev pub printed : {V : Type 0} → List (Output V) → List (List ℕ)
+printed [] = []
+printed (prints x ∷ os) = x ∷ printed os
+printed (o ∷ os) = printed os
+
+-- a debugger that says nothing and lets the run go on
+abbrev pub nobody : {N V W : Type 0} → Debugger (Unit {0}) N V W
+nobody q v d = record { texts = []; advice = go; debugger = tt }
