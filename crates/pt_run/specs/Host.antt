@@ -74,7 +74,8 @@ pub data Request (N V : Type 0) : Type 0 where
   -- the visible open frames, the newest first (sys._getframe); a frame
   frames : Request N V
   frame : (number : ℕ) → Request N V
-  -- a frame's `f_trace`, `f_trace_lines` and `f_lineno` are written
+  -- a frame's names, its `f_trace`, `f_trace_lines` and `f_lineno` are written
+  gives_frame_names : (number : ℕ) → N → Request N V
   gives_frame_trace : (number : ℕ) → Option V → Request N V
   gives_frame_lines : (number : ℕ) → Bool → Request N V
   jumps_to : (number : ℕ) → (line : ℤ) → Request N V
@@ -89,6 +90,7 @@ Response N V trace = Option V
 Response N V (calls_tools c) = ToolAnswer V
 Response N V frames = List ℕ
 Response N V (frame k) = Option (FrameView N V)
+Response N V (gives_frame_names k n) = Unit {0}
 Response N V (gives_frame_trace k f) = Unit {0}
 Response N V (gives_frame_lines k b) = Unit {0}
 Response N V (jumps_to k l) = Option Reason

@@ -153,6 +153,7 @@ module _ {S N V W : Type 0} (machine : Machine S V) (host : Host N V W) where
   perform (H.calls_tools c) r s = call_tools r (Tool.tool_call c s.tools) s
   perform H.frames r s = give r (visible_numbers s) s
   perform (H.frame k) r s = give r (frame_numbered machine k s) s
+  perform (H.gives_frame_names k n) r s = give r tt (change_frame k (λ e. record e { names = n }) s)
   perform (H.gives_frame_trace k f) r s = give r tt (change_frame k (λ e. record e { trace = f }) s)
   perform (H.gives_frame_lines k b) r s = give r tt (change_frame k (λ e. record e { traces_lines = b }) s)
   perform (H.jumps_to k l) r s = write_line r (jump_below k l s.openers) s

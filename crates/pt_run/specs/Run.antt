@@ -27,7 +27,7 @@ pub record Session (D S N V W : Type 0) : Type 0 where
 
 pub data Move (D S N V W : Type 0) : Type 0 where
   moves : List (Output V) → Session D S N V W → Move D S N V W
-  stops : List (Output V) → Ending N V W → Move D S N V W
+  stops : List (Output V) → D → Ending N V W → Move D S N V W
   halts : Move D S N V W
 
 module _ {D S N V W : Type 0} (machine : Machine S V) (host : Host N V W) (ask : Debugger D N V W) where
@@ -38,7 +38,7 @@ module _ {D S N V W : Type 0} (machine : Machine S V) (host : Host N V W) (ask :
   abbrev move_by_advice : (before : List (Output V)) → D → Step S N V W → Move D S N V W
   move_by_advice os d (goes ps s) = moves (os ++ ps) (record { debugger = d; state = s })
   move_by_advice os d (consults q t s) = halts
-  move_by_advice os d (ends e) = stops os e
+  move_by_advice os d (ends e) = stops os d e
   move_by_advice os d is_stuck = halts
 
   abbrev consult : DebuggerAnswer D → Telling S V → State S N V W → Move D S N V W
@@ -50,21 +50,22 @@ module _ {D S N V W : Type 0} (machine : Machine S V) (host : Host N V W) (ask :
   abbrev move_by : D → Step S N V W → Move D S N V W
   move_by d (goes os s) = moves os (record { debugger = d; state = s })
   move_by d (consults q t s) = consult (ask q (view_of s) d) t s
-  move_by d (ends e) = stops [] e
+  move_by d (ends e) = stops [] d e
   move_by d is_stuck = halts
 
   -- a step with the debugger's answer, if it is asked
   abbrev pub move : (n : ℕ) → Session D S N V W → Move D S N V W
   move n x = move_by x.debugger (step machine host n x.state)
 
--- what comes of a run: all that it writes and tells, the units that it took, and its ending
-pub record Outcome (N V W : Type 0) : Type 0 where
+-- what comes of a run: all that it writes and tells, the units that it took, its ending, and the debugger then
+pub record Outcome (D N V W : Type 0) : Type 0 where
   pub outputs : List (Output V)
   pub units : ℕ
   pub ending : Ending N V W
+  pub debugger : D
 
-abbrev pub outcome : {N V W : Type 0} → List (Output V) → ℕ → Ending N V W → Outcome N V W
-outcome os n e = record { outputs = os; units = n; ending = e }
+abbrev outcome_behind : {D N V W : Type 0} → List (Output V) → Outcome D N V W → Outcome D N V W
+outcome_behind os o = record o { outputs = os ++ o.outputs }
 
 module _ {D S N V W : Type 0} (machine : Machine S V) (host : Host N V W) (ask : Debugger D N V W) (n : ℕ) where
   -- by so many moves from one session to another
@@ -73,11 +74,11 @@ module _ {D S N V W : Type 0} (machine : Machine S V) (host : Host N V W) (ask :
     further : (x y z : Session D S N V W) (os ps : List (Output V)) → move machine host ask n x ≡ moves os y → Goes y ps z → Goes x (os ++ ps) z
 
   -- a run that may take n units comes to an outcome
-  pub data Runs : Session D S N V W → Outcome N V W → Type 0 where
-    ends_so : (x : Session D S N V W) (os : List (Output V)) (e : Ending N V W) →
-        move machine host ask n x ≡ stops os e → Runs x (outcome os x.state.units e)
-    goes_on : (x y : Session D S N V W) (os : List (Output V)) (o : Outcome N V W) →
-        move machine host ask n x ≡ moves os y → Runs y o → Runs x (outcome (os ++ o.outputs) o.units o.ending)
+  pub data Runs : Session D S N V W → Outcome D N V W → Type 0 where
+    ends_so : (x : Session D S N V W) (os : List (Output V)) (d : D) (e : Ending N V W) → move machine host ask n x ≡ stops os d e →
+        Runs x (record { outputs = os; units = x.state.units; ending = e; debugger = d })
+    goes_on : (x y : Session D S N V W) (os : List (Output V)) (o : Outcome D N V W) → move machine host ask n x ≡ moves os y → Runs y o →
+        Runs x (outcome_behind os o)
 
 -- where what is written goes
 pub data Sink : Type 0 where
