@@ -23,7 +23,7 @@ module _ {S N V W : Type 0} (machine : Machine S V) (host : Host N V W) where
     frame = s.here.frame.number;
     block = s.here.frame.block;
     act = s.here.act;
-    line = line_of machine s.here.frame;
+    line = line_of host.first_line s.here.frame;
     of_generator = s.here.frame.of_generator;
   }
 
@@ -31,7 +31,7 @@ module _ {S N V W : Type 0} (machine : Machine S V) (host : Host N V W) where
   abbrev pub enter_frame : V → State S N V W → State S N V W
   enter_frame v s =
       if s.here.frame.block.hidden then s
-      else record s { world = host.enters v (record { frame = s.here.frame.number; line = line_of machine s.here.frame }) s.world }
+      else record s { world = host.enters v (record { frame = s.here.frame.number; line = line_of host.first_line s.here.frame }) s.world }
 
   -- a raise of a hook takes the place of what waits, and isn't told there; where the block was about to end by an exception nothing more is told
   abbrev pub instead_of : Pending S V → V → State S N V W → State S N V W

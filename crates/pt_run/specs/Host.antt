@@ -162,6 +162,8 @@ pub data Hook : Type 0 where
   tracer : Hook
 
 pub record Host (N V W : Type 0) : Type 0 where
+  -- the line that stands for a frame's line before its first act (`co_firstlineno`)
+  pub first_line : BlockId → ℕ
   pub null : V
   -- the answer to an ask; and what comes of calling a hook's function with the arguments of an event
   pub answers : (a : Ask V) → Here V → Store N W → Answering N V W (Finding V a)

@@ -11,3 +11,5 @@ pub mod Hooks
 pub mod Step
 pub mod Run
 pub mod Source
+pub mod Scripted
+pub mod Samples

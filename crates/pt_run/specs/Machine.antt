@@ -40,5 +40,3 @@ pub record Machine (S V : Type 0) : Type 0 where
   pub active : S → Option V
   -- the number of the act that comes next if nothing is raised, and that of all acts where the block ends (PEP 669, JUMP and BRANCH)
   pub destination : BlockId → S → ℕ
-  -- the line that stands for a frame's line before its first act (`co_firstlineno`)
-  pub first_line : BlockId → ℕ

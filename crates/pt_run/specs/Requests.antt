@@ -10,7 +10,7 @@ use Rattle.pt_run.specs.Tools as Tool
 use Rattle.pt_run.specs.Host as H
 use Rattle.pt_run.specs.Host.{Host, Hook, Store, Opening, BlockResult, How, by_next, by_send, by_throw, by_close, GeneratorResult, ends_by, cannot, is_running, is_fresh, is_finished, Request, Response, Failure, too_deep, generator_exit}
 use Rattle.pt_run.specs.State.{Activation, OpenYield, Pending, starting, going, going_on, Telling, Hearing, Rest, of_ask, of_hook, Purpose, for_block, for_generator, Opener, Generator, fresh, suspended, running, finished, Phase, telling, State, at, by_rest, is_full, store, begin}
-use Rattle.pt_run.specs.Views.{here_of, frame_numbered, visible_numbers, change_frame}
+use Rattle.pt_run.specs.Views.{here_of, frame_numbered, visible_numbers, new_names, new_trace, new_lines, change_frame}
 
 -- the activations that wait, one of which a jump changes, or why none
 pub data JumpBelow (S N V W : Type 0) : Type 0 where
@@ -152,8 +152,8 @@ module _ {S N V W : Type 0} (machine : Machine S V) (host : Host N V W) where
   perform H.trace r s = give r s.trace s
   perform (H.calls_tools c) r s = call_tools r (Tool.tool_call c s.tools) s
   perform H.frames r s = give r (visible_numbers s) s
-  perform (H.frame k) r s = give r (frame_numbered machine k s) s
-  perform (H.gives_frame_names k n) r s = give r tt (change_frame k (λ e. record e { names = n }) s)
-  perform (H.gives_frame_trace k f) r s = give r tt (change_frame k (λ e. record e { trace = f }) s)
-  perform (H.gives_frame_lines k b) r s = give r tt (change_frame k (λ e. record e { traces_lines = b }) s)
+  perform (H.frame k) r s = give r (frame_numbered host.first_line k s) s
+  perform (H.gives_frame_names k n) r s = give r tt (change_frame k (new_names n) s)
+  perform (H.gives_frame_trace k f) r s = give r tt (change_frame k (new_trace f) s)
+  perform (H.gives_frame_lines k b) r s = give r tt (change_frame k (new_lines b) s)
   perform (H.jumps_to k l) r s = write_line r (jump_below k l s.openers) s

@@ -1,5 +1,5 @@
 -- A run under a bound on acts, with a debugger that is asked at events (Language Reference 4; bounded evaluation).
-use Rattle.std.specs.Prelude.{◌≡◌, ℕ, List, [], ◌∷◌, ◌++◌, map, Bool, true, false, Option, Some, None}
+use Rattle.std.specs.Prelude.{ℕ, List, [], ◌∷◌, ◌++◌, map, Bool, true, false, Option, Some, None}
 use Rattle.pt_control.specs.Turn.{Mark}
 use Rattle.pt_run.specs.Machine.{BlockId, Machine}
 use Rattle.pt_run.specs.Events.{Event}
@@ -45,7 +45,7 @@ module _ {D S N V W : Type 0} (machine : Machine S V) (host : Host N V W) (ask :
   consult d t s = move_by_advice (replies_of d.texts) d.debugger (take_advice machine host d.advice t s)
 
   abbrev view_of : State S N V W → View N V W
-  view_of s = record { frames = view machine s; world = s.world }
+  view_of s = record { frames = view host.first_line s; world = s.world }
 
   abbrev move_by : D → Step S N V W → Move D S N V W
   move_by d (goes os s) = moves os (record { debugger = d; state = s })
@@ -64,21 +64,20 @@ pub record Outcome (D N V W : Type 0) : Type 0 where
   pub ending : Ending N V W
   pub debugger : D
 
-abbrev outcome_behind : {D N V W : Type 0} → List (Output V) → Outcome D N V W → Outcome D N V W
+abbrev pub outcome_behind : {D N V W : Type 0} → List (Output V) → Outcome D N V W → Outcome D N V W
 outcome_behind os o = record o { outputs = os ++ o.outputs }
 
 module _ {D S N V W : Type 0} (machine : Machine S V) (host : Host N V W) (ask : Debugger D N V W) (n : ℕ) where
-  -- by so many moves from one session to another
-  pub data Goes : Session D S N V W → List (Output V) → Session D S N V W → Type 0 where
-    here : (x : Session D S N V W) → Goes x [] x
-    further : (x y z : Session D S N V W) (os ps : List (Output V)) → move machine host ask n x ≡ moves os y → Goes y ps z → Goes x (os ++ ps) z
+  -- what comes behind a move, where so many units were taken before it
+  pub data Comes : (units : ℕ) → Move D S N V W → Outcome D N V W → Type 0 where
+    ends_so : (u : ℕ) (os : List (Output V)) (d : D) (e : Ending N V W) →
+        Comes u (stops os d e) (record { outputs = os; units = u; ending = e; debugger = d })
+    goes_on : (u : ℕ) (os : List (Output V)) (x : Session D S N V W) (o : Outcome D N V W) →
+        Comes x.state.units (move machine host ask n x) o → Comes u (moves os x) (outcome_behind os o)
 
   -- a run that may take n units comes to an outcome
-  pub data Runs : Session D S N V W → Outcome D N V W → Type 0 where
-    ends_so : (x : Session D S N V W) (os : List (Output V)) (d : D) (e : Ending N V W) → move machine host ask n x ≡ stops os d e →
-        Runs x (record { outputs = os; units = x.state.units; ending = e; debugger = d })
-    goes_on : (x y : Session D S N V W) (os : List (Output V)) (o : Outcome D N V W) → move machine host ask n x ≡ moves os y → Runs y o →
-        Runs x (outcome_behind os o)
+  abbrev pub Runs : Session D S N V W → Outcome D N V W → Type 0
+  Runs x o = Comes x.state.units (move machine host ask n x) o
 
 -- where what is written goes
 pub data Sink : Type 0 where

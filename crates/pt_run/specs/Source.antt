@@ -17,7 +17,6 @@ use Rattle.pt_run.specs.Machine.{BlockId, Reason, no_statement, out_of_finally, 
 pub record Source (V : Type 0) : Type 0 where
   pub code : BlockId → Code
   pub around : BlockId → Around V
-  pub first_line : BlockId → ℕ
 
 -- control is at what comes next, or at the statement where a jump has landed, before anything of it has begun
 pub data Place (V : Type 0) : Type 0 where
@@ -65,5 +64,4 @@ module _ {V : Type 0} (source : Source V) where
     jump = λ b p l. jump_of b (J.jump (source.code b) (nest_of p) l);
     active = λ p. B.active (nest_of p);
     destination = λ b p. number_or_all (length (acts_of_code (source.code b))) (E.destination (source.around b) (control_of b p));
-    first_line = source.first_line;
   }

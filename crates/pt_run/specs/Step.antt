@@ -143,7 +143,7 @@ module _ {S N V W : Type 0} (machine : Machine S V) (host : Host N V W) where
   take_answer q (H.answer r st) s = goes [] (take_finding q.ask q.next q.is_act q.callee r (with_store st s))
   take_answer q (H.raise v st) s = goes [] (reply_to q (raised v) [] (with_store st s))
   take_answer q (H.print x f) s = goes (prints x ∷ []) (at (answering q f) s)
-  take_answer q (H.leave what) s = ends (O.outside what (visible_line machine s))
+  take_answer q (H.leave what) s = ends (O.outside what (visible_line host.first_line s))
   take_answer q (H.request r st f) s = goes [] (perform machine host r (of_ask q f) (with_store st s))
 
   -- so does a hook's
@@ -151,7 +151,7 @@ module _ {S N V W : Type 0} (machine : Machine S V) (host : Host N V W) where
   take_hearing h (H.answer v st) s = goes [] (take_hook_answer machine host h.hook v h (with_store st s))
   take_hearing h (H.raise v st) s = goes [] (raise_of_hook machine host h v (with_store st s))
   take_hearing h (H.print x f) s = goes (prints x ∷ []) (at (hearing h f) s)
-  take_hearing h (H.leave what) s = ends (O.outside what (visible_line machine s))
+  take_hearing h (H.leave what) s = ends (O.outside what (visible_line host.first_line s))
   take_hearing h (H.request r st f) s = goes [] (perform machine host r (of_hook h f) (with_store st s))
 
   -- an ask is done: a `yield` gives its value on, and the host answers the others
@@ -200,8 +200,8 @@ module _ {S N V W : Type 0} (machine : Machine S V) (host : Host N V W) where
 
   abbrev end_by_exception : V → Leaving → State S N V W → Ending N V W
   end_by_exception v (H.exits n x) s = O.exited n x
-  end_by_exception v H.exits_oddly s = O.outside Exit (visible_line machine s)
-  end_by_exception v (H.fails es) s = O.raised v (record { frames = frames_of_trace machine es s; world = s.world })
+  end_by_exception v H.exits_oddly s = O.outside Exit (visible_line host.first_line s)
+  end_by_exception v (H.fails es) s = O.raised v (record { frames = frames_of_trace host.first_line es s; world = s.world })
 
   abbrev end_of_module : End V → State S N V W → Ending N V W
   end_of_module (gave v) s = O.done

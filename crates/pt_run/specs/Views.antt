@@ -47,14 +47,13 @@ frames_in (suspended a y ∷ gs) = a.frame ∷ frames_in gs
 frames_in (running ∷ gs) = frames_in gs
 frames_in (finished ∷ gs) = frames_in gs
 
-module _ {S V : Type 0} (machine : Machine S V) where
+module _ {N V : Type 0} (first_line : BlockId → ℕ) where
   -- the line of a frame: until its first act its block's first line stands for it
-  abbrev pub line_of : {N : Type 0} → Frame N V → ℕ
-  line_of f = line_or (machine.first_line f.block) f.line
+  abbrev pub line_of : Frame N V → ℕ
+  line_of f = line_or (first_line f.block) f.line
 
-module _ {S N V : Type 0} (machine : Machine S V) where
   abbrev pub view_frame : Frame N V → (back : Option ℕ) → FrameView N V
-  view_frame f b = record { frame = f; line = line_of machine f; back = b }
+  view_frame f b = record { frame = f; line = line_of f; back = b }
 
   -- each with the one behind it
   abbrev pub view_frames : List (Frame N V) → List (FrameView N V)
@@ -72,16 +71,16 @@ module _ {S N V : Type 0} (machine : Machine S V) where
   view_alone k (f ∷ fs) = if f.number == k then Some (view_frame f None) else view_alone k fs
 
   abbrev line_of_first : (otherwise : Frame N V) → List (Frame N V) → ℕ
-  line_of_first f [] = line_of machine f
-  line_of_first f (g ∷ gs) = line_of machine g
+  line_of_first f [] = line_of f
+  line_of_first f (g ∷ gs) = line_of g
 
-module _ {S N V W : Type 0} (machine : Machine S V) where
+module _ {S N V W : Type 0} (first_line : BlockId → ℕ) where
   -- what a debugger sees: the visible open frames, the newest first
   abbrev pub view : State S N V W → List (FrameView N V)
-  view s = view_frames machine (visible_frames s)
+  view s = view_frames first_line (visible_frames s)
 
   abbrev pub frame_numbered : (number : ℕ) → State S N V W → Option (FrameView N V)
-  frame_numbered k s = or_else (view_open machine k (open_frames s)) (view_alone machine k (frames_in s.generators ++ s.past))
+  frame_numbered k s = or_else (view_open first_line k (open_frames s)) (view_alone first_line k (frames_in s.generators ++ s.past))
 
   -- the frames of a traceback, each at the line of its entry
   abbrev pub frames_of_trace : List Entry → State S N V W → List (FrameView N V)
@@ -90,8 +89,9 @@ module _ {S N V W : Type 0} (machine : Machine S V) where
 
   -- the line of the innermost visible frame
   abbrev pub visible_line : State S N V W → ℕ
-  visible_line s = line_of_first machine s.here.frame (visible_frames s)
+  visible_line s = line_of_first first_line s.here.frame (visible_frames s)
 
+module _ {S N V W : Type 0} (machine : Machine S V) where
   -- the exception that is active in the run: that of the newest activation with one (Language Reference 7.8)
   abbrev active_in : List (Opener S N V W) → Option V
   active_in [] = None
@@ -103,21 +103,43 @@ module _ {S N V W : Type 0} (machine : Machine S V) where
   abbrev pub here_of : State S N V W → Here V
   here_of s = record { frame = s.here.frame.number; block = s.here.frame.block; active = active s }
 
--- a frame is changed, wherever it is
-module _ {N V : Type 0} (number : ℕ) (change : Frame N V → Frame N V) where
-  abbrev change_one : Frame N V → Frame N V
-  change_one f = if f.number == number then change f else f
+-- a write to a frame
+pub data Change (N V : Type 0) : Type 0 where
+  new_names : N → Change N V
+  new_trace : Option V → Change N V
+  new_lines : Bool → Change N V
 
-  abbrev change_activation : {S : Type 0} → Activation S N V → Activation S N V
+abbrev names_by : {N V : Type 0} → Change N V → N → N
+names_by (new_names n) m = n
+names_by c m = m
+
+abbrev trace_by : {N V : Type 0} → Change N V → Option V → Option V
+trace_by (new_trace f) g = f
+trace_by c g = g
+
+abbrev lines_by : {N V : Type 0} → Change N V → Bool → Bool
+lines_by (new_lines b) a = b
+lines_by c a = a
+
+-- the frame with a number is changed, wherever it is
+module _ {N V : Type 0} (number : ℕ) (change : Change N V) where
+  abbrev change_one : Frame N V → Frame N V
+  change_one f = record f {
+    names = if f.number == number then names_by change f.names else f.names;
+    trace = if f.number == number then trace_by change f.trace else f.trace;
+    traces_lines = if f.number == number then lines_by change f.traces_lines else f.traces_lines;
+  }
+
+  abbrev pub change_activation : {S : Type 0} → Activation S N V → Activation S N V
   change_activation a = in_frame (change_one a.frame) a
 
-  abbrev change_generator : {S : Type 0} → Generator S N V → Generator S N V
+  abbrev pub change_generator : {S : Type 0} → Generator S N V → Generator S N V
   change_generator (fresh a) = fresh (change_activation a)
   change_generator (suspended a y) = suspended (change_activation a) y
   change_generator running = running
   change_generator finished = finished
 
-  abbrev change_opener : {S W : Type 0} → Opener S N V W → Opener S N V W
+  abbrev pub change_opener : {S W : Type 0} → Opener S N V W → Opener S N V W
   change_opener o = record o { activation = change_activation o.activation }
 
   abbrev pub change_frame : {S W : Type 0} → State S N V W → State S N V W

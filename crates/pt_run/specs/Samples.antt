@@ -1,0 +1,108 @@
+-- Scripts to follow runs by, what the host answers in them, and what is told.
+use Rattle.std.specs.Prelude.{ℕ, ◌^◌, List, [], ◌∷◌, true, false, codes, Some, None}
+use Rattle.pt_tree.specs.Syntax as S
+use Rattle.pt_tree.specs.Syntax.{Name, Exp, Args, Stm, Stms, none, more}
+use Rattle.pt_run.specs.Outcome.{Output, prints, gives, logs, replies, refuses, go, jump_to}
+use Rattle.pt_run.specs.Scripted.{Scripted, value, exception, no_more, truth, runs, makes, resumes, tries, traces, tells_tool, jumps, value_error, Plan, EventAt, event_at}
+
+abbrev call : (line : ℕ) → Name → Stm
+call l f = S.expr l (S.call l (S.name l f) S.no_args)
+
+abbrev no_params : S.Params
+no_params = S.parameters S.no_formals None S.no_formals None
+
+abbrev function : (line block : ℕ) → Name → Stms → Stm
+function l b f body = S.def l S.no_decorators l b f no_params S.absent body
+
+abbrev yield : (line : ℕ) → Stm
+yield l = S.expr l (S.yield l (S.given (S.name l (codes "v"))))
+
+-- a generator with two items in a `for`: the call makes it, three items are asked for, and each is printed
+abbrev pub two_items : List Scripted
+two_items = makes 1 ∷ resumes 0 ∷ value 0 ∷ resumes 0 ∷ value 0 ∷ resumes 0 ∷ []
+
+-- f is called, then `range` in it, an item is asked for, and it is printed twice
+abbrev pub nested_call : List Scripted
+nested_call = runs 1 ∷ value 0 ∷ value 1 ∷ value 0 ∷ value 0 ∷ []
+
+-- 1 def f():
+-- 2     raise x
+-- 3 f()
+abbrev pub raising : Stms
+raising = more (function 1 1 (codes "f") (more (S.raise 2 (S.name 2 (codes "x")) S.absent) none)) (more (call 3 (codes "f")) none)
+
+abbrev pub raising_call : List Scripted
+raising_call = runs 1 ∷ exception 7 ∷ []
+
+-- the block starts, line 1; line 3, the call; its block starts, line 2, the exception, it leaves; it arrives, and leaves the module
+abbrev pub raising_events : List EventAt
+raising_events =
+    event_at 0 1 ∷ event_at 9 1 ∷ event_at 9 3 ∷ event_at 6 3
+    ∷ event_at 0 1 ∷ event_at 9 2 ∷ event_at 12 2 ∷ event_at 5 2
+    ∷ event_at 12 3 ∷ event_at 5 3 ∷ []
+
+-- 1 s()
+-- 2 u()
+-- 3 u()
+-- 4 def f():
+-- 5     pass
+-- 6 f()
+abbrev pub with_hooks : Stms
+with_hooks =
+    more (call 1 (codes "s")) (more (call 2 (codes "u")) (more (call 3 (codes "u"))
+    (more (function 4 1 (codes "f") (more (S.pass 5) none)) (more (call 6 (codes "f")) none))))
+
+-- 9 is the trace function; 44 and 22 are callbacks of the tools 4 and 2 for LINE, the latter from line 3 on; f is called, and 9 answers 9 to that and to
+-- the line
+abbrev pub with_hooks_answers : List Scripted
+with_hooks_answers =
+    traces (Some 9) ∷ tells_tool 4 512 44 ∷ value 0 ∷ tells_tool 2 512 22 ∷ value 0 ∷ value 0 ∷ value 0 ∷ value 0 ∷ runs 1 ∷ value 9 ∷ value 0 ∷ value 0 ∷ value 9 ∷ []
+
+-- a debugger stops at line 5 and lets the run go on
+abbrev pub stop_at_5 : List Plan
+stop_at_5 = record { line = 5; advice = go } ∷ []
+
+-- 1 s()
+-- 2 def g():
+-- 3     try:
+-- 4         yield v
+-- 5     except:
+-- 6         yield v
+-- 7 for v in g(): p()
+abbrev pub catching : Stms
+catching =
+    more (call 1 (codes "s"))
+    (more (function 2 1 (codes "g") (more (S.try 3 (more (yield 4) none) (S.handler 5 S.absent None (more (yield 6) none) S.no_handlers) none none) none))
+    (more (S.for 7 (S.single (S.name_at 7 (codes "v"))) (S.call 7 (S.name 7 (codes "g")) S.no_args) (more (call 7 (codes "p")) none) none) none))
+
+-- the trace function 9 is set, g is made and goes on; 9 answers 9 to its call and to line 3, and raises at line 4; the generator goes on once more
+abbrev pub catching_answers : List Scripted
+catching_answers = traces (Some 9) ∷ makes 1 ∷ resumes 0 ∷ value 9 ∷ value 9 ∷ exception 7 ∷ value 0 ∷ resumes 0 ∷ []
+
+-- 1 def g():
+-- 2     yield v
+-- 3 g()
+-- 4 s()
+-- 5 n()
+abbrev pub resuming : Stms
+resuming =
+    more (function 1 1 (codes "g") (more (yield 2) none)) (more (call 3 (codes "g")) (more (call 4 (codes "s")) (more (call 5 (codes "n")) none)))
+
+-- g is made; the trace function 9 is set; g goes on, 9 answers 9 to the call, and tries at line 2 to have g go on
+abbrev pub resuming_answers : List Scripted
+resuming_answers = makes 1 ∷ traces (Some 9) ∷ resumes 0 ∷ value 9 ∷ tries 0 ∷ []
+
+-- in the script `jumping`: at line 1 into the `for`, at line 6 out of the `finally` part, and so not
+abbrev pub bad_jumps : List Plan
+bad_jumps =
+    record { line = 1; advice = jump_to 2 } ∷ record { line = 1; advice = go } ∷ record { line = 6; advice = jump_to 7 } ∷ record { line = 6; advice = go } ∷ []
+
+-- at line 2 out of the `for`
+abbrev pub good_jump : List Plan
+good_jump = record { line = 2; advice = jump_to 7 } ∷ []
+
+abbrev pub one_item : List Scripted
+one_item = value 0 ∷ value 0 ∷ no_more ∷ []
+
+abbrev pub pass_alone : Stms
+pass_alone = more (S.pass 1) none
