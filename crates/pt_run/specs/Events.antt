@@ -79,7 +79,7 @@ is_line (line j) = true
 is_line h = false
 
 -- a debugger is asked at these four kinds, but not at a line that comes behind a jump
-abbrev has_kind : Option TraceKind → Bool
+abbrev pub has_kind : Option TraceKind → Bool
 has_kind (Some k) = true
 has_kind None = false
 

@@ -6,7 +6,7 @@ use Rattle.pt_run.specs.Machine as M
 use Rattle.pt_run.specs.Machine.{Machine, Reason, not_at_line, Jump}
 use Rattle.pt_run.specs.Events.{Happening, unwinds, Event, bit, TraceKind, a_call, a_line, a_return, an_exception, trace_kind, is_line, is_for_debugger}
 use Rattle.pt_run.specs.Tools.{Location, is_local, wants, switch_off, without}
-use Rattle.pt_run.specs.Host.{Host, Hook, log, debugger, landing, refusal, tool, tracer, not_local, Entry}
+use Rattle.pt_run.specs.Host.{Host, Frame, Hook, log, debugger, landing, refusal, tool, tracer, not_local, Entry}
 use Rattle.pt_run.specs.State.{Pending, starting, doing, going, giving_on, going_on, ending, Telling, Hearing, Phase, turning, telling, asking, hearing, closing, State, at, in_state, in_frame, store}
 use Rattle.pt_run.specs.Views.{line_of, view, here_of}
 use Rattle.pt_run.specs.Outcome.{Output, logs, refuses, Question, about, about_landing, about_refusal, quit, Advice, go, jump_to, give_up, Step, goes, consults, ends}
@@ -27,11 +27,12 @@ module _ {S N V W : Type 0} (machine : Machine S V) (host : Host N V W) where
     of_generator = s.here.frame.of_generator;
   }
 
-  -- an exception gets an entry of its traceback where it comes to a visible frame
+  -- the world once an exception has come to a frame: it gets an entry of its traceback where the frame is visible
+  abbrev pub world_with_entry : V → Frame N V → W → W
+  world_with_entry v f w = if f.block.hidden then w else host.enters v (record { frame = f.number; line = line_of host.first_line f }) w
+
   abbrev pub enter_frame : V → State S N V W → State S N V W
-  enter_frame v s =
-      if s.here.frame.block.hidden then s
-      else record s { world = host.enters v (record { frame = s.here.frame.number; line = line_of host.first_line s.here.frame }) s.world }
+  enter_frame v s = record s { world = world_with_entry v s.here.frame s.world }
 
   -- a raise of a hook takes the place of what waits, and isn't told there; where the block was about to end by an exception nothing more is told
   abbrev pub instead_of : Pending S V → V → State S N V W → State S N V W
@@ -44,9 +45,12 @@ module _ {S N V W : Type 0} (machine : Machine S V) (host : Host N V W) where
   instead_of (ending (left_by u)) v s = at (closing (left_by v)) s
 
   -- a trace function that raises is unset
-  abbrev unset_by : Hook → State S N V W → State S N V W
-  unset_by tracer s = record s { trace = None }
-  unset_by h s = s
+  abbrev pub trace_unless : Hook → Option V → Option V
+  trace_unless tracer f = None
+  trace_unless h f = f
+
+  abbrev pub unset_by : Hook → State S N V W → State S N V W
+  unset_by h s = record s { trace = trace_unless h s.trace }
 
   abbrev pub raise_of_hook : Hearing S V → V → State S N V W → State S N V W
   raise_of_hook h v s = instead_of h.telling.pending v (enter_frame v (unset_by h.hook s))
@@ -55,16 +59,16 @@ module _ {S N V W : Type 0} (machine : Machine S V) (host : Host N V W) where
   abbrev pub asks : List Hook → Telling S V → State S N V W → State S N V W
   asks hs t s = at (asking (record t { hooks = hs })) s
 
-  abbrev location : (tool : ℕ) → Event V → Location
+  abbrev pub location : (tool : ℕ) → Event V → Location
   location n e = record { tool = n; bit = bit e.what; block = e.block; act = e.act }
 
   -- the trace function that is due: the global one at a call, else the frame's own where there is a global one, for lines if they are traced
-  abbrev own_trace : TraceKind → State S N V W → Option V
+  abbrev pub own_trace : TraceKind → State S N V W → Option V
   own_trace a_call s = s.trace
   own_trace a_line s = if s.here.frame.traces_lines then s.here.frame.trace else None
   own_trace k s = s.here.frame.trace
 
-  abbrev trace_if : (global : Option V) → TraceKind → State S N V W → Option V
+  abbrev pub trace_if : (global : Option V) → TraceKind → State S N V W → Option V
   trace_if (Some f) k s = own_trace k s
   trace_if None k s = None
 
@@ -73,12 +77,12 @@ module _ {S N V W : Type 0} (machine : Machine S V) (host : Host N V W) where
   trace_due None s = None
 
   -- a hook whose function is due is called with the event
-  abbrev call_hook : Option V → Hook → List Hook → Telling S V → State S N V W → Step S N V W
+  abbrev pub call_hook : Option V → Hook → List Hook → Telling S V → State S N V W → Step S N V W
   call_hook (Some f) h hs t s =
       goes [] (at (hearing (record { hook = h; telling = record t { hooks = hs } }) (host.hears h f t.event (here_of machine s) (store s))) s)
   call_hook None h hs t s = goes [] (asks hs t s)
 
-  abbrev log_of : Option TraceKind → Event V → State S N V W → List (Output V)
+  abbrev pub log_of : Option TraceKind → Event V → State S N V W → List (Output V)
   log_of (Some k) e s = logs (host.log_line e s.world) ∷ []
   log_of None e s = []
 
@@ -94,7 +98,7 @@ module _ {S N V W : Type 0} (machine : Machine S V) (host : Host N V W) where
   ask_next (tracer ∷ hs) t s = call_hook (trace_due (trace_kind t.event.what) s) tracer hs t s
 
   -- a debugger's jump: a permitted one drops the rest of the event, a refused one leaves all as it is; it is told of either
-  abbrev try_jump : (line : ℕ) → Jump S V → Telling S V → State S N V W → Step S N V W
+  abbrev pub try_jump : (line : ℕ) → Jump S V → Telling S V → State S N V W → Step S N V W
   try_jump l (M.refuses r) t s = goes (refuses l r ∷ []) (asks (refusal r ∷ t.hooks) t s)
   try_jump l (M.lands to f) t s =
       goes [] (asks (landing l ∷ []) (record t { behind = []; pending = going to f }) (land_here machine host to l s))
@@ -105,26 +109,26 @@ module _ {S N V W : Type 0} (machine : Machine S V) (host : Host N V W) where
       try_jump l (if is_line t.event.what then machine.jump s.here.frame.block s.here.state l else M.refuses not_at_line) t s
   take_advice give_up t s = ends quit
 
-  abbrev with_trace : Option V → State S N V W → State S N V W
-  with_trace f s = record s { here = in_frame (record s.here.frame { trace = f }) s.here }
-
-  abbrev with_trace_unless_null : Option V → State S N V W → State S N V W
-  with_trace_unless_null (Some f) s = with_trace (Some f) s
-  with_trace_unless_null None s = s
-
   -- the answer to a call is the frame's trace function, or that there is none; another one replaces it unless it is None, but at a return
-  abbrev trace_by_answer : Option TraceKind → V → State S N V W → State S N V W
-  trace_by_answer (Some a_call) v s = with_trace (host.unless_null v) s
-  trace_by_answer (Some a_line) v s = with_trace_unless_null (host.unless_null v) s
-  trace_by_answer (Some a_return) v s = s
-  trace_by_answer (Some an_exception) v s = with_trace_unless_null (host.unless_null v) s
-  trace_by_answer None v s = s
+  abbrev pub first_given : Option V → Option V → Option V
+  first_given (Some f) o = Some f
+  first_given None o = o
 
-  abbrev refuse_disable : Location → Hearing S V → V × W → State S N V W → State S N V W
+  abbrev pub trace_behind : Option TraceKind → V → Option V → Option V
+  trace_behind (Some a_call) v f = host.unless_null v
+  trace_behind (Some a_line) v f = first_given (host.unless_null v) f
+  trace_behind (Some an_exception) v f = first_given (host.unless_null v) f
+  trace_behind (Some a_return) v f = f
+  trace_behind None v f = f
+
+  abbrev pub trace_by_answer : Option TraceKind → V → State S N V W → State S N V W
+  trace_by_answer k v s = record s { here = in_frame (record s.here.frame { trace = trace_behind k v s.here.frame.trace }) s.here }
+
+  abbrev pub refuse_disable : Location → Hearing S V → V × W → State S N V W → State S N V W
   refuse_disable l h (e, w) s = raise_of_hook h e (record s { world = w; tools = without l s.tools })
 
   -- DISABLE switches the event off at its place; at an event without one it takes the callback away, and a ValueError comes
-  abbrev disable : Location → Hearing S V → State S N V W → State S N V W
+  abbrev pub disable : Location → Hearing S V → State S N V W → State S N V W
   disable l h s =
       if is_local l.bit then at (asking h.telling) (record s { tools = switch_off l s.tools })
       else refuse_disable l h (host.makes not_local (here_of machine s) s.world) s

@@ -13,3 +13,5 @@ pub mod Run
 pub mod Source
 pub mod Scripted
 pub mod Samples
+pub mod Follows
+pub mod Laws

@@ -8,7 +8,7 @@ pub record BlockId : Type 0 where
   pub hidden : Bool
   pub number : ℕ
 
-abbrev same_truth : Bool → Bool → Bool
+abbrev pub same_truth : Bool → Bool → Bool
 same_truth true true = true
 same_truth false false = true
 same_truth a b = false

@@ -22,15 +22,15 @@ module _ {S N V W : Type 0} (machine : Machine S V) (host : Host N V W) where
   abbrev pub give : {G : Type 0} → Rest S N V W G → G → State S N V W → State S N V W
   give r g s = at (by_rest r g (store s)) s
 
-  abbrev in_world : W → State S N V W → State S N V W
+  abbrev pub in_world : W → State S N V W → State S N V W
   in_world w s = record s { world = w }
 
   -- an activation opens above the newest one
-  abbrev open_above : Activation S N V → Phase S N V W → Purpose S N V W → State S N V W → State S N V W
+  abbrev pub open_above : Activation S N V → Phase S N V W → Purpose S N V W → State S N V W → State S N V W
   open_above a p u s = record s { here = a; phase = p; openers = record { activation = s.here; purpose = u } ∷ s.openers }
 
   -- in place of one too many there is a RecursionError
-  abbrev fail_opening : {G : Type 0} → Rest S N V W G → (V → G) → V × W → State S N V W → State S N V W
+  abbrev pub fail_opening : {G : Type 0} → Rest S N V W G → (V → G) → V × W → State S N V W → State S N V W
   fail_opening r f (v, w) s = give r (f v) (in_world w s)
 
   abbrev pub run_block : Opening N V → Rest S N V W (BlockResult N V) → State S N V W → State S N V W
@@ -42,21 +42,21 @@ module _ {S N V W : Type 0} (machine : Machine S V) (host : Host N V W) where
   make_generator o r s =
       give r (length s.generators) (record s { generators = s.generators ++ fresh (begin machine o s.frames true) ∷ []; frames = s.frames + 1 })
 
-  abbrev with_generator : (generator : ℕ) → Generator S N V → State S N V W → State S N V W
+  abbrev pub with_generator : (generator : ℕ) → Generator S N V → State S N V W → State S N V W
   with_generator g x s = record s { generators = put_at g x s.generators }
 
   -- a generator's activation opens, and something is told of that
-  abbrev wake : (generator : ℕ) → Activation S N V → Happening V → Pending S V → Rest S N V W (GeneratorResult V) → State S N V W → State S N V W
+  abbrev pub wake : (generator : ℕ) → Activation S N V → Happening V → Pending S V → Rest S N V W (GeneratorResult V) → State S N V W → State S N V W
   wake g a h p r s =
       if is_full s then fail_opening r (λ v. ends_by (left_by v)) (host.makes too_deep (here_of machine s) s.world) s
       else open_above a (telling (h ∷ []) p) (for_generator g r) (with_generator g running s)
 
   -- a fresh one starts with `next`, or where None is sent to it
-  abbrev send_early : Option V → (generator : ℕ) → Activation S N V → Rest S N V W (GeneratorResult V) → State S N V W → State S N V W
+  abbrev pub send_early : Option V → (generator : ℕ) → Activation S N V → Rest S N V W (GeneratorResult V) → State S N V W → State S N V W
   send_early None g a r s = wake g a starts starting r s
   send_early (Some v) g a r s = give r (cannot is_fresh) s
 
-  abbrev throw_exit : (generator : ℕ) → Activation S N V → OpenYield S V → Rest S N V W (GeneratorResult V) → V × W → State S N V W → State S N V W
+  abbrev pub throw_exit : (generator : ℕ) → Activation S N V → OpenYield S V → Rest S N V W (GeneratorResult V) → V × W → State S N V W → State S N V W
   throw_exit g a y r (v, w) s = wake g a (throws v) (going_on y (T.raised v)) r (in_world w s)
 
   -- how a generator goes on by its state (6.2.9); only `throw` and `close` finish one that has not started
@@ -76,59 +76,59 @@ module _ {S N V W : Type 0} (machine : Machine S V) (host : Host N V W) where
 
   -- a trace function's jump: the frame at whose line event it was asked is in another state, what else was to be told there isn't, and the frame goes
   -- on from there
-  abbrev land_hearing : S → (instead : V → S) → Hearing S V → Hearing S V
+  abbrev pub land_hearing : S → (instead : V → S) → Hearing S V → Hearing S V
   land_hearing to f h = record h { telling = record h.telling { behind = []; pending = going to f } }
 
-  abbrev land_in : (to : S) → (line : ℕ) → Activation S N V → Activation S N V
+  abbrev pub land_in : (to : S) → (line : ℕ) → Activation S N V → Activation S N V
   land_in to l a = record a { frame = record a.frame { line = Some l }; state = to; behind_jump = true }
 
   abbrev pub land_here : (to : S) → (line : ℕ) → State S N V W → State S N V W
   land_here to l s = record s { here = land_in to l s.here }
 
-  abbrev land_rest : {G : Type 0} → (to : S) → (instead : V → S) → Rest S N V W G → Rest S N V W G
+  abbrev pub land_rest : {G : Type 0} → (to : S) → (instead : V → S) → Rest S N V W G → Rest S N V W G
   land_rest to f (of_ask q k) = of_ask q k
   land_rest to f (of_hook h k) = of_hook (land_hearing to f h) k
 
-  abbrev land_purpose : (to : S) → (instead : V → S) → Purpose S N V W → Purpose S N V W
+  abbrev pub land_purpose : (to : S) → (instead : V → S) → Purpose S N V W → Purpose S N V W
   land_purpose to f (for_block r) = for_block (land_rest to f r)
   land_purpose to f (for_generator g r) = for_generator g (land_rest to f r)
 
   -- a hook that an activation waits for
-  abbrev hook_of_rest : {G : Type 0} → Rest S N V W G → Option (Hearing S V)
+  abbrev pub hook_of_rest : {G : Type 0} → Rest S N V W G → Option (Hearing S V)
   hook_of_rest (of_ask q k) = None
   hook_of_rest (of_hook h k) = Some h
 
-  abbrev hook_of : Purpose S N V W → Option (Hearing S V)
+  abbrev pub hook_of : Purpose S N V W → Option (Hearing S V)
   hook_of (for_block r) = hook_of_rest r
   hook_of (for_generator g r) = hook_of_rest r
 
-  abbrev is_tracer : Hook → Bool
+  abbrev pub is_tracer : Hook → Bool
   is_tracer H.tracer = true
   is_tracer h = false
 
-  abbrev behind_one : Opener S N V W → JumpBelow S N V W → JumpBelow S N V W
+  abbrev pub behind_one : Opener S N V W → JumpBelow S N V W → JumpBelow S N V W
   behind_one o (changes os) = changes (o ∷ os)
   behind_one o (cannot_jump r) = cannot_jump r
 
-  abbrev line_number : ℤ → Option ℕ
+  abbrev pub line_number : ℤ → Option ℕ
   line_number (pos l) = Some l
   line_number (negsuc n) = None
 
-  abbrev by_jump : (line : ℕ) → Opener S N V W → List (Opener S N V W) → Jump S V → JumpBelow S N V W
+  abbrev pub by_jump : (line : ℕ) → Opener S N V W → List (Opener S N V W) → Jump S V → JumpBelow S N V W
   by_jump l o os (M.refuses r) = cannot_jump r
   by_jump l o os (M.lands to f) = changes (record { activation = land_in to l o.activation; purpose = land_purpose to f o.purpose } ∷ os)
 
-  abbrev to_line : Option ℕ → Opener S N V W → List (Opener S N V W) → JumpBelow S N V W
+  abbrev pub to_line : Option ℕ → Opener S N V W → List (Opener S N V W) → JumpBelow S N V W
   to_line (Some l) o os = by_jump l o os (machine.jump o.activation.frame.block o.activation.state l)
   to_line None o os = cannot_jump no_statement
 
   -- the trace function, at a line event, in the frame of that event
-  abbrev from_hook : (frame : ℕ) → ℤ → Hearing S V → Opener S N V W → List (Opener S N V W) → JumpBelow S N V W
+  abbrev pub from_hook : (frame : ℕ) → ℤ → Hearing S V → Opener S N V W → List (Opener S N V W) → JumpBelow S N V W
   from_hook k l h o os =
       if is_tracer h.hook then (if is_line h.telling.event.what then (if o.activation.frame.number == k then to_line (line_number l) o os else cannot_jump not_newest) else cannot_jump not_at_line)
       else cannot_jump not_at_line
 
-  abbrev by_hook : Option (Hearing S V) → (frame : ℕ) → ℤ → Opener S N V W → List (Opener S N V W) → (otherwise : JumpBelow S N V W) → JumpBelow S N V W
+  abbrev pub by_hook : Option (Hearing S V) → (frame : ℕ) → ℤ → Opener S N V W → List (Opener S N V W) → (otherwise : JumpBelow S N V W) → JumpBelow S N V W
   by_hook (Some h) k l o os j = from_hook k l h o os
   by_hook None k l o os j = j
 
@@ -136,11 +136,11 @@ module _ {S N V W : Type 0} (machine : Machine S V) (host : Host N V W) where
   jump_below k l [] = cannot_jump not_at_line
   jump_below k l (o ∷ os) = by_hook (hook_of o.purpose) k l o os (behind_one o (jump_below k l os))
 
-  abbrev write_line : Rest S N V W (Option Reason) → JumpBelow S N V W → State S N V W → State S N V W
+  abbrev pub write_line : Rest S N V W (Option Reason) → JumpBelow S N V W → State S N V W → State S N V W
   write_line r (changes os) s = give r None (record s { openers = os })
   write_line r (cannot_jump e) s = give r (Some e) s
 
-  abbrev call_tools : Rest S N V W (Tool.ToolAnswer V) → Tool.ToolResult V → State S N V W → State S N V W
+  abbrev pub call_tools : Rest S N V W (Tool.ToolAnswer V) → Tool.ToolResult V → State S N V W → State S N V W
   call_tools r c s = give r c.0 (record s { tools = c.1 })
 
   -- the state of the run behind a request, whose rest waits

@@ -31,23 +31,23 @@ pub data Move (D S N V W : Type 0) : Type 0 where
   halts : Move D S N V W
 
 module _ {D S N V W : Type 0} (machine : Machine S V) (host : Host N V W) (ask : Debugger D N V W) where
-  abbrev replies_of : List (List ℕ) → List (Output V)
+  abbrev pub replies_of : List (List ℕ) → List (Output V)
   replies_of xs = map replies xs
 
   -- the debugger's advice is taken
-  abbrev move_by_advice : (before : List (Output V)) → D → Step S N V W → Move D S N V W
+  abbrev pub move_by_advice : (before : List (Output V)) → D → Step S N V W → Move D S N V W
   move_by_advice os d (goes ps s) = moves (os ++ ps) (record { debugger = d; state = s })
   move_by_advice os d (consults q t s) = halts
   move_by_advice os d (ends e) = stops os d e
   move_by_advice os d is_stuck = halts
 
-  abbrev consult : DebuggerAnswer D → Telling S V → State S N V W → Move D S N V W
+  abbrev pub consult : DebuggerAnswer D → Telling S V → State S N V W → Move D S N V W
   consult d t s = move_by_advice (replies_of d.texts) d.debugger (take_advice machine host d.advice t s)
 
-  abbrev view_of : State S N V W → View N V W
+  abbrev pub view_of : State S N V W → View N V W
   view_of s = record { frames = view host.first_line s; world = s.world }
 
-  abbrev move_by : D → Step S N V W → Move D S N V W
+  abbrev pub move_by : D → Step S N V W → Move D S N V W
   move_by d (goes os s) = moves os (record { debugger = d; state = s })
   move_by d (consults q t s) = consult (ask q (view_of s) d) t s
   move_by d (ends e) = stops [] d e
@@ -88,10 +88,10 @@ pub record Write : Type 0 where
   pub sink : Sink
   pub text : List ℕ
 
-abbrev write : Sink → List ℕ → Write
+abbrev pub write : Sink → List ℕ → Write
 write k x = record { sink = k; text = x }
 
-abbrev some : {X : Type 0} → Bool → X → List X → List X
+abbrev pub some : {X : Type 0} → Bool → X → List X → List X
 some true x xs = x ∷ xs
 some false x xs = xs
 
@@ -102,6 +102,12 @@ writes b (prints x ∷ os) = write to_out x ∷ writes b os
 writes b (logs x ∷ os) = some b (write to_log x) (writes b os)
 writes b (replies x ∷ os) = write to_log x ∷ writes b os
 writes b (o ∷ os) = writes b os
+
+-- all but the replies of a debugger
+abbrev pub replies_apart : {V : Type 0} → List (Output V) → List (Output V)
+replies_apart [] = []
+replies_apart (replies x ∷ os) = replies_apart os
+replies_apart (o ∷ os) = o ∷ replies_apart os
 
 -- the events, in order
 abbrev pub events : {V : Type 0} → List (Output V) → List (Event V)

@@ -5,16 +5,16 @@ use Rattle.pt_tree.specs.Syntax.{Name, Exp, Args, Stm, Stms, none, more}
 use Rattle.pt_run.specs.Outcome.{Output, prints, gives, logs, replies, refuses, go, jump_to}
 use Rattle.pt_run.specs.Scripted.{Scripted, value, exception, no_more, truth, runs, makes, resumes, tries, traces, tells_tool, jumps, value_error, Plan, EventAt, event_at}
 
-abbrev call : (line : ℕ) → Name → Stm
+abbrev pub call : (line : ℕ) → Name → Stm
 call l f = S.expr l (S.call l (S.name l f) S.no_args)
 
-abbrev no_params : S.Params
+abbrev pub no_params : S.Params
 no_params = S.parameters S.no_formals None S.no_formals None
 
-abbrev function : (line block : ℕ) → Name → Stms → Stm
+abbrev pub function : (line block : ℕ) → Name → Stms → Stm
 function l b f body = S.def l S.no_decorators l b f no_params S.absent body
 
-abbrev yield : (line : ℕ) → Stm
+abbrev pub yield : (line : ℕ) → Stm
 yield l = S.expr l (S.yield l (S.given (S.name l (codes "v"))))
 
 -- a generator with two items in a `for`: the call makes it, three items are asked for, and each is printed

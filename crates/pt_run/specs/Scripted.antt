@@ -55,42 +55,42 @@ runtime_error = 904
 abbrev pub disable : ℕ
 disable = 905
 
-abbrev Stored : Type 0
+abbrev pub Stored : Type 0
 Stored = Store (Unit {0}) (List Scripted)
 
-abbrev Tree : Type 0 → Type 0
+abbrev pub Tree : Type 0 → Type 0
 Tree A = Answering (Unit {0}) ℕ (List Scripted) A
 
-abbrev opening : ℕ → Opening (Unit {0}) ℕ
+abbrev pub opening : ℕ → Opening (Unit {0}) ℕ
 opening b = record { block = record { hidden = false; number = b }; iterator = None; names = tt }
 
-abbrev end_of : End ℕ → Stored → Tree ℕ
+abbrev pub end_of : End ℕ → Stored → Tree ℕ
 end_of (gave v) st = answer v st
 end_of (left_by v) st = raise v st
 
-abbrev result_of : GeneratorResult ℕ → Stored → Tree ℕ
+abbrev pub result_of : GeneratorResult ℕ → Stored → Tree ℕ
 result_of (gives_on v) st = answer v st
 result_of (ends_by (gave v)) st = raise stop_iteration st
 result_of (ends_by (left_by v)) st = raise v st
 result_of (cannot o) st = raise value_error st
 
-abbrev try_result : GeneratorResult ℕ → Stored → Tree ℕ
+abbrev pub try_result : GeneratorResult ℕ → Stored → Tree ℕ
 try_result (gives_on v) st = answer v st
 try_result (ends_by e) st = end_of e st
 try_result (cannot o) st = answer 8 st
 
-abbrev reason_of : Option Reason → Stored → Tree ℕ
+abbrev pub reason_of : Option Reason → Stored → Tree ℕ
 reason_of None st = answer 0 st
 reason_of (Some r) st = raise value_error st
 
 -- a tool's function for the events of one bit: the id is taken, the set given, and the function registered
-abbrev tell_tool : (tool bit function : ℕ) → Stored → Tree ℕ
+abbrev pub tell_tool : (tool bit function : ℕ) → Stored → Tree ℕ
 tell_tool t b f st =
     request (H.calls_tools (Tool.use_id (pos t) [])) st (λ u st1.
     request (H.calls_tools (Tool.give_set (pos t) (pos b))) st1 (λ v st2.
     request (H.calls_tools (Tool.register (pos t) (pos b) (Some f))) st2 (λ w st3. answer 0 st3)))
 
-abbrev by_script : Scripted → Stored → Tree ℕ
+abbrev pub by_script : Scripted → Stored → Tree ℕ
 by_script (value v) st = answer v st
 by_script (exception v) st = raise v st
 by_script no_more st = answer 0 st
@@ -103,41 +103,41 @@ by_script (traces f) st = request (H.gives_trace f) st (λ u st1. answer 0 st1)
 by_script (tells_tool t b f) st = tell_tool t b f st
 by_script (jumps k l) st = request (H.jumps_to k (pos l)) st reason_of
 
-abbrev with_world : List Scripted → Stored → Stored
+abbrev pub with_world : List Scripted → Stored → Stored
 with_world w st = record st { world = w }
 
 -- the next answer of the list, or 0 behind its end
-abbrev next_answer : List Scripted → Stored → Tree ℕ
+abbrev pub next_answer : List Scripted → Stored → Tree ℕ
 next_answer [] st = answer 0 st
 next_answer (x ∷ xs) st = by_script x (with_world xs st)
 
-abbrev item_of : GeneratorResult ℕ → Stored → Tree (Item ℕ)
+abbrev pub item_of : GeneratorResult ℕ → Stored → Tree (Item ℕ)
 item_of (gives_on v) st = answer (an_item v) st
 item_of (ends_by (gave v)) st = answer (no_item (Some stop_iteration)) st
 item_of (ends_by (left_by v)) st = raise v st
 item_of (cannot o) st = raise value_error st
 
-abbrev next_item : List Scripted → Stored → Tree (Item ℕ)
+abbrev pub next_item : List Scripted → Stored → Tree (Item ℕ)
 next_item (value v ∷ xs) st = answer (an_item v) (with_world xs st)
 next_item (exception v ∷ xs) st = raise v (with_world xs st)
 next_item (resumes g ∷ xs) st = request (H.resumes g by_next) (with_world xs st) item_of
 next_item (no_more ∷ xs) st = answer (no_item None) (with_world xs st)
 next_item xs st = answer (no_item None) st
 
-abbrev next_truth : List Scripted → Stored → Tree Bool
+abbrev pub next_truth : List Scripted → Stored → Tree Bool
 next_truth (truth b ∷ xs) st = answer b (with_world xs st)
 next_truth (exception v ∷ xs) st = raise v (with_world xs st)
 next_truth xs st = answer true st
 
-abbrev next_exception : List Scripted → Stored → Tree ⊥
+abbrev pub next_exception : List Scripted → Stored → Tree ⊥
 next_exception (exception v ∷ xs) st = raise v (with_world xs st)
 next_exception xs st = raise value_error st
 
-abbrev zeros : (n : ℕ) → Row ℕ n
+abbrev pub zeros : (n : ℕ) → Row ℕ n
 zeros zero = tt
 zeros (suc n) = (0, zeros n)
 
-abbrev answers : (a : Ask ℕ) → Here ℕ → Stored → Tree (Finding ℕ a)
+abbrev pub answers : (a : Ask ℕ) → Here ℕ → Stored → Tree (Finding ℕ a)
 answers (T.seek (T.operate (T.call rs) vs)) h st = next_answer st.world st
 answers (T.seek s) h st = answer 0 st
 answers (T.deed d) h st = answer tt st
@@ -151,23 +151,23 @@ answers (T.unpack v n star) h st = answer (zeros n) st
 answers (T.delegate i r) h st = answer (H.ends_with 0) st
 
 -- a hook that is called prints its function's number
-abbrev hears : Hook → ℕ → Event ℕ → Here ℕ → Stored → Tree ℕ
+abbrev pub hears : Hook → ℕ → Event ℕ → Here ℕ → Stored → Tree ℕ
 hears k f e h st = print (f ∷ []) (next_answer st.world st)
 
-abbrev exception_of : Failure ℕ → ℕ
+abbrev pub exception_of : Failure ℕ → ℕ
 exception_of H.too_deep = recursion_error
 exception_of H.generator_exit = runtime_error
 exception_of (H.stop_iteration e) = runtime_error
 exception_of H.not_local = value_error
 
-abbrev unless_null : ℕ → Option ℕ
+abbrev pub unless_null : ℕ → Option ℕ
 unless_null v = if v == 0 then None else Some v
 
-abbrev code_of : Option Block → Code
+abbrev pub code_of : Option Block → Code
 code_of (Some b) = b.code
 code_of None = B.of_module none
 
-abbrev line_of : Option Block → ℕ
+abbrev pub line_of : Option Block → ℕ
 line_of (Some b) = b.first_line
 line_of None = 1
 
@@ -203,18 +203,18 @@ pub record Plan : Type 0 where
   pub line : ℕ
   pub advice : Advice
 
-abbrev silent : List Plan → DebuggerAnswer (List Plan)
+abbrev pub silent : List Plan → DebuggerAnswer (List Plan)
 silent ps = record { texts = []; advice = go; debugger = ps }
 
 -- it says its line
-abbrev says : Plan → List Plan → DebuggerAnswer (List Plan)
+abbrev pub says : Plan → List Plan → DebuggerAnswer (List Plan)
 says p ps = record { texts = (p.line ∷ []) ∷ []; advice = p.advice; debugger = ps }
 
-abbrev at_event : Event ℕ → List Plan → DebuggerAnswer (List Plan)
+abbrev pub at_event : Event ℕ → List Plan → DebuggerAnswer (List Plan)
 at_event e [] = silent []
 at_event e (p ∷ ps) = if is_line e.what && e.line == p.line then says p ps else silent (p ∷ ps)
 
-abbrev next_plan : List Plan → DebuggerAnswer (List Plan)
+abbrev pub next_plan : List Plan → DebuggerAnswer (List Plan)
 next_plan [] = silent []
 next_plan (p ∷ ps) = says p ps
 
@@ -224,7 +224,7 @@ follow_plan (O.about_landing l) v ps = next_plan ps
 follow_plan (O.about_refusal r) v ps = next_plan ps
 
 -- so many moves of a run of at most n acts
-abbrev Follower : Type 0
+abbrev pub Follower : Type 0
 Follower = Session (List Plan) (Place ℕ) (Unit {0}) ℕ (List Scripted)
 
 -- how a run that is followed ended, if it has
@@ -239,22 +239,22 @@ pub record Trace : Type 0 where
   pub outputs : List (Output ℕ)
   pub end : EndKind
 
-abbrev end_kind : O.Ending (Unit {0}) ℕ (List Scripted) → EndKind
+abbrev pub end_kind : O.Ending (Unit {0}) ℕ (List Scripted) → EndKind
 end_kind O.done = ends_done
 end_kind (O.raised v w) = ends_raised v
 end_kind O.spent = ends_spent
 end_kind e = ends_otherwise
 
-abbrev behind : List (Output ℕ) → Trace → Trace
+abbrev pub behind : List (Output ℕ) → Trace → Trace
 behind os t = record t { outputs = os ++ t.outputs }
 
-abbrev on_move : (List (Output ℕ) → Follower → Trace) → Move (List Plan) (Place ℕ) (Unit {0}) ℕ (List Scripted) → Trace
+abbrev pub on_move : (List (Output ℕ) → Follower → Trace) → Move (List Plan) (Place ℕ) (Unit {0}) ℕ (List Scripted) → Trace
 on_move f (moves os x) = f os x
 on_move f (stops os d e) = record { outputs = os; end = end_kind e }
 on_move f halts = record { outputs = []; end = ends_otherwise }
 
 module _ (ss : Stms) (n : ℕ) where
-  abbrev follow : (most : ℕ) → Follower → Trace
+  abbrev pub follow : (most : ℕ) → Follower → Trace
   follow zero x = record { outputs = []; end = goes_still }
   follow (suc m) x = on_move (λ os y. behind os (follow m y)) (move (machine ss) (host ss) follow_plan n x)
 

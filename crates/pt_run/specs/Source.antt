@@ -23,7 +23,7 @@ pub data Place (V : Type 0) : Type 0 where
   at : Control V → Place V
   at_statement : Way V → Place V
 
-abbrev or_null : {V : Type 0} → (null : V) → Option V → V
+abbrev pub or_null : {V : Type 0} → (null : V) → Option V → V
 or_null n (Some v) = v
 or_null n None = n
 
@@ -34,17 +34,17 @@ place_turn (T.move c) = T.move (at c)
 place_turn (T.over e) = T.over e
 place_turn T.stuck = T.stuck
 
-abbrev reason : J.Verdict → Reason
+abbrev pub reason : J.Verdict → Reason
 reason J.permitted = no_statement
 reason J.no_statement = no_statement
 reason J.into_block = into_block
 reason J.out_of_finally = out_of_finally
 
-abbrev nest_of : {V : Type 0} → Place V → Nest V
+abbrev pub nest_of : {V : Type 0} → Place V → Nest V
 nest_of (at c) = C.nest_at c
 nest_of (at_statement k) = way_base k
 
-abbrev number_or_all : (all : ℕ) → Option ℕ → ℕ
+abbrev pub number_or_all : (all : ℕ) → Option ℕ → ℕ
 number_or_all n (Some k) = k
 number_or_all n None = n
 
@@ -53,7 +53,7 @@ module _ {V : Type 0} (source : Source V) where
   control_of b (at c) = c
   control_of b (at_statement k) = C.go (source.around b) k
 
-  abbrev jump_of : BlockId → J.Jumped V → Jump (Place V) V
+  abbrev pub jump_of : BlockId → J.Jumped V → Jump (Place V) V
   jump_of b (J.refused v) = refuses (reason v)
   jump_of b (J.lands k) = lands (at_statement k) (λ v. at (complete (source.around b) (by (raise v)) (way_base k)))
 

@@ -120,7 +120,7 @@ module _ {S N V W : Type 0} where
   by_rest (of_ask q f) g st = answering q (f g st)
   by_rest (of_hook h f) g st = hearing h (f g st)
 
-  abbrev waits_for_hook : {G : Type 0} → Rest S N V W G → Bool
+  abbrev pub waits_for_hook : {G : Type 0} → Rest S N V W G → Bool
   waits_for_hook (of_ask q f) = false
   waits_for_hook (of_hook h f) = true
 

@@ -10,23 +10,23 @@ has s b = (s / 2 ^ b) % 2 == 1
 
 -- those that have a place of their own, which a callback can switch off, and which a block's own set can have: not PY_THROW, PY_UNWIND, C_RETURN,
 -- C_RAISE, RAISE, RERAISE and EXCEPTION_HANDLED
-abbrev others : List ℕ
+abbrev pub others : List ℕ
 others = 4 ∷ 5 ∷ 7 ∷ 8 ∷ 12 ∷ 13 ∷ 14 ∷ []
 
 abbrev pub is_local : (bit : ℕ) → Bool
 is_local b = not (list_any (λ o. o == b) others)
 
-abbrev are_local : (set : ℕ) → Bool
+abbrev pub are_local : (set : ℕ) → Bool
 are_local s = not (list_any (has s) others)
 
-abbrev are_listed : (set : ℕ) → Bool
+abbrev pub are_listed : (set : ℕ) → Bool
 are_listed s = nat_lt s (2 ^ 16)
 
 -- C_RETURN and C_RAISE are given where the same set has CALL
-abbrev needs_call : (bit : ℕ) → Bool
+abbrev pub needs_call : (bit : ℕ) → Bool
 needs_call b = b == 7 || b == 8
 
-abbrev gives : (set bit : ℕ) → Bool
+abbrev pub gives : (set bit : ℕ) → Bool
 gives s b = has s b && (not (needs_call b) || has s 6)
 
 pub record LocalSet : Type 0 where
@@ -63,36 +63,36 @@ unused = record { name = None; set = 0; local = []; callbacks = [] }
 abbrev pub no_tools : {V : Type 0} → Tools V
 no_tools = record { tools = unused ∷ unused ∷ unused ∷ unused ∷ unused ∷ unused ∷ []; off = [] }
 
-abbrev or_unused : {V : Type 0} → Option (Tool V) → Tool V
+abbrev pub or_unused : {V : Type 0} → Option (Tool V) → Tool V
 or_unused (Some t) = t
 or_unused None = unused
 
 abbrev pub tool_at : {V : Type 0} → (id : ℕ) → Tools V → Tool V
 tool_at id ts = or_unused (row_at id ts.tools)
 
-abbrev with_tool : {V : Type 0} → (id : ℕ) → Tool V → Tools V → Tools V
+abbrev pub with_tool : {V : Type 0} → (id : ℕ) → Tool V → Tools V → Tools V
 with_tool id t ts = record ts { tools = put_at id t ts.tools }
 
 -- a block's own set, the one that was set last
-abbrev local_set : List LocalSet → BlockId → ℕ
+abbrev pub local_set : List LocalSet → BlockId → ℕ
 local_set [] b = 0
 local_set (l ∷ ls) b = if same_block l.block b then l.set else local_set ls b
 
-abbrev callback : {V : Type 0} → List (Callback V) → (bit : ℕ) → Option V
+abbrev pub callback : {V : Type 0} → List (Callback V) → (bit : ℕ) → Option V
 callback [] b = None
 callback (c ∷ cs) b = if c.bit == b then Some c.function else callback cs b
 
-abbrev without_callback : {V : Type 0} → (bit : ℕ) → List (Callback V) → List (Callback V)
+abbrev pub without_callback : {V : Type 0} → (bit : ℕ) → List (Callback V) → List (Callback V)
 without_callback b [] = []
 without_callback b (c ∷ cs) = if c.bit == b then without_callback b cs else c ∷ without_callback b cs
 
-abbrev same_location : Location → Location → Bool
+abbrev pub same_location : Location → Location → Bool
 same_location l m = l.tool == m.tool && l.bit == m.bit && same_block l.block m.block && l.act == m.act
 
-abbrev is_off : Location → List Location → Bool
+abbrev pub is_off : Location → List Location → Bool
 is_off l ls = list_any (same_location l) ls
 
-abbrev has_event : {V : Type 0} → Tool V → Location → Bool
+abbrev pub has_event : {V : Type 0} → Tool V → Location → Bool
 has_event t l = gives t.set l.bit || gives (local_set t.local l.block) l.bit
 
 -- the callback of a tool that is due at a place: the tool's own set, or its set for the block, has the event, and the event isn't switched off there
@@ -136,55 +136,55 @@ pub data ToolAnswer (V : Type 0) : Type 0 where
 abbrev pub ToolResult : Type 0 → Type 0
 ToolResult V = ToolAnswer V × Tools V
 
-abbrev use_tool : {V : Type 0} → (id : ℕ) → (name : List ℕ) → Tools V → Option (List ℕ) → ToolResult V
+abbrev pub use_tool : {V : Type 0} → (id : ℕ) → (name : List ℕ) → Tools V → Option (List ℕ) → ToolResult V
 use_tool id x ts None = (done, with_tool id (record (tool_at id ts) { name = Some x }) ts)
 use_tool id x ts (Some y) = (wrong in_use, ts)
 
 -- freeing an id leaves its sets and callbacks
-abbrev free_tool : {V : Type 0} → (id : ℕ) → Tools V → ToolResult V
+abbrev pub free_tool : {V : Type 0} → (id : ℕ) → Tools V → ToolResult V
 free_tool id ts = (done, with_tool id (record (tool_at id ts) { name = None }) ts)
 
 -- a set is given to a tool whose id is in use
-abbrev set_events : {V : Type 0} → (id set : ℕ) → Tools V → Option (List ℕ) → ToolResult V
+abbrev pub set_events : {V : Type 0} → (id set : ℕ) → Tools V → Option (List ℕ) → ToolResult V
 set_events id s ts None = (wrong not_in_use, ts)
 set_events id s ts (Some x) = if are_listed s then (done, with_tool id (record (tool_at id ts) { set = s }) ts) else (wrong bad_set, ts)
 
-abbrev set_local_events : {V : Type 0} → (id : ℕ) → BlockId → (set : ℕ) → Tools V → Option (List ℕ) → ToolResult V
+abbrev pub set_local_events : {V : Type 0} → (id : ℕ) → BlockId → (set : ℕ) → Tools V → Option (List ℕ) → ToolResult V
 set_local_events id b s ts None = (wrong not_in_use, ts)
 set_local_events id b s ts (Some x) =
     if are_listed s && are_local s then (done, with_tool id (record (tool_at id ts) { local = record { block = b; set = s } ∷ (tool_at id ts).local }) ts)
     else (wrong bad_set, ts)
 
-abbrev with_callback : {V : Type 0} → (bit : ℕ) → Option V → List (Callback V) → List (Callback V)
+abbrev pub with_callback : {V : Type 0} → (bit : ℕ) → Option V → List (Callback V) → List (Callback V)
 with_callback b (Some f) cs = record { bit = b; function = f } ∷ without_callback b cs
 with_callback b None cs = without_callback b cs
 
-abbrev register_callback : {V : Type 0} → (id bit : ℕ) → Option V → Tools V → ToolResult V
+abbrev pub register_callback : {V : Type 0} → (id bit : ℕ) → Option V → Tools V → ToolResult V
 register_callback id b f ts =
     (a_callback (callback (tool_at id ts).callbacks b), with_tool id (record (tool_at id ts) { callbacks = with_callback b f (tool_at id ts).callbacks }) ts)
 
 -- the event whose bit alone is set
-abbrev bits : List ℕ
+abbrev pub bits : List ℕ
 bits = 0 ∷ 1 ∷ 2 ∷ 3 ∷ 4 ∷ 5 ∷ 6 ∷ 7 ∷ 8 ∷ 9 ∷ 10 ∷ 11 ∷ 12 ∷ 13 ∷ 14 ∷ 15 ∷ []
 
-abbrev only_bit : (set : ℕ) → List ℕ → Option ℕ
+abbrev pub only_bit : (set : ℕ) → List ℕ → Option ℕ
 only_bit s [] = None
 only_bit s (b ∷ bs) = if s == 2 ^ b then Some b else only_bit s bs
 
-abbrev register_for : {V : Type 0} → (id : ℕ) → Option ℕ → Option V → Tools V → ToolResult V
+abbrev pub register_for : {V : Type 0} → (id : ℕ) → Option ℕ → Option V → Tools V → ToolResult V
 register_for id (Some b) f ts = register_callback id b f ts
 register_for id None f ts = (wrong bad_set, ts)
 
-abbrev is_id : ℕ → Bool
+abbrev pub is_id : ℕ → Bool
 is_id id = nat_lt id 6
 
 -- a call for a tool by its id, or what is wrong with the id
-abbrev for_tool : {V : Type 0} → ℤ → Tools V → (ℕ → ToolResult V) → ToolResult V
+abbrev pub for_tool : {V : Type 0} → ℤ → Tools V → (ℕ → ToolResult V) → ToolResult V
 for_tool (pos id) ts f = if is_id id then f id else (wrong bad_id, ts)
 for_tool (negsuc n) ts f = (wrong bad_id, ts)
 
 -- a set has no sign; one with a sign has bits that no event has
-abbrev unsigned : ℤ → ℕ
+abbrev pub unsigned : ℤ → ℕ
 unsigned (pos s) = s
 unsigned (negsuc n) = 2 ^ 16
 

@@ -12,7 +12,7 @@ abbrev pub or_else : {X : Type 0} → Option X → Option X → Option X
 or_else (Some x) o = Some x
 or_else None o = o
 
-abbrev at_entry : {N V : Type 0} → Entry → Option (FrameView N V) → List (FrameView N V) → List (FrameView N V)
+abbrev pub at_entry : {N V : Type 0} → Entry → Option (FrameView N V) → List (FrameView N V) → List (FrameView N V)
 at_entry e (Some v) vs = record v { line = e.line } ∷ vs
 at_entry e None vs = vs
 
@@ -20,14 +20,14 @@ abbrev pub visible : {N V : Type 0} → List (Frame N V) → List (Frame N V)
 visible [] = []
 visible (f ∷ fs) = if f.block.hidden then visible fs else f ∷ visible fs
 
-abbrev number_of_first : {N V : Type 0} → List (Frame N V) → Option ℕ
+abbrev pub number_of_first : {N V : Type 0} → List (Frame N V) → Option ℕ
 number_of_first [] = None
 number_of_first (f ∷ fs) = Some f.number
 
-abbrev numbers : {N V : Type 0} → List (Frame N V) → List ℕ
+abbrev pub numbers : {N V : Type 0} → List (Frame N V) → List ℕ
 numbers fs = map (λ f. f.number) fs
 
-abbrev frames_of : {S N V W : Type 0} → List (Opener S N V W) → List (Frame N V)
+abbrev pub frames_of : {S N V W : Type 0} → List (Opener S N V W) → List (Frame N V)
 frames_of os = map (λ o. o.activation.frame) os
 
 -- the open frames, the newest first, and those of them that are visible
@@ -40,7 +40,7 @@ visible_frames s = visible (open_frames s)
 abbrev pub visible_numbers : {S N V W : Type 0} → State S N V W → List ℕ
 visible_numbers s = numbers (visible_frames s)
 
-abbrev frames_in : {S N V : Type 0} → List (Generator S N V) → List (Frame N V)
+abbrev pub frames_in : {S N V : Type 0} → List (Generator S N V) → List (Frame N V)
 frames_in [] = []
 frames_in (fresh a ∷ gs) = a.frame ∷ frames_in gs
 frames_in (suspended a y ∷ gs) = a.frame ∷ frames_in gs
@@ -61,7 +61,7 @@ module _ {N V : Type 0} (first_line : BlockId → ℕ) where
   view_frames (f ∷ fs) = view_frame f (number_of_first fs) ∷ view_frames fs
 
   -- a frame that is open; hidden ones have no object of their own
-  abbrev view_open : (number : ℕ) → List (Frame N V) → Option (FrameView N V)
+  abbrev pub view_open : (number : ℕ) → List (Frame N V) → Option (FrameView N V)
   view_open k [] = None
   view_open k (f ∷ fs) = if f.number == k then Some (view_frame f (number_of_first (visible fs))) else view_open k fs
 
@@ -70,7 +70,7 @@ module _ {N V : Type 0} (first_line : BlockId → ℕ) where
   view_alone k [] = None
   view_alone k (f ∷ fs) = if f.number == k then Some (view_frame f None) else view_alone k fs
 
-  abbrev line_of_first : (otherwise : Frame N V) → List (Frame N V) → ℕ
+  abbrev pub line_of_first : (otherwise : Frame N V) → List (Frame N V) → ℕ
   line_of_first f [] = line_of f
   line_of_first f (g ∷ gs) = line_of g
 
@@ -93,7 +93,7 @@ module _ {S N V W : Type 0} (first_line : BlockId → ℕ) where
 
 module _ {S N V W : Type 0} (machine : Machine S V) where
   -- the exception that is active in the run: that of the newest activation with one (Language Reference 7.8)
-  abbrev active_in : List (Opener S N V W) → Option V
+  abbrev pub active_in : List (Opener S N V W) → Option V
   active_in [] = None
   active_in (o ∷ os) = or_else (machine.active o.activation.state) (active_in os)
 
@@ -109,21 +109,21 @@ pub data Change (N V : Type 0) : Type 0 where
   new_trace : Option V → Change N V
   new_lines : Bool → Change N V
 
-abbrev names_by : {N V : Type 0} → Change N V → N → N
+abbrev pub names_by : {N V : Type 0} → Change N V → N → N
 names_by (new_names n) m = n
 names_by c m = m
 
-abbrev trace_by : {N V : Type 0} → Change N V → Option V → Option V
+abbrev pub trace_by : {N V : Type 0} → Change N V → Option V → Option V
 trace_by (new_trace f) g = f
 trace_by c g = g
 
-abbrev lines_by : {N V : Type 0} → Change N V → Bool → Bool
+abbrev pub lines_by : {N V : Type 0} → Change N V → Bool → Bool
 lines_by (new_lines b) a = b
 lines_by c a = a
 
 -- the frame with a number is changed, wherever it is
 module _ {N V : Type 0} (number : ℕ) (change : Change N V) where
-  abbrev change_one : Frame N V → Frame N V
+  abbrev pub change_one : Frame N V → Frame N V
   change_one f = record f {
     names = if f.number == number then names_by change f.names else f.names;
     trace = if f.number == number then trace_by change f.trace else f.trace;

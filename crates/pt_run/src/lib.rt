@@ -1,3 +1,12 @@
 //! A run, said once: activations, generators, events, hooks and a debugger's answers, over any
 //! machine and any values. It runs nothing.
 #![tactic(auto)]
+
+mod laws;
+mod rows;
+
+pub use laws::{
+    a_debugger_that_only_looks_changes_nothing, a_greater_bound_goes_on, a_run_has_one_outcome,
+    nothing_is_told_in_hidden_blocks_and_under_hooks, runs_never_halt_unfinished,
+};
+pub use rows::{generators_are_followed, hooks_are_followed, jumps_are_followed, scripts_are_followed};

@@ -1,0 +1,62 @@
+-- What laws say of runs.
+use Rattle.std.specs.Prelude.{◌≡◌, ℕ, ◌≤◌, ◌⊎◌, ◌↔◌, List, [], ◌++◌, true}
+use Rattle.pt_control.specs.Turn as T
+use Rattle.pt_run.specs.Machine.{BlockId, Machine}
+use Rattle.pt_run.specs.Host.{Host}
+use Rattle.pt_run.specs.State.{State, is_silent, start}
+use Rattle.pt_run.specs.Outcome.{Output, Ending, spent, Question, View, go, Step, goes, consults, ends, is_stuck}
+use Rattle.pt_run.specs.Step.{step}
+use Rattle.pt_run.specs.Run.{DebuggerAnswer, Debugger, Session, Move, moves, stops, halts, move, Outcome, Runs, events, replies_apart, nobody}
+use Rattle.pt_run.specs.Follows.{Follows}
+
+module _ {D S N V W : Type 0} (machine : Machine S V) (host : Host N V W) (ask : Debugger D N V W) where
+  abbrev pub HasOneOutcome : (n : ℕ) → Session D S N V W → Type 0
+  HasOneOutcome n x = (o p : Outcome D N V W) → Runs machine host ask n x o → Runs machine host ask n x p → o ≡ p
+
+  -- the run of a bound gives these outputs first, if not others behind them
+  pub data Begins (n : ℕ) : Move D S N V W → List (Output V) → Type 0 where
+    so_far : (m : Move D S N V W) → Begins n m []
+    further : (os ps : List (Output V)) (x : Session D S N V W) → Begins n (move machine host ask n x) ps → Begins n (moves os x) (os ++ ps)
+
+  -- under a greater bound a run comes to the same outcome, unless it was spent; then it begins with the same outputs
+  abbrev pub GoesOn : (n m : ℕ) → Session D S N V W → Type 0
+  GoesOn n m x = (o : Outcome D N V W) → n ≤ m → Runs machine host ask n x o →
+      Runs machine host ask m x o ⊎ ((o.ending ≡ spent) × Begins m (move machine host ask m x) o.outputs)
+
+  -- a machine that is never stuck has runs that never are
+  abbrev pub NeverHalts : (n : ℕ) → Session D S N V W → Type 0
+  NeverHalts n x = ((b : BlockId) (c : S) → machine.turn b c ≡ T.stuck → ⊥) → move machine host ask n x ≡ halts → ⊥
+
+abbrev pub outputs_of : {S N V W : Type 0} → Step S N V W → List (Output V)
+outputs_of (goes os s) = os
+outputs_of (consults q t s) = []
+outputs_of (ends e) = []
+outputs_of is_stuck = []
+
+-- where the newest block is hidden, or a hook runs, no step gives an event
+abbrev pub GivesNothing : {S N V W : Type 0} → Machine S V → Host N V W → (n : ℕ) → State S N V W → Type 0
+GivesNothing machine host n s = is_silent s ≡ true → events (outputs_of (step machine host n s)) ≡ []
+
+-- a debugger that lets each run go on, whatever it sees and says
+abbrev pub OnlyLooks : {D N V W : Type 0} → Debugger D N V W → Type 0
+OnlyLooks {D = D} {N = N} {V = V} {W = W} ask = (q : Question V) (v : View N V W) (d : D) → (ask q v d).advice ≡ go
+
+-- the outcome without a debugger and what it said
+abbrev pub alone : {D N V W : Type 0} → Outcome D N V W → Outcome (Unit {0}) N V W
+alone o = record { outputs = replies_apart o.outputs; units = o.units; ending = o.ending; debugger = tt }
+
+abbrev pub unwatched : {D S N V W : Type 0} → Session D S N V W → Session (Unit {0}) S N V W
+unwatched x = record { debugger = tt; state = x.state }
+
+abbrev pub IsAsAlone : {D S N V W : Type 0} → Machine S V → Host N V W → Debugger D N V W → (n : ℕ) → Session D S N V W → Type 0
+IsAsAlone {D = D} {N = N} {V = V} {W = W} machine host ask n x =
+    OnlyLooks ask → (o : Outcome D N V W) → Runs machine host ask n x o → Runs machine host nobody n (unwatched x) (alone o)
+
+-- a run from the start of a module
+abbrev pub session : {D S N V W : Type 0} → Machine S V → BlockId → N → W → D → Session D S N V W
+session machine b names w d = record { debugger = d; state = start machine b names w }
+
+-- machines that follow each other have the same runs
+abbrev pub HaveTheSameRuns : {D S R N V W : Type 0} → Machine S V → Machine R V → Host N V W → Debugger D N V W → (n : ℕ) → BlockId → N → W → D → Type 0
+HaveTheSameRuns {D = D} {N = N} {V = V} {W = W} first second host ask n b names w d =
+    (o : Outcome D N V W) → Runs first host ask n (session first b names w d) o ↔ Runs second host ask n (session second b names w d) o

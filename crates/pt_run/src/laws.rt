@@ -1,0 +1,40 @@
+//! Laws of runs, each the contract of a function that does nothing.
+
+ghost use Rattle.std.specs.Prelude.{ℕ};
+ghost use Rattle.pt_run.specs.Host.{Host};
+ghost use Rattle.pt_run.specs.Laws.{GivesNothing, GoesOn, HasOneOutcome, IsAsAlone, NeverHalts};
+ghost use Rattle.pt_run.specs.Machine.{Machine};
+ghost use Rattle.pt_run.specs.Run.{Debugger, Session};
+ghost use Rattle.pt_run.specs.State.{State};
+
+/// Under a bound on acts a run has at most one outcome.
+#[tactic(auto, using(crate::proofs::RunLemmas::runs_once))]
+pub fn a_run_has_one_outcome<D, S, N, V, W>()
+    ensures { (machine : Machine S V) (host : Host N V W) (ask : Debugger D N V W) (n : ℕ) (x : Session D S N V W) → HasOneOutcome machine host ask n x }
+{}
+
+/// Under a greater bound a run comes to the same outcome; one that was spent begins with the same
+/// outputs and goes on.
+#[tactic(auto, using(crate::proofs::RunLemmas::goes_on_from))]
+pub fn a_greater_bound_goes_on<D, S, N, V, W>()
+    ensures { (machine : Machine S V) (host : Host N V W) (ask : Debugger D N V W) (n m : ℕ) (x : Session D S N V W) → GoesOn machine host ask n m x }
+{}
+
+/// Each state has a next step or an ending, where the machine is never stuck.
+#[tactic(auto, using(crate::proofs::RunLemmas::never_halts))]
+pub fn runs_never_halt_unfinished<D, S, N, V, W>()
+    ensures { (machine : Machine S V) (host : Host N V W) (ask : Debugger D N V W) (n : ℕ) (x : Session D S N V W) → NeverHalts machine host ask n x }
+{}
+
+/// Where the newest block is hidden, and while a hook runs, no event is given.
+#[tactic(auto, using(crate::proofs::RunLemmas::gives_nothing))]
+pub fn nothing_is_told_in_hidden_blocks_and_under_hooks<S, N, V, W>()
+    ensures { (machine : Machine S V) (host : Host N V W) (n : ℕ) (s : State S N V W) → GivesNothing machine host n s }
+{}
+
+/// A debugger that lets each run go on leaves what is printed, the events, the acts and the ending
+/// as they are without one, whatever it looks at and says.
+#[tactic(auto, using(crate::proofs::RunLemmas::is_as_alone))]
+pub fn a_debugger_that_only_looks_changes_nothing<D, S, N, V, W>()
+    ensures { (machine : Machine S V) (host : Host N V W) (ask : Debugger D N V W) (n : ℕ) (x : Session D S N V W) → IsAsAlone machine host ask n x }
+{}
