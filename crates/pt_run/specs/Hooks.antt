@@ -16,6 +16,10 @@ use Rattle.pt_run.specs.Requests.{land_here}
 abbrev pub all_hooks : List Hook
 all_hooks = log ∷ debugger ∷ tool 0 ∷ tool 1 ∷ tool 2 ∷ tool 3 ∷ tool 4 ∷ tool 5 ∷ tracer ∷ []
 
+-- the world once an exception has come to a frame: it gets an entry of its traceback where the frame is visible
+abbrev pub world_with_entry : {N V W : Type 0} → Host N V W → V → Frame N V → W → W
+world_with_entry host v f w = if f.block.hidden then w else host.enters v (record { frame = f.number; line = line_of host.first_line f }) w
+
 module _ {S N V W : Type 0} (machine : Machine S V) (host : Host N V W) where
   abbrev pub event_of : Happening V → State S N V W → Event V
   event_of h s = record {
@@ -27,20 +31,17 @@ module _ {S N V W : Type 0} (machine : Machine S V) (host : Host N V W) where
     of_generator = s.here.frame.of_generator;
   }
 
-  -- the world once an exception has come to a frame: it gets an entry of its traceback where the frame is visible
-  abbrev pub world_with_entry : V → Frame N V → W → W
-  world_with_entry v f w = if f.block.hidden then w else host.enters v (record { frame = f.number; line = line_of host.first_line f }) w
-
+  -- an exception comes to a frame
   abbrev pub enter_frame : V → State S N V W → State S N V W
-  enter_frame v s = record s { world = world_with_entry v s.here.frame s.world }
+  enter_frame v s = record s { world = world_with_entry host v s.here.frame s.world }
 
   -- a raise of a hook takes the place of what waits, and isn't told there; where the block was about to end by an exception nothing more is told
   abbrev pub instead_of : Pending S V → V → State S N V W → State S N V W
   instead_of starting v s = at (telling (unwinds v ∷ []) (ending (left_by v))) s
   instead_of (doing q) v s = at turning (in_state (q.next (T.raised v)) s)
   instead_of (going to f) v s = at turning (in_state (f v) s)
-  instead_of (giving_on y u) v s = at turning (in_state (y.asked.next (T.raised v)) s)
-  instead_of (going_on y r) v s = at turning (in_state (y.asked.next (T.raised v)) s)
+  instead_of (giving_on y u) v s = at turning (in_state (y.ask.next (T.raised v)) s)
+  instead_of (going_on y r) v s = at turning (in_state (y.ask.next (T.raised v)) s)
   instead_of (ending (gave u)) v s = at (telling (unwinds v ∷ []) (ending (left_by v))) s
   instead_of (ending (left_by u)) v s = at (closing (left_by v)) s
 

@@ -23,8 +23,8 @@ pub record OpenAsk (S V : Type 0) : Type 0 where
 
 -- an ask that gave a value on, and what its reply is by what comes back
 pub record OpenYield (S V : Type 0) : Type 0 where
-  pub asked : OpenAsk S V
-  pub reply : Reply V V → Reply V (Answer V asked.ask)
+  pub ask : OpenAsk S V
+  pub reply : Reply V V → Reply V (Answer V ask.ask)
 
 -- what waits in an activation while events are told; a raise of a hook takes its place
 pub data Pending (S V : Type 0) : Type 0 where

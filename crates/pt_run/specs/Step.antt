@@ -54,6 +54,12 @@ jump_line false l = l
 abbrev pub line_before : {S N V : Type 0} → Activation S N V → Option ℕ
 line_before a = jump_line a.behind_jump a.frame.line
 
+-- the exception that arises or arrives, if one does, gets its entry
+abbrev pub world_behind : {N V W : Type 0} → Host N V W → List (Happening V) → Frame N V → W → W
+world_behind host [] f w = w
+world_behind host (Told.raises v ∷ hs) f w = world_with_entry host v f w
+world_behind host (h ∷ hs) f w = world_behind host hs f w
+
 module _ {S N V W : Type 0} (machine : Machine S V) (host : Host N V W) where
   -- what is told of a call
   abbrev pub callee_of : Ask V → W → Option (Callee V)
@@ -97,14 +103,8 @@ module _ {S N V W : Type 0} (machine : Machine S V) (host : Host N V W) where
   begin_turn n (T.over (left_by v)) s = goes [] (at (telling (Told.unwinds v ∷ []) (ending (left_by v))) s)
   begin_turn n T.stuck s = is_stuck
 
-  -- the exception that arises or arrives, if one does, gets its entry
-  abbrev pub world_behind : List (Happening V) → Frame N V → W → W
-  world_behind [] f w = w
-  world_behind (Told.raises v ∷ hs) f w = world_with_entry machine host v f w
-  world_behind (h ∷ hs) f w = world_behind hs f w
-
   abbrev pub reply_and_tell : (q : OpenAsk S V) → Reply V (Answer V q.ask) → List (Happening V) → State S N V W → State S N V W
-  reply_and_tell q r hs s = at (telling hs (going (q.next r) (λ v. q.next (raised v)))) (record s { world = world_behind hs s.here.frame s.world })
+  reply_and_tell q r hs s = at (telling hs (going (q.next r) (λ v. q.next (raised v)))) (record s { world = world_behind host hs s.here.frame s.world })
 
   abbrev pub events_behind : (q : OpenAsk S V) → Reply V (Answer V q.ask) → (stop : List (Happening V)) → State S N V W → List (Happening V)
   events_behind q r es s =
@@ -127,7 +127,7 @@ module _ {S N V W : Type 0} (machine : Machine S V) (host : Host N V W) where
   take_finding (T.next_of i) k b c (H.an_item v) s = reply_to (record { ask = T.next_of i; next = k; is_act = b; callee = c }) (got (Some v)) [] s
   take_finding (T.next_of i) k b c (H.no_item e) s = reply_to (record { ask = T.next_of i; next = k; is_act = b; callee = c }) (got None) (stop_event e) s
   take_finding (T.delegate i r) k b c (H.passes_on v) s =
-      begin_yield (record { asked = record { ask = T.delegate i r; next = k; is_act = b; callee = c }; reply = λ q. got (T.resumed q) }) v s
+      begin_yield (record { ask = record { ask = T.delegate i r; next = k; is_act = b; callee = c }; reply = λ q. got (T.resumed q) }) v s
   take_finding (T.delegate i r) k b c (H.ends_with v) s = reply_to (record { ask = T.delegate i r; next = k; is_act = b; callee = c }) (got (T.returned v)) [] s
   take_finding (T.seek a) k b c v s = reply_to (record { ask = T.seek a; next = k; is_act = b; callee = c }) (got v) [] s
   take_finding (T.deed a) k b c v s = reply_to (record { ask = T.deed a; next = k; is_act = b; callee = c }) (got v) [] s
@@ -160,7 +160,7 @@ module _ {S N V W : Type 0} (machine : Machine S V) (host : Host N V W) where
 
   abbrev pub do_ask : (a : Ask V) → (Reply V (Answer V a) → S) → (is_act : Bool) → Option (Callee V) → State S N V W → State S N V W
   do_ask (seek (T.yielding v)) k b c s =
-      begin_yield (record { asked = record { ask = seek (T.yielding v); next = k; is_act = b; callee = c }; reply = λ r. r }) v s
+      begin_yield (record { ask = record { ask = seek (T.yielding v); next = k; is_act = b; callee = c }; reply = λ r. r }) v s
   do_ask a k b c s = ask_host (record { ask = a; next = k; is_act = b; callee = c }) s
 
   -- what an activation leaves behind: its frame, and the one that waited for it
@@ -175,7 +175,7 @@ module _ {S N V W : Type 0} (machine : Machine S V) (host : Host N V W) where
 
   -- a value that is given on closes the activation into its generator, with all that it has; outside of one the ask goes on with None
   abbrev pub go_on_alone : OpenYield S V → State S N V W → State S N V W
-  go_on_alone y s = reply_to y.asked (y.reply (got host.null)) [] s
+  go_on_alone y s = reply_to y.ask (y.reply (got host.null)) [] s
 
   abbrev pub give_on_for : Purpose S N V W → Opener S N V W → List (Opener S N V W) → OpenYield S V → V → State S N V W → State S N V W
   give_on_for (for_generator g r) o os y v s = give machine host r (gives_on v) (return_to o os (with_generator g (suspended s.here y) s))
@@ -217,7 +217,7 @@ module _ {S N V W : Type 0} (machine : Machine S V) (host : Host N V W) where
   proceed (doing q) s = do_ask q.ask q.next q.is_act q.callee s
   proceed (going to f) s = at turning (in_state to s)
   proceed (giving_on y v) s = give_on s.openers y v s
-  proceed (going_on y r) s = reply_to y.asked (y.reply r) [] s
+  proceed (going_on y r) s = reply_to y.ask (y.reply r) [] s
   proceed (ending e) s = at (closing e) s
 
   abbrev pub first_event : Happening V → List (Happening V) → Pending S V → State S N V W → Step S N V W
