@@ -1,3 +1,4 @@
 pub mod RunLemmas
 pub mod Relation
 pub mod Following
+pub mod Runs

@@ -235,7 +235,7 @@ module _ {S N V W : Type 0} (machine : Machine S V) (host : Host N V W) (n : ℕ
   each_call (Some f) k hs t s = none
   each_call None k hs t s = none
 
-  each_log : (k : Option TraceKind) (t : Telling S V) (s z : State S N V W) → Each (goes (log_of machine host k t.event s) z)
+  each_log : (k : Option TraceKind) (t : Telling S V) (s z : State S N V W) → Each (goes (log_of host k t.event s.world) z)
   unfolding Each
   each_log (Some k) t s z = logs _
   each_log None t s z = none

@@ -20,6 +20,39 @@ all_hooks = log ∷ debugger ∷ tool 0 ∷ tool 1 ∷ tool 2 ∷ tool 3 ∷ too
 abbrev pub world_with_entry : {N V W : Type 0} → Host N V W → V → Frame N V → W → W
 world_with_entry host v f w = if f.block.hidden then w else host.enters v (record { frame = f.number; line = line_of host.first_line f }) w
 
+-- a trace function that raises is unset
+abbrev pub trace_unless : {V : Type 0} → Hook → Option V → Option V
+trace_unless tracer f = None
+trace_unless h f = f
+
+-- the trace function that is due in a frame: the global one at a call, else the frame's own where there is a global one, for lines if they are traced
+abbrev pub own_trace : {N V : Type 0} → TraceKind → (global : V) → Frame N V → Option V
+own_trace a_call g f = Some g
+own_trace a_line g f = if f.traces_lines then f.trace else None
+own_trace k g f = f.trace
+
+abbrev pub trace_due : {N V : Type 0} → Option TraceKind → (global : Option V) → Frame N V → Option V
+trace_due (Some k) (Some g) f = own_trace k g f
+trace_due k g f = None
+
+-- the trace function of a frame behind an answer v: the answer to a call is it, or that there is none; another one replaces it unless it is None, but
+-- that to a return
+abbrev pub first_of_two : {V : Type 0} → Option V → Option V → Option V
+first_of_two (Some f) o = Some f
+first_of_two None o = o
+
+abbrev pub trace_behind : {V : Type 0} → Option TraceKind → (answer : Option V) → (trace : Option V) → Option V
+trace_behind (Some a_call) v f = v
+trace_behind (Some a_line) v f = first_of_two v f
+trace_behind (Some an_exception) v f = first_of_two v f
+trace_behind (Some a_return) v f = f
+trace_behind None v f = f
+
+-- the log has a line for the four kinds of events
+abbrev pub log_of : {N V W : Type 0} → Host N V W → Option TraceKind → Event V → W → List (Output V)
+log_of host (Some k) e w = logs (host.log_line e w) ∷ []
+log_of host None e w = []
+
 module _ {S N V W : Type 0} (machine : Machine S V) (host : Host N V W) where
   abbrev pub event_of : Happening V → State S N V W → Event V
   event_of h s = record {
@@ -45,11 +78,6 @@ module _ {S N V W : Type 0} (machine : Machine S V) (host : Host N V W) where
   instead_of (ending (gave u)) v s = at (telling (unwinds v ∷ []) (ending (left_by v))) s
   instead_of (ending (left_by u)) v s = at (closing (left_by v)) s
 
-  -- a trace function that raises is unset
-  abbrev pub trace_unless : Hook → Option V → Option V
-  trace_unless tracer f = None
-  trace_unless h f = f
-
   abbrev pub unset_by : Hook → State S N V W → State S N V W
   unset_by h s = record s { trace = trace_unless h s.trace }
 
@@ -63,40 +91,22 @@ module _ {S N V W : Type 0} (machine : Machine S V) (host : Host N V W) where
   abbrev pub location : (tool : ℕ) → Event V → Location
   location n e = record { tool = n; bit = bit e.what; block = e.block; act = e.act }
 
-  -- the trace function that is due: the global one at a call, else the frame's own where there is a global one, for lines if they are traced
-  abbrev pub own_trace : TraceKind → State S N V W → Option V
-  own_trace a_call s = s.trace
-  own_trace a_line s = if s.here.frame.traces_lines then s.here.frame.trace else None
-  own_trace k s = s.here.frame.trace
-
-  abbrev pub trace_if : (global : Option V) → TraceKind → State S N V W → Option V
-  trace_if (Some f) k s = own_trace k s
-  trace_if None k s = None
-
-  abbrev pub trace_due : Option TraceKind → State S N V W → Option V
-  trace_due (Some k) s = trace_if s.trace k s
-  trace_due None s = None
-
   -- a hook whose function is due is called with the event
   abbrev pub call_hook : Option V → Hook → List Hook → Telling S V → State S N V W → Step S N V W
   call_hook (Some f) h hs t s =
       goes [] (at (hearing (record { hook = h; telling = record t { hooks = hs } }) (host.hears h f t.event (here_of machine s) (store s))) s)
   call_hook None h hs t s = goes [] (asks hs t s)
 
-  abbrev pub log_of : Option TraceKind → Event V → State S N V W → List (Output V)
-  log_of (Some k) e s = logs (host.log_line e s.world) ∷ []
-  log_of None e s = []
-
   -- the next hook is asked; whether it is due is looked up now
   abbrev pub ask_next : List Hook → Telling S V → State S N V W → Step S N V W
   ask_next [] t s = goes [] (at (telling t.behind t.pending) s)
-  ask_next (log ∷ hs) t s = goes (log_of (trace_kind t.event.what) t.event s) (asks hs t s)
+  ask_next (log ∷ hs) t s = goes (log_of host (trace_kind t.event.what) t.event s.world) (asks hs t s)
   ask_next (debugger ∷ hs) t s =
       if is_for_debugger t.event.what then consults (about t.event) (record t { hooks = hs }) s else goes [] (asks hs t s)
   ask_next (landing l ∷ hs) t s = consults (about_landing l) (record t { hooks = hs }) s
   ask_next (refusal r ∷ hs) t s = consults (about_refusal r) (record t { hooks = hs }) s
   ask_next (tool n ∷ hs) t s = call_hook (wants s.tools (location n t.event)) (tool n) hs t s
-  ask_next (tracer ∷ hs) t s = call_hook (trace_due (trace_kind t.event.what) s) tracer hs t s
+  ask_next (tracer ∷ hs) t s = call_hook (trace_due (trace_kind t.event.what) s.trace s.here.frame) tracer hs t s
 
   -- a debugger's jump: a permitted one drops the rest of the event, a refused one leaves all as it is; it is told of either
   abbrev pub try_jump : (line : ℕ) → Jump S V → Telling S V → State S N V W → Step S N V W
@@ -110,20 +120,8 @@ module _ {S N V W : Type 0} (machine : Machine S V) (host : Host N V W) where
       try_jump l (if is_line t.event.what then machine.jump s.here.frame.block s.here.state l else M.refuses not_at_line) t s
   take_advice give_up t s = ends quit
 
-  -- the answer to a call is the frame's trace function, or that there is none; another one replaces it unless it is None, but at a return
-  abbrev pub first_given : Option V → Option V → Option V
-  first_given (Some f) o = Some f
-  first_given None o = o
-
-  abbrev pub trace_behind : Option TraceKind → V → Option V → Option V
-  trace_behind (Some a_call) v f = host.unless_null v
-  trace_behind (Some a_line) v f = first_given (host.unless_null v) f
-  trace_behind (Some an_exception) v f = first_given (host.unless_null v) f
-  trace_behind (Some a_return) v f = f
-  trace_behind None v f = f
-
   abbrev pub trace_by_answer : Option TraceKind → V → State S N V W → State S N V W
-  trace_by_answer k v s = record s { here = in_frame (record s.here.frame { trace = trace_behind k v s.here.frame.trace }) s.here }
+  trace_by_answer k v s = record s { here = in_frame (record s.here.frame { trace = trace_behind k (host.unless_null v) s.here.frame.trace }) s.here }
 
   abbrev pub refuse_disable : Location → Hearing S V → V × W → State S N V W → State S N V W
   refuse_disable l h (e, w) s = raise_of_hook h e (record s { world = w; tools = without l s.tools })

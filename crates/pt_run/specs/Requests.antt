@@ -12,6 +12,14 @@ use Rattle.pt_run.specs.Host.{Host, Hook, Store, Opening, BlockResult, How, by_n
 use Rattle.pt_run.specs.State.{Activation, OpenYield, Pending, starting, going, going_on, Telling, Hearing, Rest, of_ask, of_hook, Purpose, for_block, for_generator, Opener, Generator, fresh, suspended, running, finished, Phase, telling, State, at, by_rest, is_full, store, begin}
 use Rattle.pt_run.specs.Views.{here_of, frame_numbered, visible_numbers, new_names, new_trace, new_lines, change_frame}
 
+abbrev pub is_tracer : Hook → Bool
+is_tracer H.tracer = true
+is_tracer h = false
+
+abbrev pub line_number : ℤ → Option ℕ
+line_number (pos l) = Some l
+line_number (negsuc n) = None
+
 -- the activations that wait, one of which a jump changes, or why none
 pub data JumpBelow (S N V W : Type 0) : Type 0 where
   cannot_jump : Reason → JumpBelow S N V W
@@ -102,17 +110,9 @@ module _ {S N V W : Type 0} (machine : Machine S V) (host : Host N V W) where
   hook_of (for_block r) = hook_of_rest r
   hook_of (for_generator g r) = hook_of_rest r
 
-  abbrev pub is_tracer : Hook → Bool
-  is_tracer H.tracer = true
-  is_tracer h = false
-
   abbrev pub behind_one : Opener S N V W → JumpBelow S N V W → JumpBelow S N V W
   behind_one o (changes os) = changes (o ∷ os)
   behind_one o (cannot_jump r) = cannot_jump r
-
-  abbrev pub line_number : ℤ → Option ℕ
-  line_number (pos l) = Some l
-  line_number (negsuc n) = None
 
   abbrev pub by_jump : (line : ℕ) → Opener S N V W → List (Opener S N V W) → Jump S V → JumpBelow S N V W
   by_jump l o os (M.refuses r) = cannot_jump r

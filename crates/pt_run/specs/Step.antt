@@ -54,6 +54,16 @@ jump_line false l = l
 abbrev pub line_before : {S N V : Type 0} → Activation S N V → Option ℕ
 line_before a = jump_line a.behind_jump a.frame.line
 
+-- what is told of a call
+abbrev pub callee_of : {N V W : Type 0} → Host N V W → Ask V → W → Option (Callee V)
+callee_of host (seek (T.operate (T.call rs) (f ∷ vs))) w = Some (host.callee f rs vs w)
+callee_of host a w = None
+
+-- the exception that ended an iterator is told, if one did
+abbrev pub stop_event : {V : Type 0} → Option V → List (Happening V)
+stop_event (Some e) = Told.stops e ∷ []
+stop_event None = []
+
 -- the exception that arises or arrives, if one does, gets its entry
 abbrev pub world_behind : {N V W : Type 0} → Host N V W → List (Happening V) → Frame N V → W → W
 world_behind host [] f w = w
@@ -61,11 +71,6 @@ world_behind host (Told.raises v ∷ hs) f w = world_with_entry host v f w
 world_behind host (h ∷ hs) f w = world_behind host hs f w
 
 module _ {S N V W : Type 0} (machine : Machine S V) (host : Host N V W) where
-  -- what is told of a call
-  abbrev pub callee_of : Ask V → W → Option (Callee V)
-  callee_of (seek (T.operate (T.call rs) (f ∷ vs))) w = Some (host.callee f rs vs w)
-  callee_of a w = None
-
   abbrev pub destination : S → State S N V W → ℕ
   destination c s = machine.destination s.here.frame.block c
 
@@ -94,7 +99,7 @@ module _ {S N V W : Type 0} (machine : Machine S V) (host : Host N V W) where
   -- what the machine's turn begins, where n units may be taken
   abbrev pub begin_turn : (n : ℕ) → Turn S V → State S N V W → Step S N V W
   begin_turn n (T.act (Some m) a k) s =
-      if nat_lt s.units n then goes (begins s.here.frame.block m ∷ []) (act_with m a k (callee_of a s.world) s) else ends O.spent
+      if nat_lt s.units n then goes (begins s.here.frame.block m ∷ []) (act_with m a k (callee_of host a s.world) s) else ends O.spent
   begin_turn n (T.act None a k) s = goes [] (at (telling [] (doing (record { ask = a; next = k; is_act = false; callee = None }))) s)
   begin_turn n (T.note a k) s =
       goes [] (at (telling (map (happening 0 host.null None) (E.at_note a)) (going (k (got tt)) (λ v. k (raised v)))) s)
@@ -117,10 +122,6 @@ module _ {S N V W : Type 0} (machine : Machine S V) (host : Host N V W) where
   -- a value is given on, and then the ask goes on with what comes back
   abbrev pub begin_yield : OpenYield S V → V → State S N V W → State S N V W
   begin_yield y v s = at (telling (Told.yields v ∷ []) (giving_on y v)) s
-
-  abbrev pub stop_event : Option V → List (Happening V)
-  stop_event (Some e) = Told.stops e ∷ []
-  stop_event None = []
 
   -- what the host found for an ask
   abbrev pub take_finding : (a : Ask V) → (Reply V (Answer V a) → S) → (is_act : Bool) → Option (Callee V) → Finding V a → State S N V W → State S N V W

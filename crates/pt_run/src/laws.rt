@@ -1,9 +1,10 @@
 //! Laws of runs, each the contract of a function that does nothing.
 
 ghost use Rattle.std.specs.Prelude.{ℕ};
+ghost use Rattle.pt_run.specs.Follows.{Follows};
 ghost use Rattle.pt_run.specs.Host.{Host};
-ghost use Rattle.pt_run.specs.Laws.{GivesNothing, GoesOn, HasOneOutcome, IsAsAlone, NeverHalts};
-ghost use Rattle.pt_run.specs.Machine.{Machine};
+ghost use Rattle.pt_run.specs.Laws.{GivesNothing, GoesOn, HasOneOutcome, HaveTheSameRuns, IsAsAlone, NeverHalts};
+ghost use Rattle.pt_run.specs.Machine.{BlockId, Machine};
 ghost use Rattle.pt_run.specs.Run.{Debugger, Session};
 ghost use Rattle.pt_run.specs.State.{State};
 
@@ -37,4 +38,15 @@ pub fn nothing_is_told_in_hidden_blocks_and_under_hooks<S, N, V, W>()
 #[tactic(auto, using(crate::proofs::RunLemmas::is_as_alone))]
 pub fn a_debugger_that_only_looks_changes_nothing<D, S, N, V, W>()
     ensures { (machine : Machine S V) (host : Host N V W) (ask : Debugger D N V W) (n : ℕ) (x : Session D S N V W) → IsAsAlone machine host ask n x }
+{}
+
+/// Two machines that follow each other have the same runs: for each host, debugger and bound the
+/// one comes to an outcome exactly where the other does.
+#[tactic(auto, using(crate::proofs::Runs::have_the_same_runs))]
+pub fn machines_that_follow_each_other_have_the_same_runs<D, S, R, N, V, W>()
+    ensures {
+        (first : Machine S V) (second : Machine R V) (At Stands : BlockId → S → R → Type 0)
+        → Follows first second At Stands → (host : Host N V W) (ask : Debugger D N V W) (n : ℕ)
+        (block : BlockId) (names : N) (world : W) (d : D) → HaveTheSameRuns first second host ask n block names world d
+    }
 {}
