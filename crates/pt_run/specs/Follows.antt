@@ -5,6 +5,16 @@ use Rattle.pt_control.specs.Turn as T
 use Rattle.pt_control.specs.Turn.{Mark, Ask, Answer, Reply, Note, End, Turn}
 use Rattle.pt_run.specs.Machine.{BlockId, Machine, Reason, Jump, refuses, lands}
 
+-- states of two machines, in a block
+pub record Related (S R : Type 0) : Type 0 where
+  pub block : BlockId
+  pub one : S
+  pub other : R
+
+-- the relation of those that a type Q lists
+abbrev pub By : {Q S R : Type 0} → (Q → Related S R) → BlockId → S → R → Type 0
+By {Q = Q} list b c t = (q : Q) × (list q ≡ record { block = b; one = c; other = t })
+
 module _ {S R V : Type 0} (first : Machine S V) (second : Machine R V) (At : BlockId → S → R → Type 0) where
   -- the second comes, behind silent moves, to a state that stands for one of the first
   pub data Nears (b : BlockId) (c : S) : R → Type 0 where

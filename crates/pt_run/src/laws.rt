@@ -1,7 +1,7 @@
 //! Laws of runs, each the contract of a function that does nothing.
 
 ghost use Rattle.std.specs.Prelude.{ℕ};
-ghost use Rattle.pt_run.specs.Follows.{Follows};
+ghost use Rattle.pt_run.specs.Follows.{By, Follows, Related};
 ghost use Rattle.pt_run.specs.Host.{Host};
 ghost use Rattle.pt_run.specs.Laws.{GivesNothing, GoesOn, HasOneOutcome, HaveTheSameRuns, IsAsAlone, NeverHalts};
 ghost use Rattle.pt_run.specs.Machine.{BlockId, Machine};
@@ -43,10 +43,6 @@ pub fn a_debugger_that_only_looks_changes_nothing<D, S, N, V, W>()
 /// Two machines that follow each other have the same runs: for each host, debugger and bound the
 /// one comes to an outcome exactly where the other does.
 #[tactic(auto, using(crate::proofs::Runs::have_the_same_runs))]
-pub fn machines_that_follow_each_other_have_the_same_runs<D, S, R, N, V, W>()
-    ensures {
-        (first : Machine S V) (second : Machine R V) (At Stands : BlockId → S → R → Type 0)
-        → Follows first second At Stands → (host : Host N V W) (ask : Debugger D N V W) (n : ℕ)
-        (block : BlockId) (names : N) (world : W) (d : D) → HaveTheSameRuns first second host ask n block names world d
-    }
+pub fn machines_that_follow_each_other_have_the_same_runs<D, S, R, N, V, W, P, Q>()
+    ensures { (first : Machine S V) (second : Machine R V) (at : P → Related S R) (stands : Q → Related S R) → Follows first second (By at) (By stands) → (host : Host N V W) (ask : Debugger D N V W) (n : ℕ) (block : BlockId) (names : N) (world : W) (d : D) → HaveTheSameRuns first second host ask n block names world d }
 {}
