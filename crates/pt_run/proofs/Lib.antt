@@ -2,3 +2,4 @@ pub mod RunLemmas
 pub mod Relation
 pub mod Following
 pub mod Runs
+pub mod Suspension

@@ -1,10 +1,12 @@
 -- What laws say of runs.
-use Rattle.std.specs.Prelude.{◌≡◌, ℕ, ◌≤◌, ◌⊎◌, ◌↔◌, List, [], ◌++◌, true}
+use Rattle.std.specs.Prelude.{◌≡◌, ℕ, ◌≤◌, ◌⊎◌, ◌↔◌, List, [], ◌∷◌, ◌++◌, true, false, Some}
 use Rattle.pt_control.specs.Turn as T
 use Rattle.pt_run.specs.Machine.{BlockId, Machine}
-use Rattle.pt_run.specs.Host.{Host}
-use Rattle.pt_run.specs.State.{State, is_silent, start}
+use Rattle.pt_run.specs.Rows.{put_at}
+use Rattle.pt_run.specs.Host.{Host, How, GeneratorResult}
+use Rattle.pt_run.specs.State.{Activation, OpenYield, giving_on, Rest, Opener, for_generator, Generator, suspended, telling, State, is_full, is_silent, start}
 use Rattle.pt_run.specs.Outcome.{Output, Ending, spent, Question, View, go, Step, goes, consults, ends, is_stuck}
+use Rattle.pt_run.specs.Requests.{resume_by}
 use Rattle.pt_run.specs.Step.{step}
 use Rattle.pt_run.specs.Run.{DebuggerAnswer, Debugger, Session, Move, moves, stops, halts, move, Outcome, Runs, events, replies_apart, nobody}
 use Rattle.pt_run.specs.Follows.{Follows}
@@ -36,6 +38,23 @@ outputs_of is_stuck = []
 -- where the newest block is hidden, or a hook runs, no step gives an event
 abbrev pub GivesNothing : {S N V W : Type 0} → Machine S V → Host N V W → (n : ℕ) → State S N V W → Type 0
 GivesNothing machine host n s = is_silent s ≡ true → events (outputs_of (step machine host n s)) ≡ []
+
+-- a value that is given on closes the newest activation into its generator as it is, with its names, its line and its trace function
+abbrev pub generators_after : {S N V W : Type 0} → Step S N V W → List (Generator S N V)
+generators_after (goes os s) = s.generators
+generators_after x = []
+
+abbrev pub SuspendsAsItIs : {S N V W : Type 0} → Machine S V → Host N V W → (n : ℕ) → State S N V W → Type 0
+SuspendsAsItIs {S = S} {N = N} {V = V} {W = W} machine host n s =
+    (a : Activation S N V) (g : ℕ) (r : Rest S N V W (GeneratorResult V)) (os : List (Opener S N V W)) (y : OpenYield S V) (v : V) →
+    s.phase ≡ telling [] (giving_on y v) → s.openers ≡ record { activation = a; purpose = for_generator g r } ∷ os →
+    generators_after (step machine host n s) ≡ put_at g (suspended s.here y) s.generators
+
+-- however a generator goes on, its activation opens as it was
+abbrev pub ResumesAsItWas : {S N V W : Type 0} → Machine S V → Host N V W → State S N V W → Type 0
+ResumesAsItWas {S = S} {N = N} {V = V} {W = W} machine host s =
+    (a : Activation S N V) (y : OpenYield S V) (h : How V) (g : ℕ) (r : Rest S N V W (GeneratorResult V)) → is_full s ≡ false →
+    (resume_by machine host (Some (suspended a y)) h g r s).here ≡ a
 
 -- a debugger that lets each run go on, whatever it sees and says
 abbrev pub OnlyLooks : {D N V W : Type 0} → Debugger D N V W → Type 0

@@ -3,7 +3,7 @@
 ghost use Rattle.std.specs.Prelude.{ℕ};
 ghost use Rattle.pt_run.specs.Follows.{By, Follows, Related};
 ghost use Rattle.pt_run.specs.Host.{Host};
-ghost use Rattle.pt_run.specs.Laws.{GivesNothing, GoesOn, HasOneOutcome, HaveTheSameRuns, IsAsAlone, NeverHalts};
+ghost use Rattle.pt_run.specs.Laws.{GivesNothing, GoesOn, HasOneOutcome, HaveTheSameRuns, IsAsAlone, NeverHalts, ResumesAsItWas, SuspendsAsItIs};
 ghost use Rattle.pt_run.specs.Machine.{BlockId, Machine};
 ghost use Rattle.pt_run.specs.Run.{Debugger, Session};
 ghost use Rattle.pt_run.specs.State.{State};
@@ -31,6 +31,14 @@ pub fn runs_never_halt_unfinished<D, S, N, V, W>()
 #[tactic(auto, using(crate::proofs::RunLemmas::gives_nothing))]
 pub fn nothing_is_told_in_hidden_blocks_and_under_hooks<S, N, V, W>()
     ensures { (machine : Machine S V) (host : Host N V W) (n : ℕ) (s : State S N V W) → GivesNothing machine host n s }
+{}
+
+/// A yield closes the newest activation into its generator as it is, and however that generator goes
+/// on, the same activation opens: with its names, its line and its trace function.
+#[tactic(auto, using(crate::proofs::Suspension::suspends_as_it_is, crate::proofs::Suspension::resumes_as_it_was))]
+pub fn a_suspended_activation_is_kept<S, N, V, W>()
+    ensures suspends { (machine : Machine S V) (host : Host N V W) (n : ℕ) (s : State S N V W) → SuspendsAsItIs machine host n s }
+    ensures resumes { (machine : Machine S V) (host : Host N V W) (s : State S N V W) → ResumesAsItWas machine host s }
 {}
 
 /// A debugger that lets each run go on leaves what is printed, the events, the acts and the ending
