@@ -2,8 +2,9 @@
 use Rattle.std.specs.Prelude.{ℕ, ◌^◌, List, [], ◌∷◌, true, false, codes, Some, None}
 use Rattle.pt_tree.specs.Syntax as S
 use Rattle.pt_tree.specs.Syntax.{Name, Exp, Args, Stm, Stms, none, more}
-use Rattle.pt_run.specs.Outcome.{Output, prints, gives, logs, replies, refuses, go, jump_to}
-use Rattle.pt_run.specs.Scripted.{Scripted, value, exception, no_more, truth, runs, makes, resumes, tries, traces, tells_tool, jumps, value_error, Plan, EventAt, event_at}
+use Rattle.pt_run.specs.Machine.{into_block, out_of_finally}
+use Rattle.pt_run.specs.Outcome.{go, jump_to}
+use Rattle.pt_run.specs.Scripted.{Scripted, value, exception, no_more, truth, runs, makes, resumes, tries, traces, tells_tool, jumps, value_error, Plan, Shown, event, log_line, reply, hook, refusal}
 
 abbrev pub call : (line : ℕ) → Name → Stm
 call l f = S.expr l (S.call l (S.name l f) S.no_args)
@@ -35,11 +36,11 @@ abbrev pub raising_call : List Scripted
 raising_call = runs 1 ∷ exception 7 ∷ []
 
 -- the block starts, line 1; line 3, the call; its block starts, line 2, the exception, it leaves; it arrives, and leaves the module
-abbrev pub raising_events : List EventAt
+abbrev pub raising_events : List Shown
 raising_events =
-    event_at 0 1 ∷ event_at 9 1 ∷ event_at 9 3 ∷ event_at 6 3
-    ∷ event_at 0 1 ∷ event_at 9 2 ∷ event_at 12 2 ∷ event_at 5 2
-    ∷ event_at 12 3 ∷ event_at 5 3 ∷ []
+    event 0 1 ∷ event 9 1 ∷ event 9 3 ∷ event 6 3
+    ∷ event 0 1 ∷ event 9 2 ∷ event 12 2 ∷ event 5 2
+    ∷ event 12 3 ∷ event 5 3 ∷ []
 
 -- 1 s()
 -- 2 u()
@@ -57,6 +58,10 @@ with_hooks =
 abbrev pub with_hooks_answers : List Scripted
 with_hooks_answers =
     traces (Some 9) ∷ tells_tool 4 512 44 ∷ value 0 ∷ tells_tool 2 512 22 ∷ value 0 ∷ value 0 ∷ value 0 ∷ value 0 ∷ runs 1 ∷ value 9 ∷ value 0 ∷ value 0 ∷ value 9 ∷ []
+
+-- what is told at line 5, in order: the log, the debugger, the tools 2 and 4, the trace function
+abbrev pub order_at_5 : List Shown
+order_at_5 = log_line 5 ∷ reply 5 ∷ hook 22 ∷ hook 44 ∷ hook 9 ∷ []
 
 -- a debugger stops at line 5 and lets the run go on
 abbrev pub stop_at_5 : List Plan
@@ -79,6 +84,12 @@ catching =
 abbrev pub catching_answers : List Scripted
 catching_answers = traces (Some 9) ∷ makes 1 ∷ resumes 0 ∷ value 9 ∷ value 9 ∷ exception 7 ∷ value 0 ∷ resumes 0 ∷ []
 
+-- the generator's events: its start, lines 3 and 4, the handler's line, where it takes the exception, and the line of its yield; it goes on and ends
+abbrev pub catching_events : List Shown
+catching_events =
+    event 0 2 ∷ event 9 3 ∷ event 9 4 ∷ event 9 5 ∷ event 14 5 ∷ event 9 6 ∷ event 3 6
+    ∷ event 11 7 ∷ event 6 7 ∷ event 9 7 ∷ event 1 6 ∷ event 2 6 ∷ event 15 7 ∷ event 11 7 ∷ event 2 7 ∷ []
+
 -- 1 def g():
 -- 2     yield v
 -- 3 g()
@@ -92,10 +103,22 @@ resuming =
 abbrev pub resuming_answers : List Scripted
 resuming_answers = makes 1 ∷ traces (Some 9) ∷ resumes 0 ∷ value 9 ∷ tries 0 ∷ []
 
+-- line 2 is told to 9, which answers 8; that is the trace function from then on, and is told of the yield; then the module returns
+abbrev pub resuming_shown : List Shown
+resuming_shown =
+    event 9 2 ∷ log_line 2 ∷ hook 9 ∷ event 3 2 ∷ log_line 2 ∷ hook 8 ∷ event 2 5 ∷ log_line 5 ∷ []
+
 -- in the script `jumping`: at line 1 into the `for`, at line 6 out of the `finally` part, and so not
 abbrev pub bad_jumps : List Plan
 bad_jumps =
     record { line = 1; advice = jump_to 2 } ∷ record { line = 1; advice = go } ∷ record { line = 6; advice = jump_to 7 } ∷ record { line = 6; advice = go } ∷ []
+
+-- the jumps are refused, and the debugger is asked again
+abbrev pub refused_at_1 : List Shown
+refused_at_1 = log_line 1 ∷ reply 1 ∷ refusal 2 into_block ∷ reply 1 ∷ []
+
+abbrev pub refused_at_6 : List Shown
+refused_at_6 = log_line 6 ∷ reply 6 ∷ refusal 7 out_of_finally ∷ reply 6 ∷ []
 
 -- at line 2 out of the `for`
 abbrev pub good_jump : List Plan

@@ -268,18 +268,56 @@ lines [] = []
 lines (gives e ∷ os) = if is_line e.what then e.line ∷ lines os else lines os
 lines (o ∷ os) = lines os
 
--- the events, each by its bit and its line
-pub record EventAt : Type 0 where
-  pub bit : ℕ
-  pub line : ℕ
+-- what is told, as it is shown: an event by its bit and line, the log's line and a debugger's reply by their numbers, a hook by that of its function, and
+-- a jump that is refused
+pub data Shown : Type 0 where
+  event : (bit line : ℕ) → Shown
+  log_line : ℕ → Shown
+  reply : ℕ → Shown
+  hook : (function : ℕ) → Shown
+  refusal : (line : ℕ) → Reason → Shown
 
-abbrev pub event_at : (bit line : ℕ) → EventAt
-event_at b l = record { bit = b; line = l }
+abbrev first_number : List ℕ → ℕ
+first_number [] = 0
+first_number (n ∷ ns) = n
 
-abbrev pub events_of : List (Output ℕ) → List EventAt
+abbrev pub shown : List (Output ℕ) → List Shown
+shown [] = []
+shown (O.begins b m ∷ os) = shown os
+shown (O.prints x ∷ os) = hook (first_number x) ∷ shown os
+shown (O.gives e ∷ os) = event (bit e.what) e.line ∷ shown os
+shown (O.logs x ∷ os) = log_line (first_number x) ∷ shown os
+shown (O.replies x ∷ os) = reply (first_number x) ∷ shown os
+shown (O.refuses l r ∷ os) = refusal l r ∷ shown os
+
+-- the events alone
+abbrev pub events_of : List (Output ℕ) → List Shown
 events_of [] = []
-events_of (gives e ∷ os) = event_at (bit e.what) e.line ∷ events_of os
+events_of (gives e ∷ os) = event (bit e.what) e.line ∷ events_of os
 events_of (o ∷ os) = events_of os
+
+-- what is shown behind the first event with a bit on a line, up to the next event
+abbrev pub up_to_event : List Shown → List Shown
+up_to_event [] = []
+up_to_event (event b l ∷ xs) = []
+up_to_event (x ∷ xs) = x ∷ up_to_event xs
+
+abbrev pub behind_event : (bit line : ℕ) → List Shown → List Shown
+behind_event b l [] = []
+behind_event b l (event c k ∷ xs) = if b == c && l == k then up_to_event xs else behind_event b l xs
+behind_event b l (x ∷ xs) = behind_event b l xs
 
 abbrev pub lines_of : Stms → List Scripted → List ℕ
 lines_of ss w = lines (trace_of ss 1000 w []).outputs
+
+abbrev pub lines_with : Stms → List Scripted → List Plan → List ℕ
+lines_with ss w ps = lines (trace_of ss 1000 w ps).outputs
+
+abbrev pub shown_of : Stms → List Scripted → List Plan → List Shown
+shown_of ss w ps = shown (trace_of ss 1000 w ps).outputs
+
+-- from that event on
+abbrev pub from_event : (bit line : ℕ) → List Shown → List Shown
+from_event b l [] = []
+from_event b l (event c k ∷ xs) = if b == c && l == k then event c k ∷ xs else from_event b l xs
+from_event b l (x ∷ xs) = from_event b l xs

@@ -10,4 +10,8 @@ pub use laws::{
     a_suspended_activation_is_kept,     machines_that_follow_each_other_have_the_same_runs,
     nothing_is_told_in_hidden_blocks_and_under_hooks, runs_never_halt_unfinished,
 };
-pub use rows::{generators_are_followed, hooks_are_followed, jumps_are_followed, scripts_are_followed};
+pub use rows::{
+    a_callee_that_raises_is_followed, a_debuggers_jumps_are_followed, bounds_are_followed,
+    hooks_in_generators_are_followed, line_events_are_followed,
+    the_most_activations_are_followed, the_order_at_an_event_is_followed,
+};

@@ -1,21 +1,51 @@
 //! Scripts followed event by event, each the contract of a function that does nothing.
 
-ghost use Rattle.std.specs.Prelude.{◌≡◌, [], ◌∷◌};
+ghost use Rattle.std.specs.Prelude.{◌≡◌, [], ◌∷◌, true, false, replicate};
 ghost use Rattle.pt_control.specs.Samples.{generating, jumping, nested};
-ghost use Rattle.pt_run.specs.Samples.{nested_call, raising, raising_call, raising_events, two_items};
-ghost use Rattle.pt_run.specs.Scripted.{events_of, lines_of, trace_of};
+ghost use Rattle.pt_run.specs.Samples.{bad_jumps, catching, catching_answers, catching_events, good_jump, nested_call, one_item, order_at_5, pass_alone, raising, raising_call, raising_events, refused_at_1, refused_at_6, resuming, resuming_answers, resuming_shown, stop_at_5, two_items, with_hooks, with_hooks_answers};
+ghost use Rattle.pt_run.specs.Scripted.{behind_event, ends_done, ends_spent, events_of, from_event, lines_of, lines_with, shown_of, trace_of};
+ghost use Rattle.pt_run.specs.State.{Opener, State, is_full};
 
 /// The line events of a generator in a `for`, and of nested `finally` parts, with their callers.
-pub fn generators_are_followed()
+pub fn line_events_are_followed()
     ensures generating { lines_of generating two_items ≡ 1 ∷ 4 ∷ 2 ∷ 5 ∷ 4 ∷ 3 ∷ 5 ∷ 4 ∷ [] }
     ensures nested { lines_of nested nested_call ≡ 1 ∷ 11 ∷ 2 ∷ 3 ∷ 4 ∷ 5 ∷ 7 ∷ 9 ∷ 10 ∷ [] }
 {}
 
 /// The events of a callee that raises, and of its caller.
-pub fn scripts_are_followed()
-    ensures raising { events_of (trace_of raising 1000 raising_call []).outputs ≡ raising_events }
+pub fn a_callee_that_raises_is_followed()
+    ensures { events_of (trace_of raising 1000 raising_call []).outputs ≡ raising_events }
 {}
 
-pub fn hooks_are_followed() {}
+/// What is told at one event, in order: the log, the debugger, two tools, and the trace function.
+pub fn the_order_at_an_event_is_followed()
+    ensures { behind_event 9 5 (shown_of with_hooks with_hooks_answers stop_at_5) ≡ order_at_5 }
+{}
 
-pub fn jumps_are_followed() {}
+/// A trace function that raises in a generator whose body catches it: the generator goes on, and is
+/// told of no more; then one that has the generator go on under it, and gets an error.
+pub fn hooks_in_generators_are_followed()
+    ensures catches { from_event 0 2 (events_of (trace_of catching 1000 catching_answers []).outputs) ≡ catching_events }
+    ensures resumes { from_event 9 2 (shown_of resuming resuming_answers []) ≡ resuming_shown }
+{}
+
+/// A debugger's jumps: into a loop and out of a `finally` part they are refused, and the debugger is
+/// asked again; out of a loop it is made, and the line that follows is told.
+pub fn a_debuggers_jumps_are_followed()
+    ensures into { behind_event 9 1 (shown_of jumping one_item bad_jumps) ≡ refused_at_1 }
+    ensures out_of { behind_event 9 6 (shown_of jumping one_item bad_jumps) ≡ refused_at_6 }
+    ensures refused { lines_with jumping one_item bad_jumps ≡ 1 ∷ 2 ∷ 1 ∷ 3 ∷ 4 ∷ 6 ∷ 7 ∷ [] }
+    ensures made { lines_with jumping one_item good_jump ≡ 1 ∷ 2 ∷ 7 ∷ [] }
+{}
+
+/// `pass` under a bound of no acts, and of one.
+pub fn bounds_are_followed()
+    ensures none { (trace_of pass_alone 0 [] []).end ≡ ends_spent }
+    ensures one { (trace_of pass_alone 1 [] []).end ≡ ends_done }
+{}
+
+/// A thousand activations may be open.
+pub fn the_most_activations_are_followed<S, N, V, W>()
+    ensures room { (s : State S N V W) (o : Opener S N V W) → is_full (record s { openers = replicate 998 o }) ≡ false }
+    ensures full { (s : State S N V W) (o : Opener S N V W) → is_full (record s { openers = replicate 999 o }) ≡ true }
+{}
