@@ -3,6 +3,7 @@ use Rattle.std.proofs.Common.{◌≡◌, ℕ, ◌+◌, zero, suc, ℤ, pos, negs
 use Rattle.std.specs.Prelude.{nat_le, nat_lt, ◌==◌}
 use Rattle.pt_base.specs.declared.what.What.{What}
 use Rattle.pt_base.specs.declared.what.What.TheVariants.{Exit}
+use Rattle.pt_control.specs.Bases.{or_else}
 use Rattle.pt_control.specs.Turn as T
 use Rattle.pt_control.specs.Turn.{Ask, Answer, Reply, got, raised, End, gave, left_by, Turn, Mark}
 use Rattle.pt_control.specs.Events as E
@@ -16,12 +17,12 @@ use Rattle.pt_run.specs.Host as H
 use Rattle.pt_run.specs.Host.{Host, Store, Here, Opening, BlockResult, GeneratorResult, gives_on, ends_by, cannot, is_running, is_fresh, is_finished, How, by_next, by_send, by_throw, by_close, Frame, FrameView, Request, Response, Answering, Finding, Callee, Failure, too_deep, generator_exit, Hook, log, debugger, landing, refusal, tool, tracer, Leaving, Entry}
 use Rattle.pt_run.specs.State.{Activation, OpenAsk, OpenYield, Pending, starting, doing, going, giving_on, going_on, ending, Telling, Hearing, Rest, of_ask, of_hook, Purpose, for_block, for_generator, Opener, Generator, fresh, suspended, running, finished, Phase, turning, telling, asking, answering, hearing, closing, State, hook_runs, is_full, is_silent, most_activations, begin, store, with_store}
 use Rattle.pt_run.specs.Views as View
-use Rattle.pt_run.specs.Views.{active, here_of, frames_of, active_in, frames_in, or_else, open_frames, frame_numbered, visible_numbers, visible_line, Change, new_names, new_trace, new_lines, change_frame, change_one, change_opener, change_generator}
+use Rattle.pt_run.specs.Views.{active, here_of, frames_of, active_in, frames_in, open_frames, frame_numbered, visible_numbers, visible_line, Change, new_names, new_trace, new_lines, change_frame, change_one, change_opener, change_generator}
 use Rattle.pt_run.specs.Outcome as O
 use Rattle.pt_run.specs.Outcome.{Output, Question, Ending, Step, goes, consults, ends, is_stuck, Advice, go, jump_to, give_up}
 use Rattle.pt_run.specs.Requests.{give, fail_opening, run_block, make_generator, wake, send_early, throw_exit, resume_by, JumpBelow, cannot_jump, changes, behind_one, by_jump, to_line, line_number, from_hook, by_hook, hook_of, hook_of_rest, land_rest, land_purpose, is_tracer, jump_below, write_line, call_tools, perform}
 use Rattle.pt_run.specs.Hooks.{world_with_entry, instead_of, raise_of_hook, trace_unless, trace_behind, call_hook, ask_next, try_jump, take_advice, refuse_disable, disable, take_hook_answer}
-use Rattle.pt_run.specs.Step.{happening, of_call, only_raises, stop_event, world_behind, reply_and_tell, events_behind, reply_to, begin_yield, take_finding, take_answer, take_hearing, ask_host, do_ask, return_to, close_frame, with_generator, go_on_alone, give_on_for, give_on, finish_by, finish_by_stop, pass_result, end_by_exception, end_of_module, close, proceed, first_event, tell, by_phase, step, begin_turn, act_with, events_before, line_event, leads_to, callee_of}
+use Rattle.pt_run.specs.Step.{happening, of_call, only_raises, stop_event, world_behind, reply_and_tell, events_behind, reply_to, begin_yield, take_finding, take_answer, take_hearing, ask_host, do_ask, return_to, close_frame, go_on_alone, give_on_for, give_on, finish_by, finish_by_stop, pass_result, end_by_exception, end_of_module, close, proceed, first_event, tell, by_phase, step, begin_turn, act_with, events_before, line_event, leads_to, callee_of}
 use Rattle.pt_run.specs.Follows.{Nears, there, moves, SameTurn, same_act, same_note, same_end, SameJump, same_refusal, same_landing, Follows}
 use Rattle.pt_run.proofs.Relation.{SameAsk, same_ask, SameYield, same_yield, SamePending, same_starting, same_doing, same_going, same_giving_on, same_going_on, same_ending, SameTelling, same_telling, SameHearing, same_hearing, SameRest, same_of_ask, same_of_hook, SamePurpose, same_for_block, same_for_generator, SamePhase, same_tells, same_asking, same_answering, same_hears, same_closing, act_of, SameOpeners, no_openers, more_openers, SameGenerator, same_fresh, same_suspended, same_running, same_finished, SameGenerators, no_generators, more_generators, SameRow, no_row, a_row, same_row, same_put, same_append, same_count, same_frames_in, same_depth, same_frames, same_hook_runs, same_active_in, Pair, left, right, SameState, at_turn, in_phase, SameStep, same_goes, same_consults, same_ends}
 

@@ -1,5 +1,5 @@
 -- Runs: at most one outcome, greater bounds, no halt, nothing told in hidden blocks and while a hook runs, and debuggers that only look.
-use Rattle.std.proofs.Common.{◌≡◌, ℕ, zero, suc, ◌≤◌, ◌<◌, List, [], ◌∷◌, ◌++◌, Bool, true, false, Option, Some, None, refl, sym, ap, ◌∙◌, subst, ◌⊎◌, map, inl, inr, if◌then◌else◌, arith}
+use Rattle.std.proofs.Common.{◌≡◌, ℕ, zero, suc, ◌≤◌, ◌<◌, List, [], ◌∷◌, ◌++◌, Bool, true, false, Option, Some, None, refl, sym, ap, ◌∙◌, subst, ◌⊎◌, map, inl, inr, if◌then◌else◌, ◌||◌, arith}
 use Rattle.std.specs.Prelude.{nat_lt}
 use Rattle.std.proofs.lemmas.Bool.{lt-ltb, ltb-true}
 use Rattle.pt_control.specs.Turn as T
@@ -8,13 +8,13 @@ use Rattle.pt_run.specs.Machine.{BlockId, Machine, Jump, refuses, lands}
 use Rattle.pt_run.specs.Events.{Happening, is_line, is_for_debugger, TraceKind, trace_kind}
 use Rattle.pt_run.specs.Host as H
 use Rattle.pt_run.specs.Host.{Host, Hook, log, debugger, landing, refusal, tool, tracer, Answering, Finding}
-use Rattle.pt_run.specs.State.{State, OpenAsk, Pending, Telling, Hearing, Opener, Phase, turning, telling, asking, answering, hearing, closing, is_silent, at}
+use Rattle.pt_run.specs.State.{State, OpenAsk, Pending, Telling, Hearing, Opener, Phase, turning, telling, asking, answering, hearing, closing, hook_runs, is_silent, at}
 use Rattle.pt_run.specs.Outcome as O
 use Rattle.pt_run.specs.Outcome.{Output, Ending, spent, Question, Advice, go, jump_to, give_up, Step, goes, consults, ends, is_stuck}
 use Rattle.pt_run.specs.Hooks.{call_hook, log_of, ask_next, try_jump, take_advice}
 use Rattle.pt_run.specs.Step.{begin_turn, take_answer, take_hearing, close, tell, by_phase, step}
 use Rattle.pt_run.specs.Run.{DebuggerAnswer, Debugger, Session, Move, moves, stops, halts, move, move_by, move_by_advice, consult, replies_of, Outcome, outcome_behind, Comes, ends_so, goes_on, Runs, events, replies_apart, nobody}
-use Rattle.pt_run.specs.Laws.{HasOneOutcome, Begins, so_far, further, GoesOn, NeverHalts, outputs_of, GivesNothing, OnlyLooks, alone, unwatched, IsAsAlone}
+use Rattle.pt_run.specs.Laws.{HasOneOutcome, Begins, so_far, further, GoesOn, NeverHalts, outputs_of, GivesNothing, HidesBlocks, HidesHooks, OnlyLooks, alone, without_debugger, IsAsAlone}
 
 module _ {D S N V W : Type 0} (machine : Machine S V) (host : Host N V W) (ask : Debugger D N V W) (n : ℕ) where
   one_outcome : (u : ℕ) (m : Move D S N V W) (o p : Outcome D N V W) → Comes machine host ask n u m o → Comes machine host ask n u m p → o ≡ p
@@ -294,8 +294,18 @@ module _ {S N V W : Type 0} (machine : Machine S V) (host : Host N V W) where
   quiet_tell s e [] p = refl
   quiet_tell s e (h ∷ hs) p = quiet_first (is_silent s) _ _ e refl
 
-  pub gives_nothing : (n : ℕ) (s : State S N V W) → GivesNothing machine host n s
-  gives_nothing n s h = each_step machine host n (λ os. events os ≡ []) refl (λ b m. refl) (λ x. refl) (λ x. refl) s (quiet_tell s h)
+  silent_step : (n : ℕ) (s : State S N V W) → is_silent s ≡ true → GivesNothing machine host n s
+  silent_step n s h = each_step machine host n (λ os. events os ≡ []) refl (λ b m. refl) (λ x. refl) (λ x. refl) s (quiet_tell s h)
+
+  either_true : (a b : Bool) → b ≡ true → (a || b) ≡ true
+  either_true true b e = refl
+  either_true false b e = e
+
+  pub hides_blocks : (n : ℕ) (s : State S N V W) → HidesBlocks machine host n s
+  hides_blocks n s h = silent_step n s (ap (λ a. a || hook_runs s.openers) h)
+
+  pub hides_hooks : (n : ℕ) (s : State S N V W) → HidesHooks machine host n s
+  hides_hooks n s h = silent_step n s (either_true s.here.frame.block.hidden (hook_runs s.openers) h)
 
 -- a step has no replies of a debugger
 module _ {S N V W : Type 0} (machine : Machine S V) (host : Host N V W) where

@@ -1,5 +1,6 @@
 -- How an event is told, and what the answers of hooks do (Library Reference, sys.settrace and sys.monitoring).
 use Rattle.std.specs.Prelude.{ℕ, ◌==◌, List, [], ◌∷◌, Bool, true, false, Option, Some, None, if◌then◌else◌}
+use Rattle.pt_control.specs.Bases.{or_else}
 use Rattle.pt_control.specs.Turn as T
 use Rattle.pt_control.specs.Turn.{End, gave, left_by}
 use Rattle.pt_run.specs.Machine as M
@@ -37,14 +38,10 @@ trace_due k g f = None
 
 -- the trace function of a frame behind an answer v: the answer to a call is it, or that there is none; another one replaces it unless it is None, but
 -- that to a return
-abbrev pub first_of_two : {V : Type 0} → Option V → Option V → Option V
-first_of_two (Some f) o = Some f
-first_of_two None o = o
-
 abbrev pub trace_behind : {V : Type 0} → Option TraceKind → (answer : Option V) → (trace : Option V) → Option V
 trace_behind (Some a_call) v f = v
-trace_behind (Some a_line) v f = first_of_two v f
-trace_behind (Some an_exception) v f = first_of_two v f
+trace_behind (Some a_line) v f = or_else v f
+trace_behind (Some an_exception) v f = or_else v f
 trace_behind (Some a_return) v f = f
 trace_behind None v f = f
 

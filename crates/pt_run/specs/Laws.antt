@@ -4,7 +4,7 @@ use Rattle.pt_control.specs.Turn as T
 use Rattle.pt_run.specs.Machine.{BlockId, Machine}
 use Rattle.pt_run.specs.Rows.{put_at}
 use Rattle.pt_run.specs.Host.{Host, How, GeneratorResult}
-use Rattle.pt_run.specs.State.{Activation, OpenYield, giving_on, Rest, Opener, for_generator, Generator, suspended, telling, State, is_full, is_silent, start}
+use Rattle.pt_run.specs.State.{Activation, OpenYield, giving_on, Rest, Opener, for_generator, Generator, suspended, telling, State, is_full, hook_runs, start}
 use Rattle.pt_run.specs.Outcome.{Output, Ending, spent, Question, View, go, Step, goes, consults, ends, is_stuck}
 use Rattle.pt_run.specs.Requests.{resume_by}
 use Rattle.pt_run.specs.Step.{step}
@@ -35,9 +35,15 @@ outputs_of (consults q t s) = []
 outputs_of (ends e) = []
 outputs_of is_stuck = []
 
--- where the newest block is hidden, or a hook runs, no step gives an event
+-- where the newest block is hidden, and where a hook runs, no step gives an event
 abbrev pub GivesNothing : {S N V W : Type 0} → Machine S V → Host N V W → (n : ℕ) → State S N V W → Type 0
-GivesNothing machine host n s = is_silent s ≡ true → events (outputs_of (step machine host n s)) ≡ []
+GivesNothing machine host n s = events (outputs_of (step machine host n s)) ≡ []
+
+abbrev pub HidesBlocks : {S N V W : Type 0} → Machine S V → Host N V W → (n : ℕ) → State S N V W → Type 0
+HidesBlocks machine host n s = s.here.frame.block.hidden ≡ true → GivesNothing machine host n s
+
+abbrev pub HidesHooks : {S N V W : Type 0} → Machine S V → Host N V W → (n : ℕ) → State S N V W → Type 0
+HidesHooks machine host n s = hook_runs s.openers ≡ true → GivesNothing machine host n s
 
 -- a value that is given on closes the newest activation into its generator as it is, with its names, its line and its trace function
 abbrev pub generators_after : {S N V W : Type 0} → Step S N V W → List (Generator S N V)
@@ -64,12 +70,12 @@ OnlyLooks {D = D} {N = N} {V = V} {W = W} ask = (q : Question V) (v : View N V W
 abbrev pub alone : {D N V W : Type 0} → Outcome D N V W → Outcome (Unit {0}) N V W
 alone o = record { outputs = replies_apart o.outputs; units = o.units; ending = o.ending; debugger = tt }
 
-abbrev pub unwatched : {D S N V W : Type 0} → Session D S N V W → Session (Unit {0}) S N V W
-unwatched x = record { debugger = tt; state = x.state }
+abbrev pub without_debugger : {D S N V W : Type 0} → Session D S N V W → Session (Unit {0}) S N V W
+without_debugger x = record { debugger = tt; state = x.state }
 
 abbrev pub IsAsAlone : {D S N V W : Type 0} → Machine S V → Host N V W → Debugger D N V W → (n : ℕ) → Session D S N V W → Type 0
 IsAsAlone {D = D} {N = N} {V = V} {W = W} machine host ask n x =
-    OnlyLooks ask → (o : Outcome D N V W) → Runs machine host ask n x o → Runs machine host nobody n (unwatched x) (alone o)
+    OnlyLooks ask → (o : Outcome D N V W) → Runs machine host ask n x o → Runs machine host nobody n (without_debugger x) (alone o)
 
 -- a run from the start of a module
 abbrev pub session : {D S N V W : Type 0} → Machine S V → BlockId → N → W → D → Session D S N V W

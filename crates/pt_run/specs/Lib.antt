@@ -11,7 +11,7 @@ pub mod Hooks
 pub mod Step
 pub mod Run
 pub mod Source
-pub mod Scripted
+pub mod Cues
 pub mod Samples
 pub mod Follows
 pub mod Laws

@@ -1,6 +1,6 @@
 -- A machine: it gives the turns of a block's activation. Control of a script's tree is one, code on slots is another; nothing else of a run knows
 -- which it is.
-use Rattle.std.specs.Prelude.{ℕ, Bool, true, false, Option, ◌==◌, ◌&&◌}
+use Rattle.std.specs.Prelude.{ℕ, ◌==◌, Bool, not, ◌&&◌, Option, if◌then◌else◌}
 use Rattle.pt_control.specs.Turn.{Turn}
 
 -- a block, by its number among those of the script or those of the prelude; the prelude's are hidden
@@ -8,13 +8,8 @@ pub record BlockId : Type 0 where
   pub hidden : Bool
   pub number : ℕ
 
-abbrev pub same_truth : Bool → Bool → Bool
-same_truth true true = true
-same_truth false false = true
-same_truth a b = false
-
 abbrev pub same_block : BlockId → BlockId → Bool
-same_block b c = same_truth b.hidden c.hidden && b.number == c.number
+same_block b c = (if b.hidden then c.hidden else not c.hidden) && b.number == c.number
 
 -- why a jump is refused: it isn't asked for at a line event, or not for the newest frame that is traced; no statement of the block starts on the
 -- line; a `finally` part would be entered or left; another closed part would be entered

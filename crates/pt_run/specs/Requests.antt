@@ -25,6 +25,10 @@ pub data JumpBelow (S N V W : Type 0) : Type 0 where
   cannot_jump : Reason → JumpBelow S N V W
   changes : List (Opener S N V W) → JumpBelow S N V W
 
+-- another state of a generator
+abbrev pub with_generator : {S N V W : Type 0} → (generator : ℕ) → Generator S N V → State S N V W → State S N V W
+with_generator g x s = record s { generators = put_at g x s.generators }
+
 module _ {S N V W : Type 0} (machine : Machine S V) (host : Host N V W) where
   -- what a request gives goes to the rest of the answer
   abbrev pub give : {G : Type 0} → Rest S N V W G → G → State S N V W → State S N V W
@@ -49,9 +53,6 @@ module _ {S N V W : Type 0} (machine : Machine S V) (host : Host N V W) where
   abbrev pub make_generator : Opening N V → Rest S N V W ℕ → State S N V W → State S N V W
   make_generator o r s =
       give r (length s.generators) (record s { generators = s.generators ++ fresh (begin machine o s.frames true) ∷ []; frames = s.frames + 1 })
-
-  abbrev pub with_generator : (generator : ℕ) → Generator S N V → State S N V W → State S N V W
-  with_generator g x s = record s { generators = put_at g x s.generators }
 
   -- a generator's activation opens, and something is told of that
   abbrev pub wake : (generator : ℕ) → Activation S N V → Happening V → Pending S V → Rest S N V W (GeneratorResult V) → State S N V W → State S N V W

@@ -126,10 +126,10 @@ acts (begins b m ∷ os) = record { block = b; mark = m } ∷ acts os
 acts (o ∷ os) = acts os
 
 -- what is printed
-abbrev pub printed : {V : Type 0} → List (Output V) → List (List ℕ)
-printed [] = []
-printed (prints x ∷ os) = x ∷ printed os
-printed (o ∷ os) = printed os
+abbrev pub prints_of : {V : Type 0} → List (Output V) → List (List ℕ)
+prints_of [] = []
+prints_of (prints x ∷ os) = x ∷ prints_of os
+prints_of (o ∷ os) = prints_of os
 
 -- a debugger that says nothing and lets the run go on
 abbrev pub nobody : {N V W : Type 0} → Debugger (Unit {0}) N V W

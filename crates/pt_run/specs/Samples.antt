@@ -4,7 +4,7 @@ use Rattle.pt_tree.specs.Syntax as S
 use Rattle.pt_tree.specs.Syntax.{Name, Exp, Args, Stm, Stms, none, more}
 use Rattle.pt_run.specs.Machine.{into_block, out_of_finally}
 use Rattle.pt_run.specs.Outcome.{go, jump_to}
-use Rattle.pt_run.specs.Scripted.{Scripted, value, exception, no_more, truth, runs, makes, resumes, tries, traces, tells_tool, jumps, value_error, Plan, Shown, event, log_line, reply, hook, refusal}
+use Rattle.pt_run.specs.Cues.{Cue, value, exception, no_more, truth, runs, makes, resumes, tries, traces, tells_tool, jumps, value_error, Plan, TraceRow, event, log_line, reply, hook, refusal}
 
 abbrev pub call : (line : ℕ) → Name → Stm
 call l f = S.expr l (S.call l (S.name l f) S.no_args)
@@ -19,12 +19,16 @@ abbrev pub yield : (line : ℕ) → Stm
 yield l = S.expr l (S.yield l (S.given (S.name l (codes "v"))))
 
 -- a generator with two items in a `for`: the call makes it, three items are asked for, and each is printed
-abbrev pub two_items : List Scripted
+abbrev pub two_items : List Cue
 two_items = makes 1 ∷ resumes 0 ∷ value 0 ∷ resumes 0 ∷ value 0 ∷ resumes 0 ∷ []
 
 -- f is called, then `range` in it, an item is asked for, and it is printed twice
-abbrev pub nested_call : List Scripted
+abbrev pub nested_call : List Cue
 nested_call = runs 1 ∷ value 0 ∷ value 1 ∷ value 0 ∷ value 0 ∷ []
+
+-- a `while` on one line has two rounds
+abbrev pub two_rounds : List Cue
+two_rounds = truth true ∷ truth true ∷ truth false ∷ []
 
 -- 1 def f():
 -- 2     raise x
@@ -32,11 +36,11 @@ nested_call = runs 1 ∷ value 0 ∷ value 1 ∷ value 0 ∷ value 0 ∷ []
 abbrev pub raising : Stms
 raising = more (function 1 1 (codes "f") (more (S.raise 2 (S.name 2 (codes "x")) S.absent) none)) (more (call 3 (codes "f")) none)
 
-abbrev pub raising_call : List Scripted
+abbrev pub raising_call : List Cue
 raising_call = runs 1 ∷ exception 7 ∷ []
 
 -- the block starts, line 1; line 3, the call; its block starts, line 2, the exception, it leaves; it arrives, and leaves the module
-abbrev pub raising_events : List Shown
+abbrev pub raising_events : List TraceRow
 raising_events =
     event 0 1 ∷ event 9 1 ∷ event 9 3 ∷ event 6 3
     ∷ event 0 1 ∷ event 9 2 ∷ event 12 2 ∷ event 5 2
@@ -55,13 +59,20 @@ with_hooks =
 
 -- 9 is the trace function; 44 and 22 are callbacks of the tools 4 and 2 for LINE, the latter from line 3 on; f is called, and 9 answers 9 to that and to
 -- the line
-abbrev pub with_hooks_answers : List Scripted
+abbrev pub with_hooks_answers : List Cue
 with_hooks_answers =
     traces (Some 9) ∷ tells_tool 4 512 44 ∷ value 0 ∷ tells_tool 2 512 22 ∷ value 0 ∷ value 0 ∷ value 0 ∷ value 0 ∷ runs 1 ∷ value 9 ∷ value 0 ∷ value 0 ∷ value 9 ∷ []
 
 -- what is told at line 5, in order: the log, the debugger, the tools 2 and 4, the trace function
-abbrev pub order_at_5 : List Shown
+abbrev pub order_at_5 : List TraceRow
 order_at_5 = log_line 5 ∷ reply 5 ∷ hook 22 ∷ hook 44 ∷ hook 9 ∷ []
+
+-- the trace function runs block 1 itself, which is f, at the start of f
+abbrev pub running_hook : List Cue
+running_hook = traces (Some 9) ∷ value 0 ∷ value 0 ∷ runs 1 ∷ runs 1 ∷ []
+
+abbrev pub running_hook_rows : List TraceRow
+running_hook_rows = event 0 4 ∷ log_line 4 ∷ hook 9 ∷ event 9 5 ∷ log_line 5 ∷ event 2 5 ∷ log_line 5 ∷ event 2 6 ∷ log_line 6 ∷ []
 
 -- a debugger stops at line 5 and lets the run go on
 abbrev pub stop_at_5 : List Plan
@@ -81,11 +92,11 @@ catching =
     (more (S.for 7 (S.single (S.name_at 7 (codes "v"))) (S.call 7 (S.name 7 (codes "g")) S.no_args) (more (call 7 (codes "p")) none) none) none))
 
 -- the trace function 9 is set, g is made and goes on; 9 answers 9 to its call and to line 3, and raises at line 4; the generator goes on once more
-abbrev pub catching_answers : List Scripted
+abbrev pub catching_answers : List Cue
 catching_answers = traces (Some 9) ∷ makes 1 ∷ resumes 0 ∷ value 9 ∷ value 9 ∷ exception 7 ∷ value 0 ∷ resumes 0 ∷ []
 
 -- the generator's events: its start, lines 3 and 4, the handler's line, where it takes the exception, and the line of its yield; it goes on and ends
-abbrev pub catching_events : List Shown
+abbrev pub catching_events : List TraceRow
 catching_events =
     event 0 2 ∷ event 9 3 ∷ event 9 4 ∷ event 9 5 ∷ event 14 5 ∷ event 9 6 ∷ event 3 6
     ∷ event 11 7 ∷ event 6 7 ∷ event 9 7 ∷ event 1 6 ∷ event 2 6 ∷ event 15 7 ∷ event 11 7 ∷ event 2 7 ∷ []
@@ -100,12 +111,12 @@ resuming =
     more (function 1 1 (codes "g") (more (yield 2) none)) (more (call 3 (codes "g")) (more (call 4 (codes "s")) (more (call 5 (codes "n")) none)))
 
 -- g is made; the trace function 9 is set; g goes on, 9 answers 9 to the call, and tries at line 2 to have g go on
-abbrev pub resuming_answers : List Scripted
+abbrev pub resuming_answers : List Cue
 resuming_answers = makes 1 ∷ traces (Some 9) ∷ resumes 0 ∷ value 9 ∷ tries 0 ∷ []
 
 -- line 2 is told to 9, which answers 8; that is the trace function from then on, and is told of the yield; then the module returns
-abbrev pub resuming_shown : List Shown
-resuming_shown =
+abbrev pub resuming_rows : List TraceRow
+resuming_rows =
     event 9 2 ∷ log_line 2 ∷ hook 9 ∷ event 3 2 ∷ log_line 2 ∷ hook 8 ∷ event 2 5 ∷ log_line 5 ∷ []
 
 -- in the script `jumping`: at line 1 into the `for`, at line 6 out of the `finally` part, and so not
@@ -114,17 +125,17 @@ bad_jumps =
     record { line = 1; advice = jump_to 2 } ∷ record { line = 1; advice = go } ∷ record { line = 6; advice = jump_to 7 } ∷ record { line = 6; advice = go } ∷ []
 
 -- the jumps are refused, and the debugger is asked again
-abbrev pub refused_at_1 : List Shown
+abbrev pub refused_at_1 : List TraceRow
 refused_at_1 = log_line 1 ∷ reply 1 ∷ refusal 2 into_block ∷ reply 1 ∷ []
 
-abbrev pub refused_at_6 : List Shown
+abbrev pub refused_at_6 : List TraceRow
 refused_at_6 = log_line 6 ∷ reply 6 ∷ refusal 7 out_of_finally ∷ reply 6 ∷ []
 
 -- at line 2 out of the `for`
 abbrev pub good_jump : List Plan
 good_jump = record { line = 2; advice = jump_to 7 } ∷ []
 
-abbrev pub one_item : List Scripted
+abbrev pub one_item : List Cue
 one_item = value 0 ∷ value 0 ∷ no_more ∷ []
 
 abbrev pub pass_alone : Stms

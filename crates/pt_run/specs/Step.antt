@@ -8,14 +8,13 @@ use Rattle.pt_control.specs.LineEvents.{is_told}
 use Rattle.pt_run.specs.Machine.{Machine}
 use Rattle.pt_run.specs.Events as Told
 use Rattle.pt_run.specs.Events.{Happening, Event}
-use Rattle.pt_run.specs.Rows.{put_at}
 use Rattle.pt_run.specs.Host as H
 use Rattle.pt_run.specs.Host.{Host, Frame, Store, BlockResult, GeneratorResult, gives_on, Answering, Finding, Callee, stop_iteration, Leaving}
 use Rattle.pt_run.specs.State.{Activation, OpenAsk, OpenYield, Pending, starting, doing, going, giving_on, going_on, ending, Telling, Hearing, Rest, of_ask, of_hook, Purpose, for_block, for_generator, Opener, Generator, suspended, finished, Phase, turning, telling, asking, answering, hearing, closing, State, at, is_silent, store, with_store, in_state}
 use Rattle.pt_run.specs.Views.{here_of, active, visible_line, frames_of_trace}
 use Rattle.pt_run.specs.Outcome as O
 use Rattle.pt_run.specs.Outcome.{Output, begins, prints, gives, Ending, Step, goes, ends, is_stuck}
-use Rattle.pt_run.specs.Requests.{give, perform}
+use Rattle.pt_run.specs.Requests.{with_generator, give, perform}
 use Rattle.pt_run.specs.Hooks.{all_hooks, event_of, world_with_entry, raise_of_hook, ask_next, take_hook_answer}
 
 abbrev pub first_of : {V : Type 0} → (otherwise : V) → Option (Callee V) → V
@@ -170,9 +169,6 @@ module _ {S N V W : Type 0} (machine : Machine S V) (host : Host N V W) where
 
   abbrev pub close_frame : State S N V W → State S N V W
   close_frame s = record s { past = s.here.frame ∷ s.past }
-
-  abbrev pub with_generator : (generator : ℕ) → Generator S N V → State S N V W → State S N V W
-  with_generator g x s = record s { generators = put_at g x s.generators }
 
   -- a value that is given on closes the activation into its generator, with all that it has; outside of one the ask goes on with None
   abbrev pub go_on_alone : OpenYield S V → State S N V W → State S N V W

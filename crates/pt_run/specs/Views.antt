@@ -1,5 +1,6 @@
 -- Frames as they are looked at and changed (Library Reference, sys._getframe; Language Reference 3.2, "Frame objects").
 use Rattle.std.specs.Prelude.{ℕ, ◌==◌, List, [], ◌∷◌, ◌++◌, map, Bool, true, false, Option, Some, None, if◌then◌else◌}
+use Rattle.pt_control.specs.Bases.{or_else}
 use Rattle.pt_run.specs.Machine.{BlockId, Machine}
 use Rattle.pt_run.specs.Host.{Frame, FrameView, Here, Entry}
 use Rattle.pt_run.specs.State.{Activation, Opener, Generator, fresh, suspended, running, finished, State, in_frame}
@@ -7,10 +8,6 @@ use Rattle.pt_run.specs.State.{Activation, Opener, Generator, fresh, suspended, 
 abbrev pub line_or : (first_line : ℕ) → Option ℕ → ℕ
 line_or l (Some k) = k
 line_or l None = l
-
-abbrev pub or_else : {X : Type 0} → Option X → Option X → Option X
-or_else (Some x) o = Some x
-or_else None o = o
 
 abbrev pub at_entry : {N V : Type 0} → Entry → Option (FrameView N V) → List (FrameView N V) → List (FrameView N V)
 at_entry e (Some v) vs = record v { line = e.line } ∷ vs

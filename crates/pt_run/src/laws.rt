@@ -3,7 +3,7 @@
 ghost use Rattle.std.specs.Prelude.{ℕ};
 ghost use Rattle.pt_run.specs.Follows.{By, Follows, Related};
 ghost use Rattle.pt_run.specs.Host.{Host};
-ghost use Rattle.pt_run.specs.Laws.{GivesNothing, GoesOn, HasOneOutcome, HaveTheSameRuns, IsAsAlone, NeverHalts, ResumesAsItWas, SuspendsAsItIs};
+ghost use Rattle.pt_run.specs.Laws.{GoesOn, HasOneOutcome, HaveTheSameRuns, HidesBlocks, HidesHooks, IsAsAlone, NeverHalts, ResumesAsItWas, SuspendsAsItIs};
 ghost use Rattle.pt_run.specs.Machine.{BlockId, Machine};
 ghost use Rattle.pt_run.specs.Run.{Debugger, Session};
 ghost use Rattle.pt_run.specs.State.{State};
@@ -28,9 +28,10 @@ pub fn runs_never_halt_unfinished<D, S, N, V, W>()
 {}
 
 /// Where the newest block is hidden, and while a hook runs, no event is given.
-#[tactic(auto, using(crate::proofs::RunLemmas::gives_nothing))]
+#[tactic(auto, using(crate::proofs::RunLemmas::hides_blocks, crate::proofs::RunLemmas::hides_hooks))]
 pub fn nothing_is_told_in_hidden_blocks_and_under_hooks<S, N, V, W>()
-    ensures { (machine : Machine S V) (host : Host N V W) (n : ℕ) (s : State S N V W) → GivesNothing machine host n s }
+    ensures hidden { (machine : Machine S V) (host : Host N V W) (n : ℕ) (s : State S N V W) → HidesBlocks machine host n s }
+    ensures hooks { (machine : Machine S V) (host : Host N V W) (n : ℕ) (s : State S N V W) → HidesHooks machine host n s }
 {}
 
 /// A yield closes the newest activation into its generator as it is, and however that generator goes

@@ -1,41 +1,52 @@
 //! Scripts followed event by event, each the contract of a function that does nothing.
 
 ghost use Rattle.std.specs.Prelude.{◌≡◌, [], ◌∷◌, true, false, replicate};
-ghost use Rattle.pt_control.specs.Samples.{generating, jumping, nested};
-ghost use Rattle.pt_run.specs.Samples.{bad_jumps, catching, catching_answers, catching_events, good_jump, nested_call, one_item, order_at_5, pass_alone, raising, raising_call, raising_events, refused_at_1, refused_at_6, resuming, resuming_answers, resuming_shown, stop_at_5, two_items, with_hooks, with_hooks_answers};
-ghost use Rattle.pt_run.specs.Scripted.{behind_event, ends_done, ends_spent, events_of, from_event, lines_of, lines_with, shown_of, trace_of};
+ghost use Rattle.pt_control.specs.Samples.{generating, jumping, nested, on_one_line};
+ghost use Rattle.pt_run.specs.Samples.{bad_jumps, catching, catching_answers, catching_events, good_jump, nested_call, one_item, order_at_5, pass_alone, raising, raising_call, raising_events, refused_at_1, refused_at_6, resuming, resuming_answers, resuming_rows, running_hook, running_hook_rows, stop_at_5, two_items, two_rounds, with_hooks, with_hooks_answers};
+ghost use Rattle.pt_run.specs.Cues.{behind_event, ends_done, ends_spent, event_rows, from_event, lines_of, lines_with, rows_of_run, trace_of};
 ghost use Rattle.pt_run.specs.State.{Opener, State, is_full};
 
 /// The line events of a generator in a `for`, and of nested `finally` parts, with their callers.
 pub fn line_events_are_followed()
     ensures generating { lines_of generating two_items ≡ 1 ∷ 4 ∷ 2 ∷ 5 ∷ 4 ∷ 3 ∷ 5 ∷ 4 ∷ [] }
+    ensures on_one_line { lines_of on_one_line two_rounds ≡ 1 ∷ 2 ∷ 2 ∷ 2 ∷ [] }
     ensures nested { lines_of nested nested_call ≡ 1 ∷ 11 ∷ 2 ∷ 3 ∷ 4 ∷ 5 ∷ 7 ∷ 9 ∷ 10 ∷ [] }
 {}
 
 /// The events of a callee that raises, and of its caller.
 pub fn a_callee_that_raises_is_followed()
-    ensures { events_of (trace_of raising 1000 raising_call []).outputs ≡ raising_events }
+    ensures { event_rows (trace_of raising 1000 raising_call []).outputs ≡ raising_events }
 {}
 
 /// What is told at one event, in order: the log, the debugger, two tools, and the trace function.
 pub fn the_order_at_an_event_is_followed()
-    ensures { behind_event 9 5 (shown_of with_hooks with_hooks_answers stop_at_5) ≡ order_at_5 }
+    ensures { behind_event 9 5 (rows_of_run with_hooks with_hooks_answers stop_at_5) ≡ order_at_5 }
 {}
 
 /// A trace function that raises in a generator whose body catches it: the generator goes on, and is
 /// told of no more; then one that has the generator go on under it, and gets an error.
 pub fn hooks_in_generators_are_followed()
-    ensures catches { from_event 0 2 (events_of (trace_of catching 1000 catching_answers []).outputs) ≡ catching_events }
-    ensures resumes { from_event 9 2 (shown_of resuming resuming_answers []) ≡ resuming_shown }
+    ensures catches { from_event 0 2 (event_rows (trace_of catching 1000 catching_answers []).outputs) ≡ catching_events }
+    ensures resumes { from_event 9 2 (rows_of_run resuming resuming_answers []) ≡ resuming_rows }
+{}
+
+/// A trace function that is a block of the script: its acts take units, and it is told of nothing
+/// that happens in itself.
+pub fn a_hook_that_runs_is_followed()
+    ensures told { from_event 0 4 (rows_of_run with_hooks running_hook []) ≡ running_hook_rows }
+    ensures units { (trace_of with_hooks 15 running_hook []).end ≡ ends_spent }
+    ensures enough { (trace_of with_hooks 16 running_hook []).end ≡ ends_done }
 {}
 
 /// A debugger's jumps: into a loop and out of a `finally` part they are refused, and the debugger is
 /// asked again; out of a loop it is made, and the line that follows is told.
 pub fn a_debuggers_jumps_are_followed()
-    ensures into { behind_event 9 1 (shown_of jumping one_item bad_jumps) ≡ refused_at_1 }
-    ensures out_of { behind_event 9 6 (shown_of jumping one_item bad_jumps) ≡ refused_at_6 }
+    ensures into { behind_event 9 1 (rows_of_run jumping one_item bad_jumps) ≡ refused_at_1 }
+    ensures out_of { behind_event 9 6 (rows_of_run jumping one_item bad_jumps) ≡ refused_at_6 }
     ensures refused { lines_with jumping one_item bad_jumps ≡ 1 ∷ 2 ∷ 1 ∷ 3 ∷ 4 ∷ 6 ∷ 7 ∷ [] }
     ensures made { lines_with jumping one_item good_jump ≡ 1 ∷ 2 ∷ 7 ∷ [] }
+    ensures unit { (trace_of jumping 11 one_item good_jump).end ≡ ends_spent }
+    ensures units { (trace_of jumping 12 one_item good_jump).end ≡ ends_done }
 {}
 
 /// `pass` under a bound of no acts, and of one.
