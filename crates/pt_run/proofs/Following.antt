@@ -1,5 +1,5 @@
 -- Steps of two runs whose machines follow each other: from states that stand for each other the same comes.
-use Rattle.std.proofs.Common.{◌≡◌, ℕ, ◌+◌, zero, suc, ℤ, pos, negsuc, List, [], ◌∷◌, ◌++◌, length, map, Bool, true, false, ◌||◌, Option, Some, None, refl, sym, ap, ◌∙◌, subst, if◌then◌else◌}
+use Rattle.std.proofs.Common.{◌≡◌, ℕ, ◌+◌, suc, ℤ, List, [], ◌∷◌, ◌++◌, length, map, Bool, true, false, ◌||◌, Option, Some, None, refl, ap, ◌∙◌, subst, if◌then◌else◌}
 use Rattle.std.specs.Prelude.{nat_le, nat_lt, ◌==◌}
 use Rattle.pt_base.specs.declared.what.What.{What}
 use Rattle.pt_base.specs.declared.what.What.TheVariants.{Exit}
@@ -7,24 +7,24 @@ use Rattle.pt_control.specs.Bases.{or_else}
 use Rattle.pt_control.specs.Turn as T
 use Rattle.pt_control.specs.Turn.{Ask, Answer, Reply, got, raised, End, gave, left_by, Turn, Mark}
 use Rattle.pt_control.specs.Events as E
-use Rattle.pt_run.specs.Machine.{BlockId, Machine, Reason, Jump, refuses, lands, no_statement, not_newest, not_at_line}
+use Rattle.pt_run.specs.Machine.{BlockId, Machine, Reason, Jump, refuses, no_statement, not_newest, not_at_line}
 use Rattle.pt_run.specs.Events as Told
 use Rattle.pt_run.specs.Events.{Happening, Event, starts, resumes, throws, unwinds, is_line, is_for_debugger, trace_kind, bit, TraceKind}
-use Rattle.pt_run.specs.Rows.{row_at, put_at}
+use Rattle.pt_run.specs.Rows.{put_at}
 use Rattle.pt_run.specs.Tools as Tool
 use Rattle.pt_run.specs.Tools.{Tools, is_local, wants, Location}
 use Rattle.pt_run.specs.Host as H
 use Rattle.pt_run.specs.Host.{Host, Store, Here, Opening, BlockResult, GeneratorResult, gives_on, ends_by, cannot, is_running, is_fresh, is_finished, How, by_next, by_send, by_throw, by_close, Frame, FrameView, Request, Response, Answering, Finding, Callee, Failure, too_deep, generator_exit, Hook, log, debugger, landing, refusal, tool, tracer, Leaving, Entry}
-use Rattle.pt_run.specs.State.{Activation, OpenAsk, OpenYield, Pending, starting, doing, going, giving_on, going_on, ending, Telling, Hearing, Rest, of_ask, of_hook, Purpose, for_block, for_generator, Opener, Generator, fresh, suspended, running, finished, Phase, turning, telling, asking, answering, hearing, closing, State, hook_runs, is_full, is_silent, most_activations, begin, store, with_store}
+use Rattle.pt_run.specs.State.{OpenYield, Pending, starting, doing, Telling, Hearing, Rest, Purpose, for_block, for_generator, Opener, Generator, fresh, running, finished, Phase, turning, telling, answering, hearing, State, is_full, is_silent, most_activations}
 use Rattle.pt_run.specs.Views as View
 use Rattle.pt_run.specs.Views.{active, here_of, frames_of, active_in, frames_in, open_frames, frame_numbered, visible_numbers, visible_line, Change, new_names, new_trace, new_lines, change_frame, change_one, change_opener, change_generator}
 use Rattle.pt_run.specs.Outcome as O
 use Rattle.pt_run.specs.Outcome.{Output, Question, Ending, Step, goes, consults, ends, is_stuck, Advice, go, jump_to, give_up}
-use Rattle.pt_run.specs.Requests.{give, fail_opening, run_block, make_generator, wake, send_early, throw_exit, resume_by, JumpBelow, cannot_jump, changes, behind_one, by_jump, to_line, line_number, from_hook, by_hook, hook_of, hook_of_rest, land_rest, land_purpose, is_tracer, jump_below, write_line, call_tools, perform}
+use Rattle.pt_run.specs.Requests.{give, fail_opening, run_block, make_generator, wake, send_early, throw_exit, resume_by, JumpBelow, cannot_jump, changes, behind_one, by_jump, to_line, line_number, from_hook, by_hook, hook_of, hook_of_rest, land_rest, land_purpose, is_tracer, jump_below, write_line, perform}
 use Rattle.pt_run.specs.Hooks.{world_with_entry, instead_of, raise_of_hook, trace_unless, trace_behind, call_hook, ask_next, try_jump, take_advice, refuse_disable, disable, take_hook_answer}
-use Rattle.pt_run.specs.Step.{happening, of_call, only_raises, stop_event, world_behind, reply_and_tell, events_behind, reply_to, begin_yield, take_finding, take_answer, take_hearing, ask_host, do_ask, return_to, close_frame, go_on_alone, give_on_for, give_on, finish_by, finish_by_stop, pass_result, end_by_exception, end_of_module, close, proceed, first_event, tell, by_phase, step, begin_turn, act_with, events_before, line_event, leads_to, callee_of}
+use Rattle.pt_run.specs.Step.{happening, of_call, only_raises, stop_event, world_behind, reply_and_tell, events_behind, reply_to, begin_yield, take_finding, take_answer, take_hearing, ask_host, do_ask, go_on_alone, give_on, finish_by, finish_by_stop, pass_result, end_by_exception, end_of_module, close, proceed, first_event, tell, by_phase, step, begin_turn, act_with, line_event, leads_to, callee_of}
 use Rattle.pt_run.specs.Follows.{Nears, there, moves, SameTurn, same_act, same_note, same_end, SameJump, same_refusal, same_landing, Follows}
-use Rattle.pt_run.proofs.Relation.{SameAsk, same_ask, SameYield, same_yield, SamePending, same_starting, same_doing, same_going, same_giving_on, same_going_on, same_ending, SameTelling, same_telling, SameHearing, same_hearing, SameRest, same_of_ask, same_of_hook, SamePurpose, same_for_block, same_for_generator, SamePhase, same_tells, same_asking, same_answering, same_hears, same_closing, act_of, SameOpeners, no_openers, more_openers, SameGenerator, same_fresh, same_suspended, same_running, same_finished, SameGenerators, no_generators, more_generators, SameRow, no_row, a_row, same_row, same_put, same_append, same_count, same_frames_in, same_depth, same_frames, same_hook_runs, same_active_in, Pair, left, right, SameState, at_turn, in_phase, SameStep, same_goes, same_consults, same_ends}
+use Rattle.pt_run.proofs.Relation.{same_ask, SameYield, same_yield, SamePending, same_starting, same_doing, same_going, same_giving_on, same_going_on, same_ending, SameTelling, same_telling, SameHearing, same_hearing, SameRest, same_of_ask, same_of_hook, SamePurpose, same_for_block, same_for_generator, SamePhase, same_tells, same_asking, same_answering, same_hears, same_closing, act_of, SameOpeners, no_openers, more_openers, SameGenerator, same_fresh, same_suspended, same_running, same_finished, SameGenerators, no_generators, more_generators, SameRow, no_row, a_row, same_row, same_put, same_append, same_count, same_frames_in, same_depth, same_frames, same_hook_runs, same_active_in, Pair, left, right, SameState, at_turn, in_phase, SameStep, same_goes, same_consults, same_ends}
 
 module _ {S R N V W : Type 0} (first : Machine S V) (second : Machine R V) (host : Host N V W) (At Stands : BlockId → S → R → Type 0) (law : Follows first second At Stands) where
   abbrev Both : Type 0
@@ -112,7 +112,7 @@ module _ {S R N V W : Type 0} (first : Machine S V) (second : Machine R V) (host
   same_run_block p h x y o r r' k =
       if_states _ _ (same_full p x y) _ _ _ _ (same_fail p h x y r r' k (λ v. record { end = left_by v; names = o.names }) too_deep)
       (in_phase (behind_opener (record p { frames = p.frames + 1 }) h (for_block r) (for_block r') (same_for_block r r' k) (new_frame o p.frames false) (first.start o.block o.iterator) (second.start o.block o.iterator) 0 false)
-        (law.starts o.block o.iterator) _ _ (same_tells (starts ∷ []) _ _ same_starting))
+      (law.starts o.block o.iterator) _ _ (same_tells (starts ∷ []) _ _ same_starting))
 
   same_make : (p : Both) → Stand p → (x : Phase S N V W) (y : Phase R N V W) (o : Opening N V) (r : Rest S N V W ℕ) (r' : Rest R N V W ℕ) →
       SameRest first second At p.frame.block r r' → Same (make_generator first host o r (one p x)) (make_generator second host o r' (two p y))
@@ -259,12 +259,13 @@ module _ {S R N V W : Type 0} (first : Machine S V) (second : Machine R V) (host
       by_rest_of : {G : Type 0} (z : Rest S N V W G) (z' : Rest R N V W G) → SameRest first second At f.block z z' → (v : Purpose S N V W) (v' : Purpose R N V W) →
           SamePurpose first second At f.block v v' → SameBelow (jump_below first host k l os) (jump_below second host k l ps) →
           SameBelow (by_hook first host (hook_of_rest first host z) k l (record { activation = act_of f c n j; purpose = v }) os (behind_one first host (record { activation = act_of f c n j; purpose = v }) (jump_below first host k l os)))
-            (by_hook second host (hook_of_rest second host z') k l (record { activation = act_of f t n j; purpose = v' }) ps (behind_one second host (record { activation = act_of f t n j; purpose = v' }) (jump_below second host k l ps)))
+          (by_hook second host (hook_of_rest second host z') k l (record { activation = act_of f t n j; purpose = v' }) ps (behind_one second host (record { activation = act_of f t n j; purpose = v' }) (jump_below second host k l ps)))
       by_rest_of _ _ (same_of_ask a g g' b e q m) v v' w x = same_behind f c t n j v v' s w _ _ x
       by_rest_of _ _ (same_of_hook h h' q m) v v' w x = same_from_hook k l h h' f c t n j v v' m s w os ps r
+
       by_purpose : (v : Purpose S N V W) (v' : Purpose R N V W) → SamePurpose first second At f.block v v' → SameBelow (jump_below first host k l os) (jump_below second host k l ps) →
           SameBelow (by_hook first host (hook_of first host v) k l (record { activation = act_of f c n j; purpose = v }) os (behind_one first host (record { activation = act_of f c n j; purpose = v }) (jump_below first host k l os)))
-            (by_hook second host (hook_of second host v') k l (record { activation = act_of f t n j; purpose = v' }) ps (behind_one second host (record { activation = act_of f t n j; purpose = v' }) (jump_below second host k l ps)))
+          (by_hook second host (hook_of second host v') k l (record { activation = act_of f t n j; purpose = v' }) ps (behind_one second host (record { activation = act_of f t n j; purpose = v' }) (jump_below second host k l ps)))
       by_purpose _ _ (same_for_block z z' m) x = by_rest_of z z' m _ _ (same_for_block z z' m) x
       by_purpose _ _ (same_for_generator g z z' m) x = by_rest_of z z' m _ _ (same_for_generator g z z' m) x
 
@@ -276,9 +277,9 @@ module _ {S R N V W : Type 0} (first : Machine S V) (second : Machine R V) (host
   same_view : (p : Both) (x : Phase S N V W) (y : Phase R N V W) (k : ℕ) → frame_numbered host.first_line k (one p x) ≡ frame_numbered host.first_line k (two p y)
   same_view p x y k =
       ap (λ fs. or_else (View.view_open host.first_line k (p.frame ∷ fs)) (View.view_alone host.first_line k (frames_in p.generators ++ p.past)))
-        (same_frames first second At Stands p.openers p.other_openers p.same_openers)
+      (same_frames first second At Stands p.openers p.other_openers p.same_openers)
       ∙ ap (λ gs. or_else (View.view_open host.first_line k (p.frame ∷ frames_of p.other_openers)) (View.view_alone host.first_line k (gs ++ p.past)))
-        (same_frames_in first second At Stands p.generators p.other_generators p.same_generators)
+      (same_frames_in first second At Stands p.generators p.other_generators p.same_generators)
 
   same_give_by : (p : Both) → Stand p → (x : Phase S N V W) (y : Phase R N V W) → {G : Type 0} (r : Rest S N V W G) (r' : Rest R N V W G) → SameRest first second At p.frame.block r r' →
       (g g' : G) → g ≡ g' → Same (give first host r g (one p x)) (give second host r' g' (two p y))
@@ -324,7 +325,7 @@ module _ {S R N V W : Type 0} (first : Machine S V) (second : Machine R V) (host
   same_call p h x y None k ks _ _ (same_telling e hs bs w w' m) = same_goes [] _ _ (in_phase p h _ _ (same_asking _ _ (same_telling e ks bs w w' m)))
   same_call p h x y (Some f) k ks _ _ (same_telling e hs bs w w' m) =
       subst (λ z. SameStep first second At Stands (call_hook first host (Some f) k ks (record { event = e; hooks = hs; behind = bs; pending = w }) (one p x))
-          (goes [] (two p (hearing (record { hook = k; telling = record { event = e; hooks = ks; behind = bs; pending = w' } }) (host.hears k f e z (record { names = p.frame.names; world = p.world }))))))
+      (goes [] (two p (hearing (record { hook = k; telling = record { event = e; hooks = ks; behind = bs; pending = w' } }) (host.hears k f e z (record { names = p.frame.names; world = p.world }))))))
       (same_here p h x y) (same_goes [] _ _ (in_phase p h _ _ (same_hears _ _ _ (same_hearing k _ _ (same_telling e ks bs w w' m)))))
 
   same_ask_next : (p : Both) → Stand p → (x : Phase S N V W) (y : Phase R N V W) (ks : List Hook) (t : Telling S V) (t' : Telling R V) → SameTelling first second At p.frame.block t t' →
@@ -343,7 +344,7 @@ module _ {S R N V W : Type 0} (first : Machine S V) (second : Machine R V) (host
   same_try p h x y l _ _ (same_refusal r) _ _ (same_telling e hs bs w w' m) = same_goes _ _ _ (in_phase p h _ _ (same_asking _ _ (same_telling e (refusal r ∷ hs) bs w w' m)))
   same_try p h x y l _ _ (same_landing to to' f f' s n) _ _ (same_telling e hs bs w w' m) =
       same_goes [] _ _ (in_phase (record p { frame = record p.frame { line = Some l }; one = to; other = to'; behind_jump = true }) s _ _
-        (same_asking _ _ (same_telling e (landing l ∷ []) [] _ _ (same_going to to' f f' (law.nears p.frame.block to to' s) n))))
+      (same_asking _ _ (same_telling e (landing l ∷ []) [] _ _ (same_going to to' f f' (law.nears p.frame.block to to' s) n))))
 
   if_jump : (b : BlockId) (a : Bool) (z : Jump S V) (z' : Jump R V) (e : Reason) → SameJump first second At Stands b z z' →
       SameJump first second At Stands b (if a then z else refuses e) (if a then z' else refuses e)
@@ -366,7 +367,7 @@ module _ {S R N V W : Type 0} (first : Machine S V) (second : Machine R V) (host
   same_disable p h x y l _ _ (same_hearing k t t' m) =
       if_state (is_local l.bit) _ _ _ _ (in_phase (record p { tools = Tool.switch_off l p.tools }) h _ _ (same_asking t t' m))
       (subst (λ e. Same (refuse_disable first host l (record { hook = k; telling = t }) (host.makes H.not_local (here_of first (one p x)) p.world) (one p x)) (refuse_disable second host l (record { hook = k; telling = t' }) (host.makes H.not_local e p.world) (two p y)))
-        (same_here p h x y) (same_refuse_disable p h x y l _ _ (same_hearing k t t' m) (host.makes H.not_local (here_of first (one p x)) p.world).0 (host.makes H.not_local (here_of first (one p x)) p.world).1))
+      (same_here p h x y) (same_refuse_disable p h x y l _ _ (same_hearing k t t' m) (host.makes H.not_local (here_of first (one p x)) p.world).0 (host.makes H.not_local (here_of first (one p x)) p.world).1))
 
   same_hook_answer : (p : Both) → Stand p → (x : Phase S N V W) (y : Phase R N V W) (k : Hook) (v : V) (z : Hearing S V) (z' : Hearing R V) → SameHearing first second At p.frame.block z z' →
       Same (take_hook_answer first host k v z (one p x)) (take_hook_answer second host k v z' (two p y))
@@ -399,7 +400,7 @@ module _ {S R N V W : Type 0} (first : Machine S V) (second : Machine R V) (host
       Same (reply_to first host (record { ask = a; next = k; is_act = i; callee = c }) r es (one p x)) (reply_to second host (record { ask = a; next = k'; is_act = i; callee = c }) r es (two p y))
   same_reply p h x y a k k' i c n r es =
       subst (λ z. Same (reply_to first host (record { ask = a; next = k; is_act = i; callee = c }) r es (one p x))
-          (reply_and_tell second host (record { ask = a; next = k'; is_act = i; callee = c }) r (if i then z else only_raises z) (two p y)))
+      (reply_and_tell second host (record { ask = a; next = k'; is_act = i; callee = c }) r (if i then z else only_raises z) (two p y)))
       (same_events p h x y a k k' i c n r es) (same_tell_reply p h x y a k k' i c n r _)
 
   same_begin_yield : (p : Both) → Stand p → (x : Phase S N V W) (y : Phase R N V W) (q : OpenYield S V) (q' : OpenYield R V) → SameYield first second At p.frame.block q q' → (v : V) →
@@ -453,7 +454,7 @@ module _ {S R N V W : Type 0} (first : Machine S V) (second : Machine R V) (host
       Same (ask_host first host (record { ask = a; next = k; is_act = i; callee = c }) (one p x)) (ask_host second host (record { ask = a; next = k'; is_act = i; callee = c }) (two p y))
   same_ask_host p h x y a k k' i c n =
       subst (λ e. Same (ask_host first host (record { ask = a; next = k; is_act = i; callee = c }) (one p x))
-          (two p (answering (record { ask = a; next = k'; is_act = i; callee = c }) (host.answers a e (record { names = p.frame.names; world = p.world })))))
+      (two p (answering (record { ask = a; next = k'; is_act = i; callee = c }) (host.answers a e (record { names = p.frame.names; world = p.world })))))
       (same_here p h x y) (in_phase p h _ _ (same_answering a k k' i c _ n))
 
   same_do_seek : (p : Both) → Stand p → (x : Phase S N V W) (y : Phase R N V W) (a : T.Seek V) (k : Reply V V → S) (k' : Reply V V → R) (i : Bool) (c : Option (Callee V)) →
@@ -514,9 +515,9 @@ module _ {S R N V W : Type 0} (first : Machine S V) (second : Machine R V) (host
   same_pass p h x y (left_by v) f c t n j s _ _ (same_for_generator g r r' i) os ps z =
       if_state (host.is_stop v p.world) _ _ _ _
       (subst (λ e. Same (finish_by_stop first host g r (host.makes (H.stop_iteration v) (here_of first (one p x)) p.world) (record { activation = act_of f c n j; purpose = for_generator g r }) os (one p x))
-          (finish_by_stop second host g r' (host.makes (H.stop_iteration v) e p.world) (record { activation = act_of f t n j; purpose = for_generator g r' }) ps (two p y)))
-        (same_here p h x y)
-        (same_finish_by_stop p x y g r r' (host.makes (H.stop_iteration v) (here_of first (one p x)) p.world).0 (host.makes (H.stop_iteration v) (here_of first (one p x)) p.world).1 f c t n j s (for_generator g r) (for_generator g r') i os ps z))
+      (finish_by_stop second host g r' (host.makes (H.stop_iteration v) e p.world) (record { activation = act_of f t n j; purpose = for_generator g r' }) ps (two p y)))
+      (same_here p h x y)
+      (same_finish_by_stop p x y g r r' (host.makes (H.stop_iteration v) (here_of first (one p x)) p.world).0 (host.makes (H.stop_iteration v) (here_of first (one p x)) p.world).1 f c t n j s (for_generator g r) (for_generator g r') i os ps z))
       (same_finish p x y g r r' (left_by v) f c t n j s (for_generator g r) (for_generator g r') i os ps z)
 
   same_trace : (p : Both) (x : Phase S N V W) (y : Phase R N V W) (es : List Entry) → View.frames_of_trace host.first_line es (one p x) ≡ View.frames_of_trace host.first_line es (two p y)
@@ -555,7 +556,7 @@ module _ {S R N V W : Type 0} (first : Machine S V) (second : Machine R V) (host
   same_tell p h x y (e ∷ hs) w w' m =
       subst (λ b. SameSteps (tell first host (e ∷ hs) w (one p x)) (if b then goes [] (two p (telling [] w')) else first_event second host e hs w' (two p y))) (same_silent p x y)
       (if_step (is_silent (one p x)) _ _ _ _ (same_goes [] _ _ (in_phase p h _ _ (same_tells [] w w' m)))
-        (same_goes _ _ _ (in_phase p h _ _ (same_asking _ _ (same_telling _ _ hs w w' m)))))
+      (same_goes _ _ _ (in_phase p h _ _ (same_asking _ _ (same_telling _ _ hs w w' m)))))
 
   same_leads : (p : Both) (x : Phase S N V W) (y : Phase R N V W) (a : Ask V) (k : Reply V (Answer V a) → S) (k' : Reply V (Answer V a) → R) → ((r : Reply V (Answer V a)) → Near p.frame.block (k r) (k' r)) →
       leads_to first host a k (one p x) ≡ leads_to second host a k' (two p y)
@@ -567,8 +568,8 @@ module _ {S R N V W : Type 0} (first : Machine S V) (second : Machine R V) (host
   same_turn p h x y m _ _ (same_act (Some z) a k k' n) =
       if_step (nat_lt p.units m) _ _ _ _
       (subst (λ d. SameSteps (goes (O.begins p.frame.block z ∷ []) (act_with first host z a k (callee_of host a p.world) (one p x)))
-          (goes (O.begins p.frame.block z ∷ []) (two q (telling (line_event second host z (two p y) ++ map (happening d host.null (callee_of host a p.world)) (E.before a)) (doing (record { ask = a; next = k'; is_act = true; callee = callee_of host a p.world }))))))
-        (same_leads p x y a k k' n) (same_goes _ _ _ (in_phase q h _ _ (same_tells _ _ _ (same_doing _ _ (same_ask a k k' true _ n))))))
+      (goes (O.begins p.frame.block z ∷ []) (two q (telling (line_event second host z (two p y) ++ map (happening d host.null (callee_of host a p.world)) (E.before a)) (doing (record { ask = a; next = k'; is_act = true; callee = callee_of host a p.world }))))))
+      (same_leads p x y a k k' n) (same_goes _ _ _ (in_phase q h _ _ (same_tells _ _ _ (same_doing _ _ (same_ask a k k' true _ n))))))
       (same_ends _)
     where
       q : Both

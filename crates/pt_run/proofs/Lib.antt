@@ -3,3 +3,4 @@ pub mod Relation
 pub mod Following
 pub mod Runs
 pub mod Suspension
+pub mod Slowly

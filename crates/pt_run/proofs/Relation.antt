@@ -1,13 +1,12 @@
 -- States of two runs that stand for each other: all is the same but the machines' states, and those stand for each other.
-use Rattle.std.proofs.Common.{◌≡◌, ℕ, zero, suc, List, [], ◌∷◌, ◌++◌, length, map, Bool, true, false, ◌||◌, Option, Some, None, refl, sym, ap, ◌∙◌, subst, if◌then◌else◌}
+use Rattle.std.proofs.Common.{◌≡◌, ℕ, zero, suc, List, [], ◌∷◌, ◌++◌, length, Bool, ◌||◌, Option, Some, None, refl, ap, ◌∙◌}
 use Rattle.pt_control.specs.Bases.{or_else}
-use Rattle.pt_control.specs.Turn as T
 use Rattle.pt_control.specs.Turn.{Ask, Answer, Reply, End}
 use Rattle.pt_run.specs.Machine.{BlockId, Machine}
 use Rattle.pt_run.specs.Events.{Happening, Event}
 use Rattle.pt_run.specs.Rows.{row_at, put_at}
 use Rattle.pt_run.specs.Tools.{Tools}
-use Rattle.pt_run.specs.Host.{Host, Store, BlockResult, GeneratorResult, Frame, Answering, Finding, Callee, Hook}
+use Rattle.pt_run.specs.Host.{Store, BlockResult, GeneratorResult, Frame, Answering, Finding, Callee, Hook}
 use Rattle.pt_run.specs.State.{Activation, OpenAsk, OpenYield, Pending, starting, doing, going, giving_on, going_on, ending, Telling, Hearing, Rest, of_ask, of_hook, Purpose, for_block, for_generator, Opener, Generator, fresh, suspended, running, finished, Phase, turning, telling, asking, answering, hearing, closing, State, hook_runs, is_hook_open}
 use Rattle.pt_run.specs.Views.{frames_of, active_in, frames_in}
 use Rattle.pt_run.specs.Outcome.{Output, Question, Ending, Step, goes, consults, ends}

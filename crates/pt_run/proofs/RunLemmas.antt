@@ -1,11 +1,11 @@
 -- Runs: at most one outcome, greater bounds, no halt, nothing told in hidden blocks and while a hook runs, and debuggers that only look.
-use Rattle.std.proofs.Common.{◌≡◌, ℕ, zero, suc, ◌≤◌, ◌<◌, List, [], ◌∷◌, ◌++◌, Bool, true, false, Option, Some, None, refl, sym, ap, ◌∙◌, subst, ◌⊎◌, map, inl, inr, if◌then◌else◌, ◌||◌, arith}
+use Rattle.std.proofs.Common.{◌≡◌, ℕ, ◌≤◌, ◌<◌, List, [], ◌∷◌, ◌++◌, Bool, true, false, Option, Some, None, refl, sym, ap, ◌∙◌, subst, ◌⊎◌, map, inl, inr, if◌then◌else◌, ◌||◌, arith}
 use Rattle.std.specs.Prelude.{nat_lt}
 use Rattle.std.proofs.lemmas.Bool.{lt-ltb, ltb-true}
 use Rattle.pt_control.specs.Turn as T
 use Rattle.pt_control.specs.Turn.{End, gave, left_by, Turn}
 use Rattle.pt_run.specs.Machine.{BlockId, Machine, Jump, refuses, lands}
-use Rattle.pt_run.specs.Events.{Happening, is_line, is_for_debugger, TraceKind, trace_kind}
+use Rattle.pt_run.specs.Events.{Happening, is_for_debugger, TraceKind, trace_kind}
 use Rattle.pt_run.specs.Host as H
 use Rattle.pt_run.specs.Host.{Host, Hook, log, debugger, landing, refusal, tool, tracer, Answering, Finding}
 use Rattle.pt_run.specs.State.{State, OpenAsk, Pending, Telling, Hearing, Opener, Phase, turning, telling, asking, answering, hearing, closing, hook_runs, is_silent, at}
@@ -14,7 +14,7 @@ use Rattle.pt_run.specs.Outcome.{Output, Ending, spent, Question, Advice, go, ju
 use Rattle.pt_run.specs.Hooks.{call_hook, log_of, ask_next, try_jump, take_advice}
 use Rattle.pt_run.specs.Step.{begin_turn, take_answer, take_hearing, close, tell, by_phase, step}
 use Rattle.pt_run.specs.Run.{DebuggerAnswer, Debugger, Session, Move, moves, stops, halts, move, move_by, move_by_advice, consult, replies_of, Outcome, outcome_behind, Comes, ends_so, goes_on, Runs, events, replies_apart, nobody}
-use Rattle.pt_run.specs.Laws.{HasOneOutcome, Begins, so_far, further, GoesOn, NeverHalts, outputs_of, GivesNothing, HidesBlocks, HidesHooks, OnlyLooks, alone, without_debugger, IsAsAlone}
+use Rattle.pt_run.specs.Laws.{HasOneOutcome, Begins, so_far, further, GoesOn, NeverHalts, outputs_of, GivesNothing, HidesBlocks, HidesHooks, OnlyLooks, alone, IsAsAlone}
 
 module _ {D S N V W : Type 0} (machine : Machine S V) (host : Host N V W) (ask : Debugger D N V W) (n : ℕ) where
   one_outcome : (u : ℕ) (m : Move D S N V W) (o p : Outcome D N V W) → Comes machine host ask n u m o → Comes machine host ask n u m p → o ≡ p
@@ -348,7 +348,7 @@ module _ {D S N V W : Type 0} (machine : Machine S V) (host : Host N V W) (ask :
       → Beside (consult machine host ask a t s) (consult machine host nobody (record { texts = []; advice = go; debugger = tt }) t s)
   beside_consult a t s e =
       subst (λ g. Beside (move_by_advice machine host ask (replies_of machine host ask a.texts) a.debugger (take_advice machine host g t s))
-          (consult machine host nobody (record { texts = []; advice = go; debugger = tt }) t s)) (sym e)
+      (consult machine host nobody (record { texts = []; advice = go; debugger = tt }) t s)) (sym e)
       (both_move _ _ a.debugger _ (apart_replies a.texts []))
 
   beside : (d : D) (x : Step S N V W) → replies_apart (outputs_of x) ≡ outputs_of x → Beside (move_by machine host ask d x) (move_by machine host nobody tt x)

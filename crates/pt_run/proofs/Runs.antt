@@ -1,18 +1,17 @@
 -- Runs of two machines that follow each other come to the same outcomes.
-use Rattle.std.proofs.Common.{◌≡◌, ℕ, List, [], ◌∷◌, ◌++◌, true, false, Option, None, refl, sym, ap, ◌∙◌, subst, ◌↔◌}
+use Rattle.std.proofs.Common.{◌≡◌, ℕ, List, [], ◌∷◌, true, false, None, refl, sym, ap, ◌∙◌, subst}
 use Rattle.pt_run.specs.Machine.{BlockId, Machine}
 use Rattle.pt_run.specs.Events.{starts}
 use Rattle.pt_run.specs.Host.{Host}
-use Rattle.pt_run.specs.State.{State, Phase, starting, telling, start}
-use Rattle.pt_run.specs.Views.{view, view_frames, visible}
+use Rattle.pt_run.specs.State.{State, Phase, start}
+use Rattle.pt_run.specs.Views.{view_frames, visible}
 use Rattle.pt_run.specs.Tools.{no_tools}
-use Rattle.pt_run.specs.Outcome.{Output, Ending, Question, Step, goes, consults, ends}
-use Rattle.pt_run.specs.Hooks.{take_advice}
+use Rattle.pt_run.specs.Outcome.{Output, Ending, Step}
 use Rattle.pt_run.specs.Step.{step}
-use Rattle.pt_run.specs.Run.{DebuggerAnswer, Debugger, Session, Move, moves, stops, halts, move, move_by, move_by_advice, consult, replies_of, view_of, Outcome, outcome_behind, Comes, ends_so, goes_on, Runs}
-use Rattle.pt_run.specs.Laws.{HaveTheSameRuns, session}
+use Rattle.pt_run.specs.Run.{Debugger, Session, Move, moves, stops, halts, move, move_by, move_by_advice, consult, view_of, Outcome, outcome_behind, Comes, ends_so, goes_on}
+use Rattle.pt_run.specs.Laws.{HaveTheSameRuns}
 use Rattle.pt_run.specs.Follows.{Follows}
-use Rattle.pt_run.proofs.Relation.{SameState, SameStep, same_goes, same_consults, same_ends, SameTelling, Pair, left, right, in_phase, same_tells, same_starting, same_frames, no_openers, no_generators}
+use Rattle.pt_run.proofs.Relation.{SameState, SameStep, same_goes, same_consults, same_ends, Pair, left, right, in_phase, same_tells, same_starting, same_frames, no_openers, no_generators}
 use Rattle.pt_run.proofs.Following.{Catches, in_step, behind_one_step, catches, same_advice}
 
 module _ {D S R N V W : Type 0} (first : Machine S V) (second : Machine R V) (host : Host N V W) (At Stands : BlockId → S → R → Type 0) (law : Follows first second At Stands)
@@ -44,7 +43,7 @@ module _ {D S R N V W : Type 0} (first : Machine S V) (second : Machine R V) (ho
   same_move_by d _ _ (same_ends e) = same_stops [] d e
   same_move_by d _ _ (same_consults q p h x y u u' i) =
       subst (λ v. SameMove (consult first host ask (ask q (view_of first host ask (left first second At Stands p x)) d) u (left first second At Stands p x))
-          (consult second host ask (ask q v d) u' (right first second At Stands p y))) (same_views p x y)
+      (consult second host ask (ask q v d) u' (right first second At Stands p y))) (same_views p x y)
       (same_by_advice _ _ _ _ (same_advice first second host At Stands law p h x y _ u u' i))
 
   -- the second run has what the first comes to, and the other way round

@@ -1,11 +1,9 @@
 -- A suspended activation is kept as it is.
-use Rattle.std.proofs.Common.{◌≡◌, ℕ, List, [], ◌∷◌, Bool, true, false, Some, refl, ap, ◌∙◌, subst, if◌then◌else◌}
+use Rattle.std.proofs.Common.{◌≡◌, ℕ, Bool, true, false, refl, ap, ◌∙◌, if◌then◌else◌}
 use Rattle.pt_run.specs.Machine.{Machine}
-use Rattle.pt_run.specs.Rows.{put_at}
-use Rattle.pt_run.specs.Host.{Host, How, by_next, by_send, by_throw, by_close, GeneratorResult}
-use Rattle.pt_run.specs.State.{Activation, OpenYield, giving_on, Rest, Opener, for_generator, Generator, suspended, telling, State, is_full}
-use Rattle.pt_run.specs.Requests.{resume_by}
-use Rattle.pt_run.specs.Step.{give_on, by_phase, step}
+use Rattle.pt_run.specs.Host.{Host, by_next, by_send, by_throw, by_close}
+use Rattle.pt_run.specs.State.{Activation, State, is_full}
+use Rattle.pt_run.specs.Step.{give_on, by_phase}
 use Rattle.pt_run.specs.Laws.{generators_after, SuspendsAsItIs, ResumesAsItWas}
 
 module _ {S N V W : Type 0} (machine : Machine S V) (host : Host N V W) where

@@ -1,19 +1,19 @@
 -- A host of answers that are given in order, to follow runs by: all values are numbers, 0 is None, names are left out, and the world is what is
 -- answered next. Asks that need no answer of the list get a number at once.
-use Rattle.std.specs.Prelude.{ℕ, zero, suc, ◌+◌, ◌==◌, ◌&&◌, pos, List, [], ◌∷◌, ◌++◌, Bool, true, false, Option, Some, None, if◌then◌else◌}
+use Rattle.std.specs.Prelude.{ℕ, zero, suc, ◌==◌, ◌&&◌, pos, List, [], ◌∷◌, ◌++◌, Bool, true, false, Option, Some, None, if◌then◌else◌}
 use Rattle.pt_tree.specs.Blocks as B
 use Rattle.pt_tree.specs.Blocks.{Block, Code, blocks_script}
 use Rattle.pt_tree.specs.Syntax.{Stms, none}
 use Rattle.pt_control.specs.Turn as T
 use Rattle.pt_control.specs.Turn.{Ask, Row, End, gave, left_by}
 use Rattle.pt_control.specs.Lines.{numbers}
-use Rattle.pt_run.specs.Machine.{BlockId, Machine, Reason}
+use Rattle.pt_run.specs.Machine.{Machine, Reason}
 use Rattle.pt_run.specs.Rows.{row_at}
-use Rattle.pt_run.specs.Events.{Happening, line, Event, bit, is_line}
+use Rattle.pt_run.specs.Events.{Event, bit, is_line}
 use Rattle.pt_run.specs.Tools as Tool
 use Rattle.pt_run.specs.Host as H
-use Rattle.pt_run.specs.Host.{Store, Opening, How, by_next, GeneratorResult, gives_on, ends_by, cannot, Response, Answering, answer, raise, print, request, Item, an_item, no_item, Finding, Here, Failure, Hook, tool, tracer, Host, BlockResult}
-use Rattle.pt_run.specs.State.{State, start}
+use Rattle.pt_run.specs.Host.{Store, Opening, How, by_next, by_throw, GeneratorResult, gives_on, ends_by, cannot, Response, Answering, answer, raise, print, request, Item, an_item, no_item, Finding, Here, Failure, Hook, tool, tracer, Host, BlockResult}
+use Rattle.pt_run.specs.State.{start}
 use Rattle.pt_run.specs.Outcome as O
 use Rattle.pt_run.specs.Outcome.{Output, gives, View, Question, about, Advice, go}
 use Rattle.pt_run.specs.Source as Source
@@ -32,7 +32,8 @@ pub data Cue : Type 0 where
   runs : (block : ℕ) → Cue
   makes : (block : ℕ) → Cue
   resumes : (generator : ℕ) → Cue
-  -- the same, but 8 where it doesn't go on
+  throws : (generator exception : ℕ) → Cue
+  -- `next`, but 8 where it doesn't go on
   tries : (generator : ℕ) → Cue
   -- sys.settrace, and a callback of a tool for the events of a bit; a write of `f_lineno` in a frame
   traces : (function : Option ℕ) → Cue
@@ -98,6 +99,7 @@ by_cue (truth b) st = answer 0 st
 by_cue (runs b) st = request (H.opens (opening b)) st (λ c st1. end_of c.end st1)
 by_cue (makes b) st = request (H.makes (opening b)) st (λ g st1. answer g st1)
 by_cue (resumes g) st = request (H.resumes g by_next) st result_of
+by_cue (throws g v) st = request (H.resumes g (by_throw v)) st result_of
 by_cue (tries g) st = request (H.resumes g by_next) st try_result
 by_cue (traces f) st = request (H.gives_trace f) st (λ u st1. answer 0 st1)
 by_cue (tells_tool t b f) st = tell_tool t b f st

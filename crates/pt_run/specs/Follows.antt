@@ -44,3 +44,42 @@ module _ {S R V : Type 0} (first : Machine S V) (second : Machine R V) (At : Blo
     pub active : (b : BlockId) (c : S) (t : R) → Stands b c t → first.active c ≡ second.active t
     pub jumps : (b : BlockId) (c : S) (t : R) (l : ℕ) → Stands b c t → SameJump Stands b (first.jump b c l) (second.jump b t l)
     pub destination : (b : BlockId) (c : S) (t : R) → Nears b c t → first.destination b c ≡ second.destination b t
+
+-- a machine that moves silently before each turn, as code does
+pub data Slow (S : Type 0) : Type 0 where
+  before : S → Slow S
+  at : S → Slow S
+
+abbrev pub slow_turn : {S V : Type 0} → Turn S V → Turn (Slow S) V
+slow_turn (T.act m a k) = T.act m a (λ r. before (k r))
+slow_turn (T.note a k) = T.note a (λ r. before (k r))
+slow_turn (T.move c) = T.move (before c)
+slow_turn (T.over e) = T.over e
+slow_turn T.stuck = T.stuck
+
+abbrev pub slow_jump : {S V : Type 0} → Jump S V → Jump (Slow S) V
+slow_jump (refuses r) = refuses r
+slow_jump (lands to f) = lands (before to) (λ v. before (f v))
+
+abbrev pub state_of : {S : Type 0} → Slow S → S
+state_of (before c) = c
+state_of (at c) = c
+
+module _ {S V : Type 0} (machine : Machine S V) where
+  abbrev pub turn_of : BlockId → Slow S → Turn (Slow S) V
+  turn_of b (before c) = T.move (at c)
+  turn_of b (at c) = slow_turn (machine.turn b c)
+
+  abbrev pub slowly : Machine (Slow S) V
+  slowly = record {
+    start = λ b i. before (machine.start b i);
+    turn = turn_of;
+    jump = λ b c l. slow_jump (machine.jump b (state_of c) l);
+    active = λ c. machine.active (state_of c);
+    destination = λ b c. machine.destination b (state_of c);
+  }
+
+  -- its turns are asks, notes and ends alone
+  pub record NeverMoves : Type 0 where
+    pub moves : (b : BlockId) (c d : S) → machine.turn b c ≡ T.move d → ⊥
+    pub stuck : (b : BlockId) (c : S) → machine.turn b c ≡ T.stuck → ⊥

@@ -1,5 +1,5 @@
 -- How an event is told, and what the answers of hooks do (Library Reference, sys.settrace and sys.monitoring).
-use Rattle.std.specs.Prelude.{ℕ, ◌==◌, List, [], ◌∷◌, Bool, true, false, Option, Some, None, if◌then◌else◌}
+use Rattle.std.specs.Prelude.{ℕ, List, [], ◌∷◌, Option, Some, None, if◌then◌else◌}
 use Rattle.pt_control.specs.Bases.{or_else}
 use Rattle.pt_control.specs.Turn as T
 use Rattle.pt_control.specs.Turn.{End, gave, left_by}
@@ -7,10 +7,10 @@ use Rattle.pt_run.specs.Machine as M
 use Rattle.pt_run.specs.Machine.{Machine, Reason, not_at_line, Jump}
 use Rattle.pt_run.specs.Events.{Happening, unwinds, Event, bit, TraceKind, a_call, a_line, a_return, an_exception, trace_kind, is_line, is_for_debugger}
 use Rattle.pt_run.specs.Tools.{Location, is_local, wants, switch_off, without}
-use Rattle.pt_run.specs.Host.{Host, Frame, Hook, log, debugger, landing, refusal, tool, tracer, not_local, Entry}
-use Rattle.pt_run.specs.State.{Pending, starting, doing, going, giving_on, going_on, ending, Telling, Hearing, Phase, turning, telling, asking, hearing, closing, State, at, in_state, in_frame, store}
-use Rattle.pt_run.specs.Views.{line_of, view, here_of}
-use Rattle.pt_run.specs.Outcome.{Output, logs, refuses, Question, about, about_landing, about_refusal, quit, Advice, go, jump_to, give_up, Step, goes, consults, ends}
+use Rattle.pt_run.specs.Host.{Host, Frame, Hook, log, debugger, landing, refusal, tool, tracer, not_local}
+use Rattle.pt_run.specs.State.{Pending, starting, doing, going, giving_on, going_on, ending, Telling, Hearing, turning, telling, asking, hearing, closing, State, at, in_state, in_frame, store}
+use Rattle.pt_run.specs.Views.{line_of, here_of}
+use Rattle.pt_run.specs.Outcome.{Output, logs, refuses, about, about_landing, about_refusal, quit, Advice, go, jump_to, give_up, Step, goes, consults, ends}
 use Rattle.pt_run.specs.Requests.{land_here}
 
 -- the order in which an event is told

@@ -5,11 +5,10 @@ use Rattle.pt_run.specs.Machine.{BlockId, Machine}
 use Rattle.pt_run.specs.Rows.{put_at}
 use Rattle.pt_run.specs.Host.{Host, How, GeneratorResult}
 use Rattle.pt_run.specs.State.{Activation, OpenYield, giving_on, Rest, Opener, for_generator, Generator, suspended, telling, State, is_full, hook_runs, start}
-use Rattle.pt_run.specs.Outcome.{Output, Ending, spent, Question, View, go, Step, goes, consults, ends, is_stuck}
+use Rattle.pt_run.specs.Outcome.{Output, spent, Question, View, go, Step, goes, consults, ends, is_stuck}
 use Rattle.pt_run.specs.Requests.{resume_by}
 use Rattle.pt_run.specs.Step.{step}
-use Rattle.pt_run.specs.Run.{DebuggerAnswer, Debugger, Session, Move, moves, stops, halts, move, Outcome, Runs, events, replies_apart, nobody}
-use Rattle.pt_run.specs.Follows.{Follows}
+use Rattle.pt_run.specs.Run.{Debugger, Session, Move, moves, halts, move, Outcome, Runs, events, replies_apart, nobody}
 
 module _ {D S N V W : Type 0} (machine : Machine S V) (host : Host N V W) (ask : Debugger D N V W) where
   abbrev pub HasOneOutcome : (n : ℕ) → Session D S N V W → Type 0

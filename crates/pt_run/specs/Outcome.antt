@@ -1,5 +1,5 @@
 -- What comes of a run: what it writes and tells, in order, and how it ends.
-use Rattle.std.specs.Prelude.{ℕ, List, Bool, Option}
+use Rattle.std.specs.Prelude.{ℕ, List, Option}
 use Rattle.pt_base.specs.declared.what.What.{What}
 use Rattle.pt_control.specs.Turn.{Mark}
 use Rattle.pt_run.specs.Machine.{BlockId, Reason}

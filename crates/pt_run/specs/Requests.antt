@@ -9,7 +9,7 @@ use Rattle.pt_run.specs.Rows.{row_at, put_at}
 use Rattle.pt_run.specs.Tools as Tool
 use Rattle.pt_run.specs.Host as H
 use Rattle.pt_run.specs.Host.{Host, Hook, Store, Opening, BlockResult, How, by_next, by_send, by_throw, by_close, GeneratorResult, ends_by, cannot, is_running, is_fresh, is_finished, Request, Response, Failure, too_deep, generator_exit}
-use Rattle.pt_run.specs.State.{Activation, OpenYield, Pending, starting, going, going_on, Telling, Hearing, Rest, of_ask, of_hook, Purpose, for_block, for_generator, Opener, Generator, fresh, suspended, running, finished, Phase, telling, State, at, by_rest, is_full, store, begin}
+use Rattle.pt_run.specs.State.{Activation, OpenYield, Pending, starting, going, going_on, Hearing, Rest, of_ask, of_hook, Purpose, for_block, for_generator, Opener, Generator, fresh, suspended, running, finished, Phase, telling, State, at, by_rest, is_full, store, begin}
 use Rattle.pt_run.specs.Views.{here_of, frame_numbered, visible_numbers, new_names, new_trace, new_lines, change_frame}
 
 abbrev pub is_tracer : Hook → Bool

@@ -1,12 +1,12 @@
 -- A run under a bound on acts, with a debugger that is asked at events (Language Reference 4; bounded evaluation).
-use Rattle.std.specs.Prelude.{ℕ, List, [], ◌∷◌, ◌++◌, map, Bool, true, false, Option, Some, None}
+use Rattle.std.specs.Prelude.{ℕ, List, [], ◌∷◌, ◌++◌, map, Bool, true, false}
 use Rattle.pt_control.specs.Turn.{Mark}
 use Rattle.pt_run.specs.Machine.{BlockId, Machine}
 use Rattle.pt_run.specs.Events.{Event}
 use Rattle.pt_run.specs.Host.{Host}
 use Rattle.pt_run.specs.State.{Telling, State}
 use Rattle.pt_run.specs.Views.{view}
-use Rattle.pt_run.specs.Outcome.{Output, begins, prints, gives, logs, replies, refuses, View, Ending, Question, Advice, go, Step, goes, consults, ends, is_stuck}
+use Rattle.pt_run.specs.Outcome.{Output, begins, prints, gives, logs, replies, View, Ending, Question, Advice, go, Step, goes, consults, ends, is_stuck}
 use Rattle.pt_run.specs.Hooks.{take_advice}
 use Rattle.pt_run.specs.Step.{step}
 

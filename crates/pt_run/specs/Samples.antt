@@ -1,10 +1,10 @@
 -- Scripts to follow runs by, what the host answers in them, and what is told.
-use Rattle.std.specs.Prelude.{ℕ, ◌^◌, List, [], ◌∷◌, true, false, codes, Some, None}
+use Rattle.std.specs.Prelude.{ℕ, List, [], ◌∷◌, true, false, codes, Some, None}
 use Rattle.pt_tree.specs.Syntax as S
 use Rattle.pt_tree.specs.Syntax.{Name, Exp, Args, Stm, Stms, none, more}
 use Rattle.pt_run.specs.Machine.{into_block, out_of_finally}
 use Rattle.pt_run.specs.Outcome.{go, jump_to}
-use Rattle.pt_run.specs.Cues.{Cue, value, exception, no_more, truth, runs, makes, resumes, tries, traces, tells_tool, jumps, value_error, Plan, TraceRow, event, log_line, reply, hook, refusal}
+use Rattle.pt_run.specs.Cues.{Cue, value, exception, no_more, truth, runs, makes, resumes, throws, tries, traces, tells_tool, Plan, TraceRow, event, log_line, reply, hook, refusal}
 
 abbrev pub call : (line : ℕ) → Name → Stm
 call l f = S.expr l (S.call l (S.name l f) S.no_args)
@@ -100,6 +100,34 @@ abbrev pub catching_events : List TraceRow
 catching_events =
     event 0 2 ∷ event 9 3 ∷ event 9 4 ∷ event 9 5 ∷ event 14 5 ∷ event 9 6 ∷ event 3 6
     ∷ event 11 7 ∷ event 6 7 ∷ event 9 7 ∷ event 1 6 ∷ event 2 6 ∷ event 15 7 ∷ event 11 7 ∷ event 2 7 ∷ []
+
+-- 1 s()
+-- 2 def g():
+-- 3     try:
+-- 4         yield v
+-- 5     except e:
+-- 6         yield v
+-- 7 g()
+-- 8 n()
+-- 9 t()
+abbrev pub throwing : Stms
+throwing =
+    more (call 1 (codes "s"))
+    (more (function 2 1 (codes "g") (more (S.try 3 (more (yield 4) none) (S.handler 5 (S.given (S.name 5 (codes "e"))) None (more (yield 6) none) S.no_handlers) none none) none))
+    (more (call 7 (codes "g")) (more (call 8 (codes "n")) (more (call 9 (codes "t")) none))))
+
+-- the trace function 9 is set, g is made, and goes on by `next`, told to 9 at its call, two lines and its yield; then 7 is thrown to it, told to 9 at
+-- that call; at the exception 9 raises 8, which the handler takes
+abbrev pub throwing_cues : List Cue
+throwing_cues =
+    traces (Some 9) ∷ makes 1 ∷ resumes 0 ∷ value 9 ∷ value 9 ∷ value 9 ∷ value 9
+    ∷ throws 0 7 ∷ value 9 ∷ exception 8 ∷ truth true ∷ []
+
+-- from the throw on: it is told, and arises at line 4; then the handler's line, and that it takes 8; the line of its yield, and the yield
+abbrev pub throwing_rows : List TraceRow
+throwing_rows =
+    event 4 4 ∷ log_line 4 ∷ hook 9 ∷ event 12 4 ∷ log_line 4 ∷ hook 9 ∷ event 9 5 ∷ log_line 5 ∷ event 14 5
+    ∷ event 9 6 ∷ log_line 6 ∷ event 3 6 ∷ log_line 6 ∷ event 2 9 ∷ log_line 9 ∷ []
 
 -- 1 def g():
 -- 2     yield v

@@ -1,6 +1,5 @@
 -- The state of a run: open activations, generators, hooks that are being asked, and what waits for each (Language Reference 4.1).
-use Rattle.std.specs.Prelude.{ℕ, zero, suc, nat_le, List, [], ◌∷◌, length, Bool, true, false, ◌||◌, Option, Some, None}
-use Rattle.pt_control.specs.Turn as T
+use Rattle.std.specs.Prelude.{ℕ, suc, nat_le, List, [], ◌∷◌, length, Bool, true, false, ◌||◌, Option, None}
 use Rattle.pt_control.specs.Turn.{Ask, Answer, Reply, End}
 use Rattle.pt_run.specs.Machine.{BlockId, Machine}
 use Rattle.pt_run.specs.Events.{Happening, starts, Event}

@@ -10,7 +10,7 @@ use Rattle.pt_run.specs.Events as Told
 use Rattle.pt_run.specs.Events.{Happening, Event}
 use Rattle.pt_run.specs.Host as H
 use Rattle.pt_run.specs.Host.{Host, Frame, Store, BlockResult, GeneratorResult, gives_on, Answering, Finding, Callee, stop_iteration, Leaving}
-use Rattle.pt_run.specs.State.{Activation, OpenAsk, OpenYield, Pending, starting, doing, going, giving_on, going_on, ending, Telling, Hearing, Rest, of_ask, of_hook, Purpose, for_block, for_generator, Opener, Generator, suspended, finished, Phase, turning, telling, asking, answering, hearing, closing, State, at, is_silent, store, with_store, in_state}
+use Rattle.pt_run.specs.State.{Activation, OpenAsk, OpenYield, Pending, starting, doing, going, giving_on, going_on, ending, Hearing, Rest, of_ask, of_hook, Purpose, for_block, for_generator, Opener, suspended, finished, Phase, turning, telling, asking, answering, hearing, closing, State, at, is_silent, store, with_store, in_state}
 use Rattle.pt_run.specs.Views.{here_of, active, visible_line, frames_of_trace}
 use Rattle.pt_run.specs.Outcome as O
 use Rattle.pt_run.specs.Outcome.{Output, begins, prints, gives, Ending, Step, goes, ends, is_stuck}

@@ -1,5 +1,5 @@
 -- Frames as they are looked at and changed (Library Reference, sys._getframe; Language Reference 3.2, "Frame objects").
-use Rattle.std.specs.Prelude.{ℕ, ◌==◌, List, [], ◌∷◌, ◌++◌, map, Bool, true, false, Option, Some, None, if◌then◌else◌}
+use Rattle.std.specs.Prelude.{ℕ, ◌==◌, List, [], ◌∷◌, ◌++◌, map, Bool, Option, Some, None, if◌then◌else◌}
 use Rattle.pt_control.specs.Bases.{or_else}
 use Rattle.pt_run.specs.Machine.{BlockId, Machine}
 use Rattle.pt_run.specs.Host.{Frame, FrameView, Here, Entry}

@@ -1,7 +1,7 @@
 //! Laws of runs, each the contract of a function that does nothing.
 
 ghost use Rattle.std.specs.Prelude.{ℕ};
-ghost use Rattle.pt_run.specs.Follows.{By, Follows, Related};
+ghost use Rattle.pt_run.specs.Follows.{By, Follows, NeverMoves, Related, slowly};
 ghost use Rattle.pt_run.specs.Host.{Host};
 ghost use Rattle.pt_run.specs.Laws.{GoesOn, HasOneOutcome, HaveTheSameRuns, HidesBlocks, HidesHooks, IsAsAlone, NeverHalts, ResumesAsItWas, SuspendsAsItIs};
 ghost use Rattle.pt_run.specs.Machine.{BlockId, Machine};
@@ -54,4 +54,11 @@ pub fn a_debugger_that_only_looks_changes_nothing<D, S, N, V, W>()
 #[tactic(auto, using(crate::proofs::Runs::have_the_same_runs))]
 pub fn machines_that_follow_each_other_have_the_same_runs<D, S, R, N, V, W, P, Q>()
     ensures { (first : Machine S V) (second : Machine R V) (at : P → Related S R) (stands : Q → Related S R) → Follows first second (By at) (By stands) → (host : Host N V W) (ask : Debugger D N V W) (n : ℕ) (block : BlockId) (names : N) (world : W) (d : D) → HaveTheSameRuns first second host ask n block names world d }
+{}
+
+/// So a machine that never moves silently and is never stuck has the runs of the one that moves
+/// silently before each of its turns.
+#[tactic(auto, using(crate::proofs::Slowly::runs_slowly))]
+pub fn silent_moves_change_nothing<D, S, N, V, W>()
+    ensures { (machine : Machine S V) → NeverMoves machine → (host : Host N V W) (ask : Debugger D N V W) (n : ℕ) (block : BlockId) (names : N) (world : W) (d : D) → HaveTheSameRuns machine (slowly machine) host ask n block names world d }
 {}

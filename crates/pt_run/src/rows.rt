@@ -2,7 +2,7 @@
 
 ghost use Rattle.std.specs.Prelude.{◌≡◌, [], ◌∷◌, true, false, replicate};
 ghost use Rattle.pt_control.specs.Samples.{generating, jumping, nested, on_one_line};
-ghost use Rattle.pt_run.specs.Samples.{bad_jumps, catching, catching_answers, catching_events, good_jump, nested_call, one_item, order_at_5, pass_alone, raising, raising_call, raising_events, refused_at_1, refused_at_6, resuming, resuming_answers, resuming_rows, running_hook, running_hook_rows, stop_at_5, two_items, two_rounds, with_hooks, with_hooks_answers};
+ghost use Rattle.pt_run.specs.Samples.{bad_jumps, catching, catching_answers, catching_events, good_jump, nested_call, one_item, order_at_5, pass_alone, raising, raising_call, raising_events, refused_at_1, refused_at_6, resuming, resuming_answers, resuming_rows, running_hook, running_hook_rows, stop_at_5, throwing, throwing_cues, throwing_rows, two_items, two_rounds, with_hooks, with_hooks_answers};
 ghost use Rattle.pt_run.specs.Cues.{behind_event, ends_done, ends_spent, event_rows, from_event, lines_of, lines_with, rows_of_run, trace_of};
 ghost use Rattle.pt_run.specs.State.{Opener, State, is_full};
 
@@ -24,9 +24,11 @@ pub fn the_order_at_an_event_is_followed()
 {}
 
 /// A trace function that raises in a generator whose body catches it: the generator goes on, and is
-/// told of no more; then one that has the generator go on under it, and gets an error.
+/// told of no more. Then one that raises while an exception waits that was thrown to the generator,
+/// and one that has the generator go on under it, and gets an error.
 pub fn hooks_in_generators_are_followed()
     ensures catches { from_event 0 2 (event_rows (trace_of catching 1000 catching_answers []).outputs) ≡ catching_events }
+    ensures throws { from_event 4 4 (rows_of_run throwing throwing_cues []) ≡ throwing_rows }
     ensures resumes { from_event 9 2 (rows_of_run resuming resuming_answers []) ≡ resuming_rows }
 {}
 
