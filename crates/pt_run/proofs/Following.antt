@@ -1,5 +1,5 @@
 -- Steps of two runs whose machines follow each other: from states that stand for each other the same comes.
-use Rattle.std.proofs.Common.{◌≡◌, ℕ, ◌+◌, suc, ℤ, List, [], ◌∷◌, ◌++◌, length, map, Bool, true, false, ◌||◌, Option, Some, None, refl, ap, ◌∙◌, subst, if◌then◌else◌}
+use Rattle.std.proofs.Common.{◌≡◌, ℕ, ◌+◌, suc, ℤ, List, [], ◌∷◌, ◌++◌, length, map, Bool, true, false, ◌||◌, ◌&&◌, Option, Some, None, refl, ap, ◌∙◌, subst, if◌then◌else◌}
 use Rattle.std.specs.Prelude.{nat_le, nat_lt, ◌==◌}
 use Rattle.pt_base.specs.declared.what.What.{What}
 use Rattle.pt_base.specs.declared.what.What.TheVariants.{Exit}
@@ -248,8 +248,8 @@ module _ {S R N V W : Type 0} (first : Machine S V) (second : Machine R V) (host
       Stands f.block c t → SamePurpose first second At f.block u u' → (os : List (Opener S N V W)) (ps : List (Opener R N V W)) → SameOpeners first second At Stands os ps →
       SameBelow (from_hook first host k l z (record { activation = act_of f c n j; purpose = u }) os) (from_hook second host k l z' (record { activation = act_of f t n j; purpose = u' }) ps)
   same_from_hook k l _ _ f c t n j u u' (same_hearing h _ _ (same_telling e hs bs w w' q)) s i os ps r =
-      if_below (is_tracer h) _ _ _ _ (if_below (is_line e.what) _ _ _ _ (if_below (f.number == k) _ _ _ _ (same_to_line (line_number l) f c t n j u u' s i os ps r) (same_cannot not_newest)) (same_cannot not_at_line))
-      (same_cannot not_at_line)
+      if_below (is_tracer h && is_line e.what) _ _ _ _
+      (if_below (f.number == k) _ _ _ _ (same_to_line (line_number l) f c t n j u u' s i os ps r) (same_cannot not_newest)) (same_cannot not_at_line)
 
   same_jump_below : (k : ℕ) (l : ℤ) (os : List (Opener S N V W)) (ps : List (Opener R N V W)) → SameOpeners first second At Stands os ps →
       SameBelow (jump_below first host k l os) (jump_below second host k l ps)

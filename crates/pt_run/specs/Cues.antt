@@ -1,6 +1,8 @@
--- A host of answers that are given in order, to follow runs by: all values are numbers, 0 is None, names are left out, and the world is what is
+-- A host of answers that are given in order, to follow runs by: all values are numbers, 0 is None, names are left out, and the
+-- world is what is
 -- answered next. Asks that need no answer of the list get a number at once.
-use Rattle.std.specs.Prelude.{ℕ, zero, suc, ◌==◌, ◌&&◌, pos, List, [], ◌∷◌, ◌++◌, Bool, true, false, Option, Some, None, if◌then◌else◌}
+use Rattle.std.specs.Prelude.{ℕ, zero, suc, ◌==◌, ◌&&◌, pos, List, [], ◌∷◌, ◌++◌, Bool, true, false, Option, Some, None}
+use Rattle.std.specs.Prelude.{if◌then◌else◌}
 use Rattle.pt_tree.specs.Blocks as B
 use Rattle.pt_tree.specs.Blocks.{Block, Code, blocks_script}
 use Rattle.pt_tree.specs.Syntax.{Stms, none}
@@ -12,7 +14,9 @@ use Rattle.pt_run.specs.Rows.{row_at}
 use Rattle.pt_run.specs.Events.{Event, bit, is_line}
 use Rattle.pt_run.specs.Tools as Tool
 use Rattle.pt_run.specs.Host as H
-use Rattle.pt_run.specs.Host.{Store, Opening, How, by_next, by_throw, GeneratorResult, gives_on, ends_by, cannot, Response, Answering, answer, raise, print, request, Item, an_item, no_item, Finding, Here, Failure, Hook, tool, tracer, Host, BlockResult}
+use Rattle.pt_run.specs.Host.{Store, Opening, How, by_next, by_throw, GeneratorResult, gives_on, ends_by, cannot, Response}
+use Rattle.pt_run.specs.Host.{Answering, answer, raise, print, request, Item, an_item, no_item, Finding, Here, Failure, Hook, tool}
+use Rattle.pt_run.specs.Host.{tracer, Host, BlockResult}
 use Rattle.pt_run.specs.State.{start}
 use Rattle.pt_run.specs.Outcome as O
 use Rattle.pt_run.specs.Outcome.{Output, gives, View, Question, about, Advice, go}
@@ -270,7 +274,8 @@ lines [] = []
 lines (gives e ∷ os) = if is_line e.what then e.line ∷ lines os else lines os
 lines (o ∷ os) = lines os
 
--- what is told, as it is shown: an event by its bit and line, the log's line and a debugger's reply by their numbers, a hook by that of its function, and
+-- what is told, as it is shown: an event by its bit and line, the log's line and a debugger's reply by their numbers, a hook by
+-- that of its function, and
 -- a jump that is refused
 pub data TraceRow : Type 0 where
   event : (bit line : ℕ) → TraceRow

@@ -47,7 +47,8 @@ bit (raises_again v) = 13
 bit (handled v) = 14
 bit (stops v) = 15
 
--- what happens where: the frame and its line, the block, the act that runs or the last one done, and whether the frame is a generator's
+-- what happens where: the frame and its line, the block, the act that runs or the last one done, and whether the frame is a
+-- generator's
 pub record Event (V : Type 0) : Type 0 where
   pub what : Happening V
   pub frame : ℕ

@@ -1,4 +1,5 @@
--- When one machine follows another: from states that stand for each other each turn, each jump and each reply leads to such states again (simulation).
+-- When one machine follows another: from states that stand for each other each turn, each jump and each reply leads to such states
+-- again (simulation).
 -- The machine that follows may move silently before its turn; the other one doesn't.
 use Rattle.std.specs.Prelude.{◌≡◌, ℕ, Option}
 use Rattle.pt_control.specs.Turn as T
@@ -35,7 +36,8 @@ module _ {S R V : Type 0} (first : Machine S V) (second : Machine R V) (At : Blo
     same_landing : (to : S) (to' : R) (f : V → S) (f' : V → R) → Stands b to to' → ((v : V) → Nears b (f v) (f' v)) →
         SameJump Stands b (lands to f) (lands to' f')
 
-  -- At relates states whose turns are alike; Stands those that hooks may look at: the starts of blocks, the places of acts and notes, and where jumps land
+  -- At relates states whose turns are alike; Stands those that hooks may look at: the starts of blocks, the places of acts and
+  -- notes, and where jumps land
   pub record Follows (Stands : BlockId → S → R → Type 0) : Type 0 where
     pub turns : (b : BlockId) (c : S) (t : R) → At b c t → SameTurn b (first.turn b c) (second.turn b t)
     pub stands : (b : BlockId) (c : S) (t : R) → At b c t → Stands b c t

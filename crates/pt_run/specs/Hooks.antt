@@ -5,12 +5,15 @@ use Rattle.pt_control.specs.Turn as T
 use Rattle.pt_control.specs.Turn.{End, gave, left_by}
 use Rattle.pt_run.specs.Machine as M
 use Rattle.pt_run.specs.Machine.{Machine, Reason, not_at_line, Jump}
-use Rattle.pt_run.specs.Events.{Happening, unwinds, Event, bit, TraceKind, a_call, a_line, a_return, an_exception, trace_kind, is_line, is_for_debugger}
+use Rattle.pt_run.specs.Events.{Happening, unwinds, Event, bit, TraceKind, a_call, a_line, a_return, an_exception, trace_kind}
+use Rattle.pt_run.specs.Events.{is_line, is_for_debugger}
 use Rattle.pt_run.specs.Tools.{Location, is_local, wants, switch_off, without}
 use Rattle.pt_run.specs.Host.{Host, Frame, Hook, log, debugger, landing, refusal, tool, tracer, not_local}
-use Rattle.pt_run.specs.State.{Pending, starting, doing, going, giving_on, going_on, ending, Telling, Hearing, turning, telling, asking, hearing, closing, State, at, in_state, in_frame, store}
+use Rattle.pt_run.specs.State.{Pending, starting, doing, going, giving_on, going_on, ending, Telling, Hearing, turning, telling}
+use Rattle.pt_run.specs.State.{asking, hearing, closing, State, at, in_state, in_frame, store}
 use Rattle.pt_run.specs.Views.{line_of, here_of}
-use Rattle.pt_run.specs.Outcome.{Output, logs, refuses, about, about_landing, about_refusal, quit, Advice, go, jump_to, give_up, Step, goes, consults, ends}
+use Rattle.pt_run.specs.Outcome.{Output, logs, refuses, about, about_landing, about_refusal, quit, Advice, go, jump_to, give_up}
+use Rattle.pt_run.specs.Outcome.{Step, goes, consults, ends}
 use Rattle.pt_run.specs.Requests.{land_here}
 
 -- the order in which an event is told
@@ -19,14 +22,16 @@ all_hooks = log ∷ debugger ∷ tool 0 ∷ tool 1 ∷ tool 2 ∷ tool 3 ∷ too
 
 -- the world once an exception has come to a frame: it gets an entry of its traceback where the frame is visible
 abbrev pub world_with_entry : {N V W : Type 0} → Host N V W → V → Frame N V → W → W
-world_with_entry host v f w = if f.block.hidden then w else host.enters v (record { frame = f.number; line = line_of host.first_line f }) w
+world_with_entry host v f w =
+    if f.block.hidden then w else host.enters v (record { frame = f.number; line = line_of host.first_line f }) w
 
 -- a trace function that raises is unset
 abbrev pub trace_unless : {V : Type 0} → Hook → Option V → Option V
 trace_unless tracer f = None
 trace_unless h f = f
 
--- the trace function that is due in a frame: the global one at a call, else the frame's own where there is a global one, for lines if they are traced
+-- the trace function that is due in a frame: the global one at a call, else the frame's own where there is a global one, for lines
+-- if they are traced
 abbrev pub own_trace : {N V : Type 0} → TraceKind → (global : V) → Frame N V → Option V
 own_trace a_call g f = Some g
 own_trace a_line g f = if f.traces_lines then f.trace else None
@@ -36,7 +41,8 @@ abbrev pub trace_due : {N V : Type 0} → Option TraceKind → (global : Option 
 trace_due (Some k) (Some g) f = own_trace k g f
 trace_due k g f = None
 
--- the trace function of a frame behind an answer v: the answer to a call is it, or that there is none; another one replaces it unless it is None, but
+-- the trace function of a frame behind an answer v: the answer to a call is it, or that there is none; another one replaces it
+-- unless it is None, but
 -- that to a return
 abbrev pub trace_behind : {V : Type 0} → Option TraceKind → (answer : Option V) → (trace : Option V) → Option V
 trace_behind (Some a_call) v f = v
@@ -65,7 +71,8 @@ module _ {S N V W : Type 0} (machine : Machine S V) (host : Host N V W) where
   abbrev pub enter_frame : V → State S N V W → State S N V W
   enter_frame v s = record s { world = world_with_entry host v s.here.frame s.world }
 
-  -- a raise of a hook takes the place of what waits, and isn't told there; where the block was about to end by an exception nothing more is told
+  -- a raise of a hook takes the place of what waits, and isn't told there; where the block was about to end by an exception nothing
+  -- more is told
   abbrev pub instead_of : Pending S V → V → State S N V W → State S N V W
   instead_of starting v s = at (telling (unwinds v ∷ []) (ending (left_by v))) s
   instead_of (doing q) v s = at turning (in_state (q.next (T.raised v)) s)
@@ -118,7 +125,8 @@ module _ {S N V W : Type 0} (machine : Machine S V) (host : Host N V W) where
   take_advice give_up t s = ends quit
 
   abbrev pub trace_by_answer : Option TraceKind → V → State S N V W → State S N V W
-  trace_by_answer k v s = record s { here = in_frame (record s.here.frame { trace = trace_behind k (host.unless_null v) s.here.frame.trace }) s.here }
+  trace_by_answer k v s =
+      record s { here = in_frame (record s.here.frame { trace = trace_behind k (host.unless_null v) s.here.frame.trace }) s.here }
 
   abbrev pub refuse_disable : Location → Hearing S V → V × W → State S N V W → State S N V W
   refuse_disable l h (e, w) s = raise_of_hook h e (record s { world = w; tools = without l s.tools })

@@ -4,7 +4,8 @@ use Rattle.pt_control.specs.Turn as T
 use Rattle.pt_run.specs.Machine.{BlockId, Machine}
 use Rattle.pt_run.specs.Rows.{put_at}
 use Rattle.pt_run.specs.Host.{Host, How, GeneratorResult}
-use Rattle.pt_run.specs.State.{Activation, OpenYield, giving_on, Rest, Opener, for_generator, Generator, suspended, telling, State, is_full, hook_runs, start}
+use Rattle.pt_run.specs.State.{Activation, OpenYield, giving_on, Rest, Opener, for_generator, Generator, suspended, telling, State}
+use Rattle.pt_run.specs.State.{is_full, hook_runs, start}
 use Rattle.pt_run.specs.Outcome.{Output, spent, Question, View, go, Step, goes, consults, ends, is_stuck}
 use Rattle.pt_run.specs.Requests.{resume_by}
 use Rattle.pt_run.specs.Step.{step}
@@ -17,7 +18,8 @@ module _ {D S N V W : Type 0} (machine : Machine S V) (host : Host N V W) (ask :
   -- the run of a bound gives these outputs first, if not others behind them
   pub data Begins (n : ℕ) : Move D S N V W → List (Output V) → Type 0 where
     so_far : (m : Move D S N V W) → Begins n m []
-    further : (os ps : List (Output V)) (x : Session D S N V W) → Begins n (move machine host ask n x) ps → Begins n (moves os x) (os ++ ps)
+    further : (os ps : List (Output V)) (x : Session D S N V W) → Begins n (move machine host ask n x) ps →
+        Begins n (moves os x) (os ++ ps)
 
   -- under a greater bound a run comes to the same outcome, unless it was spent; then it begins with the same outputs
   abbrev pub GoesOn : (n m : ℕ) → Session D S N V W → Type 0
@@ -44,7 +46,8 @@ HidesBlocks machine host n s = s.here.frame.block.hidden ≡ true → GivesNothi
 abbrev pub HidesHooks : {S N V W : Type 0} → Machine S V → Host N V W → (n : ℕ) → State S N V W → Type 0
 HidesHooks machine host n s = hook_runs s.openers ≡ true → GivesNothing machine host n s
 
--- a value that is given on closes the newest activation into its generator as it is, with its names, its line and its trace function
+-- a value that is given on closes the newest activation into its generator as it is, with its names, its line and its trace
+-- function
 abbrev pub generators_after : {S N V W : Type 0} → Step S N V W → List (Generator S N V)
 generators_after (goes os s) = s.generators
 generators_after x = []
@@ -81,6 +84,8 @@ abbrev pub session : {D S N V W : Type 0} → Machine S V → BlockId → N → 
 session machine b names w d = record { debugger = d; state = start machine b names w }
 
 -- machines that follow each other have the same runs
-abbrev pub HaveTheSameRuns : {D S R N V W : Type 0} → Machine S V → Machine R V → Host N V W → Debugger D N V W → (n : ℕ) → BlockId → N → W → D → Type 0
+abbrev pub HaveTheSameRuns : {D S R N V W : Type 0} → Machine S V → Machine R V → Host N V W → Debugger D N V W → (n : ℕ) →
+    BlockId → N → W → D → Type 0
 HaveTheSameRuns {D = D} {N = N} {V = V} {W = W} first second host ask n b names w d =
-    (o : Outcome D N V W) → Runs first host ask n (session first b names w d) o ↔ Runs second host ask n (session second b names w d) o
+    (o : Outcome D N V W) →
+    Runs first host ask n (session first b names w d) o ↔ Runs second host ask n (session second b names w d) o

@@ -1,5 +1,6 @@
 -- What a run does at a host's request.
-use Rattle.std.specs.Prelude.{ℕ, ◌+◌, ◌==◌, ℤ, pos, negsuc, List, [], ◌∷◌, ◌++◌, length, Bool, true, false, Option, Some, None, if◌then◌else◌}
+use Rattle.std.specs.Prelude.{ℕ, ◌+◌, ◌==◌, ◌&&◌, ℤ, pos, negsuc, List, [], ◌∷◌, ◌++◌, length, Bool, true, false, Option, Some, None}
+use Rattle.std.specs.Prelude.{if◌then◌else◌}
 use Rattle.pt_control.specs.Turn as T
 use Rattle.pt_control.specs.Turn.{Reply, got, End, left_by}
 use Rattle.pt_run.specs.Machine as M
@@ -8,8 +9,12 @@ use Rattle.pt_run.specs.Events.{Happening, starts, resumes, throws, is_line}
 use Rattle.pt_run.specs.Rows.{row_at, put_at}
 use Rattle.pt_run.specs.Tools as Tool
 use Rattle.pt_run.specs.Host as H
-use Rattle.pt_run.specs.Host.{Host, Hook, Store, Opening, BlockResult, How, by_next, by_send, by_throw, by_close, GeneratorResult, ends_by, cannot, is_running, is_fresh, is_finished, Request, Response, Failure, too_deep, generator_exit}
-use Rattle.pt_run.specs.State.{Activation, OpenYield, Pending, starting, going, going_on, Hearing, Rest, of_ask, of_hook, Purpose, for_block, for_generator, Opener, Generator, fresh, suspended, running, finished, Phase, telling, State, at, by_rest, is_full, store, begin}
+use Rattle.pt_run.specs.Host.{Host, Hook, Store, Opening, BlockResult, How, by_next, by_send, by_throw, by_close, GeneratorResult}
+use Rattle.pt_run.specs.Host.{ends_by, cannot, is_running, is_fresh, is_finished, Request, Response, Failure, too_deep}
+use Rattle.pt_run.specs.Host.{generator_exit}
+use Rattle.pt_run.specs.State.{Activation, OpenYield, Pending, starting, going, going_on, Hearing, Rest, of_ask, of_hook, Purpose}
+use Rattle.pt_run.specs.State.{for_block, for_generator, Opener, Generator, fresh, suspended, running, finished, Phase, telling}
+use Rattle.pt_run.specs.State.{State, at, by_rest, is_full, store, begin}
 use Rattle.pt_run.specs.Views.{here_of, frame_numbered, visible_numbers, new_names, new_trace, new_lines, change_frame}
 
 abbrev pub is_tracer : Hook → Bool
@@ -55,21 +60,25 @@ module _ {S N V W : Type 0} (machine : Machine S V) (host : Host N V W) where
       give r (length s.generators) (record s { generators = s.generators ++ fresh (begin machine o s.frames true) ∷ []; frames = s.frames + 1 })
 
   -- a generator's activation opens, and something is told of that
-  abbrev pub wake : (generator : ℕ) → Activation S N V → Happening V → Pending S V → Rest S N V W (GeneratorResult V) → State S N V W → State S N V W
+  abbrev pub wake : (generator : ℕ) → Activation S N V → Happening V → Pending S V → Rest S N V W (GeneratorResult V) →
+      State S N V W → State S N V W
   wake g a h p r s =
       if is_full s then fail_opening r (λ v. ends_by (left_by v)) (host.makes too_deep (here_of machine s) s.world) s
       else open_above a (telling (h ∷ []) p) (for_generator g r) (with_generator g running s)
 
   -- a fresh one starts with `next`, or where None is sent to it
-  abbrev pub send_early : Option V → (generator : ℕ) → Activation S N V → Rest S N V W (GeneratorResult V) → State S N V W → State S N V W
+  abbrev pub send_early : Option V → (generator : ℕ) → Activation S N V → Rest S N V W (GeneratorResult V) → State S N V W →
+      State S N V W
   send_early None g a r s = wake g a starts starting r s
   send_early (Some v) g a r s = give r (cannot is_fresh) s
 
-  abbrev pub throw_exit : (generator : ℕ) → Activation S N V → OpenYield S V → Rest S N V W (GeneratorResult V) → V × W → State S N V W → State S N V W
+  abbrev pub throw_exit : (generator : ℕ) → Activation S N V → OpenYield S V → Rest S N V W (GeneratorResult V) → V × W →
+      State S N V W → State S N V W
   throw_exit g a y r (v, w) s = wake g a (throws v) (going_on y (T.raised v)) r (in_world w s)
 
   -- how a generator goes on by its state (6.2.9); only `throw` and `close` finish one that has not started
-  abbrev pub resume_by : Option (Generator S N V) → How V → (generator : ℕ) → Rest S N V W (GeneratorResult V) → State S N V W → State S N V W
+  abbrev pub resume_by : Option (Generator S N V) → How V → (generator : ℕ) → Rest S N V W (GeneratorResult V) → State S N V W →
+      State S N V W
   resume_by (Some (fresh a)) by_next g r s = wake g a starts starting r s
   resume_by (Some (fresh a)) (by_send v) g r s = send_early (host.unless_null v) g a r s
   resume_by (Some (fresh a)) (by_throw v) g r s = give r (ends_by (left_by v)) (with_generator g finished s)
@@ -83,7 +92,8 @@ module _ {S N V W : Type 0} (machine : Machine S V) (host : Host N V W) where
   resume_by (Some finished) h g r s = give r (cannot is_finished) s
   resume_by None h g r s = give r (cannot is_finished) s
 
-  -- a trace function's jump: the frame at whose line event it was asked is in another state, what else was to be told there isn't, and the frame goes
+  -- a trace function's jump: the frame at whose line event it was asked is in another state, what else was to be told there isn't,
+  -- and the frame goes
   -- on from there
   abbrev pub land_hearing : S → (instead : V → S) → Hearing S V → Hearing S V
   land_hearing to f h = record h { telling = record h.telling { behind = []; pending = going to f } }
@@ -117,7 +127,8 @@ module _ {S N V W : Type 0} (machine : Machine S V) (host : Host N V W) where
 
   abbrev pub by_jump : (line : ℕ) → Opener S N V W → List (Opener S N V W) → Jump S V → JumpBelow S N V W
   by_jump l o os (M.refuses r) = cannot_jump r
-  by_jump l o os (M.lands to f) = changes (record { activation = land_in to l o.activation; purpose = land_purpose to f o.purpose } ∷ os)
+  by_jump l o os (M.lands to f) =
+      changes (record { activation = land_in to l o.activation; purpose = land_purpose to f o.purpose } ∷ os)
 
   abbrev pub to_line : Option ℕ → Opener S N V W → List (Opener S N V W) → JumpBelow S N V W
   to_line (Some l) o os = by_jump l o os (machine.jump o.activation.frame.block o.activation.state l)
@@ -126,10 +137,12 @@ module _ {S N V W : Type 0} (machine : Machine S V) (host : Host N V W) where
   -- the trace function, at a line event, in the frame of that event
   abbrev pub from_hook : (frame : ℕ) → ℤ → Hearing S V → Opener S N V W → List (Opener S N V W) → JumpBelow S N V W
   from_hook k l h o os =
-      if is_tracer h.hook then (if is_line h.telling.event.what then (if o.activation.frame.number == k then to_line (line_number l) o os else cannot_jump not_newest) else cannot_jump not_at_line)
+      if is_tracer h.hook && is_line h.telling.event.what
+      then (if o.activation.frame.number == k then to_line (line_number l) o os else cannot_jump not_newest)
       else cannot_jump not_at_line
 
-  abbrev pub by_hook : Option (Hearing S V) → (frame : ℕ) → ℤ → Opener S N V W → List (Opener S N V W) → (otherwise : JumpBelow S N V W) → JumpBelow S N V W
+  abbrev pub by_hook : Option (Hearing S V) → (frame : ℕ) → ℤ → Opener S N V W → List (Opener S N V W) →
+      (otherwise : JumpBelow S N V W) → JumpBelow S N V W
   by_hook (Some h) k l o os j = from_hook k l h o os
   by_hook None k l o os j = j
 

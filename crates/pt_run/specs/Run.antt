@@ -6,7 +6,8 @@ use Rattle.pt_run.specs.Events.{Event}
 use Rattle.pt_run.specs.Host.{Host}
 use Rattle.pt_run.specs.State.{Telling, State}
 use Rattle.pt_run.specs.Views.{view}
-use Rattle.pt_run.specs.Outcome.{Output, begins, prints, gives, logs, replies, View, Ending, Question, Advice, go, Step, goes, consults, ends, is_stuck}
+use Rattle.pt_run.specs.Outcome.{Output, begins, prints, gives, logs, replies, View, Ending, Question, Advice, go, Step, goes}
+use Rattle.pt_run.specs.Outcome.{consults, ends, is_stuck}
 use Rattle.pt_run.specs.Hooks.{take_advice}
 use Rattle.pt_run.specs.Step.{step}
 

@@ -4,7 +4,8 @@ use Rattle.pt_tree.specs.Syntax as S
 use Rattle.pt_tree.specs.Syntax.{Name, Exp, Args, Stm, Stms, none, more}
 use Rattle.pt_run.specs.Machine.{into_block, out_of_finally}
 use Rattle.pt_run.specs.Outcome.{go, jump_to}
-use Rattle.pt_run.specs.Cues.{Cue, value, exception, no_more, truth, runs, makes, resumes, throws, tries, traces, tells_tool, Plan, TraceRow, event, log_line, reply, hook, refusal}
+use Rattle.pt_run.specs.Cues.{Cue, value, exception, no_more, truth, runs, makes, resumes, throws, tries, traces, tells_tool, Plan}
+use Rattle.pt_run.specs.Cues.{TraceRow, event, log_line, reply, hook, refusal}
 
 abbrev pub call : (line : ℕ) → Name → Stm
 call l f = S.expr l (S.call l (S.name l f) S.no_args)
@@ -57,7 +58,8 @@ with_hooks =
     more (call 1 (codes "s")) (more (call 2 (codes "u")) (more (call 3 (codes "u"))
     (more (function 4 1 (codes "f") (more (S.pass 5) none)) (more (call 6 (codes "f")) none))))
 
--- 9 is the trace function; 44 and 22 are callbacks of the tools 4 and 2 for LINE, the latter from line 3 on; f is called, and 9 answers 9 to that and to
+-- 9 is the trace function; 44 and 22 are callbacks of the tools 4 and 2 for LINE, the latter from line 3 on; f is called, and 9
+-- answers 9 to that and to
 -- the line
 abbrev pub with_hooks_answers : List Cue
 with_hooks_answers =
@@ -91,11 +93,13 @@ catching =
     (more (function 2 1 (codes "g") (more (S.try 3 (more (yield 4) none) (S.handler 5 S.absent None (more (yield 6) none) S.no_handlers) none none) none))
     (more (S.for 7 (S.single (S.name_at 7 (codes "v"))) (S.call 7 (S.name 7 (codes "g")) S.no_args) (more (call 7 (codes "p")) none) none) none))
 
--- the trace function 9 is set, g is made and goes on; 9 answers 9 to its call and to line 3, and raises at line 4; the generator goes on once more
+-- the trace function 9 is set, g is made and goes on; 9 answers 9 to its call and to line 3, and raises at line 4; the generator
+-- goes on once more
 abbrev pub catching_answers : List Cue
 catching_answers = traces (Some 9) ∷ makes 1 ∷ resumes 0 ∷ value 9 ∷ value 9 ∷ exception 7 ∷ value 0 ∷ resumes 0 ∷ []
 
--- the generator's events: its start, lines 3 and 4, the handler's line, where it takes the exception, and the line of its yield; it goes on and ends
+-- the generator's events: its start, lines 3 and 4, the handler's line, where it takes the exception, and the line of its yield; it
+-- goes on and ends
 abbrev pub catching_events : List TraceRow
 catching_events =
     event 0 2 ∷ event 9 3 ∷ event 9 4 ∷ event 9 5 ∷ event 14 5 ∷ event 9 6 ∷ event 3 6
@@ -116,14 +120,16 @@ throwing =
     (more (function 2 1 (codes "g") (more (S.try 3 (more (yield 4) none) (S.handler 5 (S.given (S.name 5 (codes "e"))) None (more (yield 6) none) S.no_handlers) none none) none))
     (more (call 7 (codes "g")) (more (call 8 (codes "n")) (more (call 9 (codes "t")) none))))
 
--- the trace function 9 is set, g is made, and goes on by `next`, told to 9 at its call, two lines and its yield; then 7 is thrown to it, told to 9 at
+-- the trace function 9 is set, g is made, and goes on by `next`, told to 9 at its call, two lines and its yield; then 7 is thrown
+-- to it, told to 9 at
 -- that call; at the exception 9 raises 8, which the handler takes
 abbrev pub throwing_cues : List Cue
 throwing_cues =
     traces (Some 9) ∷ makes 1 ∷ resumes 0 ∷ value 9 ∷ value 9 ∷ value 9 ∷ value 9
     ∷ throws 0 7 ∷ value 9 ∷ exception 8 ∷ truth true ∷ []
 
--- from the throw on: it is told, and arises at line 4; then the handler's line, and that it takes 8; the line of its yield, and the yield
+-- from the throw on: it is told, and arises at line 4; then the handler's line, and that it takes 8; the line of its yield, and the
+-- yield
 abbrev pub throwing_rows : List TraceRow
 throwing_rows =
     event 4 4 ∷ log_line 4 ∷ hook 9 ∷ event 12 4 ∷ log_line 4 ∷ hook 9 ∷ event 9 5 ∷ log_line 5 ∷ event 14 5

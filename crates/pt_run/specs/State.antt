@@ -6,7 +6,8 @@ use Rattle.pt_run.specs.Events.{Happening, starts, Event}
 use Rattle.pt_run.specs.Tools.{Tools, no_tools}
 use Rattle.pt_run.specs.Host.{Store, Opening, BlockResult, GeneratorResult, Frame, Answering, Finding, Callee, Hook}
 
--- a block that runs: its frame, the machine's state, the number of the act that runs or of the last one done, and whether a jump came behind that
+-- a block that runs: its frame, the machine's state, the number of the act that runs or of the last one done, and whether a jump
+-- came behind that
 pub record Activation (S N V : Type 0) : Type 0 where
   pub frame : Frame N V
   pub state : S

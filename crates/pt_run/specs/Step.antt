@@ -1,4 +1,5 @@
--- One step of a run: the next act begins and takes a unit, or an event is told, or an act is done, or a result or the end of a block is passed on.
+-- One step of a run: the next act begins and takes a unit, or an event is told, or an act is done, or a result or the end of a
+-- block is passed on.
 use Rattle.std.specs.Prelude.{ℕ, suc, nat_lt, List, [], ◌∷◌, ◌++◌, map, Bool, true, false, Option, Some, None, if◌then◌else◌}
 use Rattle.pt_base.specs.declared.what.What.TheVariants.{Exit}
 use Rattle.pt_control.specs.Turn as T
@@ -9,8 +10,12 @@ use Rattle.pt_run.specs.Machine.{Machine}
 use Rattle.pt_run.specs.Events as Told
 use Rattle.pt_run.specs.Events.{Happening, Event}
 use Rattle.pt_run.specs.Host as H
-use Rattle.pt_run.specs.Host.{Host, Frame, Store, BlockResult, GeneratorResult, gives_on, Answering, Finding, Callee, stop_iteration, Leaving}
-use Rattle.pt_run.specs.State.{Activation, OpenAsk, OpenYield, Pending, starting, doing, going, giving_on, going_on, ending, Hearing, Rest, of_ask, of_hook, Purpose, for_block, for_generator, Opener, suspended, finished, Phase, turning, telling, asking, answering, hearing, closing, State, at, is_silent, store, with_store, in_state}
+use Rattle.pt_run.specs.Host.{Host, Frame, Store, BlockResult, GeneratorResult, gives_on, Answering, Finding, Callee}
+use Rattle.pt_run.specs.Host.{stop_iteration, Leaving}
+use Rattle.pt_run.specs.State.{Activation, OpenAsk, OpenYield, Pending, starting, doing, going, giving_on, going_on, ending}
+use Rattle.pt_run.specs.State.{Hearing, Rest, of_ask, of_hook, Purpose, for_block, for_generator, Opener, suspended, finished}
+use Rattle.pt_run.specs.State.{Phase, turning, telling, asking, answering, hearing, closing, State, at, is_silent, store}
+use Rattle.pt_run.specs.State.{with_store, in_state}
 use Rattle.pt_run.specs.Views.{here_of, active, visible_line, frames_of_trace}
 use Rattle.pt_run.specs.Outcome as O
 use Rattle.pt_run.specs.Outcome.{Output, begins, prints, gives, Ending, Step, goes, ends, is_stuck}
@@ -82,7 +87,8 @@ module _ {S N V W : Type 0} (machine : Machine S V) (host : Host N V W) where
   abbrev pub line_event : Mark → State S N V W → List (Happening V)
   line_event m s = if is_told (line_before s.here) m then Told.line s.here.behind_jump ∷ [] else []
 
-  abbrev pub events_before : Mark → (a : Ask V) → (Reply V (Answer V a) → S) → Option (Callee V) → State S N V W → List (Happening V)
+  abbrev pub events_before : Mark → (a : Ask V) → (Reply V (Answer V a) → S) → Option (Callee V) → State S N V W →
+      List (Happening V)
   events_before m a k c s = line_event m s ++ map (happening (leads_to a k s) host.null c) (E.before a)
 
   -- an act takes its unit, and its frame has its line
@@ -93,13 +99,15 @@ module _ {S N V W : Type 0} (machine : Machine S V) (host : Host N V W) where
   }
 
   abbrev pub act_with : Mark → (a : Ask V) → (Reply V (Answer V a) → S) → Option (Callee V) → State S N V W → State S N V W
-  act_with m a k c s = at (telling (events_before m a k c s) (doing (record { ask = a; next = k; is_act = true; callee = c }))) (take_unit m s)
+  act_with m a k c s =
+      at (telling (events_before m a k c s) (doing (record { ask = a; next = k; is_act = true; callee = c }))) (take_unit m s)
 
   -- what the machine's turn begins, where n units may be taken
   abbrev pub begin_turn : (n : ℕ) → Turn S V → State S N V W → Step S N V W
   begin_turn n (T.act (Some m) a k) s =
       if nat_lt s.units n then goes (begins s.here.frame.block m ∷ []) (act_with m a k (callee_of host a s.world) s) else ends O.spent
-  begin_turn n (T.act None a k) s = goes [] (at (telling [] (doing (record { ask = a; next = k; is_act = false; callee = None }))) s)
+  begin_turn n (T.act None a k) s =
+      goes [] (at (telling [] (doing (record { ask = a; next = k; is_act = false; callee = None }))) s)
   begin_turn n (T.note a k) s =
       goes [] (at (telling (map (happening 0 host.null None) (E.at_note a)) (going (k (got tt)) (λ v. k (raised v)))) s)
   begin_turn n (T.move c) s = goes [] (in_state c s)
@@ -108,9 +116,11 @@ module _ {S N V W : Type 0} (machine : Machine S V) (host : Host N V W) where
   begin_turn n T.stuck s = is_stuck
 
   abbrev pub reply_and_tell : (q : OpenAsk S V) → Reply V (Answer V q.ask) → List (Happening V) → State S N V W → State S N V W
-  reply_and_tell q r hs s = at (telling hs (going (q.next r) (λ v. q.next (raised v)))) (record s { world = world_behind host hs s.here.frame s.world })
+  reply_and_tell q r hs s =
+      at (telling hs (going (q.next r) (λ v. q.next (raised v)))) (record s { world = world_behind host hs s.here.frame s.world })
 
-  abbrev pub events_behind : (q : OpenAsk S V) → Reply V (Answer V q.ask) → (stop : List (Happening V)) → State S N V W → List (Happening V)
+  abbrev pub events_behind : (q : OpenAsk S V) → Reply V (Answer V q.ask) → (stop : List (Happening V)) → State S N V W →
+      List (Happening V)
   events_behind q r es s =
       of_call q.ask q.callee r ++ es ++ map (happening (destination (q.next r) s) host.null None) (E.after (active machine s) q.ask r)
 
@@ -123,12 +133,16 @@ module _ {S N V W : Type 0} (machine : Machine S V) (host : Host N V W) where
   begin_yield y v s = at (telling (Told.yields v ∷ []) (giving_on y v)) s
 
   -- what the host found for an ask
-  abbrev pub take_finding : (a : Ask V) → (Reply V (Answer V a) → S) → (is_act : Bool) → Option (Callee V) → Finding V a → State S N V W → State S N V W
-  take_finding (T.next_of i) k b c (H.an_item v) s = reply_to (record { ask = T.next_of i; next = k; is_act = b; callee = c }) (got (Some v)) [] s
-  take_finding (T.next_of i) k b c (H.no_item e) s = reply_to (record { ask = T.next_of i; next = k; is_act = b; callee = c }) (got None) (stop_event e) s
+  abbrev pub take_finding : (a : Ask V) → (Reply V (Answer V a) → S) → (is_act : Bool) → Option (Callee V) → Finding V a →
+      State S N V W → State S N V W
+  take_finding (T.next_of i) k b c (H.an_item v) s =
+      reply_to (record { ask = T.next_of i; next = k; is_act = b; callee = c }) (got (Some v)) [] s
+  take_finding (T.next_of i) k b c (H.no_item e) s =
+      reply_to (record { ask = T.next_of i; next = k; is_act = b; callee = c }) (got None) (stop_event e) s
   take_finding (T.delegate i r) k b c (H.passes_on v) s =
       begin_yield (record { ask = record { ask = T.delegate i r; next = k; is_act = b; callee = c }; reply = λ q. got (T.resumed q) }) v s
-  take_finding (T.delegate i r) k b c (H.ends_with v) s = reply_to (record { ask = T.delegate i r; next = k; is_act = b; callee = c }) (got (T.returned v)) [] s
+  take_finding (T.delegate i r) k b c (H.ends_with v) s =
+      reply_to (record { ask = T.delegate i r; next = k; is_act = b; callee = c }) (got (T.returned v)) [] s
   take_finding (T.seek a) k b c v s = reply_to (record { ask = T.seek a; next = k; is_act = b; callee = c }) (got v) [] s
   take_finding (T.deed a) k b c v s = reply_to (record { ask = T.deed a; next = k; is_act = b; callee = c }) (got v) [] s
   take_finding (T.leave a) k b c v s = reply_to (record { ask = T.leave a; next = k; is_act = b; callee = c }) (got v) [] s
@@ -136,7 +150,8 @@ module _ {S N V W : Type 0} (machine : Machine S V) (host : Host N V W) where
   take_finding (T.test a) k b c v s = reply_to (record { ask = T.test a; next = k; is_act = b; callee = c }) (got v) [] s
   take_finding (T.iter_of a) k b c v s = reply_to (record { ask = T.iter_of a; next = k; is_act = b; callee = c }) (got v) [] s
   take_finding (T.enter a) k b c v s = reply_to (record { ask = T.enter a; next = k; is_act = b; callee = c }) (got v) [] s
-  take_finding (T.unpack a n t) k b c v s = reply_to (record { ask = T.unpack a n t; next = k; is_act = b; callee = c }) (got v) [] s
+  take_finding (T.unpack a n t) k b c v s =
+      reply_to (record { ask = T.unpack a n t; next = k; is_act = b; callee = c }) (got v) [] s
 
   -- the host's answer to an ask goes on
   abbrev pub take_answer : (q : OpenAsk S V) → Answering N V W (Finding V q.ask) → State S N V W → Step S N V W
@@ -170,27 +185,34 @@ module _ {S N V W : Type 0} (machine : Machine S V) (host : Host N V W) where
   abbrev pub close_frame : State S N V W → State S N V W
   close_frame s = record s { past = s.here.frame ∷ s.past }
 
-  -- a value that is given on closes the activation into its generator, with all that it has; outside of one the ask goes on with None
+  -- a value that is given on closes the activation into its generator, with all that it has; outside of one the ask goes on with
+  -- None
   abbrev pub go_on_alone : OpenYield S V → State S N V W → State S N V W
   go_on_alone y s = reply_to y.ask (y.reply (got host.null)) [] s
 
-  abbrev pub give_on_for : Purpose S N V W → Opener S N V W → List (Opener S N V W) → OpenYield S V → V → State S N V W → State S N V W
-  give_on_for (for_generator g r) o os y v s = give machine host r (gives_on v) (return_to o os (with_generator g (suspended s.here y) s))
+  abbrev pub give_on_for : Purpose S N V W → Opener S N V W → List (Opener S N V W) → OpenYield S V → V → State S N V W →
+      State S N V W
+  give_on_for (for_generator g r) o os y v s =
+      give machine host r (gives_on v) (return_to o os (with_generator g (suspended s.here y) s))
   give_on_for (for_block r) o os y v s = go_on_alone y s
 
   abbrev pub give_on : List (Opener S N V W) → OpenYield S V → V → State S N V W → State S N V W
   give_on (o ∷ os) y v s = give_on_for o.purpose o os y v s
   give_on [] y v s = go_on_alone y s
 
-  -- the result of a block goes to what waits for it; a generator is finished then, and a StopIteration that leaves it becomes a RuntimeError (PEP 479)
-  abbrev pub finish_by : (generator : ℕ) → Rest S N V W (GeneratorResult V) → End V → Opener S N V W → List (Opener S N V W) → State S N V W → State S N V W
+  -- the result of a block goes to what waits for it; a generator is finished then, and a StopIteration that leaves it becomes a
+  -- RuntimeError (PEP 479)
+  abbrev pub finish_by : (generator : ℕ) → Rest S N V W (GeneratorResult V) → End V → Opener S N V W → List (Opener S N V W) →
+      State S N V W → State S N V W
   finish_by g r e o os s = give machine host r (H.ends_by e) (return_to o os (close_frame (with_generator g finished s)))
 
-  abbrev pub finish_by_stop : (generator : ℕ) → Rest S N V W (GeneratorResult V) → V × W → Opener S N V W → List (Opener S N V W) → State S N V W → State S N V W
+  abbrev pub finish_by_stop : (generator : ℕ) → Rest S N V W (GeneratorResult V) → V × W → Opener S N V W → List (Opener S N V W) →
+      State S N V W → State S N V W
   finish_by_stop g r (v, w) o os s = finish_by g r (left_by v) o os (record s { world = w })
 
   abbrev pub pass_result : Purpose S N V W → End V → Opener S N V W → List (Opener S N V W) → State S N V W → State S N V W
-  pass_result (for_block r) e o os s = give machine host r (record { end = e; names = s.here.frame.names }) (return_to o os (close_frame s))
+  pass_result (for_block r) e o os s =
+      give machine host r (record { end = e; names = s.here.frame.names }) (return_to o os (close_frame s))
   pass_result (for_generator g r) (gave v) o os s = finish_by g r (gave v) o os s
   pass_result (for_generator g r) (left_by v) o os s =
       if host.is_stop v s.world then finish_by_stop g r (host.makes (stop_iteration v) (here_of machine s) s.world) o os s else finish_by g r (left_by v) o os s

@@ -1,5 +1,6 @@
 -- The tools of sys.monitoring (PEP 669): which callback is due at an event, and what each call does.
-use Rattle.std.specs.Prelude.{ℕ, ◌==◌, ◌/◌, ◌%◌, ◌^◌, nat_lt, ℤ, pos, negsuc, List, [], ◌∷◌, Bool, not, ◌&&◌, ◌||◌, Option, Some, None, if◌then◌else◌}
+use Rattle.std.specs.Prelude.{ℕ, ◌==◌, ◌/◌, ◌%◌, ◌^◌, nat_lt, ℤ, pos, negsuc, List, [], ◌∷◌, Bool, not, ◌&&◌, ◌||◌, Option, Some}
+use Rattle.std.specs.Prelude.{None, if◌then◌else◌}
 use Rattle.std.specs.List.{list_any}
 use Rattle.pt_run.specs.Machine.{BlockId, same_block}
 use Rattle.pt_run.specs.Rows.{row_at, put_at}
@@ -8,7 +9,8 @@ use Rattle.pt_run.specs.Rows.{row_at, put_at}
 abbrev pub has : (set bit : ℕ) → Bool
 has s b = (s / 2 ^ b) % 2 == 1
 
--- those that have a place of their own, which a callback can switch off, and which a block's own set can have: not PY_THROW, PY_UNWIND, C_RETURN,
+-- those that have a place of their own, which a callback can switch off, and which a block's own set can have: not PY_THROW,
+-- PY_UNWIND, C_RETURN,
 -- C_RAISE, RAISE, RERAISE and EXCEPTION_HANDLED
 abbrev pub others : List ℕ
 others = 4 ∷ 5 ∷ 7 ∷ 8 ∷ 12 ∷ 13 ∷ 14 ∷ []
@@ -95,7 +97,8 @@ is_off l ls = list_any (same_location l) ls
 abbrev pub has_event : {V : Type 0} → Tool V → Location → Bool
 has_event t l = gives t.set l.bit || gives (local_set t.local l.block) l.bit
 
--- the callback of a tool that is due at a place: the tool's own set, or its set for the block, has the event, and the event isn't switched off there
+-- the callback of a tool that is due at a place: the tool's own set, or its set for the block, has the event, and the event isn't
+-- switched off there
 abbrev pub wants : {V : Type 0} → Tools V → Location → Option V
 wants ts l = if has_event (tool_at l.tool ts) l && not (is_off l ts.off) then callback (tool_at l.tool ts).callbacks l.bit else None
 
@@ -147,7 +150,8 @@ free_tool id ts = (done, with_tool id (record (tool_at id ts) { name = None }) t
 -- a set is given to a tool whose id is in use
 abbrev pub set_events : {V : Type 0} → (id set : ℕ) → Tools V → Option (List ℕ) → ToolResult V
 set_events id s ts None = (wrong not_in_use, ts)
-set_events id s ts (Some x) = if are_listed s then (done, with_tool id (record (tool_at id ts) { set = s }) ts) else (wrong bad_set, ts)
+set_events id s ts (Some x) =
+    if are_listed s then (done, with_tool id (record (tool_at id ts) { set = s }) ts) else (wrong bad_set, ts)
 
 abbrev pub set_local_events : {V : Type 0} → (id : ℕ) → BlockId → (set : ℕ) → Tools V → Option (List ℕ) → ToolResult V
 set_local_events id b s ts None = (wrong not_in_use, ts)

@@ -27,7 +27,8 @@ pub fn the_order_at_an_event_is_followed()
 /// told of no more. Then one that raises while an exception waits that was thrown to the generator,
 /// and one that has the generator go on under it, and gets an error.
 pub fn hooks_in_generators_are_followed()
-    ensures catches { from_event 0 2 (event_rows (trace_of catching 1000 catching_answers []).outputs) ≡ catching_events }
+    ensures catches { from_event 0 2
+        (event_rows (trace_of catching 1000 catching_answers []).outputs) ≡ catching_events }
     ensures throws { from_event 4 4 (rows_of_run throwing throwing_cues []) ≡ throwing_rows }
     ensures resumes { from_event 9 2 (rows_of_run resuming resuming_answers []) ≡ resuming_rows }
 {}
@@ -59,6 +60,8 @@ pub fn bounds_are_followed()
 
 /// A thousand activations may be open.
 pub fn the_most_activations_are_followed<S, N, V, W>()
-    ensures room { (s : State S N V W) (o : Opener S N V W) → is_full (record s { openers = replicate 998 o }) ≡ false }
-    ensures full { (s : State S N V W) (o : Opener S N V W) → is_full (record s { openers = replicate 999 o }) ≡ true }
+    ensures room { (s : State S N V W) (o : Opener S N V W)
+        → is_full (record s { openers = replicate 998 o }) ≡ false }
+    ensures full { (s : State S N V W) (o : Opener S N V W)
+        → is_full (record s { openers = replicate 999 o }) ≡ true }
 {}
