@@ -21,7 +21,7 @@ use Rattle.pt_run.specs.State.{start}
 use Rattle.pt_run.specs.Outcome as O
 use Rattle.pt_run.specs.Outcome.{Output, gives, View, Question, about, Advice, go}
 use Rattle.pt_run.specs.Source as Source
-use Rattle.pt_run.specs.Source.{Place}
+use Rattle.pt_run.specs.Source.{Position}
 use Rattle.pt_run.specs.Run as R
 use Rattle.pt_run.specs.Run.{DebuggerAnswer, Session, Move, moves, stops, halts, move}
 
@@ -201,7 +201,7 @@ source ss = record {
   around = λ b. numbers;
 }
 
-abbrev pub machine : Stms → Machine (Place ℕ) ℕ
+abbrev pub machine : Stms → Machine (Position ℕ) ℕ
 machine ss = Source.machine (source ss)
 
 -- a debugger of answers that are given in order, each at the next line event on its line or for the next jump
@@ -231,7 +231,7 @@ follow_plan (O.about_refusal r) v ps = next_plan ps
 
 -- so many moves of a run of at most n acts
 abbrev pub Follower : Type 0
-Follower = Session (List Plan) (Place ℕ) (Unit {0}) ℕ (List Cue)
+Follower = Session (List Plan) (Position ℕ) (Unit {0}) ℕ (List Cue)
 
 -- how a run that is followed ended, if it has
 pub data EndKind : Type 0 where
@@ -254,7 +254,7 @@ end_kind e = ends_otherwise
 abbrev pub behind : List (Output ℕ) → Trace → Trace
 behind os t = record t { outputs = os ++ t.outputs }
 
-abbrev pub on_move : (List (Output ℕ) → Follower → Trace) → Move (List Plan) (Place ℕ) (Unit {0}) ℕ (List Cue) → Trace
+abbrev pub on_move : (List (Output ℕ) → Follower → Trace) → Move (List Plan) (Position ℕ) (Unit {0}) ℕ (List Cue) → Trace
 on_move f (moves os x) = f os x
 on_move f (stops os d e) = record { outputs = os; end = end_kind e }
 on_move f halts = record { outputs = []; end = ends_otherwise }

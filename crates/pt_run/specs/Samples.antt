@@ -4,7 +4,7 @@ use Rattle.pt_tree.specs.Syntax as S
 use Rattle.pt_tree.specs.Syntax.{Name, Exp, Args, Stm, Stms, none, more}
 use Rattle.pt_run.specs.Machine.{into_block, out_of_finally}
 use Rattle.pt_run.specs.Outcome.{go, jump_to}
-use Rattle.pt_run.specs.Cues.{Cue, value, exception, no_more, truth, runs, makes, resumes, throws, tries, traces, tells_tool, Plan}
+use Rattle.pt_run.specs.Cues.{Cue, jumps, value, exception, no_more, truth, runs, makes, resumes, throws, tries, traces, tells_tool, Plan}
 use Rattle.pt_run.specs.Cues.{TraceRow, event, log_line, reply, hook, refusal}
 
 abbrev pub call : (line : ℕ) → Name → Stm
@@ -75,6 +75,15 @@ running_hook = traces (Some 9) ∷ value 0 ∷ value 0 ∷ runs 1 ∷ runs 1 ∷
 
 abbrev pub running_hook_rows : List TraceRow
 running_hook_rows = event 0 4 ∷ log_line 4 ∷ hook 9 ∷ event 9 5 ∷ log_line 5 ∷ event 2 5 ∷ log_line 5 ∷ event 2 6 ∷ log_line 6 ∷ []
+
+-- a debugger jumps at line 5 to line 5: nobody else is asked there, and then all but the debugger are
+abbrev pub jump_at_5 : List Plan
+jump_at_5 = record { line = 5; advice = jump_to 5 } ∷ []
+
+abbrev pub jump_at_5_rows : List TraceRow
+jump_at_5_rows =
+    event 9 5 ∷ log_line 5 ∷ reply 5 ∷ event 9 5 ∷ log_line 5 ∷ hook 22 ∷ hook 44 ∷ hook 9 ∷ event 2 5 ∷ log_line 5 ∷ hook 9
+    ∷ event 2 6 ∷ log_line 6 ∷ []
 
 -- a debugger stops at line 5 and lets the run go on
 abbrev pub stop_at_5 : List Plan
@@ -174,3 +183,53 @@ one_item = value 0 ∷ value 0 ∷ no_more ∷ []
 
 abbrev pub pass_alone : Stms
 pass_alone = more (S.pass 1) none
+
+-- 1 def t():
+-- 2     j()
+-- 3 def f():
+-- 4     a()
+-- 5     b()
+-- 6 s()
+-- 7 f()
+abbrev pub writing : Stms
+writing =
+    more (function 1 1 (codes "t") (more (call 2 (codes "j")) none))
+    (more (function 3 2 (codes "f") (more (call 4 (codes "a")) (more (call 5 (codes "b")) none)))
+    (more (call 6 (codes "s")) (more (call 7 (codes "f")) none)))
+
+-- the trace function 9 answers 9 to the call of f; at line 4 it runs t, which writes 5 to the `f_lineno` of f; at line 5 it is asked again
+abbrev pub writing_cues : List Cue
+writing_cues = traces (Some 9) ∷ runs 2 ∷ value 9 ∷ runs 1 ∷ jumps 1 5 ∷ value 9 ∷ []
+
+-- a isn't called, and b is
+abbrev pub writing_rows : List TraceRow
+writing_rows =
+    event 9 4 ∷ log_line 4 ∷ hook 9 ∷ event 9 5 ∷ log_line 5 ∷ hook 9 ∷ event 6 5 ∷ event 2 5 ∷ log_line 5 ∷ hook 9
+    ∷ event 2 7 ∷ log_line 7 ∷ []
+
+-- it writes to the module's `f_lineno`, which is not the frame of the event: the error leaves the trace function, f and the module
+abbrev pub writing_badly : List Cue
+writing_badly = traces (Some 9) ∷ runs 2 ∷ value 9 ∷ runs 1 ∷ jumps 0 7 ∷ []
+
+abbrev pub writing_badly_rows : List TraceRow
+writing_badly_rows =
+    event 9 4 ∷ log_line 4 ∷ hook 9 ∷ event 5 4 ∷ log_line 4 ∷ event 12 7 ∷ log_line 7 ∷ event 5 7 ∷ log_line 7 ∷ []
+
+-- 1 def g():
+-- 2     yield v
+-- 3 g()
+-- 4 try:
+-- 5     t()
+-- 6 except:
+-- 7     pass
+-- 8 n()
+abbrev pub throwing_early : Stms
+throwing_early =
+    more (function 1 1 (codes "g") (more (yield 2) none))
+    (more (call 3 (codes "g"))
+    (more (S.try 4 (more (call 5 (codes "t")) none) (S.handler 6 S.absent None (more (S.pass 7) none) S.no_handlers) none none)
+    (more (call 8 (codes "n")) none)))
+
+-- 7 is thrown to g, which has not started and so is finished; it doesn't go on
+abbrev pub throwing_early_cues : List Cue
+throwing_early_cues = makes 1 ∷ throws 0 7 ∷ tries 0 ∷ []

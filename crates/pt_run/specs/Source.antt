@@ -19,20 +19,20 @@ pub record Source (V : Type 0) : Type 0 where
   pub around : BlockId → Around V
 
 -- control is at what comes next, or at the statement where a jump has landed, before anything of it has begun
-pub data Place (V : Type 0) : Type 0 where
-  at : Control V → Place V
-  at_statement : Way V → Place V
+pub data Position (V : Type 0) : Type 0 where
+  at : Control V → Position V
+  at_statement : Way V → Position V
 
 abbrev pub or_null : {V : Type 0} → (null : V) → Option V → V
 or_null n (Some v) = v
 or_null n None = n
 
-abbrev pub place_turn : {V : Type 0} → Turn (Control V) V → Turn (Place V) V
-place_turn (T.act m a k) = T.act m a (λ r. at (k r))
-place_turn (T.note a k) = T.note a (λ r. at (k r))
-place_turn (T.move c) = T.move (at c)
-place_turn (T.over e) = T.over e
-place_turn T.stuck = T.stuck
+abbrev pub position_turn : {V : Type 0} → Turn (Control V) V → Turn (Position V) V
+position_turn (T.act m a k) = T.act m a (λ r. at (k r))
+position_turn (T.note a k) = T.note a (λ r. at (k r))
+position_turn (T.move c) = T.move (at c)
+position_turn (T.over e) = T.over e
+position_turn T.stuck = T.stuck
 
 abbrev pub reason : J.Verdict → Reason
 reason J.permitted = no_statement
@@ -40,7 +40,7 @@ reason J.no_statement = no_statement
 reason J.into_block = into_block
 reason J.out_of_finally = out_of_finally
 
-abbrev pub nest_of : {V : Type 0} → Place V → Nest V
+abbrev pub nest_of : {V : Type 0} → Position V → Nest V
 nest_of (at c) = C.nest_at c
 nest_of (at_statement k) = way_base k
 
@@ -49,18 +49,18 @@ number_or_all n (Some k) = k
 number_or_all n None = n
 
 module _ {V : Type 0} (source : Source V) where
-  abbrev pub control_of : BlockId → Place V → Control V
+  abbrev pub control_of : BlockId → Position V → Control V
   control_of b (at c) = c
   control_of b (at_statement k) = C.go (source.around b) k
 
-  abbrev pub jump_of : BlockId → J.Jumped V → Jump (Place V) V
+  abbrev pub jump_of : BlockId → J.Jumped V → Jump (Position V) V
   jump_of b (J.refused v) = refuses (reason v)
   jump_of b (J.lands k) = lands (at_statement k) (λ v. at (complete (source.around b) (by (raise v)) (way_base k)))
 
-  abbrev pub machine : Machine (Place V) V
+  abbrev pub machine : Machine (Position V) V
   machine = record {
     start = λ b i. at (start_code (source.around b) (source.code b) (or_null (source.around b).null i));
-    turn = λ b p. place_turn (C.turn (source.around b) (control_of b p));
+    turn = λ b p. position_turn (C.turn (source.around b) (control_of b p));
     jump = λ b p l. jump_of b (J.jump (source.code b) (nest_of p) l);
     active = λ p. B.active (nest_of p);
     destination = λ b p. number_or_all (length (acts_of_code (source.code b))) (E.destination (source.around b) (control_of b p));

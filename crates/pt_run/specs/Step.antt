@@ -1,5 +1,5 @@
 -- One step of a run: the next act begins and takes a unit, or an event is told, or an act is done, or a result or the end of a
--- block is passed on.
+-- block is passed on (Language Reference 4.1, 4.3, 6.2.9, 6.3.4; PEP 479, PEP 626, PEP 669).
 use Rattle.std.specs.Prelude.{ℕ, suc, nat_lt, List, [], ◌∷◌, ◌++◌, map, Bool, true, false, Option, Some, None, if◌then◌else◌}
 use Rattle.pt_base.specs.declared.what.What.TheVariants.{Exit}
 use Rattle.pt_control.specs.Turn as T

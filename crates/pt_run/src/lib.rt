@@ -13,6 +13,6 @@ pub use laws::{
 };
 pub use rows::{
     a_callee_that_raises_is_followed, a_debuggers_jumps_are_followed, a_hook_that_runs_is_followed,
-    bounds_are_followed, hooks_in_generators_are_followed, line_events_are_followed,
-    the_most_activations_are_followed, the_order_at_an_event_is_followed,
+    bounds_are_followed, hooks_in_generators_are_followed, jumps_drop_the_rest_of_an_event,
+    line_events_are_followed, the_most_activations_are_followed, the_order_at_an_event_is_followed,
 };

@@ -2,14 +2,17 @@
 
 ghost use Rattle.std.specs.Prelude.{◌≡◌, [], ◌∷◌, true, false, replicate};
 ghost use Rattle.pt_control.specs.Samples.{generating, jumping, nested, on_one_line};
-ghost use Rattle.pt_run.specs.Samples.{bad_jumps, catching, catching_answers, catching_events, good_jump, nested_call, one_item, order_at_5, pass_alone, raising, raising_call, raising_events, refused_at_1, refused_at_6, resuming, resuming_answers, resuming_rows, running_hook, running_hook_rows, stop_at_5, throwing, throwing_cues, throwing_rows, two_items, two_rounds, with_hooks, with_hooks_answers};
+ghost use Rattle.pt_run.specs.Samples.{bad_jumps, catching, catching_answers, catching_events, good_jump, jump_at_5, jump_at_5_rows, nested_call, one_item, order_at_5, pass_alone, raising, raising_call, raising_events, refused_at_1, refused_at_6, resuming, resuming_answers, resuming_rows, running_hook, running_hook_rows, stop_at_5, throwing, throwing_cues, throwing_early, throwing_early_cues, throwing_rows, two_items, two_rounds, with_hooks, with_hooks_answers, writing, writing_badly, writing_badly_rows, writing_cues, writing_rows};
 ghost use Rattle.pt_run.specs.Cues.{behind_event, ends_done, ends_spent, event_rows, from_event, lines_of, lines_with, rows_of_run, trace_of};
 ghost use Rattle.pt_run.specs.State.{Opener, State, is_full};
 
-/// The line events of a generator in a `for`, and of nested `finally` parts, with their callers.
+/// The line events of a generator in a `for`, of one to which something is thrown before it starts,
+/// and of nested `finally` parts, with their callers.
 pub fn line_events_are_followed()
     ensures generating { lines_of generating two_items ≡ 1 ∷ 4 ∷ 2 ∷ 5 ∷ 4 ∷ 3 ∷ 5 ∷ 4 ∷ [] }
     ensures on_one_line { lines_of on_one_line two_rounds ≡ 1 ∷ 2 ∷ 2 ∷ 2 ∷ [] }
+    ensures finished { lines_of throwing_early throwing_early_cues
+        ≡ 1 ∷ 3 ∷ 4 ∷ 5 ∷ 6 ∷ 7 ∷ 8 ∷ [] }
     ensures nested { lines_of nested nested_call ≡ 1 ∷ 11 ∷ 2 ∷ 3 ∷ 4 ∷ 5 ∷ 7 ∷ 9 ∷ 10 ∷ [] }
 {}
 
@@ -50,6 +53,15 @@ pub fn a_debuggers_jumps_are_followed()
     ensures made { lines_with jumping one_item good_jump ≡ 1 ∷ 2 ∷ 7 ∷ [] }
     ensures unit { (trace_of jumping 11 one_item good_jump).end ≡ ends_spent }
     ensures units { (trace_of jumping 12 one_item good_jump).end ≡ ends_done }
+{}
+
+/// A debugger's jump drops the rest of the event. A trace function's write to `f_lineno` of the frame
+/// that it is asked for is a jump too; one to another frame is refused.
+pub fn jumps_drop_the_rest_of_an_event()
+    ensures debugger { from_event 9 5 (rows_of_run with_hooks with_hooks_answers jump_at_5)
+        ≡ jump_at_5_rows }
+    ensures writes { from_event 9 4 (rows_of_run writing writing_cues []) ≡ writing_rows }
+    ensures badly { from_event 9 4 (rows_of_run writing writing_badly []) ≡ writing_badly_rows }
 {}
 
 /// `pass` under a bound of no acts, and of one.
