@@ -4,3 +4,4 @@ pub mod Following
 pub mod Runs
 pub mod Suspension
 pub mod Slowly
+pub mod Sides

@@ -1,5 +1,5 @@
 -- Runs: at most one outcome, greater bounds, no halt, nothing told in hidden blocks and while a hook runs, and debuggers that only look.
-use Rattle.std.proofs.Common.{◌≡◌, ℕ, ◌≤◌, ◌<◌, List, [], ◌∷◌, ◌++◌, Bool, true, false, Option, Some, None, refl, sym, ap, ◌∙◌, subst, ◌⊎◌, map, inl, inr, if◌then◌else◌, ◌||◌, arith}
+use Rattle.std.proofs.Common.{◌≡◌, ℕ, ◌≤◌, ◌<◌, List, [], ◌∷◌, ◌++◌, Bool, true, false, Option, Some, None, refl, sym, ap, ◌∙◌, subst, ◌⊎◌, map, inl, inr, if◌then◌else◌, ◌||◌, append_assoc, arith}
 use Rattle.std.specs.Prelude.{nat_lt}
 use Rattle.std.proofs.lemmas.Bool.{lt-ltb, ltb-true}
 use Rattle.pt_control.specs.Turn as T
@@ -13,8 +13,8 @@ use Rattle.pt_run.specs.Outcome as O
 use Rattle.pt_run.specs.Outcome.{Output, Ending, spent, Question, Advice, go, jump_to, give_up, Step, goes, consults, ends, is_stuck}
 use Rattle.pt_run.specs.Hooks.{call_hook, log_of, ask_next, try_jump, take_advice}
 use Rattle.pt_run.specs.Step.{begin_turn, take_answer, take_hearing, close, tell, by_phase, step}
-use Rattle.pt_run.specs.Run.{DebuggerAnswer, Debugger, Session, Move, moves, stops, halts, move, move_by, move_by_advice, consult, replies_of, Outcome, outcome_behind, Comes, ends_so, goes_on, Runs, events, replies_apart, nobody}
-use Rattle.pt_run.specs.Laws.{HasOneOutcome, Begins, so_far, further, GoesOn, NeverHalts, outputs_of, GivesNothing, HidesBlocks, HidesHooks, OnlyLooks, alone, IsAsAlone}
+use Rattle.pt_run.specs.Run.{DebuggerAnswer, Debugger, Session, Move, moves, stops, halts, move, move_by, move_by_advice, consult, replies_of, Outcome, outcome_behind, Comes, ends_so, goes_on, Runs, stays, goes_further, events, replies_apart, nobody}
+use Rattle.pt_run.specs.Laws.{HasOneOutcome, Begins, so_far, further, GoesOn, HasParts, NeverHalts, outputs_of, GivesNothing, HidesBlocks, HidesHooks, OnlyLooks, alone, IsAsAlone}
 
 module _ {D S N V W : Type 0} (machine : Machine S V) (host : Host N V W) (ask : Debugger D N V W) (n : ℕ) where
   one_outcome : (u : ℕ) (m : Move D S N V W) (o p : Outcome D N V W) → Comes machine host ask n u m o → Comes machine host ask n u m p → o ≡ p
@@ -23,6 +23,14 @@ module _ {D S N V W : Type 0} (machine : Machine S V) (host : Host N V W) (ask :
 
   pub runs_once : (x : Session D S N V W) → HasOneOutcome machine host ask n x
   runs_once x o p h k = one_outcome x.state.units _ o p h k
+
+module _ {D S N V W : Type 0} (machine : Machine S V) (host : Host N V W) (ask : Debugger D N V W) (n : ℕ) where
+  pub has_parts : (x : Session D S N V W) → HasParts machine host ask n x
+  has_parts x _ _ o (stays _) c = c
+  has_parts x _ z o (goes_further _ y _ os ps e g) c =
+      subst (λ q. Runs machine host ask n x (record o { outputs = q })) (sym (append_assoc os ps o.outputs))
+      (subst (λ m. Comes machine host ask n x.state.units m (outcome_behind os (outcome_behind ps o))) (sym e)
+      (goes_on x.state.units os y (outcome_behind ps o) (has_parts y ps z o g c)))
 
 -- the same step, or no other act may begin
 data Wider {S N V W : Type 0} : Step S N V W → Step S N V W → Type 0 where
@@ -83,16 +91,16 @@ module _ {D S N V W : Type 0} (machine : Machine S V) (host : Host N V W) (ask :
   behind u os x o (inl c) = inl (goes_on u os x o c)
   behind u os x o (inr (e, b)) = inr (e, further os o.outputs x b)
 
-  goes_further : (u : ℕ) (x y : Move D S N V W) (o : Outcome D N V W) → WiderMove x y → Comes machine host ask n u x o → Further u y o
+  further_by : (u : ℕ) (x y : Move D S N V W) (o : Outcome D N V W) → WiderMove x y → Comes machine host ask n u x o → Further u y o
   unfolding Further
-  goes_further u _ _ _ (move_at_bound _ y) (ends_so _ _ d _) = inr (refl, so_far y)
-  goes_further u _ _ _ (alike_move _) (ends_so _ os d e) = inl (ends_so u os d e)
-  goes_further u _ _ _ (alike_move _) (goes_on _ os x o c) = behind u os x o (goes_further x.state.units _ _ o (wider_move x) c)
+  further_by u _ _ _ (move_at_bound _ y) (ends_so _ _ d _) = inr (refl, so_far y)
+  further_by u _ _ _ (alike_move _) (ends_so _ os d e) = inl (ends_so u os d e)
+  further_by u _ _ _ (alike_move _) (goes_on _ os x o c) = behind u os x o (further_by x.state.units _ _ o (wider_move x) c)
 
 module _ {D S N V W : Type 0} (machine : Machine S V) (host : Host N V W) (ask : Debugger D N V W) (n m : ℕ) where
   pub goes_on_from : (x : Session D S N V W) → GoesOn machine host ask n m x
   unfolding Further
-  goes_on_from x o h c = goes_further machine host ask n m h x.state.units _ _ o (wider_move machine host ask n m h x) c
+  goes_on_from x o h c = further_by machine host ask n m h x.state.units _ _ o (wider_move machine host ask n m h x) c
 
 -- no step is stuck but that of a machine that is
 NotStuck : {S N V W : Type 0} → Step S N V W → Type 0

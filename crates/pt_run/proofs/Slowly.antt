@@ -2,11 +2,11 @@
 use Rattle.std.proofs.Common.{◌≡◌, ℕ, refl, subst}
 use Rattle.pt_control.specs.Turn as T
 use Rattle.pt_control.specs.Turn.{Turn}
-use Rattle.pt_run.specs.Machine.{BlockId, Machine, Jump, refuses, lands}
+use Rattle.pt_run.specs.Machine.{BlockId, Machine, Jump, refuses, lands, turn_in, jump_in}
 use Rattle.pt_run.specs.Host.{Host}
 use Rattle.pt_run.specs.Run.{Debugger}
 use Rattle.pt_run.specs.Laws.{HaveTheSameRuns}
-use Rattle.pt_run.specs.Follows.{Nears, there, moves, SameTurn, same_act, same_note, same_end, SameJump, same_refusal, same_landing, Follows, Slow, before, at, slow_turn, slow_jump, state_of, turn_of, slowly, NeverMoves}
+use Rattle.pt_run.specs.Follows.{Nears, there, moves, SameTurn, same_act, same_note, same_end, SameJump, same_refusal, same_landing, Follows, Slow, before, at, state_of, turn_of, slowly, NeverMoves}
 use Rattle.pt_run.proofs.Runs.{have_the_same_runs}
 
 module _ {S : Type 0} where
@@ -24,7 +24,7 @@ module _ {S V : Type 0} (machine : Machine S V) (never : NeverMoves machine) whe
   comes : (b : BlockId) (c : S) → Near b c (before c)
   comes b c = moves _ (at c) refl (there _ is_at)
 
-  same : (b : BlockId) (t : Turn S V) → ((d : S) → t ≡ T.move d → ⊥) → (t ≡ T.stuck → ⊥) → SameTurn machine (slowly machine) IsAt b t (slow_turn t)
+  same : (b : BlockId) (t : Turn S V) → ((d : S) → t ≡ T.move d → ⊥) → (t ≡ T.stuck → ⊥) → SameTurn machine (slowly machine) IsAt b t (turn_in before t)
   same b (T.act m a k) f g = same_act m a k _ (λ r. comes b (k r))
   same b (T.note a k) f g = same_note a k _ (λ r. comes b (k r))
   same b (T.move c) f g = absurd (f c refl)
@@ -41,11 +41,11 @@ module _ {S V : Type 0} (machine : Machine S V) (never : NeverMoves machine) whe
   nears b c _ near_before = comes b c
   nears b c _ near_at = there _ is_at
 
-  jump : (b : BlockId) (j : Jump S V) → SameJump machine (slowly machine) IsAt IsNear b j (slow_jump j)
+  jump : (b : BlockId) (j : Jump S V) → SameJump machine (slowly machine) IsAt IsNear b j (jump_in before j)
   jump b (refuses r) = same_refusal r
   jump b (lands to f) = same_landing to (before to) f _ near_before (λ v. comes b (f v))
 
-  jumps : (b : BlockId) (c : S) (t : Slow S) (l : ℕ) → IsNear b c t → SameJump machine (slowly machine) IsAt IsNear b (machine.jump b c l) (slow_jump (machine.jump b (state_of t) l))
+  jumps : (b : BlockId) (c : S) (t : Slow S) (l : ℕ) → IsNear b c t → SameJump machine (slowly machine) IsAt IsNear b (machine.jump b c l) (jump_in before (machine.jump b (state_of t) l))
   jumps b c _ l near_before = jump b (machine.jump b c l)
   jumps b c _ l near_at = jump b (machine.jump b c l)
 
@@ -54,7 +54,7 @@ module _ {S V : Type 0} (machine : Machine S V) (never : NeverMoves machine) whe
   active b c _ near_at = refl
 
   -- only the state before a turn moves
-  still : (t : Turn S V) → ((d : S) → t ≡ T.move d → ⊥) → (u : Slow S) → slow_turn t ≡ T.move u → ⊥
+  still : (t : Turn S V) → ((d : S) → t ≡ T.move d → ⊥) → (u : Slow S) → turn_in before t ≡ T.move u → ⊥
   still (T.act m a k) f u e = absurd cc
   still (T.note a k) f u e = absurd cc
   still (T.move c) f u e = f c refl

@@ -4,7 +4,7 @@
 use Rattle.std.specs.Prelude.{◌≡◌, ℕ, Option}
 use Rattle.pt_control.specs.Turn as T
 use Rattle.pt_control.specs.Turn.{Mark, Ask, Answer, Reply, Note, End, Turn}
-use Rattle.pt_run.specs.Machine.{BlockId, Machine, Reason, Jump, refuses, lands}
+use Rattle.pt_run.specs.Machine.{BlockId, Machine, Reason, Jump, refuses, lands, turn_in, jump_in}
 
 -- states of two machines, in a block
 pub record Related (S R : Type 0) : Type 0 where
@@ -52,17 +52,6 @@ pub data Slow (S : Type 0) : Type 0 where
   before : S → Slow S
   at : S → Slow S
 
-abbrev pub slow_turn : {S V : Type 0} → Turn S V → Turn (Slow S) V
-slow_turn (T.act m a k) = T.act m a (λ r. before (k r))
-slow_turn (T.note a k) = T.note a (λ r. before (k r))
-slow_turn (T.move c) = T.move (before c)
-slow_turn (T.over e) = T.over e
-slow_turn T.stuck = T.stuck
-
-abbrev pub slow_jump : {S V : Type 0} → Jump S V → Jump (Slow S) V
-slow_jump (refuses r) = refuses r
-slow_jump (lands to f) = lands (before to) (λ v. before (f v))
-
 abbrev pub state_of : {S : Type 0} → Slow S → S
 state_of (before c) = c
 state_of (at c) = c
@@ -70,13 +59,13 @@ state_of (at c) = c
 module _ {S V : Type 0} (machine : Machine S V) where
   abbrev pub turn_of : BlockId → Slow S → Turn (Slow S) V
   turn_of b (before c) = T.move (at c)
-  turn_of b (at c) = slow_turn (machine.turn b c)
+  turn_of b (at c) = turn_in before (machine.turn b c)
 
   abbrev pub slowly : Machine (Slow S) V
   slowly = record {
     start = λ b i. before (machine.start b i);
     turn = turn_of;
-    jump = λ b c l. slow_jump (machine.jump b (state_of c) l);
+    jump = λ b c l. jump_in before (machine.jump b (state_of c) l);
     active = λ c. machine.active (state_of c);
     destination = λ b c. machine.destination b (state_of c);
   }

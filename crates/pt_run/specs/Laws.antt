@@ -9,7 +9,8 @@ use Rattle.pt_run.specs.State.{is_full, hook_runs, start}
 use Rattle.pt_run.specs.Outcome.{Output, spent, Question, View, go, Step, goes, consults, ends, is_stuck}
 use Rattle.pt_run.specs.Requests.{resume_by}
 use Rattle.pt_run.specs.Step.{step}
-use Rattle.pt_run.specs.Run.{Debugger, Session, Move, moves, halts, move, Outcome, Runs, events, replies_apart, nobody}
+use Rattle.pt_run.specs.Run.{Debugger, Session, Move, moves, halts, move, Outcome, outcome_behind, Runs, Goes, events}
+use Rattle.pt_run.specs.Run.{replies_apart, nobody}
 
 module _ {D S N V W : Type 0} (machine : Machine S V) (host : Host N V W) (ask : Debugger D N V W) where
   abbrev pub HasOneOutcome : (n : ℕ) → Session D S N V W → Type 0
@@ -25,6 +26,11 @@ module _ {D S N V W : Type 0} (machine : Machine S V) (host : Host N V W) (ask :
   abbrev pub GoesOn : (n m : ℕ) → Session D S N V W → Type 0
   GoesOn n m x = (o : Outcome D N V W) → n ≤ m → Runs machine host ask n x o →
       Runs machine host ask m x o ⊎ ((o.ending ≡ spent) × Begins m (move machine host ask m x) o.outputs)
+
+  -- a run that has gone so far has the outcome that comes from there, behind what came before
+  abbrev pub HasParts : (n : ℕ) → Session D S N V W → Type 0
+  HasParts n x = (os : List (Output V)) (y : Session D S N V W) (o : Outcome D N V W) → Goes machine host ask n x os y →
+      Runs machine host ask n y o → Runs machine host ask n x (outcome_behind os o)
 
   -- a machine that is never stuck has runs that never are
   abbrev pub NeverHalts : (n : ℕ) → Session D S N V W → Type 0

@@ -1,6 +1,8 @@
--- What a run does at a host's request: blocks run and generators go on (Language Reference 6.2.9, 6.3.4), and the calls of `sys` and of frames are
+-- What a run does at a host's request: blocks run and generators go on (Language Reference 6.2.9, 6.3.4), and the calls of `sys`
+-- and of frames are
 -- done (Library Reference, sys).
-use Rattle.std.specs.Prelude.{ℕ, ◌+◌, ◌==◌, ◌&&◌, ℤ, pos, negsuc, List, [], ◌∷◌, ◌++◌, length, Bool, true, false, Option, Some, None}
+use Rattle.std.specs.Prelude.{ℕ, ◌+◌, ◌==◌, ◌&&◌, ℤ, pos, negsuc, List, [], ◌∷◌, ◌++◌, length, Bool, true, false, Option, Some}
+use Rattle.std.specs.Prelude.{None}
 use Rattle.std.specs.Prelude.{if◌then◌else◌}
 use Rattle.pt_control.specs.Turn as T
 use Rattle.pt_control.specs.Turn.{Reply, got, End, left_by}

@@ -1,5 +1,5 @@
 -- A run under a bound on acts, with a debugger that is asked at events (Language Reference 4; bounded evaluation).
-use Rattle.std.specs.Prelude.{ℕ, List, [], ◌∷◌, ◌++◌, map, Bool, true, false}
+use Rattle.std.specs.Prelude.{◌≡◌, ℕ, List, [], ◌∷◌, ◌++◌, map, Bool, true, false}
 use Rattle.pt_control.specs.Turn.{Mark}
 use Rattle.pt_run.specs.Machine.{BlockId, Machine}
 use Rattle.pt_run.specs.Events.{Event}
@@ -79,6 +79,12 @@ module _ {D S N V W : Type 0} (machine : Machine S V) (host : Host N V W) (ask :
   -- a run that may take n units comes to an outcome
   abbrev pub Runs : Session D S N V W → Outcome D N V W → Type 0
   Runs x o = Comes x.state.units (move machine host ask n x) o
+
+  -- from one session to another, with these outputs
+  pub data Goes : Session D S N V W → List (Output V) → Session D S N V W → Type 0 where
+    stays : (x : Session D S N V W) → Goes x [] x
+    goes_further : (x y z : Session D S N V W) (os ps : List (Output V)) → move machine host ask n x ≡ moves os y → Goes y ps z →
+        Goes x (os ++ ps) z
 
 -- where what is written goes
 pub data Sink : Type 0 where

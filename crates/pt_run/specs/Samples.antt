@@ -4,7 +4,8 @@ use Rattle.pt_tree.specs.Syntax as S
 use Rattle.pt_tree.specs.Syntax.{Name, Exp, Args, Stm, Stms, none, more}
 use Rattle.pt_run.specs.Machine.{into_block, out_of_finally}
 use Rattle.pt_run.specs.Outcome.{go, jump_to}
-use Rattle.pt_run.specs.Cues.{Cue, jumps, value, exception, no_more, truth, runs, makes, resumes, throws, tries, traces, tells_tool, Plan}
+use Rattle.pt_run.specs.Cues.{Cue, jumps, value, exception, no_more, truth, runs, makes, resumes, throws, tries, traces, tells_tool}
+use Rattle.pt_run.specs.Cues.{Plan}
 use Rattle.pt_run.specs.Cues.{TraceRow, event, log_line, reply, hook, refusal}
 
 abbrev pub call : (line : ℕ) → Name → Stm
@@ -197,7 +198,8 @@ writing =
     (more (function 3 2 (codes "f") (more (call 4 (codes "a")) (more (call 5 (codes "b")) none)))
     (more (call 6 (codes "s")) (more (call 7 (codes "f")) none)))
 
--- the trace function 9 answers 9 to the call of f; at line 4 it runs t, which writes 5 to the `f_lineno` of f; at line 5 it is asked again
+-- the trace function 9 answers 9 to the call of f; at line 4 it runs t, which writes 5 to the `f_lineno` of f; at line 5 it is
+-- asked again
 abbrev pub writing_cues : List Cue
 writing_cues = traces (Some 9) ∷ runs 2 ∷ value 9 ∷ runs 1 ∷ jumps 1 5 ∷ value 9 ∷ []
 

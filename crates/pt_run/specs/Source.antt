@@ -1,8 +1,7 @@
 -- Control of a script's tree as a machine.
 use Rattle.std.specs.Prelude.{ℕ, length, Option, Some, None}
 use Rattle.pt_tree.specs.Blocks.{Code, acts_of_code}
-use Rattle.pt_control.specs.Turn as T
-use Rattle.pt_control.specs.Turn.{Around, Turn}
+use Rattle.pt_control.specs.Turn.{Around}
 use Rattle.pt_control.specs.Frames.{by, raise, Nest, Way, Control}
 use Rattle.pt_control.specs.Bases.{way_base}
 use Rattle.pt_control.specs.Bases as B
@@ -11,7 +10,7 @@ use Rattle.pt_control.specs.Control as C
 use Rattle.pt_control.specs.Events as E
 use Rattle.pt_control.specs.Jump as J
 use Rattle.pt_control.specs.Reached.{start_code}
-use Rattle.pt_run.specs.Machine.{BlockId, Reason, no_statement, out_of_finally, into_block, Jump, refuses, lands, Machine}
+use Rattle.pt_run.specs.Machine.{turn_in, BlockId, Reason, no_statement, out_of_finally, into_block, Jump, refuses, lands, Machine}
 
 -- what control knows of each block
 pub record Source (V : Type 0) : Type 0 where
@@ -26,13 +25,6 @@ pub data Position (V : Type 0) : Type 0 where
 abbrev pub or_null : {V : Type 0} → (null : V) → Option V → V
 or_null n (Some v) = v
 or_null n None = n
-
-abbrev pub position_turn : {V : Type 0} → Turn (Control V) V → Turn (Position V) V
-position_turn (T.act m a k) = T.act m a (λ r. at (k r))
-position_turn (T.note a k) = T.note a (λ r. at (k r))
-position_turn (T.move c) = T.move (at c)
-position_turn (T.over e) = T.over e
-position_turn T.stuck = T.stuck
 
 abbrev pub reason : J.Verdict → Reason
 reason J.permitted = no_statement
@@ -60,7 +52,7 @@ module _ {V : Type 0} (source : Source V) where
   abbrev pub machine : Machine (Position V) V
   machine = record {
     start = λ b i. at (start_code (source.around b) (source.code b) (or_null (source.around b).null i));
-    turn = λ b p. position_turn (C.turn (source.around b) (control_of b p));
+    turn = λ b p. turn_in at (C.turn (source.around b) (control_of b p));
     jump = λ b p l. jump_of b (J.jump (source.code b) (nest_of p) l);
     active = λ p. B.active (nest_of p);
     destination = λ b p. number_or_all (length (acts_of_code (source.code b))) (E.destination (source.around b) (control_of b p));

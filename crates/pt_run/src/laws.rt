@@ -3,8 +3,8 @@
 ghost use Rattle.std.specs.Prelude.{ℕ};
 ghost use Rattle.pt_run.specs.Follows.{By, Follows, NeverMoves, Related, slowly};
 ghost use Rattle.pt_run.specs.Host.{Host};
-ghost use Rattle.pt_run.specs.Laws.{GoesOn, HasOneOutcome, HaveTheSameRuns, HidesBlocks, HidesHooks, IsAsAlone, NeverHalts, ResumesAsItWas, SuspendsAsItIs};
-ghost use Rattle.pt_run.specs.Machine.{BlockId, Machine};
+ghost use Rattle.pt_run.specs.Laws.{GoesOn, HasOneOutcome, HasParts, HaveTheSameRuns, HidesBlocks, HidesHooks, IsAsAlone, NeverHalts, ResumesAsItWas, SuspendsAsItIs};
+ghost use Rattle.pt_run.specs.Machine.{BlockId, Machine, both_sides};
 ghost use Rattle.pt_run.specs.Run.{Debugger, Session};
 ghost use Rattle.pt_run.specs.State.{State};
 
@@ -13,6 +13,13 @@ ghost use Rattle.pt_run.specs.State.{State};
 pub fn a_run_has_one_outcome<D, S, N, V, W>()
     ensures { (machine : Machine S V) (host : Host N V W) (ask : Debugger D N V W) (n : ℕ)
         (x : Session D S N V W) → HasOneOutcome machine host ask n x }
+{}
+
+/// A run is what has come so far and what comes from there.
+#[tactic(auto, using(crate::proofs::RunLemmas::has_parts))]
+pub fn a_run_has_parts<D, S, N, V, W>()
+    ensures { (machine : Machine S V) (host : Host N V W) (ask : Debugger D N V W) (n : ℕ)
+        (x : Session D S N V W) → HasParts machine host ask n x }
 {}
 
 /// Under a greater bound a run comes to the same outcome; one that was spent begins with the same
@@ -75,4 +82,16 @@ pub fn silent_moves_change_nothing<D, S, N, V, W>()
         → (host : Host N V W) (ask : Debugger D N V W) (n : ℕ) (block : BlockId) (names : N)
         (world : W) (d : D)
         → HaveTheSameRuns machine (slowly machine) host ask n block names world d }
+{}
+
+/// Where two machines follow each other for the blocks of a script, and a third one runs those of
+/// the prelude for both, the two so made have the same runs.
+
+pub fn hidden_blocks_may_have_a_machine_of_their_own<D, H, S, R, N, V, W, P, Q>()
+    ensures { (prelude : Machine H V) → NeverMoves prelude
+        → (first : Machine S V) (second : Machine R V) (at : P → Related S R)
+        (stands : Q → Related S R) → Follows first second (By at) (By stands)
+        → (host : Host N V W) (ask : Debugger D N V W) (n : ℕ) (block : BlockId) (names : N)
+        (world : W) (d : D)
+        → HaveTheSameRuns (both_sides prelude first) (both_sides prelude second) host ask n block names world d }
 {}
