@@ -5,3 +5,4 @@ pub mod Runs
 pub mod Suspension
 pub mod Slowly
 pub mod Sides
+pub mod SourceMoves

@@ -6,6 +6,7 @@ ghost use Rattle.pt_run.specs.Host.{Host};
 ghost use Rattle.pt_run.specs.Laws.{GoesOn, HasOneOutcome, HasParts, HaveTheSameRuns, HidesBlocks, HidesHooks, IsAsAlone, NeverHalts, ResumesAsItWas, SuspendsAsItIs};
 ghost use Rattle.pt_run.specs.Machine.{BlockId, Machine, both_sides};
 ghost use Rattle.pt_run.specs.Run.{Debugger, Session};
+ghost use Rattle.pt_run.specs.Source.{Source, machine};
 ghost use Rattle.pt_run.specs.State.{State};
 
 /// Under a bound on acts a run has at most one outcome.
@@ -94,4 +95,10 @@ pub fn hidden_blocks_may_have_a_machine_of_their_own<D, H, S, R, N, V, W, P, Q>(
         → (host : Host N V W) (ask : Debugger D N V W) (n : ℕ) (block : BlockId) (names : N)
         (world : W) (d : D)
         → HaveTheSameRuns (both_sides prelude first) (both_sides prelude second) host ask n block names world d }
+{}
+
+/// Control of a script's tree is a machine that never moves silently and is never stuck.
+#[tactic(auto, using(crate::proofs::SourceMoves::control_never_moves))]
+pub fn control_is_a_machine_that_never_moves<V>()
+    ensures { (source : Source V) → NeverMoves (machine source) }
 {}
