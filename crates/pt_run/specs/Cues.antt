@@ -1,6 +1,5 @@
 -- A host of answers that are given in order, to follow runs by: all values are numbers, 0 is None, names are left out, and the
--- world is what is
--- answered next. Asks that need no answer of the list get a number at once.
+-- world is what is answered next. Asks that need no answer of the list get a number at once.
 use Rattle.std.specs.Prelude.{ℕ, zero, suc, ◌==◌, ◌&&◌, pos, List, [], ◌∷◌, ◌++◌, Bool, true, false, Option, Some, None}
 use Rattle.std.specs.Prelude.{if◌then◌else◌}
 use Rattle.pt_tree.specs.Blocks as B
@@ -275,8 +274,7 @@ lines (gives e ∷ os) = if is_line e.what then e.line ∷ lines os else lines o
 lines (o ∷ os) = lines os
 
 -- what is told, as it is shown: an event by its bit and line, the log's line and a debugger's reply by their numbers, a hook by
--- that of its function, and
--- a jump that is refused
+-- that of its function, and a jump that is refused
 pub data TraceRow : Type 0 where
   event : (bit line : ℕ) → TraceRow
   log_line : ℕ → TraceRow

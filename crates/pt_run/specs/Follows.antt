@@ -1,6 +1,5 @@
--- When one machine follows another: from states that stand for each other each turn, each jump and each reply leads to such states
--- again (simulation).
--- The machine that follows may move silently before its turn; the other one doesn't.
+-- When one machine follows another: from states that stand for each other each turn, each jump and each reply leads to such
+-- states again (simulation). The machine that follows may move silently before its turn; the other one doesn't.
 use Rattle.std.specs.Prelude.{◌≡◌, ℕ, Option}
 use Rattle.pt_control.specs.Turn as T
 use Rattle.pt_control.specs.Turn.{Mark, Ask, Answer, Reply, Note, End, Turn}

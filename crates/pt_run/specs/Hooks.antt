@@ -30,8 +30,8 @@ abbrev pub trace_unless : {V : Type 0} → Hook → Option V → Option V
 trace_unless tracer f = None
 trace_unless h f = f
 
--- the trace function that is due in a frame: the global one at a call, else the frame's own where there is a global one, for lines
--- if they are traced
+-- the trace function that is due in a frame: the global one at a call, else the frame's own where there is a global one, for
+-- lines if they are traced
 abbrev pub own_trace : {N V : Type 0} → TraceKind → (global : V) → Frame N V → Option V
 own_trace a_call g f = Some g
 own_trace a_line g f = if f.traces_lines then f.trace else None
@@ -42,8 +42,7 @@ trace_due (Some k) (Some g) f = own_trace k g f
 trace_due k g f = None
 
 -- the trace function of a frame behind an answer v: the answer to a call is it, or that there is none; another one replaces it
--- unless it is None, but
--- that to a return
+-- unless it is None, but that to a return
 abbrev pub trace_behind : {V : Type 0} → Option TraceKind → (answer : Option V) → (trace : Option V) → Option V
 trace_behind (Some a_call) v f = v
 trace_behind (Some a_line) v f = or_else v f
@@ -71,8 +70,8 @@ module _ {S N V W : Type 0} (machine : Machine S V) (host : Host N V W) where
   abbrev pub enter_frame : V → State S N V W → State S N V W
   enter_frame v s = record s { world = world_with_entry host v s.here.frame s.world }
 
-  -- a raise of a hook takes the place of what waits, and isn't told there; where the block was about to end by an exception nothing
-  -- more is told
+  -- a raise of a hook takes the place of what waits, and isn't told there; where the block was about to end by an exception
+  -- nothing more is told
   abbrev pub instead_of : Pending S V → V → State S N V W → State S N V W
   instead_of starting v s = at (telling (unwinds v ∷ []) (ending (left_by v))) s
   instead_of (doing q) v s = at turning (in_state (q.next (T.raised v)) s)

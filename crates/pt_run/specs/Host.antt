@@ -1,6 +1,6 @@
 -- A host answers what depends on values, over any values V, names N of an activation and worlds W. It need not answer at once: it
--- may have blocks
--- run, generators go on, and the calls of sys done by the run, and go on with what these give, as often as it needs.
+-- may have blocks run, generators go on, and the calls of sys done by the run, and go on with what these give, as often as it
+-- needs.
 use Rattle.std.specs.Prelude.{ℕ, ℤ, List, Bool, Option}
 use Rattle.pt_base.specs.declared.what.What.{What}
 use Rattle.pt_control.specs.Turn as T
@@ -45,8 +45,7 @@ pub data GeneratorResult (V : Type 0) : Type 0 where
   cannot : Obstacle → GeneratorResult V
 
 -- a frame: its number and block, its names, the line of its last act, its local trace function, whether lines are traced in it
--- (`f_trace`,
--- `f_trace_lines`), and whether it is a generator's
+-- (`f_trace`, `f_trace_lines`), and whether it is a generator's
 pub record Frame (N V : Type 0) : Type 0 where
   pub number : ℕ
   pub block : BlockId
@@ -98,9 +97,8 @@ Response N V (gives_frame_trace k f) = Unit {0}
 Response N V (gives_frame_lines k b) = Unit {0}
 Response N V (jumps_to k l) = Option Reason
 
--- an answer in the making: it is there, an exception stands in its place, something is printed first, the run leaves the profile of
--- the language, or
--- something is to be done first
+-- an answer in the making: it is there, an exception stands in its place, something is printed first, the run leaves the profile
+-- of the language, or something is to be done first
 pub data Answering (N V W A : Type 0) : Type 0 where
   answer : A → Store N W → Answering N V W A
   raise : V → Store N W → Answering N V W A
@@ -136,8 +134,7 @@ pub record Callee (V : Type 0) : Type 0 where
   pub is_builtin : Bool
 
 -- exceptions that a run makes: 1,000 activations are open; a generator is closed; a StopIteration left a generator (PEP 479); a
--- callback answered
--- DISABLE at an event that has no place of its own
+-- callback answered DISABLE at an event that has no place of its own
 pub data Failure (V : Type 0) : Type 0 where
   too_deep : Failure V
   generator_exit : Failure V
@@ -150,8 +147,7 @@ pub record Entry : Type 0 where
   pub line : ℕ
 
 -- what an exception is that leaves the module: an exit with a status and perhaps a text, one with another value, or an error with
--- the entries of its
--- traceback, the oldest frame first
+-- the entries of its traceback, the oldest frame first
 pub data Leaving : Type 0 where
   exits : (status : ℕ) → (text : Option (List ℕ)) → Leaving
   exits_oddly : Leaving

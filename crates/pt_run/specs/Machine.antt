@@ -1,6 +1,5 @@
--- A machine: it gives the turns of a block's activation. Control of a script's tree is one, code on slots is another; nothing else
--- of a run knows
--- which it is.
+-- A machine: it gives the turns of a block's activation. Control of a script's tree is one, code on slots is another; nothing
+-- else of a run knows which it is.
 use Rattle.std.specs.Prelude.{ℕ, ◌==◌, Bool, not, ◌&&◌, Option, if◌then◌else◌}
 use Rattle.pt_control.specs.Turn as T
 use Rattle.pt_control.specs.Turn.{Turn}
@@ -13,9 +12,8 @@ pub record BlockId : Type 0 where
 abbrev pub same_block : BlockId → BlockId → Bool
 same_block b c = (if b.hidden then c.hidden else not c.hidden) && b.number == c.number
 
--- why a jump is refused: it isn't asked for at a line event, or not for the newest frame that is traced; no statement of the block
--- starts on the
--- line; a `finally` part would be entered or left; another closed part would be entered
+-- why a jump is refused: it isn't asked for at a line event, or not for the newest frame that is traced; no statement of the
+-- block starts on the line; a `finally` part would be entered or left; another closed part would be entered
 pub data Reason : Type 0 where
   not_at_line : Reason
   not_newest : Reason

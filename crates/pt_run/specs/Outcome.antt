@@ -1,6 +1,5 @@
--- What comes of a run: what it writes and tells, in order, and how it ends (Library Reference, sys.exit; the bound and the profile
--- are the
--- program's own).
+-- What comes of a run: what it writes and tells, in order, and how it ends (Library Reference, sys.exit; the bound and the
+-- profile are the program's own).
 use Rattle.std.specs.Prelude.{ℕ, List, Option}
 use Rattle.pt_base.specs.declared.what.What.{What}
 use Rattle.pt_control.specs.Turn.{Mark}

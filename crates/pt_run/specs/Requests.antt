@@ -1,6 +1,5 @@
 -- What a run does at a host's request: blocks run and generators go on (Language Reference 6.2.9, 6.3.4), and the calls of `sys`
--- and of frames are
--- done (Library Reference, sys).
+-- and of frames are done (Library Reference, sys).
 use Rattle.std.specs.Prelude.{ℕ, ◌+◌, ◌==◌, ◌&&◌, ℤ, pos, negsuc, List, [], ◌∷◌, ◌++◌, length, Bool, true, false, Option, Some}
 use Rattle.std.specs.Prelude.{None}
 use Rattle.std.specs.Prelude.{if◌then◌else◌}
@@ -95,9 +94,8 @@ module _ {S N V W : Type 0} (machine : Machine S V) (host : Host N V W) where
   resume_by (Some finished) h g r s = give r (cannot is_finished) s
   resume_by None h g r s = give r (cannot is_finished) s
 
-  -- a trace function's jump: the frame at whose line event it was asked is in another state, what else was to be told there isn't,
-  -- and the frame goes
-  -- on from there
+  -- a trace function's jump: the frame at whose line event it was asked is in another state, what else was to be told there
+  -- isn't, and the frame goes on from there
   abbrev pub land_hearing : S → (instead : V → S) → Hearing S V → Hearing S V
   land_hearing to f h = record h { telling = record h.telling { behind = []; pending = going to f } }
 

@@ -10,8 +10,7 @@ abbrev pub has : (set bit : ℕ) → Bool
 has s b = (s / 2 ^ b) % 2 == 1
 
 -- those that have a place of their own, which a callback can switch off, and which a block's own set can have: not PY_THROW,
--- PY_UNWIND, C_RETURN,
--- C_RAISE, RAISE, RERAISE and EXCEPTION_HANDLED
+-- PY_UNWIND, C_RETURN, C_RAISE, RAISE, RERAISE and EXCEPTION_HANDLED
 abbrev pub others : List ℕ
 others = 4 ∷ 5 ∷ 7 ∷ 8 ∷ 12 ∷ 13 ∷ 14 ∷ []
 
