@@ -14,8 +14,8 @@ use Rattle.pt_run.specs.Rows.{put_at}
 use Rattle.pt_run.specs.Tools as Tool
 use Rattle.pt_run.specs.Tools.{Tools, is_local, wants, Location}
 use Rattle.pt_run.specs.Host as H
-use Rattle.pt_run.specs.Host.{Host, Store, Here, Opening, BlockResult, GeneratorResult, gives_on, ends_by, cannot, is_running, is_fresh, is_finished, How, by_next, by_send, by_throw, by_close, Frame, FrameView, Request, Response, Answering, Finding, Callee, Failure, too_deep, generator_exit, Hook, log, debugger, landing, refusal, tool, tracer, Leaving, Entry}
-use Rattle.pt_run.specs.State.{OpenYield, Pending, starting, doing, Telling, Hearing, Rest, Purpose, for_block, for_generator, Opener, Generator, fresh, running, finished, Phase, turning, telling, answering, hearing, State, is_full, is_silent, most_activations}
+use Rattle.pt_run.specs.Host.{Host, Store, Here, Opening, BlockResult, GeneratorResult, gives_on, ends_by, cannot, is_running, is_fresh, is_finished, How, by_next, by_send, by_throw, by_close, Frame, FrameView, Request, Response, Answering, Finding, Callee, Failure, Made, too_deep, generator_exit, Hook, log, debugger, landing, refusal, tool, tracer, Leaving, Entry}
+use Rattle.pt_run.specs.State.{by_leaving, OpenYield, Pending, starting, doing, Telling, Hearing, Rest, Purpose, for_block, for_generator, Opener, Generator, fresh, running, finished, Phase, turning, telling, answering, hearing, State, is_full, is_silent, most_activations}
 use Rattle.pt_run.specs.Views as View
 use Rattle.pt_run.specs.Views.{active, here_of, frames_of, active_in, frames_in, open_frames, frame_numbered, visible_numbers, visible_line, Change, new_names, new_trace, new_lines, change_frame, change_one, change_opener, change_generator}
 use Rattle.pt_run.specs.Outcome as O
@@ -77,12 +77,22 @@ module _ {S R N V W : Type 0} (first : Machine S V) (second : Machine R V) (host
   same_give p h x y _ _ (same_of_ask a k k' i c f n) g = in_phase p h _ _ (same_answering a k k' i c _ n)
   same_give p h x y _ _ (same_of_hook q q' f n) g = in_phase p h _ _ (same_hears q q' _ n)
 
+  same_leaving_rest : (p : Both) → Stand p → (x : Phase S N V W) (y : Phase R N V W) → {G : Type 0} (r : Rest S N V W G) (r' : Rest R N V W G) →
+      SameRest first second At p.frame.block r r' → (what : What) → Same (one p (by_leaving r what)) (two p (by_leaving r' what))
+  same_leaving_rest p h x y _ _ (same_of_ask a k k' i c f n) what = in_phase p h _ _ (same_answering a k k' i c _ n)
+  same_leaving_rest p h x y _ _ (same_of_hook q q' f n) what = in_phase p h _ _ (same_hears q q' _ n)
+
+  same_failing : (p : Both) → Stand p → (x : Phase S N V W) (y : Phase R N V W) → {G : Type 0} (r : Rest S N V W G) (r' : Rest R N V W G) →
+      SameRest first second At p.frame.block r r' → (f : V → G) (z : Made V W) → Same (fail_opening first host r f z (one p x)) (fail_opening second host r' f z (two p y))
+  same_failing p h x y r r' k f (H.made v w) = same_give (record p { world = w }) h x y r r' k (f v)
+  same_failing p h x y r r' k f (H.beyond what) = same_leaving_rest p h x y r r' k what
+
   same_fail : (p : Both) → Stand p → (x : Phase S N V W) (y : Phase R N V W) → {G : Type 0} (r : Rest S N V W G) (r' : Rest R N V W G) →
       SameRest first second At p.frame.block r r' → (f : V → G) (z : Failure V) →
       Same (fail_opening first host r f (host.makes z (here_of first (one p x)) p.world) (one p x)) (fail_opening second host r' f (host.makes z (here_of second (two p y)) p.world) (two p y))
   same_fail p h x y r r' k f z =
       subst (λ e. Same (fail_opening first host r f (host.makes z (here_of first (one p x)) p.world) (one p x)) (fail_opening second host r' f (host.makes z e p.world) (two p y)))
-      (same_here p h x y) (same_give (record p { world = (host.makes z (here_of first (one p x)) p.world).1 }) h x y r r' k (f (host.makes z (here_of first (one p x)) p.world).0))
+      (same_here p h x y) (same_failing p h x y r r' k f _)
 
   -- the newest activation waits
   abbrev opener_here : (p : Both) (u : Purpose S N V W) → List (Opener S N V W)
@@ -149,9 +159,10 @@ module _ {S R N V W : Type 0} (first : Machine S V) (second : Machine R V) (host
 
   same_exit : (p : Both) → Stand p → (x : Phase S N V W) (y : Phase R N V W) (g : ℕ) (f : Frame N V) (c : S) (t : R) (n : ℕ) (j : Bool) → Stands f.block c t →
       (q : OpenYield S V) (q' : OpenYield R V) → SameYield first second At f.block q q' → (r : Rest S N V W (GeneratorResult V)) (r' : Rest R N V W (GeneratorResult V)) →
-      SameRest first second At p.frame.block r r' → (v : V) (w : W) →
-      Same (throw_exit first host g (act_of f c n j) q r (v, w) (one p x)) (throw_exit second host g (act_of f t n j) q' r' (v, w) (two p y))
-  same_exit p h x y g f c t n j i q q' m r r' k v w =
+      SameRest first second At p.frame.block r r' → (z : Made V W) →
+      Same (throw_exit first host g (act_of f c n j) q r z (one p x)) (throw_exit second host g (act_of f t n j) q' r' z (two p y))
+  same_exit p h x y g f c t n j i q q' m r r' k (H.beyond what) = same_leaving_rest p h x y r r' k what
+  same_exit p h x y g f c t n j i q q' m r r' k (H.made v w) =
       same_wake (record p { world = w }) h x y g f c t n j i (throws v) _ _ (same_going_on q q' (raised v) m) r r' k
 
   same_resume : (p : Both) → Stand p → (x : Phase S N V W) (y : Phase R N V W) (o : Option (Generator S N V)) (o' : Option (Generator R N V)) → SameRow first second At Stands o o' →
@@ -166,7 +177,7 @@ module _ {S R N V W : Type 0} (first : Machine S V) (second : Machine R V) (host
   same_resume p h x y _ _ (a_row _ _ (same_suspended f c t n j q q' i m)) (by_throw v) g r r' k = same_wake p h x y g f c t n j i (throws v) _ _ (same_going_on q q' (raised v) m) r r' k
   same_resume p h x y _ _ (a_row _ _ (same_suspended f c t n j q q' i m)) by_close g r r' k =
       subst (λ e. Same (throw_exit first host g (act_of f c n j) q r (host.makes generator_exit (here_of first (one p x)) p.world) (one p x)) (throw_exit second host g (act_of f t n j) q' r' (host.makes generator_exit e p.world) (two p y)))
-      (same_here p h x y) (same_exit p h x y g f c t n j i q q' m r r' k (host.makes generator_exit (here_of first (one p x)) p.world).0 (host.makes generator_exit (here_of first (one p x)) p.world).1)
+      (same_here p h x y) (same_exit p h x y g f c t n j i q q' m r r' k _)
   same_resume p h x y _ _ (a_row _ _ same_running) z g r r' k = same_give p h x y r r' k (cannot is_running)
   same_resume p h x y _ _ (a_row _ _ same_finished) by_next g r r' k = same_give p h x y r r' k (cannot is_finished)
   same_resume p h x y _ _ (a_row _ _ same_finished) (by_send v) g r r' k = same_give p h x y r r' k (cannot is_finished)
@@ -358,16 +369,17 @@ module _ {S R N V W : Type 0} (first : Machine S V) (second : Machine R V) (host
       same_try p h x y l _ _ (if_jump p.frame.block (is_line e.what) _ _ not_at_line (law.jumps p.frame.block p.one p.other l h)) _ _ (same_telling e hs bs w w' m)
   same_advice p h x y give_up t t' m = same_ends O.quit
 
-  same_refuse_disable : (p : Both) → Stand p → (x : Phase S N V W) (y : Phase R N V W) (l : Location) (z : Hearing S V) (z' : Hearing R V) → SameHearing first second At p.frame.block z z' → (v : V) (w : W) →
-      Same (refuse_disable first host l z (v, w) (one p x)) (refuse_disable second host l z' (v, w) (two p y))
-  same_refuse_disable p h x y l z z' m v w = same_raise (record p { world = w; tools = Tool.without l p.tools }) h x y z z' m v
+  same_refuse_disable : (p : Both) → Stand p → (x : Phase S N V W) (y : Phase R N V W) (l : Location) (z : Hearing S V) (z' : Hearing R V) → SameHearing first second At p.frame.block z z' → (e : Made V W) →
+      Same (refuse_disable first host l z e (one p x)) (refuse_disable second host l z' e (two p y))
+  same_refuse_disable p h x y l z z' m (H.made v w) = same_raise (record p { world = w; tools = Tool.without l p.tools }) h x y z z' m v
+  same_refuse_disable p h x y l z z' m (H.beyond what) = in_phase p h _ _ (same_hears z z' _ m)
 
   same_disable : (p : Both) → Stand p → (x : Phase S N V W) (y : Phase R N V W) (l : Location) (z : Hearing S V) (z' : Hearing R V) → SameHearing first second At p.frame.block z z' →
       Same (disable first host l z (one p x)) (disable second host l z' (two p y))
   same_disable p h x y l _ _ (same_hearing k t t' m) =
       if_state (is_local l.bit) _ _ _ _ (in_phase (record p { tools = Tool.switch_off l p.tools }) h _ _ (same_asking t t' m))
       (subst (λ e. Same (refuse_disable first host l (record { hook = k; telling = t }) (host.makes H.not_local (here_of first (one p x)) p.world) (one p x)) (refuse_disable second host l (record { hook = k; telling = t' }) (host.makes H.not_local e p.world) (two p y)))
-      (same_here p h x y) (same_refuse_disable p h x y l _ _ (same_hearing k t t' m) (host.makes H.not_local (here_of first (one p x)) p.world).0 (host.makes H.not_local (here_of first (one p x)) p.world).1))
+      (same_here p h x y) (same_refuse_disable p h x y l _ _ (same_hearing k t t' m) _))
 
   same_hook_answer : (p : Both) → Stand p → (x : Phase S N V W) (y : Phase R N V W) (k : Hook) (v : V) (z : Hearing S V) (z' : Hearing R V) → SameHearing first second At p.frame.block z z' →
       Same (take_hook_answer first host k v z (one p x)) (take_hook_answer second host k v z' (two p y))
@@ -500,11 +512,12 @@ module _ {S R N V W : Type 0} (first : Machine S V) (second : Machine R V) (host
   same_finish p x y g r r' e f c t n j s u u' i os ps z =
       same_give (back (record (with_rows p g finished finished same_finished) { past = p.frame ∷ p.past }) f c t n j os ps z) s x y r r' i (ends_by e)
 
-  same_finish_by_stop : (p : Both) (x : Phase S N V W) (y : Phase R N V W) (g : ℕ) (r : Rest S N V W (GeneratorResult V)) (r' : Rest R N V W (GeneratorResult V)) (v : V) (w : W) →
+  same_finish_by_stop : (p : Both) (x : Phase S N V W) (y : Phase R N V W) (g : ℕ) (r : Rest S N V W (GeneratorResult V)) (r' : Rest R N V W (GeneratorResult V)) (e : Made V W) →
       (f : Frame N V) (c : S) (t : R) (n : ℕ) (j : Bool) → Stands f.block c t → (u : Purpose S N V W) (u' : Purpose R N V W) → SameRest first second At f.block r r' →
       (os : List (Opener S N V W)) (ps : List (Opener R N V W)) → SameOpeners first second At Stands os ps →
-      Same (finish_by_stop first host g r (v, w) (record { activation = act_of f c n j; purpose = u }) os (one p x)) (finish_by_stop second host g r' (v, w) (record { activation = act_of f t n j; purpose = u' }) ps (two p y))
-  same_finish_by_stop p x y g r r' v w f c t n j s u u' i os ps z = same_finish (record p { world = w }) x y g r r' (left_by v) f c t n j s u u' i os ps z
+      Same (finish_by_stop first host g r e (record { activation = act_of f c n j; purpose = u }) os (one p x)) (finish_by_stop second host g r' e (record { activation = act_of f t n j; purpose = u' }) ps (two p y))
+  same_finish_by_stop p x y g r r' (H.made v w) f c t n j s u u' i os ps z = same_finish (record p { world = w }) x y g r r' (left_by v) f c t n j s u u' i os ps z
+  same_finish_by_stop p x y g r r' (H.beyond what) f c t n j s u u' i os ps z = same_leaving_rest (back p f c t n j os ps z) s x y r r' i what
 
   same_pass : (p : Both) → Stand p → (x : Phase S N V W) (y : Phase R N V W) (e : End V) (f : Frame N V) (c : S) (t : R) (n : ℕ) (j : Bool) → Stands f.block c t →
       (u : Purpose S N V W) (u' : Purpose R N V W) → SamePurpose first second At f.block u u' → (os : List (Opener S N V W)) (ps : List (Opener R N V W)) → SameOpeners first second At Stands os ps →
@@ -517,7 +530,7 @@ module _ {S R N V W : Type 0} (first : Machine S V) (second : Machine R V) (host
       (subst (λ e. Same (finish_by_stop first host g r (host.makes (H.stop_iteration v) (here_of first (one p x)) p.world) (record { activation = act_of f c n j; purpose = for_generator g r }) os (one p x))
       (finish_by_stop second host g r' (host.makes (H.stop_iteration v) e p.world) (record { activation = act_of f t n j; purpose = for_generator g r' }) ps (two p y)))
       (same_here p h x y)
-      (same_finish_by_stop p x y g r r' (host.makes (H.stop_iteration v) (here_of first (one p x)) p.world).0 (host.makes (H.stop_iteration v) (here_of first (one p x)) p.world).1 f c t n j s (for_generator g r) (for_generator g r') i os ps z))
+      (same_finish_by_stop p x y g r r' _ f c t n j s (for_generator g r) (for_generator g r') i os ps z))
       (same_finish p x y g r r' (left_by v) f c t n j s (for_generator g r) (for_generator g r') i os ps z)
 
   same_trace : (p : Both) (x : Phase S N V W) (y : Phase R N V W) (es : List Entry) → View.frames_of_trace host.first_line es (one p x) ≡ View.frames_of_trace host.first_line es (two p y)

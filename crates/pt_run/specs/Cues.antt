@@ -187,7 +187,7 @@ host ss = record {
   is_disable = λ v. v == disable;
   is_stop = λ v w. v == stop_iteration;
   callee = λ f rs vs w. record { first = 0; is_builtin = false };
-  makes = λ x h w. (exception_of x, w);
+  makes = λ x h w. H.made (exception_of x) w;
   enters = λ v e w. w;
   leaving = λ v w. H.fails [];
   log_line = λ e w. e.line ∷ [];

@@ -8,7 +8,8 @@ use Rattle.pt_run.specs.Machine.{Machine, Reason, not_at_line, Jump}
 use Rattle.pt_run.specs.Events.{Happening, unwinds, Event, bit, TraceKind, a_call, a_line, a_return, an_exception, trace_kind}
 use Rattle.pt_run.specs.Events.{is_line, is_for_debugger}
 use Rattle.pt_run.specs.Tools.{Location, is_local, wants, switch_off, without}
-use Rattle.pt_run.specs.Host.{Host, Frame, Hook, log, debugger, landing, refusal, tool, tracer, not_local}
+use Rattle.pt_run.specs.Host.{Host, Frame, Hook, log, debugger, landing, refusal, tool, tracer, not_local, Made, made, beyond}
+use Rattle.pt_run.specs.Host.{leave}
 use Rattle.pt_run.specs.State.{Pending, starting, doing, going, giving_on, going_on, ending, Telling, Hearing, turning, telling}
 use Rattle.pt_run.specs.State.{asking, hearing, closing, State, at, in_state, in_frame, store}
 use Rattle.pt_run.specs.Views.{line_of, here_of}
@@ -127,8 +128,9 @@ module _ {S N V W : Type 0} (machine : Machine S V) (host : Host N V W) where
   trace_by_answer k v s =
       record s { here = in_frame (record s.here.frame { trace = trace_behind k (host.unless_null v) s.here.frame.trace }) s.here }
 
-  abbrev pub refuse_disable : Location → Hearing S V → V × W → State S N V W → State S N V W
-  refuse_disable l h (e, w) s = raise_of_hook h e (record s { world = w; tools = without l s.tools })
+  abbrev pub refuse_disable : Location → Hearing S V → Made V W → State S N V W → State S N V W
+  refuse_disable l h (made e w) s = raise_of_hook h e (record s { world = w; tools = without l s.tools })
+  refuse_disable l h (beyond what) s = at (hearing h (leave what)) s
 
   -- DISABLE switches the event off at its place; at an event without one it takes the callback away, and a ValueError comes
   abbrev pub disable : Location → Hearing S V → State S N V W → State S N V W

@@ -141,6 +141,11 @@ pub data Failure (V : Type 0) : Type 0 where
   stop_iteration : (stop : V) → Failure V
   not_local : Failure V
 
+-- what comes of making one: it is there, or the run leaves the profile of the language
+pub data Made (V W : Type 0) : Type 0 where
+  made : V → W → Made V W
+  beyond : What → Made V W
+
 -- an exception came to a frame at this line, for its traceback
 pub record Entry : Type 0 where
   pub frame : ℕ
@@ -176,7 +181,7 @@ pub record Host (N V W : Type 0) : Type 0 where
   pub is_stop : V → W → Bool
   pub callee : (callee : V) → List Role → (arguments : List V) → W → Callee V
   -- an exception is made; one gets an entry of its traceback; one leaves the module
-  pub makes : Failure V → Here V → W → V × W
+  pub makes : Failure V → Here V → W → Made V W
   pub enters : (exception : V) → Entry → W → W
   pub leaving : (exception : V) → W → Leaving
   -- the line of the log for an event

@@ -3,10 +3,11 @@ use Rattle.std.specs.Prelude.{◌≡◌, ℕ, ◌≤◌, ◌⊎◌, ◌↔◌, L
 use Rattle.pt_control.specs.Turn as T
 use Rattle.pt_run.specs.Machine.{BlockId, Machine}
 use Rattle.pt_run.specs.Rows.{put_at}
-use Rattle.pt_run.specs.Host.{Host, How, GeneratorResult}
+use Rattle.pt_run.specs.Host.{Host, How, by_close, GeneratorResult, generator_exit, Made, made, beyond}
 use Rattle.pt_run.specs.State.{Activation, OpenYield, giving_on, Rest, Opener, for_generator, Generator, suspended, telling, State}
 use Rattle.pt_run.specs.State.{is_full, hook_runs, start}
 use Rattle.pt_run.specs.Outcome.{Output, spent, Question, View, go, Step, goes, consults, ends, is_stuck}
+use Rattle.pt_run.specs.Views.{here_of}
 use Rattle.pt_run.specs.Requests.{resume_by}
 use Rattle.pt_run.specs.Step.{step}
 use Rattle.pt_run.specs.Run.{Debugger, Session, Move, moves, halts, move, Outcome, outcome_behind, Runs, Goes, events}
@@ -64,11 +65,19 @@ SuspendsAsItIs {S = S} {N = N} {V = V} {W = W} machine host n s =
     s.phase ≡ telling [] (giving_on y v) → s.openers ≡ record { activation = a; purpose = for_generator g r } ∷ os →
     generators_after (step machine host n s) ≡ put_at g (suspended s.here y) s.generators
 
--- however a generator goes on, its activation opens as it was
+-- however a generator goes on, its activation opens as it was; to be closed it is thrown an exception, which has to be made
+abbrev pub IsMade : {V W : Type 0} → Made V W → Type 0
+IsMade (made v w) = Unit {0}
+IsMade (beyond what) = ⊥
+
+abbrev pub CanGoOn : {S N V W : Type 0} → Machine S V → Host N V W → State S N V W → How V → Type 0
+CanGoOn machine host s by_close = IsMade (host.makes generator_exit (here_of machine s) s.world)
+CanGoOn machine host s h = Unit {0}
+
 abbrev pub ResumesAsItWas : {S N V W : Type 0} → Machine S V → Host N V W → State S N V W → Type 0
 ResumesAsItWas {S = S} {N = N} {V = V} {W = W} machine host s =
-    (a : Activation S N V) (y : OpenYield S V) (h : How V) (g : ℕ) (r : Rest S N V W (GeneratorResult V)) → is_full s ≡ false →
-    (resume_by machine host (Some (suspended a y)) h g r s).here ≡ a
+    (a : Activation S N V) (y : OpenYield S V) (h : How V) (g : ℕ) (r : Rest S N V W (GeneratorResult V)) →
+    is_full s ≡ false → CanGoOn machine host s h → (resume_by machine host (Some (suspended a y)) h g r s).here ≡ a
 
 -- a debugger that lets each run go on, whatever it sees and says
 abbrev pub OnlyLooks : {D N V W : Type 0} → Debugger D N V W → Type 0

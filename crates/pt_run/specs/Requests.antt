@@ -12,11 +12,12 @@ use Rattle.pt_run.specs.Rows.{row_at, put_at}
 use Rattle.pt_run.specs.Tools as Tool
 use Rattle.pt_run.specs.Host as H
 use Rattle.pt_run.specs.Host.{Host, Hook, Store, Opening, BlockResult, How, by_next, by_send, by_throw, by_close, GeneratorResult}
+use Rattle.pt_run.specs.Host.{Made, made, beyond}
 use Rattle.pt_run.specs.Host.{ends_by, cannot, is_running, is_fresh, is_finished, Request, Response, Failure, too_deep}
 use Rattle.pt_run.specs.Host.{generator_exit}
 use Rattle.pt_run.specs.State.{Activation, OpenYield, Pending, starting, going, going_on, Hearing, Rest, of_ask, of_hook, Purpose}
 use Rattle.pt_run.specs.State.{for_block, for_generator, Opener, Generator, fresh, suspended, running, finished, Phase, telling}
-use Rattle.pt_run.specs.State.{State, at, by_rest, is_full, store, begin}
+use Rattle.pt_run.specs.State.{State, at, by_rest, by_leaving, is_full, store, begin}
 use Rattle.pt_run.specs.Views.{here_of, frame_numbered, visible_numbers, new_names, new_trace, new_lines, change_frame}
 
 abbrev pub is_tracer : Hook → Bool
@@ -49,8 +50,9 @@ module _ {S N V W : Type 0} (machine : Machine S V) (host : Host N V W) where
   open_above a p u s = record s { here = a; phase = p; openers = record { activation = s.here; purpose = u } ∷ s.openers }
 
   -- in place of one too many there is a RecursionError
-  abbrev pub fail_opening : {G : Type 0} → Rest S N V W G → (V → G) → V × W → State S N V W → State S N V W
-  fail_opening r f (v, w) s = give r (f v) (in_world w s)
+  abbrev pub fail_opening : {G : Type 0} → Rest S N V W G → (V → G) → Made V W → State S N V W → State S N V W
+  fail_opening r f (made v w) s = give r (f v) (in_world w s)
+  fail_opening r f (beyond what) s = at (by_leaving r what) s
 
   abbrev pub run_block : Opening N V → Rest S N V W (BlockResult N V) → State S N V W → State S N V W
   run_block o r s =
@@ -74,9 +76,10 @@ module _ {S N V W : Type 0} (machine : Machine S V) (host : Host N V W) where
   send_early None g a r s = wake g a starts starting r s
   send_early (Some v) g a r s = give r (cannot is_fresh) s
 
-  abbrev pub throw_exit : (generator : ℕ) → Activation S N V → OpenYield S V → Rest S N V W (GeneratorResult V) → V × W →
+  abbrev pub throw_exit : (generator : ℕ) → Activation S N V → OpenYield S V → Rest S N V W (GeneratorResult V) → Made V W →
       State S N V W → State S N V W
-  throw_exit g a y r (v, w) s = wake g a (throws v) (going_on y (T.raised v)) r (in_world w s)
+  throw_exit g a y r (made v w) s = wake g a (throws v) (going_on y (T.raised v)) r (in_world w s)
+  throw_exit g a y r (beyond what) s = at (by_leaving r what) s
 
   -- how a generator goes on by its state (6.2.9); only `throw` and `close` finish one that has not started
   abbrev pub resume_by : Option (Generator S N V) → How V → (generator : ℕ) → Rest S N V W (GeneratorResult V) → State S N V W →

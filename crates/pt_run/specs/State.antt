@@ -1,10 +1,11 @@
 -- The state of a run: open activations, generators, hooks that are being asked, and what waits for each (Language Reference 4.1).
 use Rattle.std.specs.Prelude.{ℕ, suc, nat_le, List, [], ◌∷◌, length, Bool, true, false, ◌||◌, Option, None}
+use Rattle.pt_base.specs.declared.what.What.{What}
 use Rattle.pt_control.specs.Turn.{Ask, Answer, Reply, End}
 use Rattle.pt_run.specs.Machine.{BlockId, Machine}
 use Rattle.pt_run.specs.Events.{Happening, starts, Event}
 use Rattle.pt_run.specs.Tools.{Tools, no_tools}
-use Rattle.pt_run.specs.Host.{Store, Opening, BlockResult, GeneratorResult, Frame, Answering, Finding, Callee, Hook}
+use Rattle.pt_run.specs.Host.{Store, Opening, BlockResult, GeneratorResult, Frame, Answering, leave, Finding, Callee, Hook}
 
 -- a block that runs: its frame, the machine's state, the number of the act that runs or of the last one done, and whether a jump
 -- came behind that
@@ -119,6 +120,11 @@ module _ {S N V W : Type 0} where
   abbrev pub by_rest : {G : Type 0} → Rest S N V W G → G → Store N W → Phase S N V W
   by_rest (of_ask q f) g st = answering q (f g st)
   by_rest (of_hook h f) g st = hearing h (f g st)
+
+  -- the same where the run leaves the profile
+  abbrev pub by_leaving : {G : Type 0} → Rest S N V W G → What → Phase S N V W
+  by_leaving (of_ask q f) what = answering q (leave what)
+  by_leaving (of_hook h f) what = hearing h (leave what)
 
   abbrev pub waits_for_hook : {G : Type 0} → Rest S N V W G → Bool
   waits_for_hook (of_ask q f) = false

@@ -11,11 +11,11 @@ use Rattle.pt_run.specs.Events as Told
 use Rattle.pt_run.specs.Events.{Happening, Event}
 use Rattle.pt_run.specs.Host as H
 use Rattle.pt_run.specs.Host.{Host, Frame, Store, BlockResult, GeneratorResult, gives_on, Answering, Finding, Callee}
-use Rattle.pt_run.specs.Host.{stop_iteration, Leaving}
+use Rattle.pt_run.specs.Host.{stop_iteration, Leaving, Made}
 use Rattle.pt_run.specs.State.{Activation, OpenAsk, OpenYield, Pending, starting, doing, going, giving_on, going_on, ending}
 use Rattle.pt_run.specs.State.{Hearing, Rest, of_ask, of_hook, Purpose, for_block, for_generator, Opener, suspended, finished}
 use Rattle.pt_run.specs.State.{Phase, turning, telling, asking, answering, hearing, closing, State, at, is_silent, store}
-use Rattle.pt_run.specs.State.{with_store, in_state}
+use Rattle.pt_run.specs.State.{with_store, in_state, by_leaving}
 use Rattle.pt_run.specs.Views.{here_of, active, visible_line, frames_of_trace}
 use Rattle.pt_run.specs.Outcome as O
 use Rattle.pt_run.specs.Outcome.{Output, begins, prints, gives, Ending, Step, goes, ends, is_stuck}
@@ -206,9 +206,11 @@ module _ {S N V W : Type 0} (machine : Machine S V) (host : Host N V W) where
       State S N V W → State S N V W
   finish_by g r e o os s = give machine host r (H.ends_by e) (return_to o os (close_frame (with_generator g finished s)))
 
-  abbrev pub finish_by_stop : (generator : ℕ) → Rest S N V W (GeneratorResult V) → V × W → Opener S N V W → List (Opener S N V W) →
+  abbrev pub finish_by_stop : (generator : ℕ) → Rest S N V W (GeneratorResult V) → Made V W → Opener S N V W →
+      List (Opener S N V W) →
       State S N V W → State S N V W
-  finish_by_stop g r (v, w) o os s = finish_by g r (left_by v) o os (record s { world = w })
+  finish_by_stop g r (H.made v w) o os s = finish_by g r (left_by v) o os (record s { world = w })
+  finish_by_stop g r (H.beyond what) o os s = at (by_leaving r what) (return_to o os s)
 
   abbrev pub pass_result : Purpose S N V W → End V → Opener S N V W → List (Opener S N V W) → State S N V W → State S N V W
   pass_result (for_block r) e o os s =
