@@ -1,0 +1,328 @@
+-- A host of answers that are given in order, to follow runs by: all values are numbers, 0 is None, names are left out, and the
+-- world is what is answered next. Asks that need no answer of the list get a number at once.
+use Rattle.std.specs.Prelude.{ℕ, zero, suc, ◌==◌, ◌&&◌, pos, List, [], ◌∷◌, ◌++◌, Bool, true, false, Option, Some, None}
+use Rattle.std.specs.Prelude.{if◌then◌else◌}
+use Rattle.pt_tree.specs.Blocks as B
+use Rattle.pt_tree.specs.Blocks.{Block, Code, blocks_script}
+use Rattle.pt_tree.specs.Syntax.{Stms, none}
+use Rattle.pt_control.specs.Turn as T
+use Rattle.pt_control.specs.Turn.{Ask, Row, End, gave, left_by}
+use Rattle.pt_control.specs.Lines.{numbers}
+use Rattle.pt_run.specs.Machine.{Machine, Reason}
+use Rattle.pt_run.specs.Rows.{row_at}
+use Rattle.pt_run.specs.Events.{Event, bit, is_line}
+use Rattle.pt_run.specs.Tools as Tool
+use Rattle.pt_run.specs.Host as H
+use Rattle.pt_run.specs.Host.{Store, Opening, How, by_next, by_throw, GeneratorResult, gives_on, ends_by, cannot, Response}
+use Rattle.pt_run.specs.Host.{Answering, answer, raise, print, request, Item, an_item, no_item, Finding, Here, Failure, Hook, tool}
+use Rattle.pt_run.specs.Host.{tracer, Host, BlockResult}
+use Rattle.pt_run.specs.State.{start}
+use Rattle.pt_run.specs.Outcome as O
+use Rattle.pt_run.specs.Outcome.{Output, gives, View, Question, about, Advice, go}
+use Rattle.pt_run.specs.Source as Source
+use Rattle.pt_run.specs.Source.{Position}
+use Rattle.pt_run.specs.Run as R
+use Rattle.pt_run.specs.Run.{DebuggerAnswer, Session, Move, moves, stops, halts, move}
+
+-- what the next call or item comes to
+pub data Cue : Type 0 where
+  value : ℕ → Cue
+  exception : ℕ → Cue
+  -- there is no other item; how a test ends
+  no_more : Cue
+  truth : Bool → Cue
+  -- a block runs; a generator is made of one; one goes on
+  runs : (block : ℕ) → Cue
+  makes : (block : ℕ) → Cue
+  resumes : (generator : ℕ) → Cue
+  throws : (generator exception : ℕ) → Cue
+  -- `next`, but 8 where it doesn't go on
+  tries : (generator : ℕ) → Cue
+  -- sys.settrace, and a callback of a tool for the events of a bit; a write of `f_lineno` in a frame
+  traces : (function : Option ℕ) → Cue
+  tells_tool : (tool bit function : ℕ) → Cue
+  jumps : (frame line : ℕ) → Cue
+
+-- the numbers of some exceptions, and that of DISABLE
+abbrev pub stop_iteration : ℕ
+stop_iteration = 901
+
+abbrev pub value_error : ℕ
+value_error = 902
+
+abbrev pub recursion_error : ℕ
+recursion_error = 903
+
+abbrev pub runtime_error : ℕ
+runtime_error = 904
+
+abbrev pub disable : ℕ
+disable = 905
+
+abbrev pub Stores : Type 0
+Stores = Store (Unit {0}) (List Cue)
+
+abbrev pub Tree : Type 0 → Type 0
+Tree A = Answering (Unit {0}) ℕ (List Cue) A
+
+abbrev pub opening : ℕ → Opening (Unit {0}) ℕ
+opening b = record { block = record { hidden = false; number = b }; iterator = None; names = tt }
+
+abbrev pub end_of : End ℕ → Stores → Tree ℕ
+end_of (gave v) st = answer v st
+end_of (left_by v) st = raise v st
+
+abbrev pub result_of : GeneratorResult ℕ → Stores → Tree ℕ
+result_of (gives_on v) st = answer v st
+result_of (ends_by (gave v)) st = raise stop_iteration st
+result_of (ends_by (left_by v)) st = raise v st
+result_of (cannot o) st = raise value_error st
+
+abbrev pub try_result : GeneratorResult ℕ → Stores → Tree ℕ
+try_result (gives_on v) st = answer v st
+try_result (ends_by e) st = end_of e st
+try_result (cannot o) st = answer 8 st
+
+abbrev pub reason_of : Option Reason → Stores → Tree ℕ
+reason_of None st = answer 0 st
+reason_of (Some r) st = raise value_error st
+
+-- a tool's function for the events of one bit: the id is taken, the set given, and the function registered
+abbrev pub tell_tool : (tool bit function : ℕ) → Stores → Tree ℕ
+tell_tool t b f st =
+    request (H.calls_tools (Tool.use_id (pos t) [])) st (λ u st1.
+    request (H.calls_tools (Tool.give_set (pos t) (pos b))) st1 (λ v st2.
+    request (H.calls_tools (Tool.register (pos t) (pos b) (Some f))) st2 (λ w st3. answer 0 st3)))
+
+abbrev pub by_cue : Cue → Stores → Tree ℕ
+by_cue (value v) st = answer v st
+by_cue (exception v) st = raise v st
+by_cue no_more st = answer 0 st
+by_cue (truth b) st = answer 0 st
+by_cue (runs b) st = request (H.opens (opening b)) st (λ c st1. end_of c.end st1)
+by_cue (makes b) st = request (H.makes (opening b)) st (λ g st1. answer g st1)
+by_cue (resumes g) st = request (H.resumes g by_next) st result_of
+by_cue (throws g v) st = request (H.resumes g (by_throw v)) st result_of
+by_cue (tries g) st = request (H.resumes g by_next) st try_result
+by_cue (traces f) st = request (H.gives_trace f) st (λ u st1. answer 0 st1)
+by_cue (tells_tool t b f) st = tell_tool t b f st
+by_cue (jumps k l) st = request (H.jumps_to k (pos l)) st reason_of
+
+abbrev pub with_world : List Cue → Stores → Stores
+with_world w st = record st { world = w }
+
+-- the next answer of the list, or 0 behind its end
+abbrev pub next_answer : List Cue → Stores → Tree ℕ
+next_answer [] st = answer 0 st
+next_answer (x ∷ xs) st = by_cue x (with_world xs st)
+
+abbrev pub item_of : GeneratorResult ℕ → Stores → Tree (Item ℕ)
+item_of (gives_on v) st = answer (an_item v) st
+item_of (ends_by (gave v)) st = answer (no_item (Some stop_iteration)) st
+item_of (ends_by (left_by v)) st = raise v st
+item_of (cannot o) st = raise value_error st
+
+abbrev pub next_item : List Cue → Stores → Tree (Item ℕ)
+next_item (value v ∷ xs) st = answer (an_item v) (with_world xs st)
+next_item (exception v ∷ xs) st = raise v (with_world xs st)
+next_item (resumes g ∷ xs) st = request (H.resumes g by_next) (with_world xs st) item_of
+next_item (no_more ∷ xs) st = answer (no_item None) (with_world xs st)
+next_item xs st = answer (no_item None) st
+
+abbrev pub next_truth : List Cue → Stores → Tree Bool
+next_truth (truth b ∷ xs) st = answer b (with_world xs st)
+next_truth (exception v ∷ xs) st = raise v (with_world xs st)
+next_truth xs st = answer true st
+
+abbrev pub next_exception : List Cue → Stores → Tree ⊥
+next_exception (exception v ∷ xs) st = raise v (with_world xs st)
+next_exception xs st = raise value_error st
+
+abbrev pub zeros : (n : ℕ) → Row ℕ n
+zeros zero = tt
+zeros (suc n) = (0, zeros n)
+
+abbrev pub answers : (a : Ask ℕ) → Here ℕ → Stores → Tree (Finding ℕ a)
+answers (T.seek (T.operate (T.call rs) vs)) h st = next_answer st.world st
+answers (T.seek s) h st = answer 0 st
+answers (T.deed d) h st = answer tt st
+answers (T.leave l) h st = answer tt st
+answers (T.throw t) h st = next_exception st.world st
+answers (T.test t) h st = next_truth st.world st
+answers (T.iter_of v) h st = answer 0 st
+answers (T.next_of i) h st = next_item st.world st
+answers (T.enter v) h st = answer (0, 0) st
+answers (T.unpack v n star) h st = answer (zeros n) st
+answers (T.delegate i r) h st = answer (H.ends_with 0) st
+
+-- a hook that is called prints its function's number
+abbrev pub hears : Hook → ℕ → Event ℕ → Here ℕ → Stores → Tree ℕ
+hears k f e h st = print (f ∷ []) (next_answer st.world st)
+
+abbrev pub exception_of : Failure ℕ → ℕ
+exception_of H.too_deep = recursion_error
+exception_of H.generator_exit = runtime_error
+exception_of (H.stop_iteration e) = runtime_error
+exception_of H.not_local = value_error
+
+abbrev pub unless_null : ℕ → Option ℕ
+unless_null v = if v == 0 then None else Some v
+
+abbrev pub code_of : Option Block → Code
+code_of (Some b) = b.code
+code_of None = B.of_module none
+
+abbrev pub line_of : Option Block → ℕ
+line_of (Some b) = b.first_line
+line_of None = 1
+
+-- the host, for the blocks of a script
+abbrev pub host : Stms → Host (Unit {0}) ℕ (List Cue)
+host ss = record {
+  first_line = λ b. line_of (row_at b.number (blocks_script ss));
+  null = 0;
+  answers = answers;
+  hears = hears;
+  unless_null = unless_null;
+  is_disable = λ v. v == disable;
+  is_stop = λ v w. v == stop_iteration;
+  callee = λ f rs vs w. record { first = 0; is_builtin = false };
+  makes = λ x h w. H.made (exception_of x) w;
+  enters = λ v e w. w;
+  leaving = λ v w. H.fails [];
+  log_line = λ e w. e.line ∷ [];
+}
+
+-- a script as a machine
+abbrev pub source : Stms → Source.Source ℕ
+source ss = record {
+  code = λ b. code_of (row_at b.number (blocks_script ss));
+  around = λ b. numbers;
+}
+
+abbrev pub machine : Stms → Machine (Position ℕ) ℕ
+machine ss = Source.machine (source ss)
+
+-- a debugger of answers that are given in order, each at the next line event on its line or for the next jump
+pub record Plan : Type 0 where
+  pub line : ℕ
+  pub advice : Advice
+
+abbrev pub silent : List Plan → DebuggerAnswer (List Plan)
+silent ps = record { texts = []; advice = go; debugger = ps }
+
+-- it says its line
+abbrev pub says : Plan → List Plan → DebuggerAnswer (List Plan)
+says p ps = record { texts = (p.line ∷ []) ∷ []; advice = p.advice; debugger = ps }
+
+abbrev pub at_event : Event ℕ → List Plan → DebuggerAnswer (List Plan)
+at_event e [] = silent []
+at_event e (p ∷ ps) = if is_line e.what && e.line == p.line then says p ps else silent (p ∷ ps)
+
+abbrev pub next_plan : List Plan → DebuggerAnswer (List Plan)
+next_plan [] = silent []
+next_plan (p ∷ ps) = says p ps
+
+abbrev pub follow_plan : R.Debugger (List Plan) (Unit {0}) ℕ (List Cue)
+follow_plan (about e) v ps = at_event e ps
+follow_plan (O.about_landing l) v ps = next_plan ps
+follow_plan (O.about_refusal r) v ps = next_plan ps
+
+-- so many moves of a run of at most n acts
+abbrev pub Follower : Type 0
+Follower = Session (List Plan) (Position ℕ) (Unit {0}) ℕ (List Cue)
+
+-- how a run that is followed ended, if it has
+pub data EndKind : Type 0 where
+  goes_still : EndKind
+  ends_done : EndKind
+  ends_raised : ℕ → EndKind
+  ends_spent : EndKind
+  ends_otherwise : EndKind
+
+pub record Trace : Type 0 where
+  pub outputs : List (Output ℕ)
+  pub end : EndKind
+
+abbrev pub end_kind : O.Ending (Unit {0}) ℕ (List Cue) → EndKind
+end_kind O.done = ends_done
+end_kind (O.raised v w) = ends_raised v
+end_kind O.spent = ends_spent
+end_kind e = ends_otherwise
+
+abbrev pub behind : List (Output ℕ) → Trace → Trace
+behind os t = record t { outputs = os ++ t.outputs }
+
+abbrev pub on_move : (List (Output ℕ) → Follower → Trace) → Move (List Plan) (Position ℕ) (Unit {0}) ℕ (List Cue) → Trace
+on_move f (moves os x) = f os x
+on_move f (stops os d e) = record { outputs = os; end = end_kind e }
+on_move f halts = record { outputs = []; end = ends_otherwise }
+
+module _ (ss : Stms) (n : ℕ) where
+  abbrev pub follow : (most : ℕ) → Follower → Trace
+  follow zero x = record { outputs = []; end = goes_still }
+  follow (suc m) x = on_move (λ os y. behind os (follow m y)) (move (machine ss) (host ss) follow_plan n x)
+
+  -- a run from its start, with what is answered, and with a debugger's plan
+  abbrev pub trace_of : List Cue → List Plan → Trace
+  trace_of w ps = follow 2000 (record { debugger = ps; state = start (machine ss) (record { hidden = false; number = 0 }) tt w })
+
+-- the lines of the line events
+abbrev pub lines : List (Output ℕ) → List ℕ
+lines [] = []
+lines (gives e ∷ os) = if is_line e.what then e.line ∷ lines os else lines os
+lines (o ∷ os) = lines os
+
+-- what is told, as it is shown: an event by its bit and line, the log's line and a debugger's reply by their numbers, a hook by
+-- that of its function, and a jump that is refused
+pub data TraceRow : Type 0 where
+  event : (bit line : ℕ) → TraceRow
+  log_line : ℕ → TraceRow
+  reply : ℕ → TraceRow
+  hook : (function : ℕ) → TraceRow
+  refusal : (line : ℕ) → Reason → TraceRow
+
+abbrev first_number : List ℕ → ℕ
+first_number [] = 0
+first_number (n ∷ ns) = n
+
+abbrev pub rows_of : List (Output ℕ) → List TraceRow
+rows_of [] = []
+rows_of (O.begins b m ∷ os) = rows_of os
+rows_of (O.prints x ∷ os) = hook (first_number x) ∷ rows_of os
+rows_of (O.gives e ∷ os) = event (bit e.what) e.line ∷ rows_of os
+rows_of (O.logs x ∷ os) = log_line (first_number x) ∷ rows_of os
+rows_of (O.replies x ∷ os) = reply (first_number x) ∷ rows_of os
+rows_of (O.refuses l r ∷ os) = refusal l r ∷ rows_of os
+
+-- the events alone
+abbrev pub event_rows : List (Output ℕ) → List TraceRow
+event_rows [] = []
+event_rows (gives e ∷ os) = event (bit e.what) e.line ∷ event_rows os
+event_rows (o ∷ os) = event_rows os
+
+-- what is shown behind the first event with a bit on a line, up to the next event
+abbrev pub up_to_event : List TraceRow → List TraceRow
+up_to_event [] = []
+up_to_event (event b l ∷ xs) = []
+up_to_event (x ∷ xs) = x ∷ up_to_event xs
+
+abbrev pub behind_event : (bit line : ℕ) → List TraceRow → List TraceRow
+behind_event b l [] = []
+behind_event b l (event c k ∷ xs) = if b == c && l == k then up_to_event xs else behind_event b l xs
+behind_event b l (x ∷ xs) = behind_event b l xs
+
+abbrev pub lines_of : Stms → List Cue → List ℕ
+lines_of ss w = lines (trace_of ss 1000 w []).outputs
+
+abbrev pub lines_with : Stms → List Cue → List Plan → List ℕ
+lines_with ss w ps = lines (trace_of ss 1000 w ps).outputs
+
+abbrev pub rows_of_run : Stms → List Cue → List Plan → List TraceRow
+rows_of_run ss w ps = rows_of (trace_of ss 1000 w ps).outputs
+
+-- from that event on
+abbrev pub from_event : (bit line : ℕ) → List TraceRow → List TraceRow
+from_event b l [] = []
+from_event b l (event c k ∷ xs) = if b == c && l == k then event c k ∷ xs else from_event b l xs
+from_event b l (x ∷ xs) = from_event b l xs

@@ -1,0 +1,75 @@
+-- When one machine follows another: from states that stand for each other each turn, each jump and each reply leads to such
+-- states again (simulation). The machine that follows may move silently before its turn; the other one doesn't.
+use Rattle.std.specs.Prelude.{◌≡◌, ℕ, Option}
+use Rattle.pt_control.specs.Turn as T
+use Rattle.pt_control.specs.Turn.{Mark, Ask, Answer, Reply, Note, End, Turn}
+use Rattle.pt_run.specs.Machine.{BlockId, Machine, Reason, Jump, refuses, lands, turn_in, jump_in}
+
+-- states of two machines, in a block
+pub record Related (S R : Type 0) : Type 0 where
+  pub block : BlockId
+  pub one : S
+  pub other : R
+
+-- the relation of those that a type Q lists
+abbrev pub By : {Q S R : Type 0} → (Q → Related S R) → BlockId → S → R → Type 0
+By {Q = Q} list b c t = (q : Q) × (list q ≡ record { block = b; one = c; other = t })
+
+module _ {S R V : Type 0} (first : Machine S V) (second : Machine R V) (At : BlockId → S → R → Type 0) where
+  -- the second comes, behind silent moves, to a state that stands for one of the first
+  pub data Nears (b : BlockId) (c : S) : R → Type 0 where
+    there : (t : R) → At b c t → Nears b c t
+    moves : (t t' : R) → second.turn b t ≡ T.move t' → Nears b c t' → Nears b c t
+
+  -- the same ask with the same mark, the same note, or the same end, and whatever the reply is, the states behind it
+  pub data SameTurn (b : BlockId) : Turn S V → Turn R V → Type 0 where
+    same_act : (m : Option Mark) (a : Ask V) (k : Reply V (Answer V a) → S) (k' : Reply V (Answer V a) → R) →
+        ((r : Reply V (Answer V a)) → Nears b (k r) (k' r)) → SameTurn b (T.act m a k) (T.act m a k')
+    same_note : (a : Note V) (k : Reply V (Unit {0}) → S) (k' : Reply V (Unit {0}) → R) →
+        ((r : Reply V (Unit {0})) → Nears b (k r) (k' r)) → SameTurn b (T.note a k) (T.note a k')
+    same_end : (e : End V) → SameTurn b (T.over e) (T.over e)
+
+  -- the same verdict, and where it lands states that hooks may look at
+  pub data SameJump (Stands : BlockId → S → R → Type 0) (b : BlockId) : Jump S V → Jump R V → Type 0 where
+    same_refusal : (r : Reason) → SameJump Stands b (refuses r) (refuses r)
+    same_landing : (to : S) (to' : R) (f : V → S) (f' : V → R) → Stands b to to' → ((v : V) → Nears b (f v) (f' v)) →
+        SameJump Stands b (lands to f) (lands to' f')
+
+  -- At relates states whose turns are alike; Stands those that hooks may look at: the starts of blocks, the places of acts and
+  -- notes, and where jumps land
+  pub record Follows (Stands : BlockId → S → R → Type 0) : Type 0 where
+    pub turns : (b : BlockId) (c : S) (t : R) → At b c t → SameTurn b (first.turn b c) (second.turn b t)
+    pub stands : (b : BlockId) (c : S) (t : R) → At b c t → Stands b c t
+    pub nears : (b : BlockId) (c : S) (t : R) → Stands b c t → Nears b c t
+    pub starts : (b : BlockId) (i : Option V) → Stands b (first.start b i) (second.start b i)
+    pub active : (b : BlockId) (c : S) (t : R) → Stands b c t → first.active c ≡ second.active t
+    pub jumps : (b : BlockId) (c : S) (t : R) (l : ℕ) → Stands b c t → SameJump Stands b (first.jump b c l) (second.jump b t l)
+    pub destination : (b : BlockId) (c : S) (t : R) → Nears b c t → first.destination b c ≡ second.destination b t
+
+-- a machine that moves silently before each turn, as code does
+pub data Slow (S : Type 0) : Type 0 where
+  before : S → Slow S
+  at : S → Slow S
+
+abbrev pub state_of : {S : Type 0} → Slow S → S
+state_of (before c) = c
+state_of (at c) = c
+
+module _ {S V : Type 0} (machine : Machine S V) where
+  abbrev pub turn_of : BlockId → Slow S → Turn (Slow S) V
+  turn_of b (before c) = T.move (at c)
+  turn_of b (at c) = turn_in before (machine.turn b c)
+
+  abbrev pub slowly : Machine (Slow S) V
+  slowly = record {
+    start = λ b i. before (machine.start b i);
+    turn = turn_of;
+    jump = λ b c l. jump_in before (machine.jump b (state_of c) l);
+    active = λ c. machine.active (state_of c);
+    destination = λ b c. machine.destination b (state_of c);
+  }
+
+  -- its turns are asks, notes and ends alone
+  pub record NeverMoves : Type 0 where
+    pub moves : (b : BlockId) (c d : S) → machine.turn b c ≡ T.move d → ⊥
+    pub stuck : (b : BlockId) (c : S) → machine.turn b c ≡ T.stuck → ⊥

@@ -1,0 +1,17 @@
+pub mod Machine
+pub mod Events
+pub mod Rows
+pub mod Tools
+pub mod Host
+pub mod State
+pub mod Views
+pub mod Outcome
+pub mod Requests
+pub mod Hooks
+pub mod Step
+pub mod Run
+pub mod Source
+pub mod Cues
+pub mod Samples
+pub mod Follows
+pub mod Laws

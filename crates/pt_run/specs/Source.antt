@@ -1,0 +1,59 @@
+-- Control of a script's tree as a machine.
+use Rattle.std.specs.Prelude.{ℕ, length, Option, Some, None}
+use Rattle.pt_tree.specs.Blocks.{Code, acts_of_code}
+use Rattle.pt_control.specs.Turn.{Around}
+use Rattle.pt_control.specs.Frames.{by, raise, Nest, Way, Control}
+use Rattle.pt_control.specs.Bases.{way_base}
+use Rattle.pt_control.specs.Bases as B
+use Rattle.pt_control.specs.Completions.{complete}
+use Rattle.pt_control.specs.Control as C
+use Rattle.pt_control.specs.Events as E
+use Rattle.pt_control.specs.Jump as J
+use Rattle.pt_control.specs.Reached.{start_code}
+use Rattle.pt_run.specs.Machine.{turn_in, BlockId, Reason, no_statement, out_of_finally, into_block, Jump, refuses, lands, Machine}
+
+-- what control knows of each block
+pub record Source (V : Type 0) : Type 0 where
+  pub code : BlockId → Code
+  pub around : BlockId → Around V
+
+-- control is at what comes next, or at the statement where a jump has landed, before anything of it has begun
+pub data Position (V : Type 0) : Type 0 where
+  at : Control V → Position V
+  at_statement : Way V → Position V
+
+abbrev pub or_null : {V : Type 0} → (null : V) → Option V → V
+or_null n (Some v) = v
+or_null n None = n
+
+abbrev pub reason : J.Verdict → Reason
+reason J.permitted = no_statement
+reason J.no_statement = no_statement
+reason J.into_block = into_block
+reason J.out_of_finally = out_of_finally
+
+abbrev pub nest_of : {V : Type 0} → Position V → Nest V
+nest_of (at c) = C.nest_at c
+nest_of (at_statement k) = way_base k
+
+abbrev pub number_or_all : (all : ℕ) → Option ℕ → ℕ
+number_or_all n (Some k) = k
+number_or_all n None = n
+
+module _ {V : Type 0} (source : Source V) where
+  abbrev pub control_of : BlockId → Position V → Control V
+  control_of b (at c) = c
+  control_of b (at_statement k) = C.go (source.around b) k
+
+  abbrev pub jump_of : BlockId → J.Jumped V → Jump (Position V) V
+  jump_of b (J.refused v) = refuses (reason v)
+  jump_of b (J.lands k) = lands (at_statement k) (λ v. at (complete (source.around b) (by (raise v)) (way_base k)))
+
+  abbrev pub machine : Machine (Position V) V
+  machine = record {
+    start = λ b i. at (start_code (source.around b) (source.code b) (or_null (source.around b).null i));
+    turn = λ b p. turn_in at (C.turn (source.around b) (control_of b p));
+    jump = λ b p l. jump_of b (J.jump (source.code b) (nest_of p) l);
+    active = λ p. B.active (nest_of p);
+    destination = λ b p. number_or_all (length (acts_of_code (source.code b))) (E.destination (source.around b) (control_of b p));
+  }

@@ -1,0 +1,19 @@
+//! A run, said once: activations, generators, events, hooks and a debugger's answers, over any
+//! machine and any values. It runs nothing.
+#![tactic(auto)]
+
+mod laws;
+mod rows;
+
+pub use laws::{
+    a_debugger_that_only_looks_changes_nothing, a_greater_bound_goes_on, a_run_has_one_outcome,
+    a_run_has_parts, a_suspended_activation_is_kept,
+    machines_that_follow_each_other_have_the_same_runs,
+    nothing_is_told_in_hidden_blocks_and_under_hooks, runs_never_halt_unfinished,
+    silent_moves_change_nothing,
+};
+pub use rows::{
+    a_callee_that_raises_is_followed, a_debuggers_jumps_are_followed, a_hook_that_runs_is_followed,
+    bounds_are_followed, hooks_in_generators_are_followed, jumps_drop_the_rest_of_an_event,
+    line_events_are_followed, the_most_activations_are_followed, the_order_at_an_event_is_followed,
+};
