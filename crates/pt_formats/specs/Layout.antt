@@ -1,5 +1,5 @@
 -- A value laid out in a field, and the answer of `format` (Library Reference, "Format Specification Mini-Language").
-use Rattle.std.specs.Prelude.{ℕ, ◌+◌, ◌-◌, ◌/◌, Bool, true, false, List, [], ◌∷◌, ◌++◌, Option, None, Some, Result, Ok, Err, ℤ, length, replicate, if◌then◌else◌}
+use Rattle.std.specs.Prelude.{ℕ, ◌+◌, ◌-◌, ◌/◌, Bool, true, false, List, [], ◌∷◌, ◌++◌, Option, None, Some, Result, Err, ℤ, length, replicate, if◌then◌else◌}
 use Rattle.std.specs.Str.{chars}
 use Rattle.pt_strs.specs.declared.error.StrErr.{StrErr}
 use Rattle.pt_strs.specs.declared.error.StrErr.TheVariants.{Format}
@@ -14,7 +14,6 @@ use Rattle.pt_formats.specs.declared.spec.Spec.{Spec}
 use Rattle.pt_formats.specs.declared.value.FormatValue.{FormatValue}
 use Rattle.pt_formats.specs.declared.value.FormatValue.TheVariants.{Int, Str}
 use Rattle.pt_formats.specs.Number.{digits_of, sign_char}
-use Rattle.pt_formats.specs.Spec.{spec_of}
 
 -- how often the fill stands before the sign, behind it and at the end
 abbrev pub margins_of : Align → (room : ℕ) → Margins

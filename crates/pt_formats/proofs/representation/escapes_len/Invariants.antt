@@ -7,7 +7,7 @@ use Rattle.pt_formats.proofs.representation.escapes_len.Given as goal
 abbrev pub invariant-loop-c : goal.invariant-loop-c
 invariant-loop-c l = record {
   whole : counted (l.sum + length (escapes l.quote l.scan)) ≡ counted (length (escapes l.quote (chars l.text)));
-  fits : l.sum < 2 ^ 64
+  fits : l.sum < 2 ^ 64;
 }
 
 abbrev pub decreases-loop-c : goal.decreases-loop-c

@@ -1,4 +1,4 @@
-use Rattle.std.proofs.Common.{◌≡◌, ◌^◌, ◌<◌, ℕ, length}
+use Rattle.std.proofs.Common.{◌≡◌, ℕ, length}
 use Rattle.pt_strs.specs.Answer.{counted}
 use Rattle.pt_formats.specs.Spec.{read_width}
 use Rattle.pt_formats.proofs.spec.read_width.Given as goal

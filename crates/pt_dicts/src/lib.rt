@@ -1,0 +1,10 @@
+//! Values as keys of dictionaries and sets (Language Reference 6.2.7; Library Reference, `hash`).
+#![tactic(auto)]
+
+mod chain;
+mod codes;
+mod key;
+
+pub use chain::{class_at, class_value, object_at};
+pub use codes::name_key;
+pub use key::{KeyErr, key_of};
