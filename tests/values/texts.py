@@ -64,16 +64,10 @@ def repeated(text, count):
 
 
 def represented(text):
-    # an unprintable character above 255 stands as itself, and so do those that CPython prints
+    """As CPython, but that a character above 255 stands as itself where it can't be printed."""
     quote = '"' if "'" in text and '"' not in text else "'"
-    body = ""
-    for c in text:
-        if ord(c) < 256 or c.isprintable():
-            body += repr(c + ('"' if quote == "'" and c != '"' else ""))[1:-1].removesuffix('"') if c not in "'\"" else c
-        else:
-            body += c
-    if quote == "'":
-        body = body.replace("'", "\\'")
+    escapes = {"\\": "\\\\", "\n": "\\n", "\r": "\\r", "\t": "\\t", quote: "\\" + quote}
+    body = "".join(escapes.get(c, f"\\x{ord(c):02x}" if ord(c) < 32 or 127 <= ord(c) <= 160 or ord(c) == 173 else c) for c in text)
     if all(ord(c) < 256 or c.isprintable() for c in text):
         assert quote + body + quote == repr(text), (text, body)
     return f"repr {spelled(text)}", spelled(quote + body + quote)
@@ -169,25 +163,45 @@ VALUES = ["n", "t", "f", "e", "N", "i0", "i1", "i2", "i-1", f"i{2 ** 127 - 1}", 
 REFUSED = ["[]", "{}", "<>", "([])", "(i1,{})", "(((<>)))", "([],{})", "x", "h", "q", "(x)", "(q,h)"]
 
 
+def read(word, at):
+    """The value that begins at a place of a word, and the place behind it; `o1` and `o2` are two objects."""
+    if word[at] == "(":
+        items, at = [], at + 1
+        while word[at] != ")":
+            item, at = read(word, at)
+            items.append(item)
+            at += word[at] == ","
+        return tuple(items), at + 1
+    if word[at] in "is":
+        end = at + 1
+        while end < len(word) and word[end] not in ",)":
+            end += 1
+        part = word[at + 1 : end]
+        if word[at] == "i":
+            return int(part), end
+        return "" if part == "-" else "".join(chr(int(c, 16)) for c in part.split(".")), end
+    if word[at] == "o":
+        return {"1": object, "2": type}[word[at + 1]], at + 2
+    return {"n": None, "t": True, "f": False, "e": ..., "N": NotImplemented}[word[at]], at + 1
+
+
 def value_of(word):
-    """The value of a word that has one in CPython; `o1` and `o2` are two objects."""
-    codes = {"n": "None", "t": "True", "f": "False", "e": "...", "N": "NotImplemented", "o1": "O1", "o2": "O2"}
-    word = re.sub(r"s([0-9a-f.]+|-)", lambda m: repr("" if m[1] == "-" else "".join(chr(int(c, 16)) for c in m[1].split("."))), word)
-    word = re.sub(r"\bi(-?\d+)", r"\1", word)
-    word = re.sub(r"(?<!['\w])(n|t|f|e|N|o1|o2)(?!\w)", lambda m: codes[m[1]], word)
-    word = re.sub(r"\(([^()]+)\)", r"(\1,)", re.sub(r"\(([^()]+)\)", r"(\1,)", word)) if "(" in word else word
-    return eval(word, {"O1": object, "O2": type})
+    return read(word, 0)[0]
+
+
+def tokens(word):
+    return word.replace("(", "( ").replace(")", " )").replace(",", " ")
 
 
 def key_rows():
     for a in VALUES:
         for b in VALUES:
             if a <= b:
-                yield f"same {a} {b}", "same" if value_of(a) == value_of(b) else "other"
+                yield f"same {tokens(a)} = {tokens(b)}", "same" if value_of(a) in {value_of(b): 0} else "other"
     answers = ["Unhashable 5", "Unhashable 8", "Unhashable 7", "Unhashable 5", "Unhashable 8", "Unhashable 7", "Unhashable 5",
-               "Unhashable x", "UserHash", "UserHash", "Unhashable x", "UserHash"]
+               "Unhashable x", "UserHash x", "UserHash x", "Unhashable x", "UserHash x"]
     for word, answer in zip(REFUSED, answers):
-        yield f"same {word} n", answer
+        yield f"same {tokens(word)} = n", answer
     for depth in (1, 999, 1000, 1001, 5000):
         yield f"deep {depth}", "key" if depth <= 1000 else "Deep"
 

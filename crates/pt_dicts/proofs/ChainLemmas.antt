@@ -1,5 +1,5 @@
 -- One class more of a chain.
-use Rattle.std.proofs.Common.{◌≡◌, ◌∙◌, ℕ, suc, ◌+◌, ◌-◌, ◌<◌, List, Option, Some, None, slice_get, ap, arith, refl}
+use Rattle.std.proofs.Common.{◌≡◌, ◌∙◌, ℕ, suc, ◌+◌, ◌-◌, ◌<◌, ◌≤◌, List, Option, Some, None, slice_get, ap, arith, refl}
 use Rattle.pt_heap.specs.declared.value.Value.{Value}
 use Rattle.pt_heap.specs.declared.object.Object.{Object}
 use Rattle.pt_dicts.specs.Chain.{class_in, found_in, found_along}
@@ -10,6 +10,6 @@ along-more h n i key p l =
     let one : n - i ≡ suc (n - (i + 1)) = omega arith in
     ap (λ m. found_along h m key p) one
 
-pub along-none : (h : List Object) (n : ℕ) (key : List ℕ) (p : ℕ) → found_along h (n - n) key p ≡ None
+pub along-none : (h : List Object) (n i : ℕ) (key : List ℕ) (p : ℕ) → n ≤ i → found_along h (n - i) key p ≡ None
 unfolding found_along
-along-none h n key p = let zero : n - n ≡ 0 = omega arith in ap (λ m. found_along h m key p) zero
+along-none h n i key p l = let zero : n - i ≡ 0 = omega arith in ap (λ m. found_along h m key p) zero

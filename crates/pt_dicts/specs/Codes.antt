@@ -26,8 +26,8 @@ abbrev pub bytes_codes : List ℕ → List ℕ
 bytes_codes [] = 255 ∷ []
 bytes_codes (b ∷ bs) = escaped b ++ bytes_codes bs
 
-mutual
-  abbrev pub codes_of : KeyValue → List ℕ
+abbrev mutual
+  pub codes_of : KeyValue → List ℕ
   codes_of none = 0 ∷ []
   codes_of ellipsis = 1 ∷ []
   codes_of not_implemented = 2 ∷ []
@@ -36,6 +36,6 @@ mutual
   codes_of (tuple keys) = 5 ∷ list_codes keys
   codes_of (object place) = 6 ∷ bytes_codes (signed_decimal (pos place))
 
-  abbrev pub list_codes : KeyValues → List ℕ
+  pub list_codes : KeyValues → List ℕ
   list_codes no_keys = 255 ∷ []
   list_codes (more_keys key keys) = codes_of key ++ list_codes keys
