@@ -1,7 +1,8 @@
 -- Names that are given to a value, and taken from it (Language Reference 7.2, 7.5).
-use Rattle.std.specs.Prelude.{◌≡◌, ℕ, Bool, true, false, List, [], Option, None, Some, Result, Ok, Err, slice_get, slice_set, if◌then◌else◌}
+use Rattle.std.specs.Prelude.{◌≡◌, ℕ, Bool, true, false, List, [], Option, None, Some, Result, Ok, Err, slice_get, slice_set, if◌then◌else◌, IsSome}
 use Rattle.pt_base.specs.declared.failure.Failure.{Failure}
 use Rattle.pt_base.specs.declared.failure.Failure.TheVariants.{Refused, Memory}
+use Rattle.pt_base.specs.declared.numbers.ObjId.{ObjId}
 use Rattle.pt_heap.specs.declared.value.Value.{Value}
 use Rattle.pt_heap.specs.declared.value.Value.TheVariants as value
 use Rattle.pt_heap.specs.declared.object.Object.{Object}
@@ -28,6 +29,11 @@ with_names (object.Class c) names = object.Class (record c { names = names })
 with_names (object.Instance x) names = object.Instance (record x { names = names })
 with_names (object.Error x) names = object.Error (record x { names = names })
 with_names o names = o
+
+-- an object stands there and holds names
+abbrev pub Holds : List Object → Option Object → Type 0
+Holds h None = ⊥
+Holds h (Some o) = IsSome (held h o)
 
 abbrev pub stored_in : List Object → (place : ℕ) → (key : List ℕ) → Value → Object → Option (List Entry) → Option (List Object)
 stored_in h p key v o None = None
@@ -71,3 +77,8 @@ abbrev pub Changes : (old new : List Object) → Result (Unit {0}) (Failure NoAt
 Changes old new (Ok u) wanted = wanted ≡ Some new
 Changes old new (Err Memory) wanted = new ≡ old
 Changes old new (Err (Refused e)) wanted = (wanted ≡ None) × (new ≡ old)
+
+-- the heap without the name, or as before
+abbrev pub TakesAt : (old new : List Object) → ObjId → (key : List ℕ) → Bool → Type 0
+TakesAt old new id key true = deleted old (value.Obj id) key ≡ Some new
+TakesAt old new id key false = (deleted old (value.Obj id) key ≡ None) × (new ≡ old)

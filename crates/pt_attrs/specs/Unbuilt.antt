@@ -1,5 +1,5 @@
 -- Which names of attributes a run does not have (Library Reference, "Text Sequence Type", "Mapping Types", "Set Types").
-use Rattle.std.specs.Prelude.{ℕ, Bool, true, false, ◌&&◌, ◌||◌, List, [], ◌∷◌, map, length, nat_lt, nat_eq, codes, Option, None, Some}
+use Rattle.std.specs.Prelude.{ℕ, Bool, false, ◌&&◌, ◌||◌, List, [], ◌∷◌, map, length, nat_lt, nat_eq, codes, Option, None, Some}
 use Rattle.std.specs.List.{list_any, starts_with, ends_with}
 use Rattle.std.specs.Str.{bytes_eq}
 use Rattle.pt_heap.specs.declared.object.Object.{Object}

@@ -2,8 +2,8 @@
 #![tactic(auto)]
 
 mod look;
-mod store;
+mod names;
 mod unbuilt;
 
 pub use look::{Found, NoAttr, lookup, super_of};
-pub use store::{delete, store};
+pub use names::{delete, store};

@@ -1,6 +1,5 @@
 -- One class more of a chain.
-use Rattle.std.proofs.Common.{◌≡◌, ◌∙◌, ℕ, suc, ◌+◌, ◌-◌, ◌<◌, ◌≤◌, List, Option, Some, None, slice_get, ap, arith, refl}
-use Rattle.pt_heap.specs.declared.value.Value.{Value}
+use Rattle.std.proofs.Common.{◌≡◌, ℕ, suc, ◌+◌, ◌-◌, ◌<◌, ◌≤◌, List, None, slice_get, ap, arith}
 use Rattle.pt_heap.specs.declared.object.Object.{Object}
 use Rattle.pt_dicts.specs.Chain.{class_in, found_in, found_along}
 

@@ -7,7 +7,7 @@ use Rattle.pt_heap.specs.declared.value.Value.TheVariants as value
 use Rattle.pt_heap.specs.declared.object.Object.{Object}
 use Rattle.pt_dicts.specs.declared.key.KeyErr.{KeyErr}
 use Rattle.pt_dicts.specs.declared.key.KeyErr.TheVariants.{Unhashable, UserHash, Deep, Memory}
-use Rattle.pt_dicts.specs.Codes.{KeyValue, KeyValues, tuple, no_keys, more_keys, codes_of, list_codes}
+use Rattle.pt_dicts.specs.Codes.{KeyValue, KeyValues, codes_of, list_codes}
 use Rattle.pt_dicts.specs.Keys.{key_by, key_value, both, keys_by, as_tuple, tuple_key, coded, coded_list, Writes}
 
 -- numbers before those of a key

@@ -1,5 +1,5 @@
 -- A value as a key, and how that is written as a list of numbers.
-use Rattle.std.specs.Prelude.{ℕ, ◌-◌, ℤ, pos, List, [], ◌∷◌, ◌++◌, nat_lt, if◌then◌else◌}
+use Rattle.std.specs.Prelude.{ℕ, suc, ◌-◌, ◌^◌, ◌<◌, ℤ, pos, negsuc, List, [], ◌∷◌, ◌++◌, nat_lt, if◌then◌else◌}
 use Rattle.std.specs.Fmt.{signed_decimal}
 
 -- None, numbers, texts and tuples by value, all else by object (Language Reference 6.2.7; Library Reference, `hash`)
@@ -39,3 +39,22 @@ abbrev mutual
   pub list_codes : KeyValues → List ℕ
   list_codes no_keys = 255 ∷ []
   list_codes (more_keys key keys) = codes_of key ++ list_codes keys
+
+-- numbers of at most 64 digits, as those of 128 bits are
+abbrev pub IsShort : ℤ → Type 0
+IsShort (pos n) = n < 10 ^ 64
+IsShort (negsuc n) = suc n < 10 ^ 64
+
+abbrev mutual
+  pub AreShort : KeyValue → Type 0
+  AreShort none = Unit {0}
+  AreShort ellipsis = Unit {0}
+  AreShort not_implemented = Unit {0}
+  AreShort (number z) = IsShort z
+  AreShort (text bytes) = Unit {0}
+  AreShort (tuple keys) = AllShort keys
+  AreShort (object place) = IsShort (pos place)
+
+  pub AllShort : KeyValues → Type 0
+  AllShort no_keys = Unit {0}
+  AllShort (more_keys key keys) = AreShort key × AllShort keys

@@ -115,7 +115,9 @@ pub const START: [(&str, Kind); 84] = [
 
 /// The places of the classes of lists, sets and dictionaries.
 pub const LIST_CLASS: ObjId = ObjId(5);
+
 pub const SET_CLASS: ObjId = ObjId(7);
+
 pub const DICT_CLASS: ObjId = ObjId(8);
 
 /// The object of a name.

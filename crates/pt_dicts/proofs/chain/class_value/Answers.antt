@@ -1,7 +1,6 @@
-use Rattle.std.proofs.Common.{◌≡◌, ◌∙◌, ◌+◌, ◌-◌, None, Some, sym, ap, arith, slice_get}
+use Rattle.std.proofs.Common.{◌∙◌, ◌+◌, ◌-◌, None, sym, ap, arith}
 use Rattle.std.specs.Option.{option_copied}
-use Rattle.pt_heap.specs.Entries.{found}
-use Rattle.pt_dicts.specs.Chain.{class_in, or_base, found_in, found_along}
+use Rattle.pt_dicts.specs.Chain.{or_base, found_in, found_along}
 use Rattle.pt_dicts.proofs.ChainLemmas.{along-more, along-none}
 use Rattle.pt_dicts.proofs.chain.class_value.Goals as goal
 

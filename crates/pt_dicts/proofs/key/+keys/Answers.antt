@@ -1,4 +1,4 @@
-use Rattle.std.proofs.Common.{◌≡◌, ◌∙◌, ◌-◌, ap, arith}
+use Rattle.std.proofs.Common.{◌∙◌, ◌-◌, ap, arith}
 use Rattle.pt_dicts.specs.Keys.{coded, key_value, tuple_key}
 use Rattle.pt_dicts.proofs.KeyLemmas.{handed, item-written, tuple-none, tuple-refused, tuple-written}
 use Rattle.pt_dicts.proofs.key.+keys.Goals as goal
