@@ -16,8 +16,11 @@ fn character(word: &str) -> Result<char, NoRow> {
     }
 }
 
+/// How many characters are written at once.
+const CHUNK: u32 = 4096;
+
 /// Writes a character as often as `N*C` says.
-fn push_times(draft: &mut Draft, word: &str) -> Result<(), NoRow> {
+fn push_times(alloc: Global, draft: &mut Draft, word: &str) -> Result<(), NoRow> {
     let Some((count, code)) = word.split_once("*") else {
         return Err(NoRow);
     };
@@ -25,7 +28,15 @@ fn push_times(draft: &mut Draft, word: &str) -> Result<(), NoRow> {
         return Err(NoRow);
     };
     let c = character(code)?;
-    for _turn in 0..count {
+    let mut chunk = Draft::new(alloc);
+    for _turn in 0..CHUNK {
+        chunk.push(c)?;
+    }
+    let chunk = chunk.into_text();
+    for _turn in 0..count / CHUNK {
+        draft.push_str(chunk.as_str())?;
+    }
+    for _turn in 0..count % CHUNK {
         draft.push(c)?;
     }
     Ok(())
@@ -37,7 +48,7 @@ pub fn read(alloc: Global, word: &str) -> Result<Text, NoRow> {
     if word != "-" {
         for part in word.split(".") {
             match part.strip_prefix("*") {
-                Some(times) => push_times(&mut draft, times)?,
+                Some(times) => push_times(alloc, &mut draft, times)?,
                 None => draft.push(character(part)?)?,
             }
         }
