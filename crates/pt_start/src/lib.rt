@@ -113,6 +113,13 @@ pub const START: [(&str, Kind); 84] = [
     ("exception", Kind::Event),
 ];
 
+/// The places of the classes of lists, sets and dictionaries.
+pub const LIST_CLASS: ObjId = ObjId(5);
+
+pub const SET_CLASS: ObjId = ObjId(7);
+
+pub const DICT_CLASS: ObjId = ObjId(8);
+
 /// The object of a name.
 fn made(alloc: Global, seed: Seed, name: &str, kind: Kind) -> Result<Object, Memory>
     ensures { IfOk result (λ object. object ≡ object_of name.now kind) }

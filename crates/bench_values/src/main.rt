@@ -1,0 +1,116 @@
+//! What the benchmark of values times: searches and replacements in long texts, entries of a
+//! dictionary, and objects of a heap.
+#![tactic(auto)]
+
+use pt_base::{Memory, Seq, Text};
+use pt_heap::{Dict, Heap, Key, Object, Seed, Value};
+use pt_strs::{find, repeat, replace};
+use std::alloc::Global;
+use std::env;
+use std::process::ExitCode;
+
+/// A letter so many times.
+fn letters(alloc: Global, size: u32) -> Result<Text, Memory> {
+    let letter = Text::from_str(alloc, "a")?;
+    match repeat(alloc, &letter, size as i128) {
+        Ok(text) => Ok(text),
+        Err(_) => Err(Memory),
+    }
+}
+
+/// A thousand of the letter and another behind them, which a search meets late at each place.
+fn hostile(alloc: Global) -> Result<Text, Memory> {
+    let mut part = letters(alloc, 1000)?;
+    part.push_str("b")?;
+    Ok(part)
+}
+
+/// Seeks what isn't there in a text of one letter.
+fn search(alloc: Global, size: u32) -> Result<bool, Memory> {
+    let text = letters(alloc, size)?;
+    let part = hostile(alloc)?;
+    Ok(find(&text, &part).is_none())
+}
+
+/// Replaces what isn't there, and then each letter.
+fn substitute(alloc: Global, size: u32) -> Result<bool, Memory> {
+    let text = letters(alloc, size)?;
+    let part = hostile(alloc)?;
+    let letter = Text::from_str(alloc, "a")?;
+    let other = Text::from_str(alloc, "xy")?;
+    let Ok(same) = replace(alloc, &text, &part, &other) else {
+        return Err(Memory);
+    };
+    let Ok(longer) = replace(alloc, &same, &letter, &other) else {
+        return Err(Memory);
+    };
+    Ok(longer.len() / 2 == size as usize)
+}
+
+fn key(alloc: Global, number: u32) -> Result<Key, Memory> {
+    Ok(Key::new(Seq::from_slice(alloc, number.to_le_bytes().as_slice())?))
+}
+
+/// Puts so many entries into a dictionary, asks for each, and takes each out.
+fn entries(alloc: Global, count: u32) -> Result<bool, Memory> {
+    let mut dict = Dict::new(alloc, Seed::of(b"entries"));
+    for number in 0..count {
+        let key = key(alloc, number)?;
+        if dict.insert(key, Value::None, Value::Bool(true)).is_err() {
+            return Err(Memory);
+        }
+    }
+    for number in 0..count {
+        let key = key(alloc, number)?;
+        if dict.get(&key).is_none() {
+            return Ok(false);
+        }
+    }
+    for number in 0..count {
+        let key = key(alloc, number)?;
+        if dict.remove(&key).is_none() {
+            return Ok(false);
+        }
+    }
+    Ok(dict.len() == 0)
+}
+
+/// Puts so many objects into a heap.
+fn objects(alloc: Global, count: u32) -> Result<bool, Memory> {
+    let mut heap = Heap::new(alloc, Seed::of(b"objects"));
+    for number in 0..count {
+        if heap.add(Object::Generator(number)).is_err() {
+            return Err(Memory);
+        }
+    }
+    Ok(heap.len() == count)
+}
+
+fn number(word: Option<String>) -> u32 {
+    match word {
+        Some(word) => word.as_str().parse::<u32>().unwrap_or(0),
+        None => 0,
+    }
+}
+
+/// The words are what is timed and its size: `find`, `replace`, `entries` or `objects`.
+fn main(rt: HostRuntime) -> ExitCode {
+    let Ok(mut args) = env::args(&rt) else {
+        return ExitCode::from(1);
+    };
+    let _program = args.next();
+    let Some(command) = args.next() else {
+        return ExitCode::from(1);
+    };
+    let size = number(args.next());
+    let done = match command.as_str() {
+        "find" => search(rt.alloc(), size),
+        "replace" => substitute(rt.alloc(), size),
+        "entries" => entries(rt.alloc(), size),
+        _ => objects(rt.alloc(), size),
+    };
+    match done {
+        Ok(true) => ExitCode::from(0),
+        _ => ExitCode::from(1),
+    }
+}

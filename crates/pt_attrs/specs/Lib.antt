@@ -1,0 +1,3 @@
+pub mod Look
+pub mod Store
+pub mod Unbuilt

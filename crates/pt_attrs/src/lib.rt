@@ -1,0 +1,9 @@
+//! Attributes of values (Language Reference 3.2, 3.3.2, 6.3.1; Library Reference, `super`).
+#![tactic(auto)]
+
+mod look;
+mod names;
+mod unbuilt;
+
+pub use look::{Found, NoAttr, lookup, super_of};
+pub use names::{delete, store};

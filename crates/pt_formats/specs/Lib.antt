@@ -1,0 +1,4 @@
+pub mod Layout
+pub mod Number
+pub mod Repr
+pub mod Spec

@@ -1,0 +1,10 @@
+use Rattle.std.proofs.Common.{◌≡◌, length}
+use Rattle.pt_strs.specs.Class.{has}
+use Rattle.pt_strs.specs.Strip.{without_end}
+use Rattle.pt_strs.proofs.scan.Scan.without_end.Given as goal
+
+abbrev pub invariant-loop-c : goal.invariant-loop-c
+invariant-loop-c l = without_end (has l.class) l.rest ≡ without_end (has l.class) l.fn.self
+
+abbrev pub decreases-loop-c : goal.decreases-loop-c
+decreases-loop-c l = length l.rest

@@ -1,0 +1,9 @@
+pub mod Answer
+pub mod Blank
+pub mod Class
+pub mod Cut
+pub mod Join
+pub mod Replace
+pub mod Slice
+pub mod Strip
+pub mod Words
