@@ -1,0 +1,5 @@
+pub mod Names
+pub mod NameSets
+pub mod Activations
+pub mod Lending
+pub mod Binding

@@ -1,0 +1,370 @@
+ghost use Rattle.std.specs.Prelude.{◌≡◌, ◌+◌, ◌<◌, ◌≤◌, ◌↔◌, ◌∷◌, [], ◌++◌, None, Some, Err, false, length, slice_get, slice_set, IsTrue, OnOk, OnErr, IfOk, IfSome};
+ghost use Rattle.pt_frames.specs.Names.{bound};
+ghost use Rattle.pt_frames.specs.Activations.{fresh_in, numbered, opened, on_newest, put_at, pushed, value_at, with_cell, with_cell_at, with_global, with_name, with_new_cell, OnNewest};
+
+use crate::activations::{Activations, Opened};
+use crate::names::Names;
+use crate::{Activation, Locals, Place, Purpose, Slot};
+use pt_base::{BlockId, Dup, FrameNo, Line, Memory, Pc, Seq, Text};
+use pt_heap::{Seed, Value};
+use std::alloc::Global;
+
+/// The most activations that may be open.
+const ACTIVATION_LIMIT: usize = 1_000;
+
+/// The most cells that are kept.
+const CELL_LIMIT: usize = 4_294_967_295;
+
+/// Why an activation is not opened.
+#[derive(Clone, Copy, Debug, PartialEq, Eq)]
+pub enum OpenErr {
+    /// As many are open as may be.
+    TooDeep,
+    Memory,
+}
+
+impl From<Memory> for OpenErr {
+    ghost use Rattle.std.specs.Prelude.{◌≡◌};
+    ghost use Rattle.pt_frames.specs.declared.frames.OpenErr.TheVariants.{Memory as out_of_memory};
+
+    ghost from_gives = { λ _ e. e ≡ out_of_memory };
+
+    fn from(_: Memory) -> Self {
+        OpenErr::Memory
+    }
+}
+
+/// The open activations, the cells and the names of the module.
+#[derive(Drop)]
+pub struct Frames {
+    alloc: Global,
+    seed: Seed,
+    pub activations: Activations,
+    pub cells: Seq<Option<Value>>,
+    pub globals: Names,
+    /// How many frame numbers were given.
+    pub made: u64,
+}
+
+impl Frames {
+    /// No activation, no cell and no name. The seed is that of the names' hashes.
+    pub fn new(alloc: Global, seed: Seed) -> Frames
+        ensures activations { result.activations ≡ [] }
+        ensures cells { result.cells ≡ [] }
+        ensures globals { result.globals ≡ [] }
+        ensures made { result.made ≡ 0 }
+    {
+        Frames {
+            alloc,
+            seed,
+            activations: Activations::new(alloc),
+            cells: Seq::new(alloc),
+            globals: Names::new(alloc, seed),
+            made: 0,
+        }
+    }
+
+    /// Whether as many activations are open as may be.
+    pub fn is_full(&self) -> bool
+        ensures full { IsTrue result ↔ (length self.now.activations ≡ 1000) }
+        ensures room { result ≡ false → length self.now.activations < 1000 }
+    {
+        self.activations.len() == ACTIVATION_LIMIT
+    }
+
+    /// How many activations are open.
+    pub fn depth(&self) -> usize
+        ensures value { result ≡ length self.now.activations }
+        ensures within { result ≤ 1000 }
+    {
+        self.activations.len()
+    }
+
+    /// Makes an activation, with a new frame number, that isn't open. Where all numbers were given
+    /// it answers Memory.
+    pub fn fresh(
+        &mut self,
+        block: BlockId,
+        hidden: bool,
+        locals: Locals,
+    ) -> Result<Activation, Memory>
+        ensures activation { IfOk result (λ a. a ≡ fresh_in self.old block hidden locals) }
+        ensures ok { OnOk result (self.new ≡ numbered self.old) }
+        ensures err { OnErr result (self.new ≡ self.old) }
+    {
+        if self.made == u64::MAX {
+            return Err(Memory);
+        }
+        let frame = FrameNo(self.made);
+        self.made += 1;
+        Ok(Activation::new(self.alloc, self.seed, frame, block, hidden, locals))
+    }
+
+    /// Opens an activation of a block.
+    pub fn open(
+        &mut self,
+        block: BlockId,
+        hidden: bool,
+        locals: Locals,
+        why: Purpose,
+    ) -> Result<FrameNo, OpenErr>
+        ensures number { IfOk result (λ n. n.0 ≡ self.old.made) }
+        ensures ok { OnOk result
+            (self.new ≡ opened (fresh_in self.old block hidden locals) why (numbered self.old)) }
+        ensures err { OnErr result (self.new ≡ self.old) }
+        ensures full { (result ≡ Err OpenErr.TooDeep) ↔ (length self.old.activations ≡ 1000) }
+    {
+        if self.is_full() {
+            return Err(OpenErr::TooDeep);
+        }
+        if self.made == u64::MAX {
+            return Err(OpenErr::Memory);
+        }
+        let frame = FrameNo(self.made);
+        let activation = Activation::new(self.alloc, self.seed, frame, block, hidden, locals);
+        self.activations.push(Opened { activation, why })?;
+        self.made += 1;
+        Ok(frame)
+    }
+
+    /// Opens an activation that `fresh` has made or `leave` has taken out, as it is.
+    pub fn enter(&mut self, activation: Activation, why: Purpose) -> Result<(), Memory>
+        requires { length self.old.activations < 1000 }
+        ensures ok { OnOk result (self.new ≡ opened activation why self.old) }
+        ensures err { OnErr result (self.new ≡ self.old) }
+    {
+        self.activations.push(Opened { activation, why })
+    }
+
+    /// Takes the newest activation out.
+    pub fn leave(&mut self) -> (Activation, Purpose)
+        requires { 0 < length self.old.activations }
+        ensures { self.old ≡ opened result.0 result.1 self.new }
+    {
+        let Opened { activation, why } = self.activations.pop();
+        (activation, why)
+    }
+
+    /// Closes the newest activation, and answers what becomes of its value.
+    pub fn close(&mut self) -> Purpose
+        requires { 0 < length self.old.activations }
+        ensures { OnNewest (λ a. self.old ≡ opened a result self.new) self.old.activations }
+    {
+        let (_, why) = self.leave();
+        why
+    }
+
+    /// Puts a slot on those of the newest activation.
+    pub fn push(&mut self, slot: Slot) -> Result<(), Memory>
+        requires { 0 < length self.old.activations }
+        ensures ok { OnOk result (self.new ≡ pushed slot self.old) }
+        ensures err { OnErr result (self.new ≡ self.old) }
+    {
+        self.activations.newest_mut().activation.slots.push(slot)
+    }
+
+    /// Takes the top slot of the newest activation off.
+    pub fn pop(&mut self) -> Slot
+        requires { OnNewest (λ a. 0 < length a.slots) self.old.activations }
+        ensures { self.old ≡ pushed result self.new }
+    {
+        match self.activations.newest_mut().activation.slots.pop() {
+            Some(slot) => slot,
+            None => unreachable!(),
+        }
+    }
+
+    /// How many slots the newest activation has.
+    pub fn slot_count(&self) -> usize
+        requires { 0 < length self.now.activations }
+        ensures { OnNewest (λ a. result ≡ length a.slots) self.now.activations }
+    {
+        self.activations.newest().activation.slots.len()
+    }
+
+    /// The number of the newest activation.
+    pub fn frame(&self) -> FrameNo
+        requires { 0 < length self.now.activations }
+        ensures { OnNewest (λ a. result ≡ a.frame) self.now.activations }
+    {
+        self.activations.newest().activation.frame
+    }
+
+    /// The block of the newest activation.
+    pub fn block(&self) -> BlockId
+        requires { 0 < length self.now.activations }
+        ensures { OnNewest (λ a. result ≡ a.block) self.now.activations }
+    {
+        self.activations.newest().activation.block
+    }
+
+    /// Whether the newest activation's block is one of the prelude's.
+    pub fn hidden(&self) -> bool
+        requires { 0 < length self.now.activations }
+        ensures { OnNewest (λ a. result ≡ a.hidden) self.now.activations }
+    {
+        self.activations.newest().activation.hidden
+    }
+
+    /// The place of the newest activation's next instruction.
+    pub fn pc(&self) -> Pc
+        requires { 0 < length self.now.activations }
+        ensures { OnNewest (λ a. result ≡ a.pc) self.now.activations }
+    {
+        self.activations.newest().activation.pc
+    }
+
+    pub fn set_pc(&mut self, pc: Pc)
+        requires { 0 < length self.old.activations }
+        ensures { self.new ≡ on_newest (λ a. record a { pc = pc }) self.old }
+    {
+        self.activations.newest_mut().activation.pc = pc;
+    }
+
+    /// The line of the newest activation's last act, or None where none has begun.
+    pub fn line(&self) -> Option<Line>
+        requires { 0 < length self.now.activations }
+        ensures { OnNewest (λ a. result ≡ a.line) self.now.activations }
+    {
+        self.activations.newest().activation.line
+    }
+
+    pub fn set_line(&mut self, line: Line)
+        requires { 0 < length self.old.activations }
+        ensures { self.new ≡ on_newest (λ a. record a { line = Some line }) self.old }
+    {
+        self.activations.newest_mut().activation.line = Some(line);
+    }
+
+    /// The value at a place of the newest activation, if it has the place and a value stands there.
+    pub fn get(&self, place: Place) -> Option<Value>
+        requires { 0 < length self.now.activations }
+        ensures { OnNewest (λ a. result ≡ value_at self.now.cells a place) self.now.activations }
+    {
+        self.activations
+            .newest()
+            .activation
+            .value_at(&self.cells, place)
+    }
+
+    /// Puts a value, or none, at a place of the newest activation. Where it lacks the place,
+    /// nothing changes.
+    pub fn put(&mut self, place: Place, value: Option<Value>)
+        requires { 0 < length self.old.activations }
+        ensures { self.new ≡ put_at place value self.old }
+    {
+        match place {
+            Place::Local(number) => self
+                .activations
+                .newest_mut()
+                .activation
+                .set_local(number, value),
+            Place::Cell(number) => {
+                let cell = self.activations.newest().activation.cell(number);
+                self.set_cell_value(cell, value);
+            }
+        }
+    }
+
+    /// The number of the cell of a cell or free name of the newest activation.
+    pub fn cell(&self, i: u32) -> u32
+        requires { OnNewest (λ a. i < length a.cells) self.now.activations }
+        ensures { OnNewest (λ a. slice_get a.cells i ≡ Some result) self.now.activations }
+    {
+        match self.activations.newest().activation.cells.get(i as usize) {
+            Some(cell) => *cell,
+            None => unreachable!(),
+        }
+    }
+
+    /// Gives a cell or free name of the newest activation another cell.
+    pub fn set_cell(&mut self, i: u32, cell: u32)
+        requires { OnNewest (λ a. i < length a.cells) self.old.activations }
+        ensures { self.new ≡ with_cell_at i cell self.old }
+    {
+        self.activations
+            .newest_mut()
+            .activation
+            .cells
+            .set(i as usize, cell);
+    }
+
+    /// Makes an unbound cell, and answers its number. Where 2^32 - 1 are there it answers Memory.
+    pub fn new_cell(&mut self) -> Result<u32, Memory>
+        ensures number { IfOk result (λ n. n ≡ length self.old.cells) }
+        ensures ok { OnOk result (self.new ≡ with_new_cell self.old) }
+        ensures err { OnErr result (self.new ≡ self.old) }
+    {
+        let number = self.cells.len();
+        if number >= CELL_LIMIT {
+            return Err(Memory);
+        }
+        self.cells.push(None)?;
+        Ok(number as u32)
+    }
+
+    /// The value of a name of the newest activation's class block.
+    pub fn name(&self, name: &str) -> Option<Value>
+        requires { 0 < length self.now.activations }
+        ensures { OnNewest (λ a. result ≡ bound name.now a.names) self.now.activations }
+    {
+        self.activations.newest().activation.names.get(name)
+    }
+
+    /// Binds a name of the newest activation's class block, or unbinds it.
+    pub fn set_name(&mut self, name: &Text, value: Option<Value>) -> Result<(), Memory>
+        requires { 0 < length self.old.activations }
+        ensures ok { OnOk result (self.new ≡ with_name name.now value self.old) }
+        ensures err { OnErr result (self.new ≡ self.old) }
+    {
+        let alloc = self.alloc;
+        self.activations
+            .newest_mut()
+            .activation
+            .names
+            .set(alloc, name.as_str(), value)
+    }
+
+    /// The value of a name of the module. It is found in constant time, and no text is made.
+    pub fn global(&self, name: &str) -> Option<Value>
+        ensures { result ≡ bound name.now self.now.globals }
+    {
+        self.globals.get(name)
+    }
+
+    /// Binds a name of the module, or unbinds it.
+    pub fn set_global(&mut self, name: &Text, value: Option<Value>) -> Result<(), Memory>
+        ensures ok { OnOk result (self.new ≡ with_global name.now value self.old) }
+        ensures err { OnErr result (self.new ≡ self.old) }
+    {
+        self.globals.set(self.alloc, name.as_str(), value)
+    }
+
+    /// Puts a value, or none, into a cell, where there is one.
+    fn set_cell_value(&mut self, cell: Option<u32>, value: Option<Value>)
+        ensures { self.new ≡ record self.old { cells = with_cell self.old.cells cell value } }
+    {
+        if let Some(cell) = cell {
+            let at = cell as usize;
+            if at < self.cells.len() {
+                self.cells.set(at, value);
+            }
+        }
+    }
+}
+
+impl Dup for Frames {
+    fn dup(&self, alloc: Global) -> Result<Frames, Memory> {
+        let activations = self.activations.dup(alloc)?;
+        let cells = Seq::from_slice(alloc, self.cells.as_slice())?;
+        let globals = self.globals.dup(alloc)?;
+        Ok(Frames {
+            alloc: self.alloc,
+            seed: self.seed,
+            activations,
+            cells,
+            globals,
+            made: self.made,
+        })
+    }
+}

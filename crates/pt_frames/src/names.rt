@@ -1,0 +1,133 @@
+ghost use Rattle.std.specs.Prelude.{◌≡◌, ◌++◌, ◌∷◌, [], None, IsSome, IfOk, OnOk, OnErr, take, length, ◌<◌, ◌+◌};
+ghost use Rattle.std.specs.Str.{bytes_eq};
+ghost use Rattle.std.specs.Map.{set_value};
+ghost use Rattle.std.specs.Prelude.{string_bytes, string_eq};
+ghost use Rattle.indexmap.specs.IndexMap.{get_by_text, insert_entry, IsUnique};
+ghost use Rattle.pt_frames.specs.Names.{bound, by_text, joined};
+
+use indexmap::IndexMap;
+use pt_base::{Dup, Memory};
+use pt_heap::{Seed, Value};
+use std::alloc::Global;
+use std::marker::Model;
+
+/// Names by their texts, each with its value.
+pub type NameMap = IndexMap<String, Option<Value>, Seed>;
+
+/// Gives a name that is there a value, or none.
+fn write(map: &mut NameMap, name: &str, value: Option<Value>)
+    requires { IsSome (get_by_text map.old name.now) }
+    ensures entries { map.new.entries
+        ≡ set_value (λ k. bytes_eq name.now (string_bytes k)) map.old.entries value }
+    ensures unique { IsUnique string_eq map.old → IsUnique string_eq map.new }
+{
+    if let Some(place) = map.get_mut(name) {
+        *place = value;
+    }
+}
+
+/// Puts a name that isn't there behind the others.
+fn append(alloc: Global, map: &mut NameMap, name: &str, value: Option<Value>) -> Result<(), Memory>
+    requires { get_by_text map.old name.now ≡ None }
+    ensures ok { OnOk result
+        (by_text map.new.entries ≡ by_text map.old.entries ++ (name.now, value) ∷ []) }
+    ensures err { OnErr result (map.new.entries ≡ map.old.entries) }
+    ensures unique { IsUnique string_eq map.old → IsUnique string_eq map.new }
+{
+    let name = String::from_str(alloc, name)?;
+    map.insert(name, value)?;
+    Ok(())
+}
+
+/// A copy of names.
+fn copied(alloc: Global, map: &NameMap) -> Result<NameMap, Memory>
+    requires { IsUnique string_eq map.now }
+    ensures entries { IfOk result (λ copy. by_text copy.entries ≡ by_text map.now.entries) }
+    ensures unique { IfOk result (λ copy. IsUnique string_eq copy) }
+{
+    let mut copy = IndexMap::with_hasher(alloc, *map.hasher());
+    for at in 0..map.len() {
+        copy_name(alloc, map, at, &mut copy)?;
+    }
+    Ok(copy)
+}
+
+/// Copies the name behind those that are copied.
+fn copy_name(alloc: Global, map: &NameMap, at: usize, copy: &mut NameMap) -> Result<(), Memory>
+    requires at { at < length map.now.entries }
+    requires unique { IsUnique string_eq map.now }
+    requires before { by_text copy.old.entries ≡ by_text (take at map.now.entries) }
+    ensures entries { OnOk result
+        (by_text copy.new.entries ≡ by_text (take (at + 1) map.now.entries)) }
+    ensures unique { IsUnique string_eq copy.old → IsUnique string_eq copy.new }
+{
+    if let Some((name, value)) = map.get_index(at) {
+        append(alloc, copy, name.as_str(), *value)?;
+    }
+    Ok(())
+}
+
+/// Names with their values. A name that is unbound again keeps its place, without a value.
+/// Contracts see the list of the names, in the order in which each was first bound.
+#[derive(Drop)]
+pub struct Names {
+    map: NameMap,
+}
+
+impl Model for Names {
+    ghost use Rattle.std.specs.Prelude.{List, Option, ℕ, string_eq};
+    ghost use Rattle.indexmap.specs.IndexMap.{IsUnique};
+    ghost use Rattle.pt_heap.specs.declared.value.Value.{Value as OfName};
+    ghost use Rattle.pt_frames.specs.Names.{by_text};
+
+    ghost Value = { List (List ℕ × Option OfName) };
+
+    ghost view = { λ n. by_text n.map.entries };
+
+    ghost invariant = { λ n. IsUnique string_eq n.map };
+}
+
+impl Names {
+    /// No names. It takes no memory until it grows.
+    pub fn new(alloc: Global, seed: Seed) -> Names
+        ensures { result ≡ [] }
+    {
+        Names {
+            map: IndexMap::with_hasher(alloc, seed),
+        }
+    }
+
+    /// The value of a name, which is found in constant time by its text.
+    pub fn get(&self, name: &str) -> Option<Value>
+        ensures { result ≡ bound name.now self.now }
+    {
+        match self.map.get(name) {
+            Some(value) => *value,
+            None => None,
+        }
+    }
+
+    /// Binds a name, or unbinds it.
+    pub fn set(&mut self, alloc: Global, name: &str, value: Option<Value>) -> Result<(), Memory>
+        ensures ok { OnOk result (self.new ≡ insert_entry bytes_eq self.old name.now value) }
+        ensures err { OnErr result (self.new ≡ self.old) }
+    {
+        match self.map.get(name) {
+            Some(_) => {
+                write(&mut self.map, name, value);
+                Ok(())
+            }
+            None => {
+                append(alloc, &mut self.map, name, value)?;
+                Ok(())
+            }
+        }
+    }
+}
+
+impl Dup for Names {
+    fn dup(&self, alloc: Global) -> Result<Names, Memory> {
+        let map = copied(alloc, &self.map)?;
+        Ok(Names { map })
+    }
+}
