@@ -28,7 +28,7 @@ def status(program, script, stack):
 
 
 def need(program, script):
-    """The least stack by which a script is read, and the status that the program ends with."""
+    """The least stack by which a script is read, up to what the system takes of it at random, and how the program ends with more."""
     low, high = 0, MOST // STEP
     while high - low > 1:
         middle = (low + high) // 2
@@ -36,7 +36,7 @@ def need(program, script):
             low = middle
         else:
             high = middle
-    return high * STEP, status(program, script, high * STEP)
+    return high * STEP, status(program, script, (high + 2) * STEP)
 
 
 def main():
