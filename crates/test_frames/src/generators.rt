@@ -96,8 +96,11 @@ fn stop(line: &mut String, gens: &mut Gens<u32>, word: &str, yields: bool) -> Re
 /// Does what a word says, and writes the answer.
 fn answer(line: &mut String, alloc: Global, gens: &mut Gens<u32>, word: &str) -> Result<(), NoRow> {
     if word == "+" {
-        let activation = (gens.len() as u32).wrapping_add(10);
-        let n = gens.add(activation)?;
+        let count = gens.len();
+        if count > 1_000 {
+            return Err(NoRow);
+        }
+        let n = gens.add(count as u32 + 10)?;
         return show(line, alloc, n);
     }
     if let Some(rest) = word.strip_prefix("n") {
