@@ -8,7 +8,7 @@ use Rattle.pt_heap.specs.declared.value.Value.{Value}
 use Rattle.pt_heap.specs.declared.view.Binding.{Binding}
 use Rattle.pt_frames.specs.declared.arguments.Params.{Params}
 use Rattle.pt_frames.specs.declared.arguments.Args.{Args}
-use Rattle.pt_frames.specs.Binding.{value_of, by_name, filled, first_again, first_unfilled}
+use Rattle.pt_frames.specs.Binding.{value_of, by_name, plain_values, first_again, first_unfilled}
 use Rattle.pt_frames.specs.NameSets.{is_among}
 
 -- an item is the first of what is left
@@ -29,17 +29,17 @@ pub first_again-next : (now : List (List ℕ)) (bs : List Binding) (i : ℕ) (b 
 first_again-next now bs i b within is off =
     ap (first_again now) (first-left bs i b within is) ∙ ap (λ t. cond t (Some b.name) (first_again (b.name ∷ now) (drop (i + 1) bs))) off
 
-filled-none : (params : Params) (args : Args) (names : List (List ℕ)) → filled params args names [] ≡ map (by_name params args) names
-filled-none params args [] = refl
-filled-none params args (name ∷ names) = ap (λ l. by_name params args name ∷ l) (filled-none params args names)
+plain_values-none : (params : Params) (args : Args) (names : List (List ℕ)) → plain_values params args names [] ≡ map (by_name params args) names
+plain_values-none params args [] = refl
+plain_values-none params args (name ∷ names) = ap (λ l. by_name params args name ∷ l) (plain_values-none params args names)
 
 -- those that a place fills, and then those that a name or a default fills
-pub filled-parts : (params : Params) (args : Args) (names : List (List ℕ)) (vs : List Value)
-    → filled params args names vs ≡ map Some (take (length names) vs) ++ map (by_name params args) (drop (length vs) names)
-filled-parts params args [] [] = refl
-filled-parts params args [] (v ∷ vs) = refl
-filled-parts params args (name ∷ names) (v ∷ vs) = ap (λ l. Some v ∷ l) (filled-parts params args names vs)
-filled-parts params args (name ∷ names) [] = filled-none params args (name ∷ names)
+pub plain_values-parts : (params : Params) (args : Args) (names : List (List ℕ)) (vs : List Value)
+    → plain_values params args names vs ≡ map Some (take (length names) vs) ++ map (by_name params args) (drop (length vs) names)
+plain_values-parts params args [] [] = refl
+plain_values-parts params args [] (v ∷ vs) = refl
+plain_values-parts params args (name ∷ names) (v ∷ vs) = ap (λ l. Some v ∷ l) (plain_values-parts params args names vs)
+plain_values-parts params args (name ∷ names) [] = plain_values-none params args (name ∷ names)
 
 drop-none : {X : Type 0} (n : ℕ) → drop {A = X} n [] ≡ []
 drop-none zero = refl

@@ -8,16 +8,16 @@ use Rattle.pt_heap.specs.declared.value.Value.{Value}
 use Rattle.pt_frames.specs.declared.activation.Activation.{Activation}
 use Rattle.pt_frames.specs.declared.activation.Place.{Place}
 use Rattle.pt_frames.specs.declared.activation.Place.TheVariants.{Local, Cell}
-use Rattle.pt_frames.specs.declared.activations.Opened.{Opened}
+use Rattle.pt_frames.specs.declared.activations.OpenActivation.{OpenActivation}
 use Rattle.pt_frames.specs.declared.arguments.Locals.{Locals}
 use Rattle.pt_frames.specs.declared.frames.Frames.{Frames}
 use Rattle.pt_frames.specs.declared.purpose.Purpose.{Purpose}
 use Rattle.pt_frames.specs.declared.slot.Slot.{Slot}
-use Rattle.pt_frames.specs.Names.{joined}
+use Rattle.std.specs.Option.{option_flatten}
 
 -- a run of a block before its first act
-abbrev pub begun : FrameNo → BlockId → (hidden : Bool) → Locals → Activation
-begun frame block hidden locals = record {
+abbrev pub new_activation : FrameNo → BlockId → (hidden : Bool) → Locals → Activation
+new_activation frame block hidden locals = record {
   frame = frame;
   block = block;
   hidden = hidden;
@@ -30,32 +30,32 @@ begun frame block hidden locals = record {
 }
 
 -- one more activation is open
-abbrev pub opened : Activation → Purpose → Frames → Frames
-opened a why frames = record frames { activations = record { activation = a; why = why } ∷ frames.activations }
+abbrev pub with_activation : Activation → Purpose → Frames → Frames
+with_activation a why frames = record frames { activations = record { activation = a; why = why } ∷ frames.activations }
 
 -- this holds of the newest activation
-abbrev pub OnNewest : (Activation → Type 0) → List Opened → Type 0
+abbrev pub OnNewest : (Activation → Type 0) → List OpenActivation → Type 0
 OnNewest P [] = ⊥
 OnNewest P (o ∷ os) = P o.activation
 
-abbrev pub changed : (Activation → Activation) → List Opened → List Opened
-changed f [] = []
-changed f (o ∷ os) = record { activation = f o.activation; why = o.why } ∷ os
+abbrev pub map_first : (Activation → Activation) → List OpenActivation → List OpenActivation
+map_first f [] = []
+map_first f (o ∷ os) = record { activation = f o.activation; why = o.why } ∷ os
 
 -- the newest activation changes, and nothing else
 abbrev pub on_newest : (Activation → Activation) → Frames → Frames
-on_newest f frames = record frames { activations = changed f frames.activations }
+on_newest f frames = record frames { activations = map_first f frames.activations }
 
 -- a new run of a block, which takes the next frame number
-abbrev pub fresh_in : Frames → BlockId → (hidden : Bool) → Locals → Activation
-fresh_in frames block hidden locals = begun (record { 0 = frames.made }) block hidden locals
+abbrev pub next_activation : Frames → BlockId → (hidden : Bool) → Locals → Activation
+next_activation frames block hidden locals = new_activation (record { 0 = frames.frame_count }) block hidden locals
 
-abbrev pub numbered : Frames → Frames
-numbered frames = record frames { made = frames.made + 1 }
+abbrev pub with_next_number : Frames → Frames
+with_next_number frames = record frames { frame_count = frames.frame_count + 1 }
 
 -- one more slot is on top
-abbrev pub pushed : Slot → Frames → Frames
-pushed slot frames = on_newest (λ a. record a { slots = slot ∷ a.slots }) frames
+abbrev pub with_slot : Slot → Frames → Frames
+with_slot slot frames = on_newest (λ a. record a { slots = slot ∷ a.slots }) frames
 
 -- another cell for a cell or free name of the newest activation
 abbrev pub with_cell_at : (i : ℕ) → (cell : ℕ) → Frames → Frames
@@ -75,11 +75,11 @@ with_global name value frames = record frames { globals = insert_entry bytes_eq 
 -- the value of a cell
 abbrev pub value_in : (cells : List (Option Value)) → Option ℕ → Option Value
 value_in cells None = None
-value_in cells (Some n) = joined (slice_get cells n)
+value_in cells (Some n) = option_flatten (slice_get cells n)
 
 -- the value at a place of an activation, in its local name or in the cell of the name
 abbrev pub value_at : (cells : List (Option Value)) → Activation → Place → Option Value
-value_at cells a (Local i) = joined (slice_get a.locals i)
+value_at cells a (Local i) = option_flatten (slice_get a.locals i)
 value_at cells a (Cell i) = value_in cells (slice_get a.cells i)
 
 -- another value in a cell
@@ -88,7 +88,7 @@ with_cell cells None value = cells
 with_cell cells (Some n) value = slice_set cells n value
 
 -- the newest activation's cell of a name
-abbrev pub newest_cell : List Opened → ℕ → Option ℕ
+abbrev pub newest_cell : List OpenActivation → ℕ → Option ℕ
 newest_cell [] i = None
 newest_cell (o ∷ os) i = slice_get o.activation.cells i
 

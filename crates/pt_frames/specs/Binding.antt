@@ -26,14 +26,14 @@ abbrev pub by_name : Params → Args → List ℕ → Option Value
 by_name params args name = option_or (value_of name args.named) (value_of name params.defaults)
 
 -- arguments without a name fill the first parameters, and names and defaults the others
-abbrev pub filled : Params → Args → List (List ℕ) → List Value → List (Option Value)
-filled params args [] vs = []
-filled params args (name ∷ names) (v ∷ vs) = Some v ∷ filled params args names vs
-filled params args (name ∷ names) [] = by_name params args name ∷ filled params args names []
+abbrev pub plain_values : Params → Args → List (List ℕ) → List Value → List (Option Value)
+plain_values params args [] vs = []
+plain_values params args (name ∷ names) (v ∷ vs) = Some v ∷ plain_values params args names vs
+plain_values params args (name ∷ names) [] = by_name params args name ∷ plain_values params args names []
 
 -- the value of each parameter, or None where it has none
 abbrev pub values_of : Params → Args → List (Option Value)
-values_of params args = filled params args params.plain args.plain ++ map (by_name params args) params.only
+values_of params args = plain_values params args params.plain args.plain ++ map (by_name params args) params.only
 
 -- more arguments without a name than parameters for them
 abbrev pub is_too_many : Params → Args → Bool
@@ -45,20 +45,20 @@ first_again given [] = None
 first_again given (b ∷ bs) = if is_among given b.name then Some b.name else first_again (b.name ∷ given) bs
 
 -- a name that is given twice, the first time perhaps by place
-abbrev pub double : Params → Args → Option (List ℕ)
-double params args = first_again (take (length args.plain) params.plain) args.named
+abbrev pub double_name : Params → Args → Option (List ℕ)
+double_name params args = first_again (take (length args.plain) params.plain) args.named
 
 -- the named arguments that no parameter takes
-abbrev pub left_over : Params → Args → List Binding
-left_over params args = filter (λ b. not (is_among (names_of params) b.name)) args.named
+abbrev pub extra_named : Params → Args → List Binding
+extra_named params args = filter (λ b. not (is_among (names_of params) b.name)) args.named
 
 abbrev pub first_name : List Binding → Option (List ℕ)
 first_name [] = None
 first_name (b ∷ bs) = Some b.name
 
 -- of the arguments that no parameter takes the first, where there is no `**NAME`
-abbrev pub unexpected_of : Params → (left_over : List Binding) → Option (List ℕ)
-unexpected_of params bs = if params.stars then None else first_name bs
+abbrev pub unexpected_name : Params → (extra : List Binding) → Option (List ℕ)
+unexpected_name params bs = if params.stars then None else first_name bs
 
 -- the first parameter that has no value
 abbrev pub first_unfilled : List (List ℕ) → List (Option Value) → Option (List ℕ)
@@ -70,7 +70,7 @@ abbrev pub locals_of : Params → Args → Locals
 locals_of params args = record {
   values = values_of params args;
   star = drop (length params.plain) args.plain;
-  stars = left_over params args;
+  stars = extra_named params args;
   cells = [];
 }
 
@@ -83,8 +83,8 @@ unless (Some name) refusal answer = Err (refusal name)
 abbrev pub binding : Params → Args → Result Locals BindErr
 binding params args =
     if is_too_many params args then Err (TooMany (length args.plain))
-    else unless (double params args) Double
-    (unless (unexpected_of params (left_over params args)) Unexpected
+    else unless (double_name params args) Double
+    (unless (unexpected_name params (extra_named params args)) Unexpected
     (unless (first_unfilled (names_of params) (values_of params args)) Missing
     (Ok (locals_of params args))))
 

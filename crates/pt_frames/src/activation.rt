@@ -1,5 +1,5 @@
 ghost use Rattle.std.specs.Prelude.{◌≡◌, slice_get, slice_set};
-ghost use Rattle.pt_frames.specs.Names.{joined};
+ghost use Rattle.std.specs.Option.{option_flatten};
 
 use crate::names::Names;
 use crate::{Locals, Slots};
@@ -35,7 +35,7 @@ pub struct Activation {
 
 impl Activation {
     ghost use Rattle.std.specs.Prelude.{◌≡◌, slice_get, slice_set};
-    ghost use Rattle.pt_frames.specs.Activations.{begun, value_at};
+    ghost use Rattle.pt_frames.specs.Activations.{new_activation, value_at};
 
     /// An activation that is about to begin.
     pub fn new(
@@ -46,7 +46,7 @@ impl Activation {
         hidden: bool,
         locals: Locals,
     ) -> Activation
-        ensures { result ≡ begun frame block hidden locals }
+        ensures { result ≡ new_activation frame block hidden locals }
     {
         let Locals {
             values,
@@ -100,7 +100,7 @@ impl Activation {
 
 /// The value at a number, if there is one.
 fn value_in(values: &Seq<Option<Value>>, number: u32) -> Option<Value>
-    ensures { result ≡ joined (slice_get values.now number) }
+    ensures { result ≡ option_flatten (slice_get values.now number) }
 {
     match values.get(number as usize) {
         Some(value) => *value,

@@ -9,7 +9,7 @@ use std::marker::Model;
 
 /// An open activation, with what becomes of its value.
 #[derive(Drop)]
-pub struct Opened {
+pub struct OpenActivation {
     pub activation: Activation,
     pub why: Purpose,
 }
@@ -17,18 +17,18 @@ pub struct Opened {
 /// The open activations. Contracts see their list, the newest first.
 #[derive(Drop)]
 pub struct Activations {
-    opened: Vec<Opened>,
+    items: Vec<OpenActivation>,
 }
 
 impl Model for Activations {
     ghost use Rattle.std.specs.Prelude.{List, reverse, length, ◌≤◌};
-    ghost use Rattle.pt_frames.specs.declared.activations.Opened.{Opened};
+    ghost use Rattle.pt_frames.specs.declared.activations.OpenActivation.{OpenActivation};
 
-    ghost Value = { List Opened };
+    ghost Value = { List OpenActivation };
 
-    ghost view = { λ a. reverse a.opened.items };
+    ghost view = { λ a. reverse a.items.items };
 
-    ghost invariant = { λ a. length a.opened.items ≤ 1000 };
+    ghost invariant = { λ a. length a.items.items ≤ 1000 };
 }
 
 impl Activations {
@@ -36,7 +36,7 @@ impl Activations {
         ensures { result ≡ [] }
     {
         Activations {
-            opened: Vec::new(alloc),
+            items: Vec::new(alloc),
         }
     }
 
@@ -44,61 +44,61 @@ impl Activations {
         ensures value { result ≡ length self.now }
         ensures within { result ≤ 1000 }
     {
-        self.opened.len()
+        self.items.len()
     }
 
-    pub fn push(&mut self, opened: Opened) -> Result<(), Memory>
+    pub fn push(&mut self, newest: OpenActivation) -> Result<(), Memory>
         requires { length self.old < 1000 }
-        ensures ok { OnOk result (self.new ≡ opened ∷ self.old) }
+        ensures ok { OnOk result (self.new ≡ newest ∷ self.old) }
         ensures err { OnErr result (self.new ≡ self.old) }
     {
-        self.opened.push(opened)?;
+        self.items.push(newest)?;
         Ok(())
     }
 
     /// Takes the newest off.
-    pub fn pop(&mut self) -> Opened
+    pub fn pop(&mut self) -> OpenActivation
         requires { 0 < length self.old }
         ensures { self.old ≡ result ∷ self.new }
     {
-        match self.opened.pop() {
+        match self.items.pop() {
             Some(newest) => newest,
             None => unreachable!(),
         }
     }
 
-    pub fn newest(&self) -> &Opened
+    pub fn newest(&self) -> &OpenActivation
         requires { 0 < length self.now }
         ensures { slice_get self.now 0 ≡ Some result.now }
     {
-        &self.opened[self.opened.len() - 1]
+        &self.items[self.items.len() - 1]
     }
 
-    pub fn newest_mut(&mut self) -> &mut Opened
+    pub fn newest_mut(&mut self) -> &mut OpenActivation
         requires { 0 < length self.old }
         ensures* writes_back { sem 𝓛 (LendsNewest self.entry result) }
         ensures value { slice_get self.old 0 ≡ Some result.now }
     {
-        let newest = self.opened.len() - 1;
-        &mut self.opened[newest]
+        let newest = self.items.len() - 1;
+        &mut self.items[newest]
     }
 }
 
-impl Dup for Opened {
-    fn dup(&self, alloc: Global) -> Result<Opened, Memory> {
+impl Dup for OpenActivation {
+    fn dup(&self, alloc: Global) -> Result<OpenActivation, Memory> {
         let activation = self.activation.dup(alloc)?;
         let why = self.why.dup(alloc)?;
-        Ok(Opened { activation, why })
+        Ok(OpenActivation { activation, why })
     }
 }
 
 impl Dup for Activations {
     fn dup(&self, alloc: Global) -> Result<Activations, Memory> {
-        let mut opened = Vec::new(alloc);
-        for newer in self.opened.as_slice() {
+        let mut items = Vec::new(alloc);
+        for newer in self.items.as_slice() {
             let newer = newer.dup(alloc)?;
-            opened.push(newer)?;
+            items.push(newer)?;
         }
-        Ok(Activations { opened })
+        Ok(Activations { items })
     }
 }

@@ -1,6 +1,6 @@
 ghost use Rattle.std.specs.Prelude.{◌≡◌, ◌++◌, Ok, Some, IfOk, IfErr, OnOk, drop, take, length, map, filter, not, slice_get};
 ghost use Rattle.pt_frames.specs.NameSets.{has_name, IsSetOf};
-ghost use Rattle.pt_frames.specs.Binding.{binding, by_name, double, first_again, first_unfilled, is_too_many, left_over, names_of, unexpected_of, value_of, values_of, IsTold};
+ghost use Rattle.pt_frames.specs.Binding.{binding, by_name, double_name, extra_named, first_again, first_unfilled, is_too_many, names_of, unexpected_name, value_of, values_of, IsTold};
 
 use crate::name_set::NameSet;
 use crate::{Args, BindErr, Locals, Params};
@@ -56,8 +56,13 @@ fn first_again(
 }
 
 /// The first name that is given twice.
-fn double(alloc: Global, seed: Seed, params: &Params, args: &Args) -> Result<Option<Text>, Memory>
-    ensures { IfOk result (λ name. name ≡ double params.now args.now) }
+fn double_name(
+    alloc: Global,
+    seed: Seed,
+    params: &Params,
+    args: &Args,
+) -> Result<Option<Text>, Memory>
+    ensures { IfOk result (λ name. name ≡ double_name params.now args.now) }
 {
     if args.named.is_empty() {
         return Ok(None);
@@ -82,13 +87,13 @@ fn not_in(alloc: Global, names: &NameSet, named: &[Binding]) -> Result<Seq<Bindi
 }
 
 /// The named arguments that no parameter takes.
-fn left_over(
+fn extra_named(
     alloc: Global,
     seed: Seed,
     params: &Params,
     args: &Args,
 ) -> Result<Seq<Binding>, Memory>
-    ensures { IfOk result (λ bs. bs ≡ left_over params.now args.now) }
+    ensures { IfOk result (λ bs. bs ≡ extra_named params.now args.now) }
 {
     if args.named.is_empty() {
         return Ok(Seq::new(alloc));
@@ -101,13 +106,17 @@ fn left_over(
 }
 
 /// The first of the names that no parameter has, where none takes them.
-fn unexpected(alloc: Global, params: &Params, left_over: &[Binding]) -> Result<Option<Text>, Memory>
-    ensures { IfOk result (λ name. name ≡ unexpected_of params.now left_over.now) }
+fn unexpected_name(
+    alloc: Global,
+    params: &Params,
+    extra: &[Binding],
+) -> Result<Option<Text>, Memory>
+    ensures { IfOk result (λ name. name ≡ unexpected_name params.now extra.now) }
 {
     if params.stars {
         return Ok(None);
     }
-    match left_over.first() {
+    match extra.first() {
         Some(binding) => {
             let name = binding.name.dup(alloc)?;
             Ok(Some(name))
@@ -179,7 +188,11 @@ fn parameter_name(alloc: Global, params: &Params, at: usize) -> Result<Option<Te
 }
 
 /// The first parameter without a value.
-fn missing(alloc: Global, params: &Params, values: &[Option<Value>]) -> Result<Option<Text>, Memory>
+fn missing_name(
+    alloc: Global,
+    params: &Params,
+    values: &[Option<Value>],
+) -> Result<Option<Text>, Memory>
     ensures { IfOk result (λ name. name ≡ first_unfilled (names_of params.now) values.now) }
 {
     for at in 0..values.len() {
@@ -192,7 +205,7 @@ fn missing(alloc: Global, params: &Params, values: &[Option<Value>]) -> Result<O
 }
 
 /// The arguments that are left for `*NAME`.
-fn beyond(alloc: Global, params: &Params, args: &Args) -> Result<Seq<Value>, Memory>
+fn extra_values(alloc: Global, params: &Params, args: &Args) -> Result<Seq<Value>, Memory>
     ensures { IfOk result (λ vs. vs ≡ drop (length params.now.plain) args.now.plain) }
 {
     let values = args.plain.as_slice();
@@ -215,18 +228,18 @@ pub fn bind(alloc: Global, seed: Seed, params: &Params, args: &Args) -> Result<L
             given: args.plain.len(),
         });
     }
-    if let Some(name) = double(alloc, seed, params, args)? {
+    if let Some(name) = double_name(alloc, seed, params, args)? {
         return Err(BindErr::Double { name });
     }
-    let stars = left_over(alloc, seed, params, args)?;
-    if let Some(name) = unexpected(alloc, params, stars.as_slice())? {
+    let stars = extra_named(alloc, seed, params, args)?;
+    if let Some(name) = unexpected_name(alloc, params, stars.as_slice())? {
         return Err(BindErr::Unexpected { name });
     }
     let values = values_of(alloc, params, args)?;
-    if let Some(name) = missing(alloc, params, values.as_slice())? {
+    if let Some(name) = missing_name(alloc, params, values.as_slice())? {
         return Err(BindErr::Missing { name });
     }
-    let star = beyond(alloc, params, args)?;
+    let star = extra_values(alloc, params, args)?;
     Ok(Locals {
         values,
         star,

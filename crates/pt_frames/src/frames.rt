@@ -1,8 +1,8 @@
 ghost use Rattle.std.specs.Prelude.{◌≡◌, ◌+◌, ◌<◌, ◌≤◌, ◌↔◌, ◌∷◌, [], ◌++◌, None, Some, Err, false, length, slice_get, slice_set, IsTrue, OnOk, OnErr, IfOk, IfSome};
-ghost use Rattle.pt_frames.specs.Names.{bound};
-ghost use Rattle.pt_frames.specs.Activations.{fresh_in, numbered, opened, on_newest, put_at, pushed, value_at, with_cell, with_cell_at, with_global, with_name, with_new_cell, OnNewest};
+ghost use Rattle.pt_frames.specs.Names.{name_value};
+ghost use Rattle.pt_frames.specs.Activations.{next_activation, on_newest, put_at, value_at, with_activation, with_cell, with_cell_at, with_global, with_name, with_new_cell, with_next_number, with_slot, OnNewest};
 
-use crate::activations::{Activations, Opened};
+use crate::activations::{Activations, OpenActivation};
 use crate::names::Names;
 use crate::{Activation, Locals, Place, Purpose, Slot};
 use pt_base::{BlockId, Dup, FrameNo, Line, Memory, Pc, Seq, Text};
@@ -43,7 +43,7 @@ pub struct Frames {
     pub cells: Seq<Option<Value>>,
     pub globals: Names,
     /// How many frame numbers were given.
-    pub made: u64,
+    pub frame_count: u64,
 }
 
 impl Frames {
@@ -52,7 +52,7 @@ impl Frames {
         ensures activations { result.activations ≡ [] }
         ensures cells { result.cells ≡ [] }
         ensures globals { result.globals ≡ [] }
-        ensures made { result.made ≡ 0 }
+        ensures frame_count { result.frame_count ≡ 0 }
     {
         Frames {
             alloc,
@@ -60,7 +60,7 @@ impl Frames {
             activations: Activations::new(alloc),
             cells: Seq::new(alloc),
             globals: Names::new(alloc, seed),
-            made: 0,
+            frame_count: 0,
         }
     }
 
@@ -88,15 +88,15 @@ impl Frames {
         hidden: bool,
         locals: Locals,
     ) -> Result<Activation, Memory>
-        ensures activation { IfOk result (λ a. a ≡ fresh_in self.old block hidden locals) }
-        ensures ok { OnOk result (self.new ≡ numbered self.old) }
+        ensures activation { IfOk result (λ a. a ≡ next_activation self.old block hidden locals) }
+        ensures ok { OnOk result (self.new ≡ with_next_number self.old) }
         ensures err { OnErr result (self.new ≡ self.old) }
     {
-        if self.made == u64::MAX {
+        if self.frame_count == u64::MAX {
             return Err(Memory);
         }
-        let frame = FrameNo(self.made);
-        self.made += 1;
+        let frame = FrameNo(self.frame_count);
+        self.frame_count += 1;
         Ok(Activation::new(self.alloc, self.seed, frame, block, hidden, locals))
     }
 
@@ -108,47 +108,47 @@ impl Frames {
         locals: Locals,
         why: Purpose,
     ) -> Result<FrameNo, OpenErr>
-        ensures number { IfOk result (λ n. n.0 ≡ self.old.made) }
+        ensures number { IfOk result (λ n. n.0 ≡ self.old.frame_count) }
         ensures ok { OnOk result
-            (self.new ≡ opened (fresh_in self.old block hidden locals) why (numbered self.old)) }
+            (self.new ≡ with_activation (next_activation self.old block hidden locals) why (with_next_number self.old)) }
         ensures err { OnErr result (self.new ≡ self.old) }
         ensures full { (result ≡ Err OpenErr.TooDeep) ↔ (length self.old.activations ≡ 1000) }
     {
         if self.is_full() {
             return Err(OpenErr::TooDeep);
         }
-        if self.made == u64::MAX {
+        if self.frame_count == u64::MAX {
             return Err(OpenErr::Memory);
         }
-        let frame = FrameNo(self.made);
+        let frame = FrameNo(self.frame_count);
         let activation = Activation::new(self.alloc, self.seed, frame, block, hidden, locals);
-        self.activations.push(Opened { activation, why })?;
-        self.made += 1;
+        self.activations.push(OpenActivation { activation, why })?;
+        self.frame_count += 1;
         Ok(frame)
     }
 
     /// Opens an activation that `fresh` has made or `leave` has taken out, as it is.
     pub fn enter(&mut self, activation: Activation, why: Purpose) -> Result<(), Memory>
         requires { length self.old.activations < 1000 }
-        ensures ok { OnOk result (self.new ≡ opened activation why self.old) }
+        ensures ok { OnOk result (self.new ≡ with_activation activation why self.old) }
         ensures err { OnErr result (self.new ≡ self.old) }
     {
-        self.activations.push(Opened { activation, why })
+        self.activations.push(OpenActivation { activation, why })
     }
 
     /// Takes the newest activation out.
     pub fn leave(&mut self) -> (Activation, Purpose)
         requires { 0 < length self.old.activations }
-        ensures { self.old ≡ opened result.0 result.1 self.new }
+        ensures { self.old ≡ with_activation result.0 result.1 self.new }
     {
-        let Opened { activation, why } = self.activations.pop();
+        let OpenActivation { activation, why } = self.activations.pop();
         (activation, why)
     }
 
     /// Closes the newest activation, and answers what becomes of its value.
     pub fn close(&mut self) -> Purpose
         requires { 0 < length self.old.activations }
-        ensures { OnNewest (λ a. self.old ≡ opened a result self.new) self.old.activations }
+        ensures { OnNewest (λ a. self.old ≡ with_activation a result self.new) self.old.activations }
     {
         let (_, why) = self.leave();
         why
@@ -157,7 +157,7 @@ impl Frames {
     /// Puts a slot on those of the newest activation.
     pub fn push(&mut self, slot: Slot) -> Result<(), Memory>
         requires { 0 < length self.old.activations }
-        ensures ok { OnOk result (self.new ≡ pushed slot self.old) }
+        ensures ok { OnOk result (self.new ≡ with_slot slot self.old) }
         ensures err { OnErr result (self.new ≡ self.old) }
     {
         self.activations.newest_mut().activation.slots.push(slot)
@@ -166,7 +166,7 @@ impl Frames {
     /// Takes the top slot of the newest activation off.
     pub fn pop(&mut self) -> Slot
         requires { OnNewest (λ a. 0 < length a.slots) self.old.activations }
-        ensures { self.old ≡ pushed result self.new }
+        ensures { self.old ≡ with_slot result self.new }
     {
         match self.activations.newest_mut().activation.slots.pop() {
             Some(slot) => slot,
@@ -306,7 +306,7 @@ impl Frames {
     /// The value of a name of the newest activation's class block.
     pub fn name(&self, name: &str) -> Option<Value>
         requires { 0 < length self.now.activations }
-        ensures { OnNewest (λ a. result ≡ bound name.now a.names) self.now.activations }
+        ensures { OnNewest (λ a. result ≡ name_value name.now a.names) self.now.activations }
     {
         self.activations.newest().activation.names.get(name)
     }
@@ -327,7 +327,7 @@ impl Frames {
 
     /// The value of a name of the module. It is found in constant time, and no text is made.
     pub fn global(&self, name: &str) -> Option<Value>
-        ensures { result ≡ bound name.now self.now.globals }
+        ensures { result ≡ name_value name.now self.now.globals }
     {
         self.globals.get(name)
     }
@@ -364,7 +364,7 @@ impl Dup for Frames {
             activations,
             cells,
             globals,
-            made: self.made,
+            frame_count: self.frame_count,
         })
     }
 }

@@ -3,7 +3,7 @@ ghost use Rattle.std.specs.Str.{bytes_eq};
 ghost use Rattle.std.specs.Map.{set_value};
 ghost use Rattle.std.specs.Prelude.{string_bytes, string_eq};
 ghost use Rattle.indexmap.specs.IndexMap.{get_by_text, insert_entry, IsUnique};
-ghost use Rattle.pt_frames.specs.Names.{bound, by_text, joined};
+ghost use Rattle.pt_frames.specs.Names.{by_text, name_value};
 
 use indexmap::IndexMap;
 use pt_base::{Dup, Memory};
@@ -40,7 +40,7 @@ fn append(alloc: Global, map: &mut NameMap, name: &str, value: Option<Value>) ->
 }
 
 /// A copy of names.
-fn copied(alloc: Global, map: &NameMap) -> Result<NameMap, Memory>
+fn copy_of(alloc: Global, map: &NameMap) -> Result<NameMap, Memory>
     requires { IsUnique string_eq map.now }
     ensures entries { IfOk result (λ copy. by_text copy.entries ≡ by_text map.now.entries) }
     ensures unique { IfOk result (λ copy. IsUnique string_eq copy) }
@@ -99,7 +99,7 @@ impl Names {
 
     /// The value of a name, which is found in constant time by its text.
     pub fn get(&self, name: &str) -> Option<Value>
-        ensures { result ≡ bound name.now self.now }
+        ensures { result ≡ name_value name.now self.now }
     {
         match self.map.get(name) {
             Some(value) => *value,
@@ -127,7 +127,7 @@ impl Names {
 
 impl Dup for Names {
     fn dup(&self, alloc: Global) -> Result<Names, Memory> {
-        let map = copied(alloc, &self.map)?;
+        let map = copy_of(alloc, &self.map)?;
         Ok(Names { map })
     }
 }

@@ -25,8 +25,8 @@ state_of Finished = state.Finished
 
 -- what a resumption hands out: the activation, unless the generator runs or has finished, or is sent a value before it has
 -- begun
-abbrev pub begun : {A : Type 0} → How → Generator A → Result A GenErr
-begun how (Fresh a) = if sends_value how then Err err.SendEarly else Ok a
-begun how (Suspended a) = Ok a
-begun how Running = Err err.Running
-begun how Finished = Err err.Done
+abbrev pub resumption : {A : Type 0} → How → Generator A → Result A GenErr
+resumption how (Fresh a) = if sends_value how then Err err.SendEarly else Ok a
+resumption how (Suspended a) = Ok a
+resumption how Running = Err err.Running
+resumption how Finished = Err err.Done

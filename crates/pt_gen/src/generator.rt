@@ -78,11 +78,11 @@ impl<A> Generator<A> {
 impl<A: Drop> Generator<A> {
     ghost use Rattle.std.specs.Prelude.{◌≡◌, OnOk, OnErr};
     ghost use Rattle.pt_gen.specs.declared.generator.Generator.TheVariants.{Running};
-    ghost use Rattle.pt_gen.specs.States.{begun};
+    ghost use Rattle.pt_gen.specs.States.{resumption};
 
     /// Hands out the activation, where the generator can be resumed so. It runs from then on.
     pub fn begin(&mut self, how: How) -> Result<A, GenErr>
-        ensures answer { result ≡ begun how self.old }
+        ensures answer { result ≡ resumption how self.old }
         ensures ok { OnOk result (self.new ≡ Running) }
         ensures err { OnErr result (self.new ≡ self.old) }
     {

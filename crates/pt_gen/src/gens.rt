@@ -1,7 +1,7 @@
 ghost use Rattle.std.specs.Prelude.{◌≡◌, ◌++◌, [], ◌∷◌, ◌<◌, Some, length, slice_get, slice_set, OnOk, OnErr, IfOk};
 ghost use Rattle.std.specs.Option.{option_map};
 ghost use Rattle.pt_gen.specs.declared.generator.Generator.TheVariants.{Fresh, Suspended, Running, Finished};
-ghost use Rattle.pt_gen.specs.States.{begun, state_of};
+ghost use Rattle.pt_gen.specs.States.{resumption, state_of};
 
 use crate::{GenErr, GenState, Generator, How};
 use pt_base::{Dup, Memory};
@@ -72,7 +72,7 @@ impl<A: Drop> Gens<A> {
     /// is to finish it, and not to open the activation.
     pub fn begin(&mut self, n: u32, how: How) -> Result<A, GenErr>
         requires { n < length self.old }
-        ensures answer { option_map (begun how) (slice_get self.old n) ≡ Some result }
+        ensures answer { option_map (resumption how) (slice_get self.old n) ≡ Some result }
         ensures ok { OnOk result (self.new ≡ slice_set self.old n Running) }
         ensures running { OnOk result (slice_get self.new n ≡ Some Running) }
         ensures err { OnErr result (self.new ≡ self.old) }

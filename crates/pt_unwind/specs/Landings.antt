@@ -10,28 +10,28 @@ use Rattle.pt_unwind.specs.declared.Landing.{Landing}
 use Rattle.pt_unwind.specs.declared.Landing.TheVariants.{Enter, Jump, Out}
 
 -- `except` takes a raise. `finally` and the exit of a `with` take each completion that leaves their part
-abbrev pub taken_by : Handler → Completion → Bool
-taken_by row Normal = false
-taken_by row (Raise v) = true
-taken_by row (Return v) = row.always
-taken_by row (Leave target) = row.always && not (covers row target)
+abbrev pub takes : Handler → Completion → Bool
+takes row Normal = false
+takes row (Raise v) = true
+takes row (Return v) = row.always
+takes row (Leave target) = row.always && not (covers row target)
 
 -- at the handler of a row
-abbrev pub entered : Handler → Landing
-entered row = Enter row.target row.depth row.always
+abbrev pub entry_of : Handler → Landing
+entry_of row = Enter row.target row.depth row.always
 
 -- past all handlers. A raise and a return leave the block
-abbrev pub passed : (from : Pc) → Completion → Landing
-passed from Normal = Jump from
-passed from (Raise v) = Out
-passed from (Return v) = Out
-passed from (Leave target) = Jump target
+abbrev pub way_out : (from : Pc) → Completion → Landing
+way_out from Normal = Jump from
+way_out from (Raise v) = Out
+way_out from (Return v) = Out
+way_out from (Leave target) = Jump target
 
 -- the rows around a place, inner rows first, are taken off one by one
-abbrev pub unwound : List Handler → (from : Pc) → Completion → Landing
-unwound [] from how = passed from how
-unwound (row ∷ rows) from how = if taken_by row how then entered row else unwound rows from how
+abbrev pub landing_among : List Handler → (from : Pc) → Completion → Landing
+landing_among [] from how = way_out from how
+landing_among (row ∷ rows) from how = if takes row how then entry_of row else landing_among rows from how
 
 -- of a block's rows those that cover the place stand around it
 abbrev pub landing_of : List Handler → (from : Pc) → Completion → Landing
-landing_of rows from how = unwound (filter (λ row. covers row from) rows) from how
+landing_of rows from how = landing_among (filter (λ row. covers row from) rows) from how

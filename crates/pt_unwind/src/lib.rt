@@ -4,7 +4,7 @@
 
 ghost use Rattle.std.specs.Prelude.{◌≡◌, ◌&&◌, Some, find};
 ghost use Rattle.pt_ranges.specs.Rows.{covers, first_over};
-ghost use Rattle.pt_unwind.specs.Landings.{entered, landing_of, passed, taken_by};
+ghost use Rattle.pt_unwind.specs.Landings.{entry_of, landing_of, takes, way_out};
 
 use pt_base::Pc;
 use pt_code::CodeBlock;
@@ -31,7 +31,7 @@ pub enum Landing {
 
 /// Whether a row takes a completion that leaves a place which it covers.
 fn takes(row: Handler, how: Completion) -> bool
-    ensures { result ≡ taken_by row how }
+    ensures { result ≡ takes row how }
 {
     match how {
         Completion::Normal => false,
@@ -43,7 +43,7 @@ fn takes(row: Handler, how: Completion) -> bool
 
 /// At the handler of a row.
 fn enter(row: Handler) -> Landing
-    ensures { result ≡ entered row }
+    ensures { result ≡ entry_of row }
 {
     Landing::Enter {
         pc: row.target,
@@ -54,7 +54,7 @@ fn enter(row: Handler) -> Landing
 
 /// Past all rows.
 fn pass(pc: Pc, how: Completion) -> Landing
-    ensures { result ≡ passed pc how }
+    ensures { result ≡ way_out pc how }
 {
     match how {
         Completion::Normal => Landing::Jump { pc },
@@ -65,7 +65,7 @@ fn pass(pc: Pc, how: Completion) -> Landing
 
 /// The first of the rows that covers the place and takes the completion.
 fn first_taking(rows: &[Handler], pc: Pc, how: Completion) -> Option<Handler>
-    ensures { result ≡ find (λ row. covers row pc && taken_by row how) rows.now }
+    ensures { result ≡ find (λ row. covers row pc && takes row how) rows.now }
 {
     rows.iter()
         .copied()

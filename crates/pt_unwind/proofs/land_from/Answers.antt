@@ -1,6 +1,6 @@
 use Rattle.std.proofs.Common.{◌≡◌, ◌∙◌, Option, ap, sym}
 use Rattle.pt_ranges.specs.declared.handlers.Handler.{Handler}
-use Rattle.pt_unwind.proofs.LandingLemmas.{found_at, landing_of-found, landing_of-innermost}
+use Rattle.pt_unwind.proofs.LandingLemmas.{landing_at, landing_of-found, landing_of-innermost}
 use Rattle.pt_unwind.proofs.land_from.Goals as goal
 
 pub returns-then-takes : goal.returns-then-takes
@@ -9,9 +9,9 @@ returns-then-takes c = c.enter.ensures ∙ sym (landing_of-innermost c.args.rows
 pub returns-in-Some : goal.returns-in-Some
 returns-in-Some c =
     c.enter-in-Some.ensures
-    ∙ sym (landing_of-found c.args.rows.now c.args.pc c.args.how ∙ ap (λ (o : Option Handler). found_at o c.args.pc c.args.how) (sym c.in-Some.ensures))
+    ∙ sym (landing_of-found c.args.rows.now c.args.pc c.args.how ∙ ap (λ (o : Option Handler). landing_at o c.args.pc c.args.how) (sym c.in-Some.ensures))
 
 pub returns-in-None : goal.returns-in-None
 returns-in-None c =
     c.pass.ensures
-    ∙ sym (landing_of-found c.args.rows.now c.args.pc c.args.how ∙ ap (λ (o : Option Handler). found_at o c.args.pc c.args.how) (sym c.in-None.ensures))
+    ∙ sym (landing_of-found c.args.rows.now c.args.pc c.args.how ∙ ap (λ (o : Option Handler). landing_at o c.args.pc c.args.how) (sym c.in-None.ensures))

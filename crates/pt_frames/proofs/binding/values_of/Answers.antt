@@ -1,7 +1,7 @@
 use Rattle.std.proofs.Common.{◌≡◌, ◌∙◌, ◌++◌, List, ℕ, Option, map, drop, length, min, ap, sym}
 use Rattle.pt_heap.specs.declared.value.Value.{Value}
 use Rattle.pt_frames.specs.Binding.{by_name}
-use Rattle.pt_frames.proofs.BindingLemmas.{filled-parts, drop-least, slice-rest}
+use Rattle.pt_frames.proofs.BindingLemmas.{plain_values-parts, drop-least, slice-rest}
 use Rattle.pt_frames.proofs.binding.values_of.Goals as goal
 
 pub returns : goal.returns
@@ -20,4 +20,4 @@ returns c =
     ∙ ap (λ l. c.in_ok-values.values ++ named (drop c.min-placed.result l)) c.as_slice.ensures
     ∙ ap (λ l. c.in_ok-values.values ++ named l) behind
     ∙ ap (λ l. l ++ named (drop (length vs) plain)) c.in_ok-values.ensures
-    ∙ sym (filled-parts c.args.params.now c.args.args.now plain vs))
+    ∙ sym (plain_values-parts c.args.params.now c.args.args.now plain vs))

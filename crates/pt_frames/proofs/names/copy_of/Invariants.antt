@@ -2,7 +2,7 @@ use Rattle.std.proofs.Common.{◌≡◌, take}
 use Rattle.std.specs.Prelude.{string_eq}
 use Rattle.indexmap.specs.IndexMap.{IsUnique}
 use Rattle.pt_frames.specs.Names.{by_text}
-use Rattle.pt_frames.proofs.names.copied.Given as goal
+use Rattle.pt_frames.proofs.names.copy_of.Given as goal
 
 abbrev pub invariant-loop-at : goal.invariant-loop-at
 invariant-loop-at l = record {

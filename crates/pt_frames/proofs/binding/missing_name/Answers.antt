@@ -2,7 +2,7 @@ use Rattle.std.proofs.Common.{◌∙◌, sym}
 use Rattle.std.proofs.lemmas.Result.{IfOk-weaker}
 use Rattle.pt_frames.specs.Binding.{names_of}
 use Rattle.pt_frames.proofs.BindingLemmas.{first_unfilled-here, first_unfilled-next, first_unfilled-end}
-use Rattle.pt_frames.proofs.binding.missing.Goals as goal
+use Rattle.pt_frames.proofs.binding.missing_name.Goals as goal
 
 pub returns-in-None : goal.returns-in-None
 returns-in-None c =

@@ -4,7 +4,7 @@ use Rattle.pt_heap.specs.declared.view.Binding.{Binding}
 use Rattle.pt_frames.specs.NameSets.{has_name, is_among}
 use Rattle.pt_frames.specs.Binding.{names_of}
 use Rattle.pt_frames.proofs.BindingLemmas.{is_among-both}
-use Rattle.pt_frames.proofs.binding.left_over.Goals as goal
+use Rattle.pt_frames.proofs.binding.extra_named.Goals as goal
 
 pub returns : goal.returns
 returns c =
