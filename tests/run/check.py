@@ -138,6 +138,9 @@ class Hooks:
         told = describe(what[1]) if what[0] in ("returns", "yields", "throws", "unwinds", "raises") else ""
         if kind in CALLS:
             told = callee(what[1])
+        if what[0] == "unwinds" and event["of_generator"] and isinstance(what[1], StopIteration):
+            # as it leaves the block; whoever had it go on gets the RuntimeError, which CPython has in the generator already
+            told = "<RuntimeError>"
         if names is TRACED and what[0] == "unwinds":
             told = "None"
         if names is TRACED and what[0] == "throws":
