@@ -337,8 +337,8 @@ def plan_for(r, text, recorder):
         if seldom and r.random() < 0.3:
             n = r.choice(seldom)
         kind, block, line, *_ = recorder.heard[stream][n]
-        # CPython has nothing around what stands for the head of a `try`
-        may_raise = len(streams) == 1 and lines[line - 1].strip() != "try:"
+        # CPython has nothing around what stands for these
+        may_raise = len(streams) == 1 and lines[line - 1].strip() not in ("try:", "return", "break", "continue", "pass")
         if stream == "trace":
             near = [k for k in starts if abs(k - line) < 9 and k != line]
             # behind the head, since CPython makes the names of annotations there
