@@ -11,6 +11,7 @@ import random
 import re
 import sys
 import threading
+import traceback
 import types
 import warnings
 
@@ -102,7 +103,7 @@ class Hooks:
         self.runner, self.plan, self.lines = runner, plan, text.split("\n")
         self.heard = {"trace": [], "tool": []}
         self.done = []
-        self.reasons, self.target = [], None
+        self.reasons, self.target, self.told_last = [], None, {}
         self.first, self.other = self.hook(self.trace), self.hook(self.second)
         self.callback = self.hook(self.tool)
 
@@ -138,6 +139,9 @@ class Hooks:
         told = describe(what[1]) if what[0] in ("returns", "yields", "throws", "unwinds", "raises") else ""
         if kind in CALLS:
             told = callee(what[1])
+        if what[0] == "unwinds" and event["of_generator"] and isinstance(what[1], StopIteration):
+            # as it leaves the block; whoever had it go on gets the RuntimeError, which CPython has in the generator already
+            told = "<RuntimeError>"
         if names is TRACED and what[0] == "unwinds":
             told = "None"
         if names is TRACED and what[0] == "throws":
@@ -152,7 +156,7 @@ class Hooks:
 
     def traced(self, function, is_second, event, store):
         told = (*self.told(event, TRACED), is_second, event["frame"])
-        if of_ended_iteration(self, "trace", told) or of_jump(self, "trace", told):
+        if any([rule(self, "trace", told) for rule in (of_ended_iteration, of_jump, of_one_line)]):
             return function
         n = len(self.heard["trace"])
         self.heard["trace"].append(told)
@@ -178,7 +182,7 @@ class Hooks:
 
     def tool(self, hook, event, here, store):
         told = (*self.told(event, EVENTS), False, event["frame"])
-        if of_ended_iteration(self, "tool", told) or of_spread_call(self, "tool", told):
+        if any([rule(self, "tool", told) for rule in (of_ended_iteration, of_one_line, of_spread_call)]):
             return None
         n = len(self.heard["tool"])
         self.heard["tool"].append(told)
@@ -238,12 +242,23 @@ def of_jump(recorder, stream, event):
     return event[0] == "line" and event[2] == line
 
 
+def of_one_line(recorder, stream, event):
+    """Where a loop stands on one line, each test again is told here; CPython tells a trace function of each jump back, to a `while` the
+    last test is none, and a tool of the first alone. This is taken out of both."""
+    if event[0] not in ("LINE", "line"):
+        return False
+    again = recorder.told_last.get((stream, event[-1])) == event[2]
+    recorder.told_last[stream, event[-1]] = event[2]
+    loops = r"\s*(for|while) .*: \S" if stream == "tool" else r"\s*while .*: \S"
+    return again and bool(re.match(loops, recorder.lines[event[2] - 1]))
+
+
 def of_spread_call(recorder, stream, event):
     """A call of a function with arguments that are spread is told here alone. This is taken out of both."""
     return event[0] == "CALL" and event[3] == "<function>" and "(*" in recorder.lines[event[2] - 1]
 
 
-RULES = [of_class_head, of_same_line, of_hook, of_ended_iteration, of_jump, of_spread_call]
+RULES = [of_class_head, of_same_line, of_hook, of_ended_iteration, of_jump, of_one_line, of_spread_call]
 
 
 def alike(events):
@@ -310,15 +325,20 @@ def plan_for(r, text, recorder):
     program's own, so a trace function and a tool are there together only where neither raises."""
     lines = text.split("\n")
     trace, tool = {}, {}
-    starts = sorted(set(starts_of(ast.parse(text).body)))
+    tree = ast.parse(text)
+    starts, copied = sorted(set(starts_of(tree.body))), finally_lines(tree)
     streams = r.choice([("trace",), ("tool",), ("trace", "tool")])
     by_script = r.random() < 0.6
     for _ in range(r.randint(1, 3)):
         stream = r.choice(streams)
         n = r.randrange(len(recorder.heard[stream]))
+        seldom = [i for i, e in enumerate(recorder.heard[stream]) if e[0] in ("PY_YIELD", "PY_RESUME", "PY_THROW", "PY_UNWIND", "RAISE", "exception")
+                  or e[0] in ("call", "return") and e[1][0].startswith("g")]
+        if seldom and r.random() < 0.3:
+            n = r.choice(seldom)
         kind, block, line, *_ = recorder.heard[stream][n]
-        # CPython has nothing around what stands for the head of a `try`
-        may_raise = len(streams) == 1 and lines[line - 1].strip() != "try:"
+        # CPython has nothing around what stands for these
+        may_raise = len(streams) == 1 and lines[line - 1].strip() not in ("try:", "return", "break", "continue", "pass")
         if stream == "trace":
             near = [k for k in starts if abs(k - line) < 9 and k != line]
             # behind the head, since CPython makes the names of annotations there
@@ -329,18 +349,19 @@ def plan_for(r, text, recorder):
             if trace[n] == "jump":
                 trace[n] = ("jump", r.choice(near))
         else:
-            tool[n] = r.choice(["restart", "resume"] + ["disable"] * 2 * may_be_disabled(kind, line, lines) + ["raise"] * 3 * may_raise)
+            tool[n] = r.choice(["restart", "resume"] + ["disable"] * 3 * may_be_disabled(kind, line, lines, copied) + ["raise"] * 3 * may_raise)
     return Plan(trace, tool, streams, by_script)
 
 
-def may_be_disabled(kind, line, lines):
+def finally_lines(tree):
+    """The lines of `finally` parts, of which CPython has several copies."""
+    return {k for t in ast.walk(tree) if isinstance(t, ast.Try) for f in t.finalbody for k in range(f.lineno, f.end_lineno + 1)}
+
+
+def may_be_disabled(kind, line, lines, copied):
     """Whether an act, and an instruction of CPython, stand for the same place: not where CPython has several for one act."""
-    if kind in ("PY_START", "PY_YIELD", "PY_RESUME"):
-        return True
-    if kind in CALLS:
-        return False
     loops = re.match(r"\s*(for|while|with|if|elif|except|return)\b", lines[line - 1])
-    return kind == "LINE" and not loops and not any("finally:" in x for x in lines) and not re.search(r" (for|if|and|or) ", lines[line - 1])
+    return kind in ("PY_START", "PY_YIELD", "PY_RESUME", "LINE") and not loops and line not in copied and not re.search(r" (for|if|and|or) ", lines[line - 1])
 
 
 def tries(check, seed, plans):
@@ -367,11 +388,15 @@ def apart(check, seed, plans):
     reading, writing = os.pipe()
     child = os.fork()
     if child == 0:
-        with os.fdopen(writing, "wb") as f:
-            for one in tries(check, seed, plans):
-                pickle.dump(of_try(*one), f)
-                f.flush()
-        os._exit(0)
+        try:
+            with os.fdopen(writing, "wb") as f:
+                for one in tries(check, seed, plans):
+                    pickle.dump(of_try(*one), f)
+                    f.flush()
+            os._exit(0)
+        except BaseException:
+            traceback.print_exc()
+            os._exit(1)
     os.close(writing)
     out = []
     with os.fdopen(reading, "rb") as f:
@@ -380,7 +405,12 @@ def apart(check, seed, plans):
                 out.append(pickle.load(f))
             except EOFError:
                 break
-    return out + [None] if os.waitpid(child, 0)[1] else out
+    status = os.waitpid(child, 0)[1]
+    if os.WIFSIGNALED(status):
+        return out + [None]
+    if status:
+        raise RuntimeError(f"the check itself failed at {seed}")
+    return out
 
 
 def main():
@@ -400,7 +430,7 @@ def main():
         for one in apart(check, seed, a.plans):
             if one is None:
                 broken += 1
-                print(f"{seed}: CPython broke down, or a hook's side failed")
+                print(f"{seed}: CPython broke down")
                 continue
             runs += 1
             events += one["events"]

@@ -117,7 +117,7 @@ class Host:
             "is_disable": lambda v: v is DISABLE,
             "is_stop": lambda v: lambda w: isinstance(v, StopIteration),
             "callee": lambda f: lambda roles: lambda xs: lambda w: self.callee(f, items(roles), items(xs)),
-            "makes": lambda failure: lambda here: lambda w: ("×", self.failure(failure), w),
+            "makes": lambda failure: lambda here: lambda w: ("made", self.failure(failure), w),
             "enters": lambda v: lambda entry: lambda w: w,
             "leaving": lambda v: lambda w: ("fails", ()),
             "log_line": lambda event: lambda w: (),

@@ -63,7 +63,7 @@ class Recorder:
         self.lines = text.split("\n")
         self.heard = {"trace": [], "tool": []}
         self.done, self.frames = [], {}
-        self.raised, self.last, self.target = {"trace": [], "tool": []}, {}, None
+        self.raised, self.last, self.told_last, self.target = {"trace": [], "tool": []}, {}, {}, None
         self.code = compile(self.text, FILE, "exec", dont_inherit=True)
         self.space = {"__name__": "script", "__builtins__": builtins}
         self.first, self.other = self.function("hook", self.trace), self.function("hook", self.second)

@@ -137,6 +137,7 @@ class Script:
         a, b = self.exp(c, room), self.atom(c)
         kind = self.r.randrange(8)
         x = self.r.choice(c["names"]) if c["names"] else "len(K)"
+        y = self.r.choice(c["names"]) if c["names"] else "len(K)"
         match kind:
             case 0:
                 return f"{x} < {b} <= {a}"
@@ -145,9 +146,9 @@ class Script:
             case 2:
                 return f"{x} in (1, 2, {b})"
             case 3:
-                return f"{x} and {a}"
+                return f"{x} and {y}"
             case 4:
-                return f"{x} or {b}"
+                return f"{x} or {y}"
             case 5:
                 return f"{x} is not None"
             case _:
@@ -261,7 +262,7 @@ class Script:
 
     def compound(self, c, depth, room):
         r = self.r
-        kind = r.randrange(14)
+        kind = r.randrange(15)
         match kind:
             case 0 | 1 | 2:
                 self.put(depth, f"if {self.test(c)}:")
@@ -290,11 +291,14 @@ class Script:
             case 7 | 8 | 9:
                 self.put(depth, "try:")
                 self.suite(c, depth, room)
-                handlers = r.randrange(3)
+                handlers, named = r.randrange(3), None
                 for _ in range(handlers):
                     kinds = r.choice(EXCEPTIONS) if r.random() < 0.7 else f"({r.choice(EXCEPTIONS)}, {r.choice(EXCEPTIONS)})"
                     x = self.name("e")
                     self.put(depth, self.pick(f"except {kinds}:", f"except {kinds} as {x}:"))
+                    named = x if " as " in self.lines[-1] else named
+                    if named == x and r.random() < 0.3:
+                        self.put(depth + 1, f"print(len({x}.args))")
                     self.suite(c, depth, room, handler=True)
                 if handlers and r.random() < 0.3:
                     self.put(depth, "except:")
@@ -305,6 +309,8 @@ class Script:
                 if not handlers or r.random() < 0.4:
                     self.put(depth, "finally:")
                     self.suite(c, depth, room)
+                if named and r.random() < 0.3:
+                    self.put(depth, f"print({named})")
             case 10 | 11:
                 swallows = self.pick("True", "False", "False")
                 x = self.name("v")
@@ -313,9 +319,19 @@ class Script:
                 self.suite(c, depth, room)
             case 12 if c["depth"] < 2:
                 self.function(c, depth, room, nested=True)
+            case 13:
+                self.one_line(c, depth)
             case _:
                 self.put(depth, f"if {self.test(c)}:")
                 self.suite(c, depth, room)
+
+    def one_line(self, c, depth):
+        """A loop whose body stands on its line."""
+        x, v = self.name("n"), self.name("v")
+        self.put(depth, f"{x} = {v} = 0")
+        self.put(depth, self.pick(f"while {x} < {self.pick(1, 2, 3)}: {x} += 1", f"while {x} < 2: {x} += 1; {v} = {x}", f"for {v} in range(3): {x} = {v}",
+                                  f"for {v} in [1, 2]: pass", f"if {x} < {self.pick(0, 1)}: {v} = 1", f"for {v} in Items(2): {x} += {v}"))
+        self.bind(c, v)
 
     def orelse(self, c, depth, room):
         if self.r.random() < 0.3:
