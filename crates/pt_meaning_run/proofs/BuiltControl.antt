@@ -17,7 +17,7 @@ use Rattle.pt_meaning.specs.Built.{is_print, unbuilt_exp, unbuilt_args, unbuilt_
 use Rattle.pt_meaning.specs.Run.{in_module}
 use Rattle.pt_meaning.proofs.BuiltLemmas.{told, built_binary, built_call, built_positional, built_assign, built_more}
 use Rattle.pt_meaning.specs.declared.value.Value.TheVariants as value
-use Rattle.pt_meaning_run.specs.Means.{IsPlain, Straight}
+use Rattle.pt_meaning_run.specs.Means.{IsActOrEnd, OnlyActs}
 
 -- an operation whose block, if it has one, takes no cells along
 abbrev NeedsNoCells : Operation → Type 0
@@ -344,29 +344,29 @@ module _ {V : Type 0} (null : V) where
   reached c _ b here = b
   reached c d b (then r h) = leads _ d (reached c _ b r) h
 
-value_plain : {V : Type 0} (m : T.Mark) (a : Seek V) (w : Wait V) → GivesValue a → IsPlain (F.for_value m a w)
-value_plain m (T.const k) w g = tt
-value_plain m (T.load x) w g = tt
-value_plain m (T.operate o vs) w g = tt
-value_plain m (T.yielding v) w g = absurd g
-value_plain m (T.cell_of x) w g = tt
+value_is_act : {V : Type 0} (m : T.Mark) (a : Seek V) (w : Wait V) → GivesValue a → IsActOrEnd (F.for_value m a w)
+value_is_act m (T.const k) w g = tt
+value_is_act m (T.load x) w g = tt
+value_is_act m (T.operate o vs) w g = tt
+value_is_act m (T.yielding v) w g = absurd g
+value_is_act m (T.cell_of x) w g = tt
 
-plain_if_built : {V : Type 0} (c : Control V) → BuiltControl c → IsPlain c
-plain_if_built (F.for_value m a w) b = value_plain m a w b.0
-plain_if_built (F.for_deed m a k s) b = tt
-plain_if_built (F.closed e) b = tt
-plain_if_built (F.for_leave m a s) b = absurd b
-plain_if_built (F.for_throw m a s) b = absurd b
-plain_if_built (F.for_truth m a t f s) b = absurd b
-plain_if_built (F.for_iter m v o) b = absurd b
-plain_if_built (F.for_item m i n t k f) b = absurd b
-plain_if_built (F.for_entry m v l n t is body s) b = absurd b
-plain_if_built (F.for_unpack m v n ts k s) b = absurd b
-plain_if_built (F.for_delegate m i r w) b = absurd b
-plain_if_built (F.silent_value a w) b = absurd b
-plain_if_built (F.silent_deed a k s) b = absurd b
-plain_if_built (F.noting a k s) b = absurd b
+act_if_built : {V : Type 0} (c : Control V) → BuiltControl c → IsActOrEnd c
+act_if_built (F.for_value m a w) b = value_is_act m a w b.0
+act_if_built (F.for_deed m a k s) b = tt
+act_if_built (F.closed e) b = tt
+act_if_built (F.for_leave m a s) b = absurd b
+act_if_built (F.for_throw m a s) b = absurd b
+act_if_built (F.for_truth m a t f s) b = absurd b
+act_if_built (F.for_iter m v o) b = absurd b
+act_if_built (F.for_item m i n t k f) b = absurd b
+act_if_built (F.for_entry m v l n t is body s) b = absurd b
+act_if_built (F.for_unpack m v n ts k s) b = absurd b
+act_if_built (F.for_delegate m i r w) b = absurd b
+act_if_built (F.silent_value a w) b = absurd b
+act_if_built (F.silent_deed a k s) b = absurd b
+act_if_built (F.noting a k s) b = absurd b
 
-pub built_is_straight : (ss : Stms) → Built ss → Straight ss
-built_is_straight ss h c r =
-    plain_if_built c (reached value.None (start (in_module value.None) ss) c (all_begin value.None ss 0 [] _ h tt tt) r)
+pub built_only_acts : (ss : Stms) → Built ss → OnlyActs ss
+built_only_acts ss h c r =
+    act_if_built c (reached value.None (start (in_module value.None) ss) c (all_begin value.None ss 0 [] _ h tt tt) r)

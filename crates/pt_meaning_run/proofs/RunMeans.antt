@@ -1,5 +1,5 @@
--- A straight script's run prints what its meaning writes, and ends as it does.
-use Rattle.std.proofs.Common.{◌≡◌, ℕ, zero, suc, ◌+◌, List, [], ◌∷◌, ◌++◌, true, false, Option, Some, None, refl, sym, ◌∙◌, subst, append_assoc, append-nil, arith}
+-- The run of a script of acts alone prints what its meaning writes, and ends as it does.
+use Rattle.std.proofs.Common.{◌≡◌, ℕ, zero, suc, ◌+◌, List, [], ◌∷◌, ◌++◌, true, false, Option, Some, None, refl, sym, ap, ◌∙◌, subst, append_assoc, append-nil, arith}
 use Rattle.std.specs.Prelude.{nat_lt}
 use Rattle.std.proofs.lemmas.Bool.{lt-ltb, le-ltb}
 use Rattle.pt_base.specs.declared.what.What.{What}
@@ -27,34 +27,34 @@ use Rattle.pt_run.specs.Outcome.{Output, prints, goes, ends}
 use Rattle.pt_run.specs.Step.{callee_of, do_ask, ask_host, step}
 use Rattle.pt_run.specs.Source as Source
 use Rattle.pt_run.specs.Source.{Position}
-use Rattle.pt_run.specs.Laws.{session}
-use Rattle.pt_run.specs.Run.{nobody}
-use Rattle.pt_run.proofs.RunLemmas.{runs_once}
+use Rattle.pt_run.specs.Laws.{OnlyLooks, alone, session}
+use Rattle.pt_run.specs.Run.{Debugger, prints_of, replies_apart, nobody}
+use Rattle.pt_run.proofs.RunLemmas.{runs_once, is_as_alone}
 use Rattle.pt_meaning_run.specs.RunHost.{Tree, printed_first, replied, of_outcome, unwritten, run_host, the_module, script_machine}
-use Rattle.pt_meaning_run.specs.Means.{IsPlain, Straight, ending_of, meaning_of, HasMeaning, HasRuns, RunsMean}
+use Rattle.pt_meaning_run.specs.Means.{IsActOrEnd, OnlyActs, ending_of, meaning_of, HasMeaning, HasRuns, RunsMean}
 use Rattle.pt_meaning.specs.Built.{Built}
-use Rattle.pt_meaning_run.proofs.BuiltControl.{built_is_straight}
+use Rattle.pt_meaning_run.proofs.BuiltControl.{built_only_acts}
 use Rattle.pt_meaning_run.proofs.Answered.{behind, outcome_behind, world_of, evaluated_behind, done_behind}
 use Rattle.pt_meaning_run.proofs.RunSteps.{RunState, RunEnding, Point, stand, moved_to, begun, Ends, stepped, quiet, stopped, all_told, act_begins, act_is_spent, reply_leads}
 
 abbrev block : Around Value
 block = in_module value.None
 
-settled_plain : (c : Control Value) (w : World) → IsPlain c → settled block host c w ≡ M.at c w
-settled_plain (F.for_value m a s) w h = refl
-settled_plain (F.for_deed m a k s) w h = refl
-settled_plain (F.for_leave m a s) w h = refl
-settled_plain (F.for_throw m a s) w h = refl
-settled_plain (F.for_truth m a t f s) w h = refl
-settled_plain (F.for_iter m v o) w h = refl
-settled_plain (F.for_item m i n t k f) w h = refl
-settled_plain (F.for_entry m v l n t is body s) w h = refl
-settled_plain (F.for_unpack m v n ts k s) w h = refl
-settled_plain (F.for_delegate m i r s) w h = refl
-settled_plain (F.silent_value a s) w h = absurd h
-settled_plain (F.silent_deed a k s) w h = absurd h
-settled_plain (F.noting a k s) w h = absurd h
-settled_plain (F.closed e) w h = refl
+settled_at_once : (c : Control Value) (w : World) → IsActOrEnd c → settled block host c w ≡ M.at c w
+settled_at_once (F.for_value m a s) w h = refl
+settled_at_once (F.for_deed m a k s) w h = refl
+settled_at_once (F.for_leave m a s) w h = refl
+settled_at_once (F.for_throw m a s) w h = refl
+settled_at_once (F.for_truth m a t f s) w h = refl
+settled_at_once (F.for_iter m v o) w h = refl
+settled_at_once (F.for_item m i n t k f) w h = refl
+settled_at_once (F.for_entry m v l n t is body s) w h = refl
+settled_at_once (F.for_unpack m v n ts k s) w h = refl
+settled_at_once (F.for_delegate m i r s) w h = refl
+settled_at_once (F.silent_value a s) w h = absurd h
+settled_at_once (F.silent_deed a k s) w h = absurd h
+settled_at_once (F.noting a k s) w h = absurd h
+settled_at_once (F.closed e) w h = refl
 
 below : (u r n : ℕ) → n ≡ u + suc r → nat_lt u n ≡ true
 below u r n e = lt-ltb u n (omega arith)
@@ -84,7 +84,7 @@ module _ (ss : Stms) (n : ℕ) where
       (prints_first : (p : List ℕ) (t : Tree A) → step (script_machine ss) run_host n (stands (H.print p t)) ≡ goes (prints p ∷ []) (stands t))
       (leaves : (what : What) → step (script_machine ss) run_host n (stands (H.leave what)) ≡ ends (O.outside what m.line))
       (replies : (r : Reply Value A) (y : Names) (ps : List (List ℕ)) (z : RunEnding) → Ends ss n (stand turning (moved_to (next r) y x)) ps z → Ends ss n (stands (replied r y)) ps z)
-      (plain : (r : Reply Value A) → IsPlain (next r)) where
+      (settles : (r : Reply Value A) → IsActOrEnd (next r)) where
     printed : (ps : List (List ℕ)) (t : Tree A) (ws : List (List ℕ)) (e : World × M.Ending Value) → Same (stands t) (ws ++ ps) e → Same (stands (printed_first ps t)) ws e
     printed [] t ws e h = subst (λ vs. Same (stands t) vs e) (append-nil ws) h
     printed (p ∷ ps) t ws e h =
@@ -107,11 +107,11 @@ module _ (ss : Stms) (n : ℕ) where
         printed w.written (replied q w.names) ws _
         (subst (λ s. Same (stands (replied q w.names)) (ws ++ w.written)
         (on_settled (λ c v. meaning_from block host r (C.turn block c) v) (λ what v. (v, M.outside what m.line)) s))
-        (sym (settled_plain (next q) (behind ws w) (plain q)))
+        (sym (settled_at_once (next q) (behind ws w) (settles q)))
         (same_by _ _ (ws ++ w.written) _ (replies q w.names) (f q w.names (ws ++ w.written))))
 
   -- an ask for a value other than a `yield`'s goes to the host
-  value_asked : (m : Mark) (a : Seek Value) (w : Wait Value) (k : Reply Value Value → Position Value) (c : Option (Callee Value)) (s : RunState) → IsPlain (F.for_value m a w) →
+  value_asked : (m : Mark) (a : Seek Value) (w : Wait Value) (k : Reply Value Value → Position Value) (c : Option (Callee Value)) (s : RunState) → IsActOrEnd (F.for_value m a w) →
       ask_host (script_machine ss) run_host (record { ask = T.seek a; next = k; is_act = true; callee = c }) s ≡ do_ask (script_machine ss) run_host (T.seek a) k true c s
   value_asked m (T.const x) w k c s h = refl
   value_asked m (T.load x) w k c s h = refl
@@ -165,9 +165,9 @@ module _ (ss : Stms) (n : ℕ) where
       (reply_leads ss n (deed_ask d go s x)
       (raised v) (after_deed block go s (raised v)) turning (moved_to x.control y (begun m x)) ps z refl h [])
 
-  module _ (straight : Straight ss) where
-    plain_at : (c : Control Value) → Reaches block (start block ss) c → IsPlain c
-    plain_at c h = straight c h
+  module _ (only_acts : OnlyActs ss) where
+    act_or_end_at : (c : Control Value) → Reaches block (start block ss) c → IsActOrEnd c
+    act_or_end_at c h = only_acts c h
 
     -- what comes behind an act by each reply is the run's, and the meaning's
     GoOn : {A : Type 0} (r : ℕ) (m : Mark) (next : Reply Value A → Control Value) (x : Point) → Type 0
@@ -188,9 +188,9 @@ module _ (ss : Stms) (n : ℕ) where
         (sym (evaluated_behind ws x.names a))
         (same_by (stand turning at) (stands (of_outcome (evaluated a (unwritten x.names)))) ws _
         (λ ps z e. act_begins ss n m (T.seek a) k at refl ps z below
-        (subst (λ s. Ends ss n s ps z) (value_asked m a w k (callee_of run_host (T.seek a) x.names) _ (plain_at (F.for_value m a w) h)) e))
+        (subst (λ s. Ends ss n s ps z) (value_asked m a w k (callee_of run_host (T.seek a) x.names) _ (act_or_end_at (F.for_value m a w) h)) e))
         (answered stands m (after_value block w) (begun m at) (λ p t. refl) (λ what. refl) (value_replies m a w at)
-        (λ q. plain_at _ (then h (q, refl))) r (evaluated a (unwritten x.names)) x.names ws go))
+        (λ q. act_or_end_at _ (then h (q, refl))) r (evaluated a (unwritten x.names)) x.names ws go))
 
     deed_act : (r : ℕ) (m : Mark) (d : Deed Value) (way : Way Value) (s : Nest Value) (x : Point) (ws : List (List ℕ)) → Reaches block (start block ss) (F.for_deed m d way s) →
         nat_lt x.units n ≡ true → GoOn r m (after_deed block way s) x →
@@ -207,7 +207,7 @@ module _ (ss : Stms) (n : ℕ) where
         (same_by (stand turning at) (stands (of_outcome (done_by d (unwritten x.names)))) ws _
         (λ ps z e. act_begins ss n m (T.deed d) k at refl ps z below e)
         (answered stands m (after_deed block way s) (begun m at) (λ p t. refl) (λ what. refl) (deed_replies m d way s at)
-        (λ q. plain_at _ (then h (q, refl))) r (done_by d (unwritten x.names)) x.names ws go))
+        (λ q. act_or_end_at _ (then h (q, refl))) r (done_by d (unwritten x.names)) x.names ws go))
 
     left_at : (m : Mark) (x : Point) (c : Control Value) (ws : List (List ℕ)) → Ends ss n (stand turning (moved_to c x.names x)) [] (O.outside Feature m.line) →
         Same (stand turning (moved_to c x.names x)) ws (world_of x.names ws, M.outside Feature m.line)
@@ -217,9 +217,9 @@ module _ (ss : Stms) (n : ℕ) where
         Same (stand turning (moved_to c x.names x)) ws (meaning_from block host r (C.turn block c) (world_of x.names ws))
     unfolding GoOn
     runs_as r (F.closed e) h x q ws = same_end _ ws x.names (M.ended e) (over_at e x)
-    runs_as r (F.silent_value a w) h x q ws = absurd (plain_at (F.silent_value a w) h)
-    runs_as r (F.silent_deed a k s) h x q ws = absurd (plain_at (F.silent_deed a k s) h)
-    runs_as r (F.noting a k s) h x q ws = absurd (plain_at (F.noting a k s) h)
+    runs_as r (F.silent_value a w) h x q ws = absurd (act_or_end_at (F.silent_value a w) h)
+    runs_as r (F.silent_deed a k s) h x q ws = absurd (act_or_end_at (F.silent_deed a k s) h)
+    runs_as r (F.noting a k s) h x q ws = absurd (act_or_end_at (F.noting a k s) h)
     runs_as (suc r) (F.for_value m a w) h x q ws =
         value_act r m a w x ws h (below x.units r n q)
         (λ p z vs. runs_as r (after_value block w p) (then h (p, refl)) (moved_to (after_value block w p) z (begun m x)) (one_less x.units r n q) vs)
@@ -270,23 +270,40 @@ module _ (ss : Stms) (n : ℕ) where
     from_start =
         subst (λ s. Same (stand (telling (Told.starts ∷ []) starting) beginning) []
         (on_settled (λ c v. meaning_from block host n (C.turn block c) v) (λ what v. (v, M.outside what 1)) s))
-        (sym (settled_plain (start block ss) start_world (plain_at (start block ss) here)))
+        (sym (settled_at_once (start block ss) start_world (act_or_end_at (start block ss) here)))
         (same_by _ (stand turning beginning) [] _ (all_told ss n (Told.starts ∷ []) starting beginning) (runs_as n (start block ss) here beginning (omega arith) []))
 
     has_run : Ends ss n (stand (telling (Told.starts ∷ []) starting) beginning) (meaning_of ss n).0.written (ending_of (meaning_of ss n).0.names (meaning_of ss n).1)
     has_run = let s = from_start in subst (λ ps. Ends ss n (stand (telling (Told.starts ∷ []) starting) beginning) ps (ending_of (meaning_of ss n).0.names (meaning_of ss n).1)) (sym s.written) s.run
 
-pub straight_has_runs : (ss : Stms) → Straight ss → HasRuns ss
-straight_has_runs ss h n = let e = has_run ss n h in (e.outcome, e.runs)
+same_prints : (os : List (Output Value)) → prints_of (replies_apart os) ≡ prints_of os
+same_prints [] = refl
+same_prints (O.prints x ∷ os) = ap (λ xs. x ∷ xs) (same_prints os)
+same_prints (O.begins b m ∷ os) = same_prints os
+same_prints (O.gives e ∷ os) = same_prints os
+same_prints (O.logs x ∷ os) = same_prints os
+same_prints (O.replies x ∷ os) = same_prints os
+same_prints (O.refuses l r ∷ os) = same_prints os
 
-pub straight_runs_mean : (ss : Stms) → Straight ss → RunsMean ss
-straight_runs_mean ss h n o r =
+pub acts_have_runs : (ss : Stms) → OnlyActs ss → HasRuns ss
+acts_have_runs ss h n = let e = has_run ss n h in (e.outcome, e.runs)
+
+-- a run without a debugger
+means_alone : (ss : Stms) → OnlyActs ss → RunsMean nobody ss
+means_alone ss h n d o r =
     let e = has_run ss n h in
     let same : o ≡ e.outcome = runs_once (script_machine ss) run_host nobody n (session (script_machine ss) the_module tt start_world.names tt) o e.outcome r e.runs in
     subst (HasMeaning ss n) (sym same) (record { prints = e.prints; ending = e.ending })
 
-pub built_has_runs : (ss : Stms) → Built ss → HasRuns ss
-built_has_runs ss h = straight_has_runs ss (built_is_straight ss h)
+module _ {D : Type 0} (ask : Debugger D (Unit {0}) Value Names) (looks : OnlyLooks ask) where
+  pub acts_mean : (ss : Stms) → OnlyActs ss → RunsMean ask ss
+  acts_mean ss h n d o r =
+      let x = session (script_machine ss) the_module tt start_world.names d in
+      let k = means_alone ss h n tt (alone o) (is_as_alone (script_machine ss) run_host ask n x looks o r) in
+      record { prints = sym (same_prints o.outputs) ∙ k.prints; ending = k.ending }
 
-pub built_runs_mean : (ss : Stms) → Built ss → RunsMean ss
-built_runs_mean ss h = straight_runs_mean ss (built_is_straight ss h)
+  pub built_runs_mean : (ss : Stms) → Built ss → RunsMean ask ss
+  built_runs_mean ss h = acts_mean ss (built_only_acts ss h)
+
+pub built_has_runs : (ss : Stms) → Built ss → HasRuns ss
+built_has_runs ss h = acts_have_runs ss (built_only_acts ss h)

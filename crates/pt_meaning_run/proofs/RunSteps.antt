@@ -16,11 +16,10 @@ use Rattle.pt_run.specs.Outcome as O
 use Rattle.pt_run.specs.Outcome.{Output, gives, prints, Question, Step, goes, consults, ends}
 use Rattle.pt_run.specs.Hooks.{log_of, trace_due, location, call_hook, all_hooks}
 use Rattle.pt_run.specs.Step.{world_behind, begin_turn, callee_of, do_ask, reply_and_tell, reply_to, only_raises, events_behind, proceed, step}
-use Rattle.pt_run.specs.Run.{Session, moves, move, move_by, outcome_behind, Comes, ends_so, goes_on, Runs, prints_of, nobody}
+use Rattle.pt_run.specs.Run.{Session, Outcome, moves, move, move_by, outcome_behind, Comes, ends_so, goes_on, Runs, prints_of, nobody}
 use Rattle.pt_run.specs.Source as Source
 use Rattle.pt_run.specs.Source.{Position}
 use Rattle.pt_meaning_run.specs.RunHost.{run_host, the_module, script_machine}
-use Rattle.pt_meaning_run.specs.Means.{Outcome}
 
 abbrev pub RunState : Type 0
 RunState = State (Position Value) (Unit {0}) Value Names
@@ -28,7 +27,7 @@ RunState = State (Position Value) (Unit {0}) Value Names
 abbrev pub RunEnding : Type 0
 RunEnding = O.Ending (Unit {0}) Value Names
 
--- what can be different in the states of a straight script's run, beside the phase
+-- what can be different in the states of such a run, beside the phase
 pub record Point : Type 0 where
   pub line : Option ℕ
   pub act : ℕ
@@ -131,7 +130,7 @@ world_stays (Told.stops v ∷ hs) f w h = world_stays hs f w h
 module _ (ss : Stms) (n : ℕ) where
   -- the run from a state prints this and ends so
   pub record Ends (s : RunState) (ps : List (List ℕ)) (e : RunEnding) : Type 0 where
-    pub outcome : Outcome
+    pub outcome : Outcome (Unit {0}) (Unit {0}) Value Names
     pub runs : Runs (script_machine ss) run_host nobody n (solo s) outcome
     pub prints : prints_of outcome.outputs ≡ ps
     pub ending : outcome.ending ≡ e

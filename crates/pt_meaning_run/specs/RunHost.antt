@@ -1,5 +1,5 @@
 -- What answers a script's acts as a host of runs: the names of the module are the world, what is written is printed before the reply,
--- and nothing is requested.
+-- and nothing is requested (Language Reference 4.1, 4.2; Library Reference, print).
 use Rattle.std.specs.Prelude.{ℕ, List, [], ◌∷◌, Bool, true, false, Option, Some, None}
 use Rattle.pt_base.specs.declared.what.What.TheVariants.{Feature}
 use Rattle.pt_tree.specs.Blocks.{of_module}
