@@ -1,0 +1,4 @@
+pub mod BuiltControl
+pub mod RunSteps
+pub mod Answered
+pub mod RunMeans

@@ -1,0 +1,2 @@
+pub mod RunHost
+pub mod Means
