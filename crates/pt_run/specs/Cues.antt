@@ -1,16 +1,19 @@
--- A host of answers that are given in order, to follow runs by: all values are numbers, 0 is None, names are left out, and the
--- world is what is answered next. Asks that need no answer of the list get a number at once.
+-- A host of answers that are given in order, to follow runs by: all values are numbers, 0 is None and what a name has that isn't
+-- bound, and the world is what is answered next. Asks that need no answer of the list get a number at once.
 use Rattle.std.specs.Prelude.{ℕ, zero, suc, ◌==◌, ◌&&◌, pos, List, [], ◌∷◌, ◌++◌, Bool, true, false, Option, Some, None}
-use Rattle.std.specs.Prelude.{if◌then◌else◌}
+use Rattle.std.specs.Prelude.{◌-◌, length, replicate, if◌then◌else◌}
+use Rattle.std.specs.Str.{bytes_eq}
+use Rattle.pt_tree.specs.declared.expression.Constant.{Constant}
+use Rattle.pt_tree.specs.declared.expression.Constant.TheVariants.{Int}
 use Rattle.pt_tree.specs.Blocks as B
 use Rattle.pt_tree.specs.Blocks.{Block, Code, blocks_script}
-use Rattle.pt_tree.specs.Syntax.{Stms, none}
+use Rattle.pt_tree.specs.Syntax.{Name, Stms, none}
 use Rattle.pt_control.specs.Turn as T
 use Rattle.pt_control.specs.Turn.{Ask, Row, End, gave, left_by}
 use Rattle.pt_control.specs.Lines.{numbers}
 use Rattle.pt_run.specs.Machine.{Machine, Reason}
 use Rattle.pt_run.specs.Rows.{row_at}
-use Rattle.pt_run.specs.Events.{Event, bit, is_line}
+use Rattle.pt_run.specs.Events.{Happening, raises, Event, bit, is_line}
 use Rattle.pt_run.specs.Tools as Tool
 use Rattle.pt_run.specs.Host as H
 use Rattle.pt_run.specs.Host.{Store, Opening, How, by_next, by_throw, GeneratorResult, gives_on, ends_by, cannot, Response}
@@ -42,6 +45,9 @@ pub data Cue : Type 0 where
   traces : (function : Option ℕ) → Cue
   tells_tool : (tool bit function : ℕ) → Cue
   jumps : (frame line : ℕ) → Cue
+  -- a call prints its arguments; a hook prints which exception it is told is active, and then answers
+  prints : Cue
+  looks : Cue
 
 -- the numbers of some exceptions, and that of DISABLE
 abbrev pub stop_iteration : ℕ
@@ -59,14 +65,33 @@ runtime_error = 904
 abbrev pub disable : ℕ
 disable = 905
 
+-- the names of an activation that are bound, the one that was bound last first
+pub record Binding : Type 0 where
+  pub name : Name
+  pub bound : ℕ
+
+abbrev pub Names : Type 0
+Names = List Binding
+
+abbrev pub value_of : Name → Names → ℕ
+value_of x [] = 0
+value_of x (b ∷ bs) = if bytes_eq b.name x then b.bound else value_of x bs
+
+abbrev pub without_name : Name → Names → Names
+without_name x [] = []
+without_name x (b ∷ bs) = if bytes_eq b.name x then without_name x bs else b ∷ without_name x bs
+
+abbrev pub bind : Name → ℕ → Names → Names
+bind x v bs = record { name = x; bound = v } ∷ without_name x bs
+
 abbrev pub Stores : Type 0
-Stores = Store (Unit {0}) (List Cue)
+Stores = Store Names (List Cue)
 
 abbrev pub Tree : Type 0 → Type 0
-Tree A = Answering (Unit {0}) ℕ (List Cue) A
+Tree A = Answering Names ℕ (List Cue) A
 
-abbrev pub opening : ℕ → Opening (Unit {0}) ℕ
-opening b = record { block = record { hidden = false; number = b }; iterator = None; names = tt }
+abbrev pub opening : ℕ → Opening Names ℕ
+opening b = record { block = record { hidden = false; number = b }; iterator = None; names = [] }
 
 abbrev pub end_of : End ℕ → Stores → Tree ℕ
 end_of (gave v) st = answer v st
@@ -107,6 +132,8 @@ by_cue (tries g) st = request (H.resumes g by_next) st try_result
 by_cue (traces f) st = request (H.gives_trace f) st (λ u st1. answer 0 st1)
 by_cue (tells_tool t b f) st = tell_tool t b f st
 by_cue (jumps k l) st = request (H.jumps_to k (pos l)) st reason_of
+by_cue prints st = answer 0 st
+by_cue looks st = answer 0 st
 
 abbrev pub with_world : List Cue → Stores → Stores
 with_world w st = record st { world = w }
@@ -115,6 +142,11 @@ with_world w st = record st { world = w }
 abbrev pub next_answer : List Cue → Stores → Tree ℕ
 next_answer [] st = answer 0 st
 next_answer (x ∷ xs) st = by_cue x (with_world xs st)
+
+-- a call, of which what is called stands first
+abbrev pub call_answer : (operands : List ℕ) → List Cue → Stores → Tree ℕ
+call_answer vs (prints ∷ xs) st = print vs (answer 0 (with_world xs st))
+call_answer vs xs st = next_answer xs st
 
 abbrev pub item_of : GeneratorResult ℕ → Stores → Tree (Item ℕ)
 item_of (gives_on v) st = answer (an_item v) st
@@ -138,15 +170,32 @@ abbrev pub next_exception : List Cue → Stores → Tree ⊥
 next_exception (exception v ∷ xs) st = raise v (with_world xs st)
 next_exception xs st = raise value_error st
 
+-- `raise` alone
+abbrev pub raise_active : Option ℕ → Stores → Tree ⊥
+raise_active (Some v) st = raise v st
+raise_active None st = raise runtime_error st
+
+abbrev pub constant_of : Constant → ℕ
+constant_of (Int (pos n)) = n
+constant_of k = 0
+
+abbrev pub with_names : Names → Stores → Stores
+with_names ns st = record st { names = ns }
+
 abbrev pub zeros : (n : ℕ) → Row ℕ n
 zeros zero = tt
 zeros (suc n) = (0, zeros n)
 
 abbrev pub answers : (a : Ask ℕ) → Here ℕ → Stores → Tree (Finding ℕ a)
-answers (T.seek (T.operate (T.call rs) vs)) h st = next_answer st.world st
+answers (T.seek (T.operate (T.call rs) vs)) h st = call_answer vs st.world st
+answers (T.seek (T.const k)) h st = answer (constant_of k) st
+answers (T.seek (T.load x)) h st = answer (value_of x.name st.names) st
 answers (T.seek s) h st = answer 0 st
+answers (T.deed (T.store x v)) h st = answer tt (with_names (bind x.name v st.names) st)
+answers (T.deed (T.delete x)) h st = answer tt (with_names (without_name x.name st.names) st)
 answers (T.deed d) h st = answer tt st
 answers (T.leave l) h st = answer tt st
+answers (T.throw T.raising_again) h st = raise_active h.active st
 answers (T.throw t) h st = next_exception st.world st
 answers (T.test t) h st = next_truth st.world st
 answers (T.iter_of v) h st = answer 0 st
@@ -155,9 +204,17 @@ answers (T.enter v) h st = answer (0, 0) st
 answers (T.unpack v n star) h st = answer (zeros n) st
 answers (T.delegate i r) h st = answer (H.ends_with 0) st
 
--- a hook that is called prints its function's number
+abbrev pub or_none : Option ℕ → ℕ
+or_none (Some v) = v
+or_none None = 0
+
+-- a hook that is called prints its function's number, and which exception is active if it looks
+abbrev pub hear : (function : ℕ) → Here ℕ → List Cue → Stores → Tree ℕ
+hear f h (looks ∷ xs) st = print (f ∷ or_none h.active ∷ []) (next_answer xs (with_world xs st))
+hear f h xs st = print (f ∷ []) (next_answer xs st)
+
 abbrev pub hears : Hook → ℕ → Event ℕ → Here ℕ → Stores → Tree ℕ
-hears k f e h st = print (f ∷ []) (next_answer st.world st)
+hears k f e h st = hear f h st.world st
 
 abbrev pub exception_of : Failure ℕ → ℕ
 exception_of H.too_deep = recursion_error
@@ -177,7 +234,7 @@ line_of (Some b) = b.first_line
 line_of None = 1
 
 -- the host, for the blocks of a script
-abbrev pub host : Stms → Host (Unit {0}) ℕ (List Cue)
+abbrev pub host : Stms → Host Names ℕ (List Cue)
 host ss = record {
   first_line = λ b. line_of (row_at b.number (blocks_script ss));
   null = 0;
@@ -223,14 +280,14 @@ abbrev pub next_plan : List Plan → DebuggerAnswer (List Plan)
 next_plan [] = silent []
 next_plan (p ∷ ps) = says p ps
 
-abbrev pub follow_plan : R.Debugger (List Plan) (Unit {0}) ℕ (List Cue)
+abbrev pub follow_plan : R.Debugger (List Plan) Names ℕ (List Cue)
 follow_plan (about e) v ps = at_event e ps
 follow_plan (O.about_landing l) v ps = next_plan ps
 follow_plan (O.about_refusal r) v ps = next_plan ps
 
 -- so many moves of a run of at most n acts
 abbrev pub Follower : Type 0
-Follower = Session (List Plan) (Position ℕ) (Unit {0}) ℕ (List Cue)
+Follower = Session (List Plan) (Position ℕ) Names ℕ (List Cue)
 
 -- how a run that is followed ended, if it has
 pub data EndKind : Type 0 where
@@ -244,7 +301,7 @@ pub record Trace : Type 0 where
   pub outputs : List (Output ℕ)
   pub end : EndKind
 
-abbrev pub end_kind : O.Ending (Unit {0}) ℕ (List Cue) → EndKind
+abbrev pub end_kind : O.Ending Names ℕ (List Cue) → EndKind
 end_kind O.done = ends_done
 end_kind (O.raised v w) = ends_raised v
 end_kind O.spent = ends_spent
@@ -253,19 +310,40 @@ end_kind e = ends_otherwise
 abbrev pub behind : List (Output ℕ) → Trace → Trace
 behind os t = record t { outputs = os ++ t.outputs }
 
-abbrev pub on_move : (List (Output ℕ) → Follower → Trace) → Move (List Plan) (Position ℕ) (Unit {0}) ℕ (List Cue) → Trace
+abbrev pub on_move : (List (Output ℕ) → Follower → Trace) → Move (List Plan) (Position ℕ) Names ℕ (List Cue) → Trace
 on_move f (moves os x) = f os x
 on_move f (stops os d e) = record { outputs = os; end = end_kind e }
 on_move f halts = record { outputs = []; end = ends_otherwise }
+
+-- a run at its start, with what is answered, and with a debugger's plan
+abbrev pub from_start : Stms → List Cue → List Plan → Follower
+from_start ss w ps = record { debugger = ps; state = start (machine ss) (record { hidden = false; number = 0 }) [] w }
 
 module _ (ss : Stms) (n : ℕ) where
   abbrev pub follow : (most : ℕ) → Follower → Trace
   follow zero x = record { outputs = []; end = goes_still }
   follow (suc m) x = on_move (λ os y. behind os (follow m y)) (move (machine ss) (host ss) follow_plan n x)
 
-  -- a run from its start, with what is answered, and with a debugger's plan
+  -- a run from its start
   abbrev pub trace_of : List Cue → List Plan → Trace
-  trace_of w ps = follow 2000 (record { debugger = ps; state = start (machine ss) (record { hidden = false; number = 0 }) tt w })
+  trace_of w ps = follow 2000 (from_start ss w ps)
+
+  abbrev pub session_of : (otherwise : Follower) → Move (List Plan) (Position ℕ) Names ℕ (List Cue) → Follower
+  session_of x (moves os y) = y
+  session_of x m = x
+
+  -- a run behind so many moves
+  abbrev pub moved : (many : ℕ) → Follower → Follower
+  moved zero x = x
+  moved (suc m) x = moved m (session_of x (move (machine ss) (host ss) follow_plan n x))
+
+-- so many activations wait: the one that called the newest stands for each that is missing
+abbrev pub filled : {X : Type 0} → (many : ℕ) → List X → List X
+filled n [] = []
+filled n (o ∷ os) = replicate (n - length (o ∷ os)) o ++ o ∷ os
+
+abbrev pub with_openers : (many : ℕ) → Follower → Follower
+with_openers n x = record x { state = record x.state { openers = filled n x.state.openers } }
 
 -- the lines of the line events
 abbrev pub lines : List (Output ℕ) → List ℕ
@@ -281,15 +359,24 @@ pub data TraceRow : Type 0 where
   reply : ℕ → TraceRow
   hook : (function : ℕ) → TraceRow
   refusal : (line : ℕ) → Reason → TraceRow
+  -- a hook, with the exception that it is told is active; what a call prints
+  sees : (function exception : ℕ) → TraceRow
+  printed : List ℕ → TraceRow
 
 abbrev first_number : List ℕ → ℕ
 first_number [] = 0
 first_number (n ∷ ns) = n
 
+-- no hook is 0: a text that begins so is printed by a call of a name that isn't bound
+abbrev pub row_of_text : (text : List ℕ) → TraceRow
+row_of_text (zero ∷ vs) = printed vs
+row_of_text (f ∷ v ∷ []) = sees f v
+row_of_text x = hook (first_number x)
+
 abbrev pub rows_of : List (Output ℕ) → List TraceRow
 rows_of [] = []
 rows_of (O.begins b m ∷ os) = rows_of os
-rows_of (O.prints x ∷ os) = hook (first_number x) ∷ rows_of os
+rows_of (O.prints x ∷ os) = row_of_text x ∷ rows_of os
 rows_of (O.gives e ∷ os) = event (bit e.what) e.line ∷ rows_of os
 rows_of (O.logs x ∷ os) = log_line (first_number x) ∷ rows_of os
 rows_of (O.replies x ∷ os) = reply (first_number x) ∷ rows_of os
@@ -300,6 +387,16 @@ abbrev pub event_rows : List (Output ℕ) → List TraceRow
 event_rows [] = []
 event_rows (gives e ∷ os) = event (bit e.what) e.line ∷ event_rows os
 event_rows (o ∷ os) = event_rows os
+
+-- the exceptions that are told as they arise or arrive
+abbrev pub exception_in : Happening ℕ → List ℕ
+exception_in (raises v) = v ∷ []
+exception_in h = []
+
+abbrev pub exceptions_told : List (Output ℕ) → List ℕ
+exceptions_told [] = []
+exceptions_told (gives e ∷ os) = exception_in e.what ++ exceptions_told os
+exceptions_told (o ∷ os) = exceptions_told os
 
 -- what is shown behind the first event with a bit on a line, up to the next event
 abbrev pub up_to_event : List TraceRow → List TraceRow

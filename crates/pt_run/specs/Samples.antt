@@ -1,12 +1,13 @@
 -- Scripts to follow runs by, what the host answers in them, and what is told.
-use Rattle.std.specs.Prelude.{ℕ, List, [], ◌∷◌, true, false, codes, Some, None}
+use Rattle.std.specs.Prelude.{ℕ, pos, List, [], ◌∷◌, true, false, codes, Option, Some, None}
+use Rattle.pt_tree.specs.declared.expression.Constant.TheVariants.{Int}
 use Rattle.pt_tree.specs.Syntax as S
 use Rattle.pt_tree.specs.Syntax.{Name, Exp, Args, Stm, Stms, none, more}
 use Rattle.pt_run.specs.Machine.{into_block, out_of_finally}
 use Rattle.pt_run.specs.Outcome.{go, jump_to}
 use Rattle.pt_run.specs.Cues.{Cue, jumps, value, exception, no_more, truth, runs, makes, resumes, throws, tries, traces, tells_tool}
-use Rattle.pt_run.specs.Cues.{Plan}
-use Rattle.pt_run.specs.Cues.{TraceRow, event, log_line, reply, hook, refusal}
+use Rattle.pt_run.specs.Cues.{prints, looks, Plan, Trace, from_start, moved, follow, with_openers}
+use Rattle.pt_run.specs.Cues.{TraceRow, event, log_line, reply, hook, refusal, sees, printed}
 
 abbrev pub call : (line : ℕ) → Name → Stm
 call l f = S.expr l (S.call l (S.name l f) S.no_args)
@@ -235,3 +236,126 @@ throwing_early =
 -- 7 is thrown to g, which has not started and so is finished; it doesn't go on
 abbrev pub throwing_early_cues : List Cue
 throwing_early_cues = makes 1 ∷ throws 0 7 ∷ tries 0 ∷ []
+
+abbrev pub named : (line : ℕ) → Name → Exp
+named l x = S.name l x
+
+-- a `try` with a single handler of a class
+abbrev pub try_except : (line : ℕ) → (body : Stms) → (handler_line : ℕ) → (class : Name) → Option Name → (handler : Stms) → Stm
+try_except l body hl c x handler = S.try l body (S.handler hl (S.given (named hl c)) x handler S.no_handlers) none none
+
+abbrev pub raise_name : (line : ℕ) → Name → Stm
+raise_name l x = S.raise l (named l x) S.absent
+
+-- 1 def f():
+-- 2     raise
+-- 3 try:
+-- 4     raise z
+-- 5 except z:
+-- 6     try:
+-- 7         f()
+-- 8     except z:
+-- 9         pass
+abbrev pub raising_alone : Stms
+raising_alone =
+    more (function 1 1 (codes "f") (more (S.raise_again 2) none))
+    (more (try_except 3 (more (raise_name 4 (codes "z")) none) 5 (codes "z") None
+    (more (try_except 6 (more (call 7 (codes "f")) none) 8 (codes "z") None (more (S.pass 9) none)) none)) none)
+
+-- 7 is raised and taken; f is called in its handler; the inner handler takes what comes of that
+abbrev pub raising_alone_cues : List Cue
+raising_alone_cues = exception 7 ∷ truth true ∷ runs 1 ∷ truth true ∷ []
+
+-- from the call on: f starts, line 2, the exception goes on, it leaves f; it arrives in the module, and the handler takes it
+abbrev pub raising_alone_events : List TraceRow
+raising_alone_events =
+    event 6 7 ∷ event 0 1 ∷ event 9 2 ∷ event 13 2 ∷ event 5 2
+    ∷ event 12 7 ∷ event 9 8 ∷ event 14 8 ∷ event 9 9 ∷ event 2 9 ∷ []
+
+--  1 s()
+--  2 def f():
+--  3     try:
+--  4         raise v
+--  5     except v:
+--  6         try:
+--  7             try:
+--  8                 raise i
+--  9             finally:
+-- 10                 pass
+-- 11         except k:
+-- 12             p()
+-- 13 f()
+abbrev pub passing_finally : Stm
+passing_finally = S.try 7 (more (raise_name 8 (codes "i")) none) S.no_handlers none (more (S.pass 10) none)
+
+abbrev pub raise_held : Stms
+raise_held =
+    more (call 1 (codes "s"))
+    (more (function 2 1 (codes "f")
+    (more (try_except 3 (more (raise_name 4 (codes "v")) none) 5 (codes "v") None
+    (more (try_except 6 (more passing_finally none) 11 (codes "k") None (more (call 12 (codes "p")) none)) none)) none))
+    (more (call 13 (codes "f")) none))
+
+-- 44 is a callback for RERAISE; f is called, raises 1, takes it, and raises 2; where that goes on behind the `finally` part 44
+-- looks, and raises 3, which line 11 takes
+abbrev pub raise_held_cues : List Cue
+raise_held_cues =
+    tells_tool 4 8192 44 ∷ runs 1 ∷ exception 1 ∷ truth true ∷ exception 2 ∷ looks ∷ exception 3 ∷ truth true ∷ []
+
+-- 1 is active there, and not 2, whose `finally` part is left
+abbrev pub raise_held_rows : List TraceRow
+raise_held_rows =
+    event 13 10 ∷ sees 44 1 ∷ event 9 11 ∷ log_line 11 ∷ event 14 11 ∷ event 9 12 ∷ log_line 12 ∷ event 6 12
+    ∷ event 2 12 ∷ log_line 12 ∷ event 2 13 ∷ log_line 13 ∷ []
+
+-- 1 s()
+-- 2 e = 5
+-- 3 try:
+-- 4     try:
+-- 5         raise v
+-- 6     except v as e:
+-- 7         pass
+-- 8 except k:
+-- 9     print(e)
+abbrev pub naming_handler : Stm
+naming_handler = try_except 4 (more (raise_name 5 (codes "v")) none) 6 (codes "v") (Some (codes "e")) (more (S.pass 7) none)
+
+abbrev pub raise_at_handler : Stms
+raise_at_handler =
+    more (call 1 (codes "s"))
+    (more (S.assign 2 (S.more_targets (S.single (S.name_at 2 (codes "e"))) S.no_targets) (S.constant 2 (Int (pos 5))))
+    (more (try_except 3 (more naming_handler none) 8 (codes "k") None
+    (more (S.expr 9 (S.call 9 (named 9 (codes "print")) (S.positional (named 9 (codes "e")) S.no_args))) none)) none))
+
+-- 44 is a callback for EXCEPTION_HANDLED; 1 is raised, and where line 6 takes it 44 raises 3; line 8 takes that, 44 answers, and
+-- line 9 prints
+abbrev pub raise_at_handler_cues : List Cue
+raise_at_handler_cues =
+    tells_tool 4 16384 44 ∷ exception 1 ∷ truth true ∷ exception 3 ∷ truth true ∷ value 0 ∷ prints ∷ []
+
+-- the handler of line 6 isn't entered: `e` is as it was, and no exception goes on there
+abbrev pub raise_at_handler_rows : List TraceRow
+raise_at_handler_rows =
+    event 14 6 ∷ hook 44 ∷ event 9 8 ∷ log_line 8 ∷ event 14 8 ∷ hook 44 ∷ event 9 9 ∷ log_line 9 ∷ event 6 9
+    ∷ printed (5 ∷ []) ∷ event 2 9 ∷ log_line 9 ∷ []
+
+-- 1 def f():
+-- 2     f()
+-- 3 f()
+abbrev pub calling_itself : Stms
+calling_itself = more (function 1 1 (codes "f") (more (call 2 (codes "f")) none)) (more (call 3 (codes "f")) none)
+
+-- 101 moves lead to the start of the f that f calls; 60 moves from there, where so many activations wait, and the next call runs f
+-- too
+abbrev pub sixty_moves : (openers : ℕ) → Trace
+sixty_moves n =
+    follow calling_itself 1000 60
+    (with_openers n (moved calling_itself 1000 101 (from_start calling_itself (runs 1 ∷ runs 1 ∷ runs 1 ∷ []) [])))
+
+-- f starts, line 2, the call; f starts again, line 2
+abbrev pub with_room_events : List TraceRow
+with_room_events = event 0 1 ∷ event 9 2 ∷ event 6 2 ∷ event 0 1 ∷ event 9 2 ∷ []
+
+-- an exception comes to line 2 instead, and leaves f
+abbrev pub too_deep_events : List TraceRow
+too_deep_events = event 0 1 ∷ event 9 2 ∷ event 6 2 ∷ event 12 2 ∷ event 5 2 ∷ []

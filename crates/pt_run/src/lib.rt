@@ -13,7 +13,9 @@ pub use laws::{
     silent_moves_change_nothing,
 };
 pub use rows::{
-    a_callee_that_raises_is_followed, a_debuggers_jumps_are_followed, a_hook_that_runs_is_followed,
-    bounds_are_followed, hooks_in_generators_are_followed, jumps_drop_the_rest_of_an_event,
-    line_events_are_followed, the_most_activations_are_followed, the_order_at_an_event_is_followed,
+    a_call_that_is_too_deep_is_followed, a_callee_that_raises_is_followed,
+    a_debuggers_jumps_are_followed, a_hook_that_runs_is_followed,
+    a_raise_alone_in_a_callee_is_followed, bounds_are_followed, hooks_in_generators_are_followed,
+    jumps_drop_the_rest_of_an_event, line_events_are_followed, the_most_activations_are_followed,
+    the_order_at_an_event_is_followed, tools_that_raise_are_followed,
 };

@@ -2,8 +2,8 @@
 
 ghost use Rattle.std.specs.Prelude.{◌≡◌, [], ◌∷◌, true, false, replicate};
 ghost use Rattle.pt_control.specs.Samples.{generating, jumping, nested, on_one_line};
-ghost use Rattle.pt_run.specs.Samples.{bad_jumps, catching, catching_answers, catching_events, good_jump, jump_at_5, jump_at_5_rows, nested_call, one_item, order_at_5, pass_alone, raising, raising_call, raising_events, refused_at_1, refused_at_6, resuming, resuming_answers, resuming_rows, running_hook, running_hook_rows, stop_at_5, throwing, throwing_cues, throwing_early, throwing_early_cues, throwing_rows, two_items, two_rounds, with_hooks, with_hooks_answers, writing, writing_badly, writing_badly_rows, writing_cues, writing_rows};
-ghost use Rattle.pt_run.specs.Cues.{behind_event, ends_done, ends_spent, event_rows, from_event, lines_of, lines_with, rows_of_run, trace_of};
+ghost use Rattle.pt_run.specs.Samples.{bad_jumps, catching, catching_answers, catching_events, good_jump, jump_at_5, jump_at_5_rows, nested_call, one_item, order_at_5, pass_alone, raise_at_handler, raise_at_handler_cues, raise_at_handler_rows, raise_held, raise_held_cues, raise_held_rows, raising, raising_alone, raising_alone_cues, raising_alone_events, raising_call, raising_events, refused_at_1, refused_at_6, resuming, resuming_answers, resuming_rows, running_hook, running_hook_rows, sixty_moves, stop_at_5, throwing, throwing_cues, throwing_early, throwing_early_cues, throwing_rows, too_deep_events, two_items, two_rounds, with_hooks, with_hooks_answers, with_room_events, writing, writing_badly, writing_badly_rows, writing_cues, writing_rows};
+ghost use Rattle.pt_run.specs.Cues.{behind_event, ends_done, ends_spent, event_rows, exceptions_told, from_event, lines_of, lines_with, recursion_error, rows_of_run, trace_of};
 ghost use Rattle.pt_run.specs.State.{Opener, State, is_full};
 
 /// The line events of a generator in a `for`, of one to which something is thrown before it starts,
@@ -19,6 +19,22 @@ pub fn line_events_are_followed()
 /// The events of a callee that raises, and of its caller.
 pub fn a_callee_that_raises_is_followed()
     ensures { event_rows (trace_of raising 1000 raising_call []).outputs ≡ raising_events }
+{}
+
+/// A `raise` alone in a callee, while an exception is active in its caller's handler: that goes on.
+/// It does not arise in the callee, and it arrives in the caller.
+pub fn a_raise_alone_in_a_callee_is_followed()
+    ensures { from_event 6 7 (event_rows (trace_of raising_alone 1000 raising_alone_cues []).outputs)
+        ≡ raising_alone_events }
+{}
+
+/// A tool that raises where an exception goes on behind its `finally` part, in a handler of another:
+/// the other is active there. One that raises where a handler takes an exception: the handler isn't
+/// entered, and its name stays as it is.
+pub fn tools_that_raise_are_followed()
+    ensures goes_on { from_event 13 10 (rows_of_run raise_held raise_held_cues []) ≡ raise_held_rows }
+    ensures taken { from_event 14 6 (rows_of_run raise_at_handler raise_at_handler_cues [])
+        ≡ raise_at_handler_rows }
 {}
 
 /// What is told at one event, in order: the log, the debugger, two tools, and the trace function.
@@ -76,4 +92,12 @@ pub fn the_most_activations_are_followed<S, N, V, W>()
         → is_full (record s { openers = replicate 998 o }) ≡ false }
     ensures full { (s : State S N V W) (o : Opener S N V W)
         → is_full (record s { openers = replicate 999 o }) ≡ true }
+{}
+
+/// A function that calls itself: where 998 activations wait it runs once more, and where 999 wait the
+/// call is a RecursionError, which is told.
+pub fn a_call_that_is_too_deep_is_followed()
+    ensures room { event_rows (sixty_moves 998).outputs ≡ with_room_events }
+    ensures refused { event_rows (sixty_moves 999).outputs ≡ too_deep_events }
+    ensures error { exceptions_told (sixty_moves 999).outputs ≡ recursion_error ∷ [] }
 {}
