@@ -87,7 +87,6 @@ pub fn silent_moves_change_nothing<D, S, N, V, W>()
 
 /// Where two machines follow each other for the blocks of a script, and a third one runs those of
 /// the prelude for both, the two so made have the same runs.
-
 pub fn hidden_blocks_may_have_a_machine_of_their_own<D, H, S, R, N, V, W, P, Q>()
     ensures { (prelude : Machine H V) → NeverMoves prelude
         → (first : Machine S V) (second : Machine R V) (at : P → Related S R)

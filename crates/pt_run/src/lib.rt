@@ -7,7 +7,8 @@ mod rows;
 
 pub use laws::{
     a_debugger_that_only_looks_changes_nothing, a_greater_bound_goes_on, a_run_has_one_outcome,
-    a_run_has_parts, a_suspended_activation_is_kept,
+    a_run_has_parts, a_suspended_activation_is_kept, control_is_a_machine_that_never_moves,
+    hidden_blocks_may_have_a_machine_of_their_own,
     machines_that_follow_each_other_have_the_same_runs,
     nothing_is_told_in_hidden_blocks_and_under_hooks, runs_never_halt_unfinished,
     silent_moves_change_nothing,
