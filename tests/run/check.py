@@ -262,10 +262,10 @@ RULES = [of_class_head, of_same_line, of_hook, of_ended_iteration, of_jump, of_o
 
 
 def alike(events):
-    """What is told otherwise: a module that has not begun is on line 0 for CPython, and where an exception leaves a frame its line is
-    that of the last act here."""
+    """What is told otherwise: a module that has not begun is on line 0 for CPython, where an exception leaves a frame its line is that
+    of the last act here, and so it is where a block comes to its end, of which CPython may have no line."""
     def one(e):
-        if e[0] == "PY_UNWIND" or e[0] == "return" and e[3] == "None":
+        if e[0] == "PY_UNWIND" or e[0] in ("return", "PY_RETURN") and e[3] == "None":
             return (e[0], e[1], 0, *e[3:-1])
         return (e[0], e[1], max(e[2], 1), *e[3:-1])
     return [one(e) for e in events]
