@@ -354,6 +354,18 @@ def once(f):
     return lambda: value
 
 
+# how signs are written in Python, where it isn't as here; natural numbers have no difference below 0
+SIGNS = {
+    "∷": "({a}, {b})",
+    "++": "joined({a}, {b})",
+    "&&": "({a} and {b})",
+    "||": "({a} or {b})",
+    "-": "max({a} - {b}, 0)",
+    "/": "({a} // {b})",
+    "^": "({a} ** {b})",
+}
+
+
 class Compiler:
     def __init__(self, all_, d):
         self.all, self.d, self.module = all_, d, d.module
@@ -483,19 +495,7 @@ class Compiler:
 
     @staticmethod
     def sign(sign, a, b):
-        if sign == "∷":
-            return f"({a}, {b})"
-        if sign == "++":
-            return f"joined({a}, {b})"
-        if sign == "&&":
-            return f"({a} and {b})"
-        if sign == "||":
-            return f"({a} or {b})"
-        if sign == "-":
-            return f"max({a} - {b}, 0)"
-        if sign == "/":
-            return f"({a} // {b})"
-        return f"({a} {'**' if sign == '^' else sign} {b})"
+        return SIGNS.get(sign, f"({{a}} {sign} {{b}})").format(a=a, b=b)
 
     def name(self, parts, arguments):
         if parts[0] in self.variables and parts[0] not in self.module.aliases:

@@ -38,7 +38,7 @@ abbrev pub of_outcome : {A : Type 0} → M.Outcome Value A World → Tree A
 of_outcome (M.goes r w) = printed_first w.written (replied r w.names)
 of_outcome (M.leaves what) = leave what
 
--- asks for values and deeds alone have answers today
+-- asks for values and deeds alone have answers; at any other the run leaves the profile
 abbrev pub answers : (a : Ask Value) → Here Value → Store (Unit {0}) Names → Tree (Finding Value a)
 answers (T.seek s) h st = of_outcome (evaluated s (unwritten st.world))
 answers (T.deed d) h st = of_outcome (done_by d (unwritten st.world))
