@@ -127,7 +127,7 @@ module _ (ss : Stms) (n : ℕ) where
   over_at (gave v) x = quiet ss n _ _ [] [] _ refl refl (all_told ss n (Told.returns v ∷ []) (ending (gave v)) (moved_to (F.closed (gave v)) x.names x) [] _ (ends_so (gave v) _))
   over_at (left_by v) x = quiet ss n _ _ [] [] _ refl refl (all_told ss n (Told.unwinds v ∷ []) (ending (left_by v)) (moved_to (F.closed (left_by v)) x.names x) [] _ (ends_so (left_by v) _))
 
-  -- an act that has no answer today leaves the profile
+  -- an act that has no answer leaves the profile
   act_leaves : (m : Mark) (a : Ask Value) (k : Reply Value (Answer Value a) → Position Value) (x : Point) → (script_machine ss).turn the_module (Source.at x.control) ≡ T.act (Some m) a k →
       nat_lt x.units n ≡ true →
       stand (answering (record { ask = a; next = k; is_act = true; callee = callee_of run_host a x.names }) (H.leave Feature)) (begun m x) ≡
