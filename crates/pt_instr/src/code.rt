@@ -1,16 +1,20 @@
 ghost use Rattle.std.specs.Prelude.{◌≡◌};
-ghost use Rattle.pt_instr.specs.Encoding.{code_of, seen, unary_number, binary_number, comparison_number, conversion_number};
+ghost use Rattle.pt_instr.specs.Encoding.{code_of, listed, seen, unary_number, binary_number, comparison_number, conversion_number};
 
 use crate::table::instructions;
 use crate::{Conversion, Instr};
 use pt_base::{BinOp, CompareOp, UnOp};
 
-/// The operands of an instruction, in their order.
+/// The operands of an instruction as numbers, in their order.
 #[derive(Clone, Copy)]
 pub enum Operands {
+    /// It has none.
     None,
+    /// It has one.
     One(u32),
+    /// It has two.
     Two(u32, u32),
+    /// It has three.
     Three(u32, u32, u32),
 }
 
@@ -18,6 +22,7 @@ impl Operands {
     ghost use Rattle.std.specs.Prelude.{◌≡◌, length};
     ghost use Rattle.pt_instr.specs.Encoding.{listed};
 
+    /// How many there are.
     pub fn len(&self) -> usize
         ensures { result ≡ length (listed self.now) }
     {
@@ -71,6 +76,13 @@ pub fn coded(instr: &Instr) -> Numbered
     ensures { seen result ≡ code_of instr.now }
 {
     instructions!(code_arms, (*instr), ())
+}
+
+/// The operands of an instruction, as its bytes have them.
+pub fn operand_numbers(instr: &Instr) -> Operands
+    ensures { listed result ≡ (code_of instr.now).operands }
+{
+    coded(instr).operands
 }
 
 fn unary_number(operator: UnOp) -> u32

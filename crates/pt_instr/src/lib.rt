@@ -10,6 +10,7 @@ mod rows;
 mod table;
 mod writing;
 
+pub use code::{Operands, operand_numbers};
 pub use effects::Effect;
 pub use kinds::{Kind, Kinds, Run};
 pub use names::name;

@@ -1,7 +1,9 @@
 //! What is answered of code files.
 
+use crate::listings::all_rise;
 use crate::notation::{NoRow, bytes_of, number, push_word};
 use pt_code::{Code, CodeBlock, read, write};
+use pt_listing::listing;
 use std::alloc::Global;
 
 /// The last file that a table tells.
@@ -40,6 +42,18 @@ impl Files {
         }
         tell(line, alloc, bytes.as_slice())?;
         Ok(())
+    }
+
+    /// Writes the listing of the file's code.
+    pub fn listing(&self, line: &mut String, alloc: Global) -> Result<(), NoRow> {
+        let code = read(alloc, self.last.as_slice()).map_err(|_| NoRow)?;
+        if all_rise(code.blocks.as_slice()) {
+            let text = listing(alloc, &code)?;
+            line.push_str(text.as_str())?;
+            Ok(())
+        } else {
+            Err(NoRow)
+        }
     }
 
     /// Writes what is read of each shorter front of the file.

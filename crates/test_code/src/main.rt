@@ -4,6 +4,7 @@
 
 mod files;
 mod instructions;
+mod listings;
 mod notation;
 
 use files::Files;
@@ -12,14 +13,15 @@ use std::alloc::Global;
 use std::process::ExitCode;
 use std::{env, fs, io};
 
-/// Writes what is answered of a row, which begins with `instr`, `effect`, `file` or `cut`, or tells
-/// changes of the last file.
+/// Writes what is answered of a row, which begins with `instr`, `effect`, `file`, `cut` or `listing`,
+/// or tells changes of the last file.
 fn answer(line: &mut String, alloc: Global, files: &mut Files, row: &str) -> Result<(), NoRow> {
     match row.split_once(" ") {
         Some(("instr", rest)) => instructions::decoded(line, alloc, rest),
         Some(("effect", rest)) => instructions::effects(line, alloc, rest),
         Some(("file", rest)) => files.take(line, alloc, rest),
         None if row == "cut" => files.cut(line, alloc),
+        None if row == "listing" => files.listing(line, alloc),
         _ => files.changed(line, alloc, row),
     }
 }
