@@ -1,5 +1,5 @@
--- When a state of the code stands for a state of control within an expression, and that code follows: for every wait behind the expression, with the slots that lie
--- below and the place behind its code.
+-- When a state of the code stands for a state of control within an expression or a target, and that code follows: whatever goes on behind it, with the slots that
+-- lie below and the place behind its code.
 use Rattle.std.specs.Prelude.{◌≡◌, ℕ, ◌+◌, suc, List, [], ◌∷◌, ◌++◌, map, Bool, true, false, Option, Some, None}
 use Rattle.pt_base.specs.declared.operators.CompareOp.{CompareOp}
 use Rattle.pt_ranges.specs.declared.handlers.Handler.{Handler}
@@ -35,6 +35,16 @@ pub data Makes {V : Type 0} : Rounds V → V → Type 0 where
   makes : (l n : ℕ) (m : Made) (v : V) (w : Wait V) → Makes (F.collecting l n m v w) v
   makes_in : (l n : ℕ) (i : V) (t : Tgt) (cs : Clauses) (r : Rounds V) (v : V) → Makes r v → Makes (F.round_of l n i t cs r) v
 
+-- what goes on behind: a wait for the value of an expression, or what waits for nothing, behind a target and behind the last item of a generator expression
+pub data Outer (V : Type 0) : Type 0 where
+  wait : Wait V → Outer V
+  way : Way V → Outer V
+
+-- the nest to which a raise goes from there
+abbrev pub outer_base : {V : Type 0} → Outer V → Nest V
+outer_base (wait w) = base w
+outer_base (way k) = way_base k
+
 -- the values that are due to targets, the first on top
 abbrev pub stored : {V : Type 0} → Stores V → Slots V → Slots V
 stored F.no_more ss = ss
@@ -48,7 +58,8 @@ module _ {V : Type 0} (block : Around V) (code : CodeObject V) (rows : List Hand
   -- what is done with the item behind the last clause
   abbrev pub Last_at : Rounds V → (n d head : ℕ) → ℕ → ℕ → Type 0
   Last_at (F.collecting l k m v w) n d head = Item_at block code rows m l n d head (k ∷ around w)
-  Last_at (F.generating l e s) n d head = λ from to. ⊥
+  Last_at (F.generating l e s) n d head = Exp_at block code rows e n false [] ⨾ Act_at block code rows instr.Yield (n + size e) l false
+      ⨾ Act_at block code rows instr.Pop (n + size e + 1) l false ⨾ Move_at block code rows (instr.Jump (record { 0 = head }))
   Last_at (F.round_of l k i t cs r) n d head = Last_at r n d head
 
   -- the next item of a clause is taken at a place, or that of the clause around; and then the clauses behind
@@ -57,11 +68,11 @@ module _ {V : Type 0} (block : Around V) (code : CodeObject V) (rows : List Hand
       ⨾ Target_at block code rows t (n + 1) (around_rounds r)
       ⨾ Clauses_at block code rows cs (rounds_line r) (n + 1 + target_size t) (suc d) at (around_rounds r) (Last_at r)) at
 
-module _ {V : Type 0} (block : Around V) (code : CodeObject V) (rows : List Handler) (outer : Wait V) (lowest : Slots V) (end : ℕ) where
+module _ {V : Type 0} (block : Around V) (code : CodeObject V) (rows : List Handler) (outer : Outer V) (lowest : Slots V) (end : ℕ) where
   mutual
     -- where a value is there above these slots, the code at this place goes on as the wait does
     pub data Waits_on : Wait V → Slots V → ℕ → Type 0 where
-      at_end : Waits_on outer lowest end
+      at_end : (w : Wait V) → wait w ≡ outer → Waits_on w lowest end
       at_operands : (l n : ℕ) (op : Operation) (before : List V) (behind : List Operand) (w : Wait V) (ss : Slots V) (p q : ℕ)
           → Behind_at block code rows behind op l n (suc (count before)) (around w) p q → Waits_on w ss q
           → Waits_on (F.operands l n op before behind w) (above before ss) p
@@ -108,6 +119,14 @@ module _ {V : Type 0} (block : Around V) (code : CodeObject V) (rows : List Hand
       at_entered : (l n d head : ℕ) (key made : V) (r : Rounds V) (ss : Slots V) (p q : ℕ)
           → (Act_at block code rows (instr.DictAdd (suc d)) n l false ⨾ Move_at block code rows (instr.Jump (record { 0 = head }))) p q
           → Makes r made → Rounds_on r d ss head → Waits_on (F.added_to_dict l n key made r) (value key ∷ ss) p
+      -- the item of a generator expression is due, and what is sent to it
+      at_item_yielded : (l n head : ℕ) (r : Rounds V) (d : ℕ) (ss : Slots V) (p q : ℕ)
+          → (Act_at block code rows instr.Yield n l false ⨾ Act_at block code rows instr.Pop (n + 1) l false
+          ⨾ Move_at block code rows (instr.Jump (record { 0 = head }))) p q
+          → Rounds_on r d ss head → Waits_on (F.item_yielded l n r) ss p
+      at_item_sent : (l n head : ℕ) (r : Rounds V) (d : ℕ) (ss : Slots V) (p q : ℕ)
+          → (Act_at block code rows instr.Pop n l false ⨾ Move_at block code rows (instr.Jump (record { 0 = head }))) p q
+          → Rounds_on r d ss head → Waits_on (F.item_sent l n r) ss p
       -- the parts of a target that is stored to are due
       at_attribute : (l n : ℕ) (x : Name) (v : V) (k : Way V) (ss : Slots V) (p q : ℕ)
           → Sets block code rows (block.spelled x) (act_mark p n l false) p q → Way_on k ss q → Waits_on (F.of_attribute l n x (F.storing v k)) (value v ∷ ss) p
@@ -123,6 +142,7 @@ module _ {V : Type 0} (block : Around V) (code : CodeObject V) (rows : List Hand
 
     -- the same where nothing is due
     pub data Way_on : Way V → Slots V → ℕ → Type 0 where
+      at_out : (k : Way V) → way k ≡ outer → Way_on k lowest end
       at_value : (n : ℕ) (e : Exp) (w : Wait V) (ss : Slots V) (p q : ℕ)
           → Exp_at block code rows e n false (around w) p q → Waits_on w ss q → Way_on (F.value n e w) ss p
       at_given : (v : V) (w : Wait V) (ss : Slots V) (p : ℕ) → Waits_on w ss p → Way_on (F.given v w) (value v ∷ ss) p
@@ -144,6 +164,7 @@ module _ {V : Type 0} (block : Around V) (code : CodeObject V) (rows : List Hand
     pub data Rounds_on : Rounds V → (d : ℕ) → Slots V → ℕ → Type 0 where
       at_result : (l n : ℕ) (m : Made) (made : V) (w : Wait V) (ss : Slots V) (p : ℕ) → Waits_on w ss p
           → Rounds_on (F.collecting l n m made w) 0 (value made ∷ ss) p
+      at_items : (l : ℕ) (e : Exp) (s : Nest V) → way (F.finished s) ≡ outer → Rounds_on (F.generating l e s) 0 lowest end
       at_clause : (l n d : ℕ) (i : V) (t : Tgt) (cs : Clauses) (r : Rounds V) (ss : Slots V) (p head end' : ℕ)
           → Item_taken block code rows l n t cs r d p head end' → Rounds_on r d ss head → Rounds_on (F.round_of l n i t cs r) (suc d) (iterator i ∷ ss) p
 
@@ -167,6 +188,7 @@ module _ {V : Type 0} (block : Around V) (code : CodeObject V) (rows : List Hand
   -- a nest to which a raise goes from these slots
   pub data Inside : Nest V → Slots V → Type 0 where
     inside : (w : Wait V) (ss ts : Slots V) (q : ℕ) → Waits_on w ss q → On_top ss ts → Inside (base w) ts
+    inside_out : (k : Way V) (ts : Slots V) → way k ≡ outer → On_top lowest ts → Inside (way_base k) ts
 
   pub data Lands : Way V → State V → Type 0 where
     lands : (k : Way V) (ss : Slots V) (q : ℕ) → Way_on k ss q → Lands k (on q ss)
@@ -207,12 +229,18 @@ module _ {V : Type 0} (block : Around V) (code : CodeObject V) (rows : List Hand
         (delegated code p (ins instr.Delegate (act_mark p n l false) q rows) it u ss)) → Waits_on w ss q
         → Match (for_delegate (mark n l false) it r w) t
 
-  -- by moves the code comes to such a state, or the expression has its value, or a raise leaves it
+  -- by moves the code comes to such a state
+  pub data Nears : Control V → State V → Type 0 where
+    there : (c : Control V) (t : State V) → Match c t → Nears c t
+    moves : (c : Control V) (t u : State V) → machine.turn code t ≡ move u → Nears c u → Nears c t
+
+  -- or the expression has its value, the target has it, or a raise leaves them
   pub data Comes : Control V → State V → Type 0 where
-    there : (c : Control V) (t : State V) → Match c t → Comes c t
-    moves : (c : Control V) (t u : State V) → machine.turn code t ≡ move u → Comes c u → Comes c t
-    given : (v : V) → Comes (control.deliver block v outer) (on end (value v ∷ lowest))
-    left : (v : V) (ts : Slots V) → On_top lowest ts → Comes (complete block (F.by (F.raise v)) (base outer)) (land code rows (raise v) ts)
+    near : (c : Control V) (t : State V) → Nears c t → Comes c t
+    moves_on : (c : Control V) (t u : State V) → machine.turn code t ≡ move u → Comes c u → Comes c t
+    given : (w : Wait V) (v : V) → wait w ≡ outer → Comes (control.deliver block v w) (on end (value v ∷ lowest))
+    gone : (k : Way V) → way k ≡ outer → Comes (control.go block k) (on end lowest)
+    left : (v : V) (ts : Slots V) → On_top lowest ts → Comes (complete block (F.by (F.raise v)) (outer_base outer)) (land code rows (raise v) ts)
 
   -- the same act or ask, behind which each reply leads to states that come together again
   pub data Same : Turn (Control V) V → Turn (State V) V → Type 0 where
@@ -223,15 +251,17 @@ module _ {V : Type 0} (block : Around V) (code : CodeObject V) (rows : List Hand
   abbrev pub Follows : Type 0
   Follows = (c : Control V) (t : State V) → Match c t → Same (control.turn block c) (machine.turn code t)
 
-  -- and the code of an expression comes from its beginning to such states
-  abbrev pub Begins : Exp → (n : ℕ) → (g : Bool) → (from : ℕ) → Type 0
-  Begins e n g from = Exp_at block code rows e n g (around outer) from end → Comes (begin_exp block e n g outer) (on from lowest)
-
 module _ {V : Type 0} (block : Around V) (code : CodeObject V) where
-  -- wherever the code of an expression stands
+  -- the code of an expression comes from its beginning to such states, wherever it stands and whatever waits for its value
   abbrev pub AllBegin : Type 0
-  AllBegin = (rows : List Handler) (outer : Wait V) (lowest : Slots V) (end : ℕ) (e : Exp) (n : ℕ) (g : Bool) (from : ℕ)
-      → Begins block code rows outer lowest end e n g from
+  AllBegin = (rows : List Handler) (w : Wait V) (lowest : Slots V) (end : ℕ) (e : Exp) (n : ℕ) (g : Bool) (from : ℕ)
+      → Exp_at block code rows e n g (around w) from end → Nears block code rows (wait w) lowest end (begin_exp block e n g w) (on from lowest)
+
+  -- and so does that of a target to which a value is due
+  abbrev pub AllStore : Type 0
+  AllStore = (rows : List Handler) (k : Way V) (lowest : Slots V) (end : ℕ) (t : Tgt) (v : V) (n from : ℕ)
+      → Target_at block code rows t n (around_way k) from end
+      → Nears block code rows (way k) lowest end (statements.begin_store block t v n k) (on from (value v ∷ lowest))
 
   abbrev pub AllFollow : Type 0
-  AllFollow = (rows : List Handler) (outer : Wait V) (lowest : Slots V) (end : ℕ) → Follows block code rows outer lowest end
+  AllFollow = (rows : List Handler) (outer : Outer V) (lowest : Slots V) (end : ℕ) → Follows block code rows outer lowest end
