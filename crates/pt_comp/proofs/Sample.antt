@@ -20,7 +20,7 @@ use Rattle.pt_comp.specs.Places.{Deletes, DeletesAttribute, ImportsName, GivesTr
 use Rattle.pt_comp.specs.Samples.{every_statement, every_statement_code, row_0, row_1, row_2, row_3, row_4, row_5}
 
 -- an instruction of the sample stands, and does what it is to do
-Stands : List Handler → Instr → Option ActMark → ℕ → ℕ → Type 0
+abbrev Stands : List Handler → Instr → Option ActMark → ℕ → ℕ → Type 0
 Stands rows j m from to = Ins_at sample_block every_statement_code rows j m from to
 
 at_seek : {rows : List Handler} {s : Seek ℕ} {m : Option ActMark} {from to : ℕ} (j : Instr) → Stands rows j m from to
@@ -366,48 +366,50 @@ stands = (
                                                             82,
                                                             84,
                                                             (72, (at_seek (instr.Local (record { 0 = 1 })) refl (λ ss. refl)), refl),
-                                                            tt,
-                                                            tt,
-                                                            refl,
-                                                            refl,
                                                             (
-                                                              73,
-                                                              (at_once 73),
+                                                              tt,
+                                                              tt,
+                                                              refl,
+                                                              refl,
                                                               (
-                                                                79,
+                                                                73,
+                                                                (at_once 73),
                                                                 (
                                                                   79,
                                                                   (
-                                                                    74,
-                                                                    (at_seek (instr.Local (record { 0 = 2 })) refl (λ ss. refl)),
+                                                                    79,
                                                                     (
-                                                                      75,
-                                                                      refl,
+                                                                      74,
+                                                                      (at_seek (instr.Local (record { 0 = 2 })) refl (λ ss. refl)),
                                                                       (
-                                                                        78,
-                                                                        (
-                                                                          77,
-                                                                          (never_left 75 76 77 78 (at_true (instr.Const (record { 0 = 2 })) refl (λ ss. refl)) (at_split (instr.JumpUnless (record { 0 = 78 })) refl (λ ss. refl) (λ ss. refl))),
-                                                                          (78, refl, refl),
-                                                                        ),
+                                                                        75,
                                                                         refl,
+                                                                        (
+                                                                          78,
+                                                                          (
+                                                                            77,
+                                                                            (never_left 75 76 77 78 (at_true (instr.Const (record { 0 = 2 })) refl (λ ss. refl)) (at_split (instr.JumpUnless (record { 0 = 78 })) refl (λ ss. refl) (λ ss. refl))),
+                                                                            (78, refl, refl),
+                                                                          ),
+                                                                          refl,
+                                                                        ),
                                                                       ),
                                                                     ),
+                                                                    refl,
                                                                   ),
-                                                                  refl,
-                                                                ),
-                                                                (
-                                                                  81,
-                                                                  (never_left 79 80 81 82 (at_true (instr.Const (record { 0 = 2 })) refl (λ ss. refl)) (at_split (instr.JumpUnless (record { 0 = 82 })) refl (λ ss. refl) (λ ss. refl))),
-                                                                  (82, refl, refl),
+                                                                  (
+                                                                    81,
+                                                                    (never_left 79 80 81 82 (at_true (instr.Const (record { 0 = 2 })) refl (λ ss. refl)) (at_split (instr.JumpUnless (record { 0 = 82 })) refl (λ ss. refl) (λ ss. refl))),
+                                                                    (82, refl, refl),
+                                                                  ),
                                                                 ),
                                                               ),
-                                                            ),
-                                                            (83, (at_seek (instr.Local (record { 0 = 1 })) refl (λ ss. refl)), refl),
-                                                            (
-                                                              86,
-                                                              (never_left 84 85 86 88 (at_true (instr.Const (record { 0 = 2 })) refl (λ ss. refl)) (at_split (instr.JumpUnless (record { 0 = 88 })) refl (λ ss. refl) (λ ss. refl))),
-                                                              (88, (87, (at_seek (instr.Local (record { 0 = 1 })) refl (λ ss. refl)), refl), refl),
+                                                              (83, (at_seek (instr.Local (record { 0 = 1 })) refl (λ ss. refl)), refl),
+                                                              (
+                                                                86,
+                                                                (never_left 84 85 86 88 (at_true (instr.Const (record { 0 = 2 })) refl (λ ss. refl)) (at_split (instr.JumpUnless (record { 0 = 88 })) refl (λ ss. refl) (λ ss. refl))),
+                                                                (88, (87, (at_seek (instr.Local (record { 0 = 1 })) refl (λ ss. refl)), refl), refl),
+                                                              ),
                                                             ),
                                                           ),
                                                           (
@@ -420,197 +422,199 @@ stands = (
                                                                 135,
                                                                 137,
                                                                 (89, (at_seek (instr.Local (record { 0 = 2 })) refl (λ ss. refl)), (90, refl, refl)),
-                                                                tt,
-                                                                tt,
-                                                                refl,
-                                                                refl,
                                                                 (
-                                                                  92,
-                                                                  (at_store (instr.SetLocal (record { 0 = 1 })) refl (λ v ss. refl)),
+                                                                  tt,
+                                                                  tt,
+                                                                  refl,
+                                                                  refl,
                                                                   (
                                                                     92,
-                                                                    (at_once 92),
+                                                                    (at_store (instr.SetLocal (record { 0 = 1 })) refl (λ v ss. refl)),
                                                                     (
-                                                                      135,
+                                                                      92,
+                                                                      (at_once 92),
                                                                       (
-                                                                        93,
-                                                                        refl,
+                                                                        135,
                                                                         (
-                                                                          row_2,
-                                                                          (record { depth = refl; always = refl; around = (refl, refl) }),
+                                                                          93,
+                                                                          refl,
                                                                           (
-                                                                            131,
+                                                                            row_2,
+                                                                            (record { depth = refl; always = refl; around = (refl, refl) }),
                                                                             (
                                                                               131,
                                                                               (
-                                                                                93,
-                                                                                (at_once 93),
+                                                                                131,
                                                                                 (
-                                                                                  131,
+                                                                                  93,
+                                                                                  (at_once 93),
                                                                                   (
-                                                                                    94,
-                                                                                    refl,
+                                                                                    131,
                                                                                     (
-                                                                                      row_0,
-                                                                                      99,
-                                                                                      (record { depth = refl; except = refl }),
+                                                                                      94,
+                                                                                      refl,
                                                                                       (
-                                                                                        97,
+                                                                                        row_0,
+                                                                                        99,
+                                                                                        (record { depth = refl; except = refl }),
                                                                                         (
-                                                                                          96,
-                                                                                          (never_left 94 95 96 97 (at_true (instr.Const (record { 0 = 2 })) refl (λ ss. refl)) (at_split (instr.JumpUnless (record { 0 = 97 })) refl (λ ss. refl) (λ ss. refl))),
-                                                                                          (97, refl, refl),
-                                                                                        ),
-                                                                                        (98, (97, (at_once 97), (98, refl, refl)), refl),
-                                                                                      ),
-                                                                                      (
-                                                                                        114,
-                                                                                        (
-                                                                                          100,
-                                                                                          (at_seek (instr.Local (record { 0 = 2 })) refl (λ ss. refl)),
+                                                                                          97,
                                                                                           (
-                                                                                            101,
-                                                                                            refl,
-                                                                                            (
-                                                                                              102,
-                                                                                              (at_split (instr.JumpUnless (record { 0 = 114 })) refl (λ ss. refl) (λ ss. refl)),
-                                                                                              (
-                                                                                                row_1,
-                                                                                                (record { depth = refl; always = refl; around = (refl, refl) }),
-                                                                                                (
-                                                                                                  103,
-                                                                                                  refl,
-                                                                                                  (
-                                                                                                    104,
-                                                                                                    (at_store (instr.SetLocal (record { 0 = 3 })) refl (λ v ss. refl)),
-                                                                                                    (
-                                                                                                      107,
-                                                                                                      (
-                                                                                                        106,
-                                                                                                        (never_left 104 105 106 107 (at_true (instr.Const (record { 0 = 2 })) refl (λ ss. refl)) (at_split (instr.JumpUnless (record { 0 = 107 })) refl (λ ss. refl) (λ ss. refl))),
-                                                                                                        (107, refl, refl),
-                                                                                                      ),
-                                                                                                      refl,
-                                                                                                    ),
-                                                                                                  ),
-                                                                                                ),
-                                                                                                (
-                                                                                                  109,
-                                                                                                  (at_null (instr.Const (record { 0 = 3 })) refl (λ ss. refl)),
-                                                                                                  (
-                                                                                                    110,
-                                                                                                    (at_store (instr.SetLocal (record { 0 = 3 })) refl (λ v ss. refl)),
-                                                                                                    (
-                                                                                                      111,
-                                                                                                      (at_delete (instr.DelLocal (record { 0 = 3 })) refl (λ ss. refl)),
-                                                                                                      (112, refl, (113, refl, refl)),
-                                                                                                    ),
-                                                                                                  ),
-                                                                                                ),
-                                                                                              ),
-                                                                                            ),
+                                                                                            96,
+                                                                                            (never_left 94 95 96 97 (at_true (instr.Const (record { 0 = 2 })) refl (λ ss. refl)) (at_split (instr.JumpUnless (record { 0 = 97 })) refl (λ ss. refl) (λ ss. refl))),
+                                                                                            (97, refl, refl),
                                                                                           ),
+                                                                                          (98, (97, (at_once 97), (98, refl, refl)), refl),
                                                                                         ),
                                                                                         (
-                                                                                          123,
+                                                                                          114,
                                                                                           (
-                                                                                            115,
-                                                                                            (at_seek (instr.Local (record { 0 = 4 })) refl (λ ss. refl)),
+                                                                                            100,
+                                                                                            (at_seek (instr.Local (record { 0 = 2 })) refl (λ ss. refl)),
                                                                                             (
-                                                                                              116,
+                                                                                              101,
                                                                                               refl,
                                                                                               (
-                                                                                                117,
-                                                                                                (at_split (instr.JumpUnless (record { 0 = 123 })) refl (λ ss. refl) (λ ss. refl)),
+                                                                                                102,
+                                                                                                (at_split (instr.JumpUnless (record { 0 = 114 })) refl (λ ss. refl) (λ ss. refl)),
                                                                                                 (
-                                                                                                  121,
+                                                                                                  row_1,
+                                                                                                  (record { depth = refl; always = refl; around = (refl, refl) }),
                                                                                                   (
-                                                                                                    119,
-                                                                                                    (never_left 117 118 119 121 (at_true (instr.Const (record { 0 = 2 })) refl (λ ss. refl)) (at_split (instr.JumpUnless (record { 0 = 121 })) refl (λ ss. refl) (λ ss. refl))),
+                                                                                                    103,
+                                                                                                    refl,
                                                                                                     (
-                                                                                                      121,
+                                                                                                      104,
+                                                                                                      (at_store (instr.SetLocal (record { 0 = 3 })) refl (λ v ss. refl)),
                                                                                                       (
-                                                                                                        120,
-                                                                                                        (at_seek (instr.Local (record { 0 = 1 })) refl (λ ss. refl)),
+                                                                                                        107,
+                                                                                                        (
+                                                                                                          106,
+                                                                                                          (never_left 104 105 106 107 (at_true (instr.Const (record { 0 = 2 })) refl (λ ss. refl)) (at_split (instr.JumpUnless (record { 0 = 107 })) refl (λ ss. refl) (λ ss. refl))),
+                                                                                                          (107, refl, refl),
+                                                                                                        ),
                                                                                                         refl,
                                                                                                       ),
-                                                                                                      refl,
                                                                                                     ),
                                                                                                   ),
-                                                                                                  (122, refl, refl),
+                                                                                                  (
+                                                                                                    109,
+                                                                                                    (at_null (instr.Const (record { 0 = 3 })) refl (λ ss. refl)),
+                                                                                                    (
+                                                                                                      110,
+                                                                                                      (at_store (instr.SetLocal (record { 0 = 3 })) refl (λ v ss. refl)),
+                                                                                                      (
+                                                                                                        111,
+                                                                                                        (at_delete (instr.DelLocal (record { 0 = 3 })) refl (λ ss. refl)),
+                                                                                                        (112, refl, (113, refl, refl)),
+                                                                                                      ),
+                                                                                                    ),
+                                                                                                  ),
                                                                                                 ),
                                                                                               ),
                                                                                             ),
                                                                                           ),
                                                                                           (
-                                                                                            130,
+                                                                                            123,
                                                                                             (
-                                                                                              124,
-                                                                                              (at_null (instr.Const (record { 0 = 3 })) refl (λ ss. refl)),
+                                                                                              115,
+                                                                                              (at_seek (instr.Local (record { 0 = 4 })) refl (λ ss. refl)),
                                                                                               (
-                                                                                                125,
+                                                                                                116,
                                                                                                 refl,
                                                                                                 (
-                                                                                                  126,
-                                                                                                  (at_split (instr.JumpUnless (record { 0 = 130 })) refl (λ ss. refl) (λ ss. refl)),
+                                                                                                  117,
+                                                                                                  (at_split (instr.JumpUnless (record { 0 = 123 })) refl (λ ss. refl) (λ ss. refl)),
                                                                                                   (
-                                                                                                    128,
+                                                                                                    121,
                                                                                                     (
-                                                                                                      126,
-                                                                                                      (at_once 126),
+                                                                                                      119,
+                                                                                                      (never_left 117 118 119 121 (at_true (instr.Const (record { 0 = 2 })) refl (λ ss. refl)) (at_split (instr.JumpUnless (record { 0 = 121 })) refl (λ ss. refl) (λ ss. refl))),
                                                                                                       (
-                                                                                                        128,
+                                                                                                        121,
                                                                                                         (
-                                                                                                          127,
+                                                                                                          120,
                                                                                                           (at_seek (instr.Local (record { 0 = 1 })) refl (λ ss. refl)),
                                                                                                           refl,
                                                                                                         ),
                                                                                                         refl,
                                                                                                       ),
                                                                                                     ),
-                                                                                                    (129, refl, refl),
+                                                                                                    (122, refl, refl),
                                                                                                   ),
                                                                                                 ),
                                                                                               ),
                                                                                             ),
-                                                                                            (131, refl),
+                                                                                            (
+                                                                                              130,
+                                                                                              (
+                                                                                                124,
+                                                                                                (at_null (instr.Const (record { 0 = 3 })) refl (λ ss. refl)),
+                                                                                                (
+                                                                                                  125,
+                                                                                                  refl,
+                                                                                                  (
+                                                                                                    126,
+                                                                                                    (at_split (instr.JumpUnless (record { 0 = 130 })) refl (λ ss. refl) (λ ss. refl)),
+                                                                                                    (
+                                                                                                      128,
+                                                                                                      (
+                                                                                                        126,
+                                                                                                        (at_once 126),
+                                                                                                        (
+                                                                                                          128,
+                                                                                                          (
+                                                                                                            127,
+                                                                                                            (at_seek (instr.Local (record { 0 = 1 })) refl (λ ss. refl)),
+                                                                                                            refl,
+                                                                                                          ),
+                                                                                                          refl,
+                                                                                                        ),
+                                                                                                      ),
+                                                                                                      (129, refl, refl),
+                                                                                                    ),
+                                                                                                  ),
+                                                                                                ),
+                                                                                              ),
+                                                                                              (131, refl),
+                                                                                            ),
                                                                                           ),
                                                                                         ),
                                                                                       ),
                                                                                     ),
+                                                                                    refl,
+                                                                                  ),
+                                                                                ),
+                                                                                refl,
+                                                                              ),
+                                                                              refl,
+                                                                            ),
+                                                                            (
+                                                                              134,
+                                                                              (
+                                                                                132,
+                                                                                (at_once 132),
+                                                                                (
+                                                                                  134,
+                                                                                  (
+                                                                                    133,
+                                                                                    (at_seek (instr.Local (record { 0 = 1 })) refl (λ ss. refl)),
+                                                                                    refl,
                                                                                   ),
                                                                                   refl,
                                                                                 ),
                                                                               ),
                                                                               refl,
                                                                             ),
-                                                                            refl,
-                                                                          ),
-                                                                          (
-                                                                            134,
-                                                                            (
-                                                                              132,
-                                                                              (at_once 132),
-                                                                              (
-                                                                                134,
-                                                                                (
-                                                                                  133,
-                                                                                  (at_seek (instr.Local (record { 0 = 1 })) refl (λ ss. refl)),
-                                                                                  refl,
-                                                                                ),
-                                                                                refl,
-                                                                              ),
-                                                                            ),
-                                                                            refl,
                                                                           ),
                                                                         ),
+                                                                        refl,
                                                                       ),
-                                                                      refl,
                                                                     ),
                                                                   ),
+                                                                  (136, refl, refl),
+                                                                  (137, (at_once 137), (138, refl, refl)),
                                                                 ),
-                                                                (136, refl, refl),
-                                                                (137, (at_once 137), (138, refl, refl)),
                                                               ),
                                                               (
                                                                 138,

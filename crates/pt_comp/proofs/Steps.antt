@@ -145,7 +145,7 @@ module _ {V : Type 0} (block : Around V) (code : CodeObject V) where
   imports_from_come [] l n o s x σ p q c h g a = moved c p _ (value o ∷ σ) (on q σ) h refl a
   imports_from_come (b ∷ bs) l n o s x σ p q c (m, hi, h) g a =
       within (wait (F.imported_name l (n + 1) (bound_name b) bs o s)) x.rows (value o ∷ σ) m _ _
-      (expressions.there _ _ (expressions.m_value (mark n l false) _ _ (on p (value o ∷ σ)) _ (value o ∷ σ) (value o ∷ σ) m
+      (expressions.there _ _ (expressions.m_value (mark n l false) _ _ (on p (value o ∷ σ)) (ins hi.instr (act_mark p n l false) m x.rows) (value o ∷ σ) (value o ∷ σ) m
       (turned p _ (value o ∷ σ) _ hi.stands (hi.does o σ)) refl same (expressions.at_end _ refl)))
       (by_wait _ x (value o ∷ σ) m (at_imported_name l (n + 1) (bound_name b) bs o s x σ m q h g))
 
@@ -189,7 +189,7 @@ module _ {V : Type 0} (block : Around V) (code : CodeObject V) where
       → For_at block code l n t (All_at block code body (for_body n t)) (All_at block code els (for_else n t body) x) x first next other end'
       → N s x σ end' → C (begin_next block l n true i t body els s) (on next (iterator i ∷ σ))
   next_comes l n i t body els s x σ first next other end' (rn, re, dn, de, hb, (m, hn, hj), ho) g =
-      there _ _ (m_next (mark n l true) i l n t body els s x (on next (iterator i ∷ σ)) _ σ first next other end'
+      there _ _ (m_next (mark n l true) i l n t body els s x (on next (iterator i ∷ σ)) (ins (instr.Next (record { 0 = other })) (act_mark next n l true) m x.rows) σ first next other end'
       (turned next _ (iterator i ∷ σ) _ hn refl) refl (by_jump m other first hj) (rn, re, dn, de, hb, (m, hn, hj), ho) g)
 
   -- 7.9, 7.10
@@ -197,7 +197,7 @@ module _ {V : Type 0} (block : Around V) (code : CodeObject V) where
       → Left_at block code o (λ a. a.end) n l x p r → N s x σ q → C (for_leave (mark n l false) F.break s) (on p σ)
   break_comes None n l s x σ p q r e h g = elim h [ ]
   break_comes (Some a) n l s x σ p q r e h g =
-      there _ _ (m_leave (mark n l false) F.break s x (on p σ) _ σ
+      there _ _ (m_leave (mark n l false) F.break s x (on p σ) (ins (instr.Leave (record { 0 = a.end })) (act_mark p n l false) r x.rows) σ
       (turned p _ σ _ h refl ∙ ap (λ o. act (Some (mark n l false)) (T.leave T.jumping) (after code (ins (instr.Leave (record { 0 = a.end })) (act_mark p n l false) r x.rows) σ (λ u. land code x.rows (jump_to (end_place o)) σ))) e)
       refl (subst (λ o. Has_loop o) e tt) (from_here s x σ q g))
 
@@ -205,7 +205,7 @@ module _ {V : Type 0} (block : Around V) (code : CodeObject V) where
       → Left_at block code o (λ a. a.next) n l x p r → N s x σ q → C (for_leave (mark n l false) F.continue s) (on p σ)
   continue_comes None n l s x σ p q r e h g = elim h [ ]
   continue_comes (Some a) n l s x σ p q r e h g =
-      there _ _ (m_leave (mark n l false) F.continue s x (on p σ) _ σ
+      there _ _ (m_leave (mark n l false) F.continue s x (on p σ) (ins (instr.Leave (record { 0 = a.next })) (act_mark p n l false) r x.rows) σ
       (turned p _ σ _ h refl ∙ ap (λ o. act (Some (mark n l false)) (T.leave T.jumping) (after code (ins (instr.Leave (record { 0 = a.next })) (act_mark p n l false) r x.rows) σ (λ u. land code x.rows (jump_to (next_place o)) σ))) e)
       refl (subst (λ o. Has_loop o) e tt) (from_here s x σ q g))
 
@@ -251,14 +251,14 @@ module _ {V : Type 0} (block : Around V) (code : CodeObject V) where
         nothing_comes l n (F.finished s) s x σ p q h (from_here s x σ q g) (lands _ x σ q (at_finished s x σ q g))
     begin_stm_comes (S.del l ts) n s x σ p q c h g a = deletes_come (all_places ts) n s x σ p q c h g a
     begin_stm_comes (S.return l S.absent) n s x σ p q c (m, hn, h) g a =
-        null_moves _ x p m σ hn (there _ _ (m_leave (mark n l false) (F.return block.null) s x (on m (value block.null ∷ σ)) _ σ
+        null_moves _ x p m σ hn (there _ _ (m_leave (mark n l false) (F.return block.null) s x (on m (value block.null ∷ σ)) (ins instr.Return (act_mark m n l false) q x.rows) σ
         (turned m _ (value block.null ∷ σ) _ h refl) refl tt (from_here s x σ q g)))
     begin_stm_comes (S.return l (S.given e)) n s x σ p q c (m, he, h) g a =
         value_comes (F.returned_by l (n + size e) s) x σ p m e n false he (at_returned l _ s x σ m q h (from_here s x σ q g))
     begin_stm_comes (S.raise l e b) n s x σ p q c (m, he, h) g a =
         value_comes (F.thrown l (n + size e) b s) x σ p m e n false he (at_thrown l _ b s x σ m q h (from_here s x σ q g))
     begin_stm_comes (S.raise_again l) n s x σ p q c h g a =
-        there _ _ (m_throw (mark n l false) T.raising_again s x (on p σ) _ σ (turned p _ σ _ h refl) refl (from_here s x σ q g))
+        there _ _ (m_throw (mark n l false) T.raising_again s x (on p σ) (ins instr.RaiseAgain (act_mark p n l false) q x.rows) σ (turned p _ σ _ h refl) refl (from_here s x σ q g))
     begin_stm_comes (S.break l) n s x σ p q c h g a = break_comes x.loop n l s x σ p q q refl h g
     begin_stm_comes (S.continue l) n s x σ p q c h g a = continue_comes x.loop n l s x σ p q q refl h g
     begin_stm_comes (S.import l xs) n s x σ p q c h g a = imports_come xs l n s x σ p q c h g a
@@ -302,7 +302,7 @@ module _ {V : Type 0} (block : Around V) (code : CodeObject V) where
         (begin_all_comes ss (n + stm_size st) s x σ m' q c hr g a))
 
   branches_come : (bs : Branches) (els : Stms) (n : ℕ) (s : Nest V) (x : Surroundings) (σ : Slots V) (p q : ℕ) (c : Control V)
-      → Branches_at block code bs els n x p q → N s x σ q → C c (on q σ) → C (begin_branches block bs els n s c) (on p σ)
+      → Branches_at block code bs (λ m. All_at block code els m x) n x p q → N s x σ q → C c (on q σ) → C (begin_branches block bs els n s c) (on p σ)
   branches_come S.no_branches els n s x σ p q c h g a = begin_all_comes els n s x σ p q c h g a
   branches_come (S.branch k e body r) els n s x σ p q c h g a = begin_stm_comes (S.choice k (S.branch k e body r) els) n s x σ p q c h g a
 
@@ -335,7 +335,7 @@ module _ {V : Type 0} (block : Around V) (code : CodeObject V) where
   tests_come S.no_handlers k n e s x σ p end' c (q, h) g f = f p q h
   tests_come (S.handler l S.absent y body r) k n e s x σ p end' c (other, (m, hn, (m1, hm, (m2, hs, hh))), hr) g f =
       null_moves _ x p m (exception e ∷ σ) hn
-      (there _ _ (m_truth (mark n l false) (T.matches e block.null) _ _ (F.testing k e ∷ s) x (on m (value block.null ∷ exception e ∷ σ)) _ (exception e ∷ σ) _
+      (there _ _ (m_truth (mark n l false) (T.matches e block.null) _ _ (F.testing k e ∷ s) x (on m (value block.null ∷ exception e ∷ σ)) (ins instr.Match (act_mark m n l false) m1 x.rows) (exception e ∷ σ) _
       (turned m _ (value block.null ∷ exception e ∷ σ) _ hm refl) refl
       (in_tests k e s x (exception e ∷ σ) (inside s x σ (exception e ∷ σ) end' g (push _ _ same)))
       (split_lands _ x (exception e ∷ σ) true m1 m2 other hs (handled_lands l n y body e s x σ m2 other end' hh g))
@@ -409,7 +409,7 @@ module _ {V : Type 0} (block : Around V) (code : CodeObject V) where
       → C (for_truth (mark n l false) (T.exit_of w (raise_of held)) (F.lets_go (swallowed held) s) (F.lets_go held s) (F.exiting n w held ∷ s))
       (on p (pending (held_as held x) ∷ exit w ∷ σ))
   exits held l n w s x σ p end' m (q, h, he) g =
-      there _ _ (m_truth (mark n l false) (T.exit_of w (raise_of held)) _ _ (F.exiting n w held ∷ s) x (on p (pending (held_as held x) ∷ exit w ∷ σ)) _ σ
+      there _ _ (m_truth (mark n l false) (T.exit_of w (raise_of held)) _ _ (F.exiting n w held ∷ s) x (on p (pending (held_as held x) ∷ exit w ∷ σ)) (ins instr.Exit (act_mark p n l false) q x.rows) σ
       (λ b. on q (pending (left_of b (held_as held x)) ∷ σ))
       (turned p _ (pending (held_as held x) ∷ exit w ∷ σ) _ h refl
       ∙ ap (λ o. act (Some (mark n l false)) (T.test (T.exit_of w o)) (after code (ins instr.Exit (act_mark p n l false) q x.rows) σ (λ b. on q (pending (left_of b (held_as held x)) ∷ σ)))) (raise_in held x))
@@ -430,11 +430,11 @@ module _ {V : Type 0} (block : Around V) (code : CodeObject V) where
       → C (complete block (F.by a) (F.looping l n e body els ∷ s)) (land code x.rows (as_code a (in_loop next end' x)) τ)
   while_abrupt l n e body els s x σ first next other end' h g b (F.raise v) τ o = b.abruptly (F.raise v) tt τ o
   while_abrupt l n e body els s x σ first next other end' h g b (F.return v) τ o = b.abruptly (F.return v) tt τ o
-  while_abrupt l n e body els s x σ first next other end' (rn, re, dn, de, h) g b F.break τ o =
+  while_abrupt l n e body els s x σ first next other end' (rn, re, dn, de, hb, ht, ho) g b F.break τ o =
       subst (λ t. C (complete block F.normal s) t) (sym (reaches code x.rows end' σ τ re o (depth s x σ end' g ∙ sym de))) b.normally
-  while_abrupt l n e body els s x σ first next other end' (rn, re, dn, de, h) g b F.continue τ o =
+  while_abrupt l n e body els s x σ first next other end' (rn, re, dn, de, hb, ht, ho) g b F.continue τ o =
       subst (λ t. C (begin_test block l n true e body els s) t) (sym (reaches code x.rows next σ τ rn o (depth s x σ end' g ∙ sym dn)))
-      (retest_comes l n e body els s x σ first next other end' (rn, re, dn, de, h) g)
+      (retest_comes l n e body els s x σ first next other end' (rn, re, dn, de, hb, ht, ho) g)
 
   for_abrupt : (l n : ℕ) (i : V) (t : Tgt) (body els : Stms) (s : Nest V) (x : Surroundings) (σ : Slots V) (first next other end' : ℕ)
       → For_at block code l n t (All_at block code body (for_body n t)) (All_at block code els (for_else n t body) x) x first next other end'
@@ -442,11 +442,11 @@ module _ {V : Type 0} (block : Around V) (code : CodeObject V) where
       → C (complete block (F.by a) (F.iterating l n i t body els ∷ s)) (land code x.rows (as_code a (in_loop next end' (deeper x))) τ)
   for_abrupt l n i t body els s x σ first next other end' h g b (F.raise v) τ o = b.abruptly (F.raise v) tt τ (popped (iterator i) σ τ o)
   for_abrupt l n i t body els s x σ first next other end' h g b (F.return v) τ o = b.abruptly (F.return v) tt τ (popped (iterator i) σ τ o)
-  for_abrupt l n i t body els s x σ first next other end' (rn, re, dn, de, h) g b F.break τ o =
+  for_abrupt l n i t body els s x σ first next other end' (rn, re, dn, de, hb, ht, ho) g b F.break τ o =
       subst (λ t. C (complete block F.normal s) t) (sym (reaches code x.rows end' σ τ re (popped (iterator i) σ τ o) (depth s x σ end' g ∙ sym de))) b.normally
-  for_abrupt l n i t body els s x σ first next other end' (rn, re, dn, de, h) g b F.continue τ o =
+  for_abrupt l n i t body els s x σ first next other end' (rn, re, dn, de, hb, ht, ho) g b F.continue τ o =
       subst (λ u. C (begin_next block l n true i t body els s) u) (sym (reaches code x.rows next (iterator i ∷ σ) τ rn o (ap (λ d. suc d) (depth s x σ end' g) ∙ sym dn)))
-      (next_comes l n i t body els s x σ first next other end' (rn, re, dn, de, h) g)
+      (next_comes l n i t body els s x σ first next other end' (rn, re, dn, de, hb, ht, ho) g)
 
   unguarded_abrupt : (n : ℕ) (els : Stms) (s : Nest V) (x : Surroundings) (σ : Slots V) (q : ℕ) → Both s x σ q
       → (a : Abrupt V) → May a x → (τ : Slots V) → On_top σ τ → C (complete block (F.by a) (F.guarded n S.no_handlers els ∷ s)) (land code x.rows (as_code a x) τ)
@@ -529,7 +529,7 @@ module _ {V : Type 0} (block : Around V) (code : CodeObject V) where
   both _ _ _ _ (at_withing l n w s x σ row p end' t hn h g) = record {
     normally = moved _ p _ (exit w ∷ σ) (on row.target.0 (pending slots.normal ∷ exit w ∷ σ)) hn refl (exits F.normal l n w s x σ row.target.0 end' tt h g);
     abruptly = λ a m τ o. under_row _ a row (deeper x) x.rows (exit w ∷ σ) τ t m o (ap (λ d. suc d) (depth s x σ end' g))
-        (λ may. subst (λ u. C _ (on row.target.0 (pending (slots.by u) ∷ exit w ∷ σ))) (sym (as_deeper a x)) (exits (F.by a) l n w s x σ row.target.0 end' (may_deeper a x may) h g));
+        (λ may. subst (λ u. C (complete block (F.by a) (F.withing l n w ∷ s)) (on row.target.0 (pending (slots.by u) ∷ exit w ∷ σ))) (sym (as_deeper a x)) (exits (F.by a) l n w s x σ row.target.0 end' (may_deeper a x may) h g));
   }
   both _ _ _ _ (nest_behind_jump s x σ p m q h g) = let b = both s x σ q g in record {
     normally = moved _ p _ σ (on q σ) h refl b.normally;
@@ -625,7 +625,7 @@ module _ {V : Type 0} (block : Around V) (code : CodeObject V) where
   way_comes _ _ _ _ (at_imports l n xs s x σ p q h g) = let b = both s x σ q g in imports_come xs l n s x σ p q _ h g b.normally
   way_comes _ _ _ _ (at_imports_from l n xs o s x σ p q h g) = let b = both s x σ q g in imports_from_come xs l n o s x σ p q _ h g b.normally
   way_comes _ _ _ _ (at_within_items n is body s x σ p q h g) = let b = both s x σ q g in items_come is body n s x σ p q _ h g b.normally
-  way_comes _ _ _ _ (at_failed l n S.absent s x σ p q h g) = there _ _ (m_throw (mark n l false) (T.failing None) s x (on p σ) _ σ (turned p _ σ _ h refl) refl g)
+  way_comes _ _ _ _ (at_failed l n S.absent s x σ p q h g) = there _ _ (m_throw (mark n l false) (T.failing None) s x (on p σ) (ins (instr.AssertFail false) (act_mark p n l false) q x.rows) σ (turned p _ σ _ h refl) refl g)
   way_comes _ _ _ _ (at_failed l n (S.given m) s x σ p q (m', hm, h) g) =
       value_comes (F.message_of l (n + size m) s) x σ p m' m n false hm (at_message l (n + size m) s x σ m' q h g)
 
@@ -653,15 +653,15 @@ module _ {V : Type 0} (block : Around V) (code : CodeObject V) where
       deed_comes (Some (mark n l false)) _ (F.finished s) s x p _ (value v ∷ σ) σ (on q σ) _ h refl refl refl (from_here s x σ q g) (lands _ x σ q (at_finished s x σ q g))
   deliver_comes v _ _ _ _ (at_assigned n ts s x σ p q h g) = let b = both s x σ q g in assigned_comes v ts n s x σ p q _ h g b.normally
   deliver_comes v _ _ _ _ (at_asked l n t f x z σ p q other h ht hf) =
-      there _ _ (m_truth (mark n l false) (T.branch v) t f (way_base f) x (on p (value v ∷ σ)) _ σ _
+      there _ _ (m_truth (mark n l false) (T.branch v) t f (way_base f) x (on p (value v ∷ σ)) (ins (instr.JumpUnless (record { 0 = other })) (act_mark p n l false) q x.rows) σ _
       (turned p _ (value v ∷ σ) _ h (steps.branch_asks block code x.rows (way (F.finished [])) σ p p n l q (instr.JumpUnless (record { 0 = other })) (code.is_truth v) _ _ v σ))
       refl (inside_way f x σ other hf) (lands t z σ q ht) (lands f x σ other hf))
   deliver_comes v _ _ _ _ (at_asked_back l n t f x z σ p q other h ht hf) =
-      there _ _ (m_truth (mark n l false) (T.branch v) t f (way_base f) x (on p (value v ∷ σ)) _ σ _
+      there _ _ (m_truth (mark n l false) (T.branch v) t f (way_base f) x (on p (value v ∷ σ)) (ins (instr.JumpIf (record { 0 = other })) (act_mark p n l false) q x.rows) σ _
       (turned p _ (value v ∷ σ) _ h (steps.branch_asks block code x.rows (way (F.finished [])) σ p p n l q (instr.JumpIf (record { 0 = other })) (code.is_truth v) _ _ v σ))
       refl (inside_way f x σ q hf) (lands t z σ other ht) (lands f x σ q hf))
   deliver_comes v _ _ _ _ (at_iterated l k n m t body els s x σ p q first next other end' ht hn h g) =
-      there _ _ (m_iter (mark k l false) v m n t body els s x (on p (value v ∷ σ)) _ σ q first next other end' (turned p _ (value v ∷ σ) _ ht refl) refl hn h g)
+      there _ _ (m_iter (mark k l false) v m n t body els s x (on p (value v ∷ σ)) (ins instr.Iter (act_mark p k l false) q x.rows) σ q first next other end' (turned p _ (value v ∷ σ) _ ht refl) refl hn h g)
   deliver_comes v _ _ _ _ (at_deleted_attribute l n y k x σ p q h hk) =
       deed_comes (Some (mark n l false)) _ k (way_base k) x p _ (value v ∷ σ) σ (on q σ) _ h.stands (h.does v σ) refl refl (inside_way k x σ q hk) (lands k x σ q hk)
   deliver_comes v _ _ _ _ (at_deleted_item l n i k x σ p q (m, hi, h) hk) =
@@ -679,23 +679,23 @@ module _ {V : Type 0} (block : Around V) (code : CodeObject V) where
       (operation_comes (F.changing j (n + 1) l (F.an_item a v) o e s) x (value v ∷ value a ∷ σ) m m' [] _ l n (v ∷ a ∷ []) hi
       (at_changing j (n + 1) l (F.an_item a v) o e s x σ m' q h g))
   deliver_comes v _ _ _ _ (at_changing l n k to o e s x σ p q (m, he, h) g) =
-      value_comes (F.changed_by l (n + size e) k to v o s) x (addressed to σ) p m e n false he (at_changed l (n + size e) k to v o s x σ m q h g)
+      value_comes (F.changed_by l (n + size e) k to v o s) x (value v ∷ addressed to σ) p m e n false he (at_changed l (n + size e) k to v o s x σ m q h g)
   deliver_comes v _ _ _ _ (at_changed l n k to u o s x σ p q (m, hi, h) g) =
       within (wait (F.change_stored (n + 1) k to s)) x.rows (addressed to σ) m _ _
-      (expressions.there _ _ (expressions.m_value (mark n l false) _ _ (on p (value v ∷ value u ∷ addressed to σ)) _ (addressed to σ) (addressed to σ) m
+      (expressions.there _ _ (expressions.m_value (mark n l false) _ _ (on p (value v ∷ value u ∷ addressed to σ)) (ins (instr.InPlace o) (act_mark p n l false) m x.rows) (addressed to σ) (addressed to σ) m
       (turned p _ (value v ∷ value u ∷ addressed to σ) _ hi refl) refl same (expressions.at_end _ refl)))
       (by_wait _ x (addressed to σ) m (at_given_back (n + 1) k to s x σ m q h g))
   deliver_comes v _ _ _ _ (at_given_back n k to s x σ p q h g) = back_comes to v n k s x σ p q h g
   deliver_comes v _ _ _ _ (at_returned l n s x σ p q h g) =
-      there _ _ (m_leave (mark n l false) (F.return v) s x (on p (value v ∷ σ)) _ σ (turned p _ (value v ∷ σ) _ h refl) refl tt g)
+      there _ _ (m_leave (mark n l false) (F.return v) s x (on p (value v ∷ σ)) (ins instr.Return (act_mark p n l false) q x.rows) σ (turned p _ (value v ∷ σ) _ h refl) refl tt g)
   deliver_comes v _ _ _ _ (at_thrown l n S.absent s x σ p q h g) =
-      there _ _ (m_throw (mark n l false) (T.raising v None) s x (on p (value v ∷ σ)) _ σ (turned p _ (value v ∷ σ) _ h refl) refl g)
+      there _ _ (m_throw (mark n l false) (T.raising v None) s x (on p (value v ∷ σ)) (ins instr.Raise (act_mark p n l false) q x.rows) σ (turned p _ (value v ∷ σ) _ h refl) refl g)
   deliver_comes v _ _ _ _ (at_thrown l n (S.given b) s x σ p q (m, hb, h) g) =
       value_comes (F.caused l (n + size b) v s) x (value v ∷ σ) p m b n false hb (at_caused l (n + size b) v s x σ m q h g)
   deliver_comes v _ _ _ _ (at_caused l n u s x σ p q h g) =
-      there _ _ (m_throw (mark n l false) (T.raising u (Some v)) s x (on p (value v ∷ value u ∷ σ)) _ σ (turned p _ (value v ∷ value u ∷ σ) _ h refl) refl g)
+      there _ _ (m_throw (mark n l false) (T.raising u (Some v)) s x (on p (value v ∷ value u ∷ σ)) (ins instr.RaiseFrom (act_mark p n l false) q x.rows) σ (turned p _ (value v ∷ value u ∷ σ) _ h refl) refl g)
   deliver_comes v _ _ _ _ (at_message l n s x σ p q h g) =
-      there _ _ (m_throw (mark n l false) (T.failing (Some v)) s x (on p (value v ∷ σ)) _ σ (turned p _ (value v ∷ σ) _ h refl) refl g)
+      there _ _ (m_throw (mark n l false) (T.failing (Some v)) s x (on p (value v ∷ σ)) (ins (instr.AssertFail true) (act_mark p n l false) q x.rows) σ (turned p _ (value v ∷ σ) _ h refl) refl g)
   deliver_comes v _ _ _ _ (at_imported l n y xs s x σ p q (m, hs, h) g) =
       deed_comes (Some (mark n l false)) _ (F.imports l (n + 1) xs s) s x p _ (value v ∷ σ) σ (on m σ) _ hs.stands (hs.does v σ) refl refl (from_here s x σ q g)
       (lands _ x σ m (at_imports l (n + 1) xs s x σ m q h g))
@@ -704,11 +704,11 @@ module _ {V : Type 0} (block : Around V) (code : CodeObject V) where
       deed_comes (Some (mark n l false)) _ (F.imports_from l (n + 1) xs o s) s x p _ (value v ∷ value o ∷ σ) (value o ∷ σ) (on m (value o ∷ σ)) _ hs.stands (hs.does v (value o ∷ σ)) refl refl
       (inside_push s x _ σ (from_here s x σ q g)) (lands _ x (value o ∷ σ) m (at_imports_from l (n + 1) xs o s x σ m q h g))
   deliver_comes v _ _ _ _ (at_matched l k n e t f x σ p q r other h hs ht hf) =
-      there _ _ (m_truth (mark n l false) (T.matches e v) t f (F.testing k e ∷ way_base f) x (on p (value v ∷ exception e ∷ σ)) _ (exception e ∷ σ) _
+      there _ _ (m_truth (mark n l false) (T.matches e v) t f (F.testing k e ∷ way_base f) x (on p (value v ∷ exception e ∷ σ)) (ins instr.Match (act_mark p n l false) q x.rows) (exception e ∷ σ) _
       (turned p _ (value v ∷ exception e ∷ σ) _ h refl) refl (in_tests k e _ x (exception e ∷ σ) (inside_way f x (exception e ∷ σ) other hf))
       (split_lands t x (exception e ∷ σ) true q r other hs ht) (split_lands f x (exception e ∷ σ) false q r other hs (lands f x (exception e ∷ σ) other hf)))
   deliver_comes v _ _ _ _ (at_entered l n t is body s x σ row p end' a (m, he, h) hx g) =
-      there _ _ (m_entry (mark n l false) v l (n + 1) t is body s x (on p (value v ∷ σ)) _ σ row m end' (turned p _ (value v ∷ σ) _ he refl) refl a h hx g)
+      there _ _ (m_entry (mark n l false) v l (n + 1) t is body s x (on p (value v ∷ σ)) (ins instr.Enter (act_mark p n l false) m x.rows) σ row m end' (turned p _ (value v ∷ σ) _ he refl) refl a h hx g)
   deliver_comes v _ _ _ _ (at_decorated k n before ds l y what s x σ p q h g) = decorated_comes ds what v before k l n y s x σ p q h g
   deliver_comes v _ _ _ _ (at_defined l n y [] s x σ p q h g) =
       deed_comes (Some (mark n l false)) _ (F.finished s) s x p _ (value v ∷ σ) σ (on q σ) _ h.stands (h.does v σ) refl refl (from_here s x σ q g) (lands _ x σ q (at_finished s x σ q g))
@@ -777,7 +777,7 @@ module _ {V : Type 0} (block : Around V) (code : CodeObject V) where
       → For_at block code l n t (All_at block code body (for_body n t)) (All_at block code els (for_else n t body) x) x first next other end'
       → N s x σ end' → (r : Reply V V) → C (control.after_iter block (F.for_over l n t body els s) r) (after code i σ (λ it. on q (iterator it ∷ σ)) r)
   iter_replies l n t body els s x i σ q first next other end' e hn h g (got v) =
-      there _ _ (m_next (mark n l false) v l n t body els s x (on q (iterator v ∷ σ)) _ σ first next other end'
+      there _ _ (m_next (mark n l false) v l n t body els s x (on q (iterator v ∷ σ)) (ins (instr.Next (record { 0 = other })) (act_mark q n l false) first x.rows) σ first next other end'
       (turned q _ (iterator v ∷ σ) _ hn refl) refl (law.at_once first) h g)
   iter_replies l n t body els s x i σ q first next other end' e hn h g (raised v) = raise_inside s x σ i e (from_here s x σ end' g) v
 

@@ -13,6 +13,7 @@ use Rattle.pt_control.specs.Turn as T
 use Rattle.pt_control.specs.Turn.{Mark, Around, Deed, Throw, Test, Note, raised_again, Ask, Answer, Reply, End, Turn, act, note, move, over}
 use Rattle.pt_control.specs.Frames as F
 use Rattle.pt_control.specs.Frames.{Abrupt, Completion, Nest, Way, Wait, Address, Definition, Decorating, Control, for_leave, for_throw, for_truth, for_iter, for_item, for_entry, noting, closed}
+use Rattle.pt_control.specs.Bases.{around_way}
 use Rattle.pt_control.specs.Numbers.{tested_body, behind_body, for_body, for_else}
 use Rattle.pt_control.specs.Control as control
 use Rattle.pt_slots.specs.Slots.{value, iterator, exception, pending, exit, Slots, State, on, reraises, off}
@@ -20,7 +21,7 @@ use Rattle.pt_slots.specs.CodeObject.{CodeObject}
 use Rattle.pt_slots.specs.Landing.{land}
 use Rattle.pt_slots.specs.Steps.{after, with_item}
 use Rattle.pt_slots.specs.Machine as machine
-use Rattle.pt_comp_expr.specs.Places.{◌⨾◌, above, act_mark, Stores, Op_at}
+use Rattle.pt_comp_expr.specs.Places.{◌⨾◌, act_mark, Stores, Op_at, Exp_at}
 use Rattle.pt_comp_expr.specs.Law as expressions
 use Rattle.pt_comp_expr.specs.Law.{On_top, Outer, wait, way}
 use Rattle.pt_comp.specs.Surroundings.{Surroundings, outermost, in_loop, deeper, under, TakesAll, TakesRaises, as_code, held_as, May, May_hold}
@@ -96,7 +97,7 @@ module _ {V : Type 0} (block : Around V) (code : CodeObject V) where
     at_stms : (n : ℕ) (ss : Stms) (s : Nest V) (x : Surroundings) (σ : Slots V) (p q : ℕ)
         → All_at block code ss n x p q → Nest_on s x σ q → Way_on (F.stms n ss s) x σ p
     at_branches : (n : ℕ) (bs : Branches) (els : Stms) (s : Nest V) (x : Surroundings) (σ : Slots V) (p q : ℕ)
-        → Branches_at block code bs els n x p q → Nest_on s x σ q → Way_on (F.branches n bs els s) x σ p
+        → Branches_at block code bs (λ m. All_at block code els m x) n x p q → Nest_on s x σ q → Way_on (F.branches n bs els s) x σ p
     at_lets_go : (held : Completion V) (s : Nest V) (x : Surroundings) (σ : Slots V) (p q : ℕ)
         → May_hold held x → Move_in block code x instr.EndFinally p q → Nest_on s x σ q → Way_on (F.lets_go held s) x (pending (held_as held x) ∷ σ) p
     at_unbinds : (y : Name) (held : Completion V) (s : Nest V) (x : Surroundings) (σ : Slots V) (p q : ℕ)
@@ -144,7 +145,7 @@ module _ {V : Type 0} (block : Around V) (code : CodeObject V) where
     at_deleted_attribute : (l n : ℕ) (y : Name) (k : Way V) (x : Surroundings) (σ : Slots V) (p q : ℕ)
         → DeletesAttribute block code x.rows (block.spelled y) (act_mark p n l false) p q → Way_on k x σ q → Waits_on (F.of_attribute l n y (F.deleting k)) x σ p
     at_deleted_item : (l n : ℕ) (i : Exp) (k : Way V) (x : Surroundings) (σ : Slots V) (p q : ℕ)
-        → (Value_at block code x i n false ⨾ Act_in block code x instr.DelItem (n + size i) l) p q → Way_on k x σ q
+        → (Exp_at block code x.rows i n false (around_way k) ⨾ Act_in block code x instr.DelItem (n + size i) l) p q → Way_on k x σ q
         → Waits_on (F.of_item l n i (F.deleting k)) x σ p
     at_deleted_index : (l n : ℕ) (a : V) (k : Way V) (x : Surroundings) (σ : Slots V) (p q : ℕ)
         → Act_in block code x instr.DelItem n l p q → Way_on k x σ q → Waits_on (F.at_item l n a (F.deleting k)) x (value a ∷ σ) p

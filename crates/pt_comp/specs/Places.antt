@@ -249,7 +249,7 @@ module _ {V : Type 0} (block : Around V) (code : CodeObject V) where
         Made_at block code x.rows [] (T.import (block.spelled m)) above l n false 0 0 ⨾ Imported_from_at xs l (n + 1) x
     Stm_at (S.global l xs) n x = here
     Stm_at (S.nonlocal l xs) n x = here
-    Stm_at (S.choice l bs els) n x = Branches_at bs els n x
+    Stm_at (S.choice l bs els) n x = Branches_at bs (λ m. All_at els m x) n x
     Stm_at (S.while l c body els) n x = λ from to. (first next other : ℕ)
         × (Value_at x c n false ⨾ Act_in x (instr.JumpUnless (record { 0 = other })) (n + size c) l) from first
         × While_at l n c (All_at body (tested_body n c)) (All_at els (behind_body n c body) x) x first next other to
@@ -268,11 +268,11 @@ module _ {V : Type 0} (block : Around V) (code : CodeObject V) where
     All_at (more st ss) n x = Starts block code x.rows ⨾ Stm_at st n x ⨾ All_at ss (n + stm_size st) x
 
     -- 8.1
-    pub Branches_at : Branches → (otherwise : Stms) → (n : ℕ) → Surroundings → ℕ → ℕ → Type 0
-    Branches_at S.no_branches els n x = All_at els n x
-    Branches_at (S.branch l c body r) els n x = λ from to. (other : ℕ)
+    pub Branches_at : Branches → (otherwise : (n : ℕ) → ℕ → ℕ → Type 0) → (n : ℕ) → Surroundings → ℕ → ℕ → Type 0
+    Branches_at S.no_branches otherwise n x = otherwise n
+    Branches_at (S.branch l c body r) otherwise n x = λ from to. (other : ℕ)
         × (Value_at x c n false ⨾ Act_in x (instr.JumpUnless (record { 0 = other })) (n + size c) l ⨾ All_at body (tested_body n c) x ⨾ Jump_in x to) from other
-        × Branches_at r els (behind_body n c body) x other to
+        × Branches_at r otherwise (behind_body n c body) x other to
 
     -- handlers are tried in order, and behind them the raise goes on. What matches goes on at the end
     pub Handlers_at : Handlers → (n end : ℕ) → Surroundings → ℕ → Type 0
