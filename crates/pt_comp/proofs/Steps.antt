@@ -1,5 +1,5 @@
 -- One step of the code of a block for one of its control.
-use Rattle.std.proofs.Common.{◌≡◌, ℕ, ◌+◌, suc, Bool, true, false, List, [], ◌∷◌, ◌++◌, length, Option, Some, None, refl, sym, ap, ◌∙◌, subst}
+use Rattle.std.proofs.Common.{◌≡◌, ℕ, ◌+◌, suc, Bool, true, false, List, [], ◌∷◌, length, Option, Some, None, refl, sym, ap, ◌∙◌, subst}
 use Rattle.std.specs.Prelude.{if◌then◌else◌}
 use Rattle.pt_base.specs.declared.operators.BinOp.{BinOp}
 use Rattle.pt_ranges.specs.declared.handlers.Handler.{Handler}
@@ -7,8 +7,7 @@ use Rattle.pt_tree.specs.declared.expression.Constant.TheVariants as constant
 use Rattle.pt_tree.specs.declared.statement.Alias.{Alias}
 use Rattle.pt_tree.specs.Syntax as S
 use Rattle.pt_tree.specs.Syntax.{Name, Exp, Opt, Clauses, Place, Tgt, Tgts, Decorators, Items, Stm, Stms, Branches, Handlers, none, more}
-use Rattle.pt_tree.specs.Sizes.{size, place_size, target_size, params_size, items_size, stm_size, stms_size, handlers_size}
-use Rattle.pt_instr.specs.declared.Instr.{Instr}
+use Rattle.pt_tree.specs.Sizes.{size, target_size, params_size, items_size, stm_size, stms_size, handlers_size}
 use Rattle.pt_instr.specs.declared.Instr.TheVariants as instr
 use Rattle.pt_code.specs.View.{Ins}
 use Rattle.pt_control.specs.Turn as T
@@ -18,26 +17,25 @@ use Rattle.pt_control.specs.Frames.{Abrupt, Completion, Nest, Way, Wait, Address
 use Rattle.pt_control.specs.Bases.{base, way_base, around, around_way}
 use Rattle.pt_control.specs.Numbers.{tested_body, behind_body, for_body, for_else, try_handlers, try_finally, handler_body}
 use Rattle.pt_control.specs.Expressions.{begin_operation, begin_exp}
-use Rattle.pt_control.specs.Statements.{at_place, begin_place, begin_store, begin_stores, begin_assign, begin_deletes, begin_imports, begin_imports_from, begin_definition, begin_test, begin_next, begin_stm, begin_all, begin_branches, begin_items, begin_tests, handler_way, all_places, bound_name}
+use Rattle.pt_control.specs.Statements.{at_place, begin_place, begin_store, begin_assign, begin_deletes, begin_imports, begin_imports_from, begin_definition, begin_test, begin_next, begin_stm, begin_all, begin_branches, begin_items, begin_tests, handler_way, all_places, bound_name}
 use Rattle.pt_control.specs.Completions.{complete, let_go, swallowed, raise_of}
 use Rattle.pt_control.specs.Control as control
 use Rattle.pt_slots.specs.Slots as slots
 use Rattle.pt_slots.specs.Slots.{jump_to, value, iterator, exception, pending, exit, Slot, Slots, State, on, reraises, off, left_of}
 use Rattle.pt_slots.specs.CodeObject.{CodeObject}
-use Rattle.pt_slots.specs.Landing.{land, cut}
+use Rattle.pt_slots.specs.Landing.{land}
 use Rattle.pt_slots.specs.Steps.{after, with_item}
 use Rattle.pt_slots.specs.Instructions.{perform}
 use Rattle.pt_slots.specs.Machine as machine
 use Rattle.pt_slots.specs.Machine.{here}
-use Rattle.pt_comp_expr.specs.Places.{◌⨾◌, count, above, act_mark, ins, Act_at, Move_at, Null_at, Stores, Made_at, Op_at, Exp_at, Target_at}
+use Rattle.pt_comp_expr.specs.Places.{◌⨾◌, count, above, act_mark, ins, Stores, Made_at, Exp_at, Target_at}
 use Rattle.pt_comp_expr.specs.Law as expressions
 use Rattle.pt_comp_expr.specs.Law.{On_top, same, push, Outer, wait, way}
 use Rattle.pt_comp_expr.proofs.Steps as steps
 use Rattle.pt_comp_expr.proofs.Steps.{popped, on_above}
 use Rattle.pt_comp.specs.Surroundings.{Loop, Surroundings, outermost, in_loop, deeper, under, TakesAll, TakesRaises, end_place, next_place, Has_loop, as_code, held_as, May, May_hold}
-use Rattle.pt_comp.specs.Places.{Deletes, Splits, Starts, at_once, never_left, Value_at, Act_in, Move_in, Jump_in, Null_in, Store_in, Assigned_at, Back_to_name, Changed_at, All_deleted_at, Failed_at, Left_at, Imported_at, Imported_from_at, Bound_at, Definition_at, Decorated_at, Defined_at, Augmented_at, While_at, For_at, Guarded_at, Ensured_at, Handled_at, Taken_at, behind_target, Items_at, Stm_at, All_at, Branches_at, Handlers_at, Block_at}
-use Rattle.pt_comp.specs.Law.{addressed, decorators_above, lines_of, Back_at, Nest_on, at_end, at_rest, at_looping, at_iterating, at_unguarded, at_guarded, at_unensured, at_ensured, at_ending, at_handling, at_naming, at_withing, nest_behind_jump, Inside, inside, alone, in_tests, in_exit, Way_on, at_finished, at_stms, at_branches, at_lets_go, at_unbinds, at_tests, at_binding, at_assigns, at_deletes, at_imports, at_imports_from, at_within_items, at_failed, Waits_on, at_dropped, at_assigned, at_asked, at_asked_back, at_iterated, at_deleted_attribute, at_deleted_item, at_deleted_index, at_changed_attribute, at_changed_item, at_changed_index, at_changing, at_changed, at_given_back, at_returned, at_thrown, at_caused, at_message, at_imported, at_imported_origin, at_imported_name, at_matched, at_entered, at_decorated, at_defined, Waiting, Going, Beyond, Lands, lands, lands_by, Leads, by_jump, m_within, m_deed, m_leave, m_throw, m_truth, m_iter, m_next, m_entry, m_note, m_over, Comes, there, moves, Same, same_act, same_note, same_over, Follows, BlocksBegin, LambdasBegin, GeneratorsBegin}
-use Rattle.pt_comp.specs.Law as law
+use Rattle.pt_comp.specs.Places.{Deletes, Splits, Starts, at_once, never_left, Act_in, Move_in, Null_in, Assigned_at, All_deleted_at, Left_at, Imported_at, Imported_from_at, Definition_at, Decorated_at, Augmented_at, While_at, For_at, Guarded_at, Ensured_at, Handled_at, Taken_at, behind_target, Items_at, Stm_at, All_at, Branches_at, Handlers_at}
+use Rattle.pt_comp.specs.Law.{addressed, decorators_above, lines_of, Back_at, Nest_on, at_end, at_rest, at_looping, at_iterating, at_unguarded, at_guarded, at_unensured, at_ensured, at_ending, at_handling, at_naming, at_withing, nest_behind_jump, Inside, inside, alone, in_tests, in_exit, Way_on, at_finished, at_stms, at_branches, at_lets_go, at_unbinds, at_tests, at_binding, at_assigns, at_deletes, at_imports, at_imports_from, at_within_items, at_failed, Waits_on, at_dropped, at_assigned, at_asked, at_asked_back, at_iterated, at_deleted_attribute, at_deleted_item, at_deleted_index, at_changed_attribute, at_changed_item, at_changed_index, at_changing, at_changed, at_given_back, at_returned, at_thrown, at_caused, at_message, at_imported, at_imported_origin, at_imported_name, at_matched, at_entered, at_decorated, at_defined, Waiting, Going, Beyond, Lands, lands, lands_by, Leads, is_there, by_jump, m_within, m_deed, m_leave, m_throw, m_truth, m_iter, m_next, m_entry, m_note, m_over, Comes, there, moves, Same, same_act, same_note, same_over, Follows, BlocksBegin, LambdasBegin, GeneratorsBegin}
 use Rattle.pt_comp.proofs.Rows.{as_under, as_deeper, may_under, may_deeper, raise_in, left_true, left_false, may_swallowed, reaches, all_land, raise_lands, return_passes, jump_passes}
 
 module _ {V : Type 0} (block : Around V) (code : CodeObject V) where
@@ -89,9 +87,9 @@ module _ {V : Type 0} (block : Around V) (code : CodeObject V) where
   operation_comes w x σ p q xs op l n vs h k = within (wait w) x.rows σ q _ _
       (steps.made_comes block code x.rows (wait w) σ q xs op above l n false [] vs vs w σ p q h refl (on_above vs σ) (expressions.at_end w refl)) (by_wait w x σ q k)
 
-  store_comes : (k : Way V) (x z : Surroundings) (σ : Slots V) (p q : ℕ) (t : Tgt) (v : V) (n : ℕ)
-      → Target_at block code z.rows t n (around_way k) p q → Way_on block code k z σ q → C (begin_store block t v n k) (on p (value v ∷ σ))
-  store_comes k x z σ p q t v n h g = within (way k) z.rows σ q _ _ (steps.begins_to_store block code z.rows k σ q t v n p h) (by_way k z σ q g)
+  store_comes : (k : Way V) (x : Surroundings) (σ : Slots V) (p q : ℕ) (t : Tgt) (v : V) (n : ℕ)
+      → Target_at block code x.rows t n (around_way k) p q → Way_on block code k x σ q → C (begin_store block t v n k) (on p (value v ∷ σ))
+  store_comes k x σ p q t v n h g = within (way k) x.rows σ q _ _ (steps.begins_to_store block code x.rows k σ q t v n p h) (by_way k x σ q g)
 
   -- an act that asks for something to be done, and what only raises
   deed_comes : (m : Option Mark) (d : Deed V) (k : Way V) (s : Nest V) (x : Surroundings) (p : ℕ) (i : Ins) (σ τ : Slots V) (u : State V) (c : Control V)
@@ -103,10 +101,10 @@ module _ {V : Type 0} (block : Around V) (code : CodeObject V) where
   assigned_comes : (v : V) (ts : Tgts) (n : ℕ) (s : Nest V) (x : Surroundings) (σ : Slots V) (p q : ℕ) (c : Control V)
       → Assigned_at block code ts n x p q → N s x σ q → C c (on q σ) → C (begin_assign block v ts n s c) (on p (value v ∷ σ))
   assigned_comes v S.no_targets n s x σ p q c h g a = moved c p _ (value v ∷ σ) (on q σ) h refl a
-  assigned_comes v (S.more_targets t S.no_targets) n s x σ p q c h g a = store_comes (F.finished s) x x σ p q t v n h (at_finished s x σ q g)
+  assigned_comes v (S.more_targets t S.no_targets) n s x σ p q c h g a = store_comes (F.finished s) x σ p q t v n h (at_finished s x σ q g)
   assigned_comes v (S.more_targets t (S.more_targets u ts)) n s x σ p q c (m, hc, (m', ht, hts)) g a =
       moved _ p _ (value v ∷ σ) (on m (value v ∷ value v ∷ σ)) hc refl
-      (store_comes (F.assigns (n + target_size t) v (S.more_targets u ts) s) x x (value v ∷ σ) m m' t v n ht
+      (store_comes (F.assigns (n + target_size t) v (S.more_targets u ts) s) x (value v ∷ σ) m m' t v n ht
       (at_assigns (n + target_size t) v (S.more_targets u ts) s x σ m' q hts g))
 
   -- 7.2.1
@@ -778,11 +776,11 @@ module _ {V : Type 0} (block : Around V) (code : CodeObject V) where
       → N s x σ end' → (r : Reply V V) → C (control.after_iter block (F.for_over l n t body els s) r) (after code i σ (λ it. on q (iterator it ∷ σ)) r)
   iter_replies l n t body els s x i σ q first next other end' e hn h g (got v) =
       there _ _ (m_next (mark n l false) v l n t body els s x (on q (iterator v ∷ σ)) (ins (instr.Next (record { 0 = other })) (act_mark q n l false) first x.rows) σ first next other end'
-      (turned q _ (iterator v ∷ σ) _ hn refl) refl (law.at_once first) h g)
+      (turned q _ (iterator v ∷ σ) _ hn refl) refl (is_there first) h g)
   iter_replies l n t body els s x i σ q first next other end' e hn h g (raised v) = raise_inside s x σ i e (from_here s x σ end' g) v
 
   leads_comes : (c : Control V) (x : Surroundings) (p q : ℕ) (σ : Slots V) → Leads block code x p q → C c (on q σ) → C c (on p σ)
-  leads_comes c x _ _ σ (law.at_once p) k = k
+  leads_comes c x _ _ σ (is_there p) k = k
   leads_comes c x _ _ σ (by_jump p m q h) k = moved c p _ σ (on q σ) h refl k
 
   next_replies : (it : V) (l n : ℕ) (t : Tgt) (body els : Stms) (s : Nest V) (x : Surroundings) (i : Ins) (σ : Slots V) (first next other end' : ℕ) → i.rows ≡ x.rows
@@ -816,7 +814,7 @@ module _ {V : Type 0} (block : Around V) (code : CodeObject V) where
       moved _ q _ (value v ∷ exit w ∷ σ) (on m (exit w ∷ σ)) hp refl
       (items_come is body n _ (under row (deeper x)) (exit w ∷ σ) m m' _ h k b.normally)
   entry_replies l n (Some t) is body s x i σ row q end' e a (m, ht, (m', h, hn)) hx g (got (w, v)) =
-      store_comes _ x (under row (deeper x)) (exit w ∷ σ) q m t v n ht
+      store_comes _ (under row (deeper x)) (exit w ∷ σ) q m t v n ht
       (at_within_items (n + target_size t) is body _ (under row (deeper x)) (exit w ∷ σ) m m' h
       (at_withing l (n + target_size t + items_size is (stms_size body)) w s x σ row m' end' a hn hx g))
   entry_replies l n t is body s x i σ row q end' e a h hx g (raised v) = raise_inside s x σ i e (from_here s x σ end' g) v

@@ -217,7 +217,7 @@ module _ {V : Type 0} (block : Around V) (code : CodeObject V) where
 
   -- the place behind an instruction is the first of a body, or a jump to that stands there
   pub data Leads (x : Surroundings) : ℕ → ℕ → Type 0 where
-    at_once : (p : ℕ) → Leads x p p
+    is_there : (p : ℕ) → Leads x p p
     by_jump : (p m q : ℕ) → Jump_in block code x q p m → Leads x p q
 
   -- a state of the code stands for one of control, at the beginning of an act or of an ask without a mark, at a note, or at the end

@@ -14,7 +14,7 @@ use Rattle.pt_instr.specs.declared.Instr.TheVariants as instr
 use Rattle.pt_control.specs.Turn as T
 use Rattle.pt_control.specs.Turn.{Around, Variable, move}
 use Rattle.pt_control.specs.Frames.{Definition, a_function, a_class}
-use Rattle.pt_control.specs.Numbers.{tested_body, behind_body, for_body, for_else, try_handlers, try_else, try_finally, handler_body}
+use Rattle.pt_control.specs.Numbers.{tested_body, behind_body, for_body, for_else, try_handlers, try_finally, handler_body}
 use Rattle.pt_control.specs.Statements.{all_places, bound_name}
 use Rattle.pt_slots.specs.Slots.{Slots, value, on}
 use Rattle.pt_slots.specs.CodeObject.{CodeObject}

@@ -1,5 +1,5 @@
 -- A block that holds every statement, and its code.
-use Rattle.std.specs.Prelude.{ℕ, pos, List, [], ◌∷◌, codes, Bool, true, false, Some, None}
+use Rattle.std.specs.Prelude.{ℕ, pos, List, [], ◌∷◌, codes, true, false, Some, None}
 use Rattle.pt_base.specs.declared.operators.BinOp.TheVariants as binary
 use Rattle.pt_ranges.specs.declared.handlers.Handler.{Handler}
 use Rattle.pt_tree.specs.declared.expression.Constant.{Constant}
@@ -78,9 +78,15 @@ every_statement =
     (S.more (S.annotated 6 (S.name_at 6 (codes "b")) (S.name 6 (codes "a")) (S.given (S.name 6 (codes "c")))) (S.more (S.assert 7 (S.name 7 (codes
     "a")) S.absent) (S.more (S.assert 8 (S.name 8 (codes "a")) (S.given (S.name 8 (codes "b")))) (S.more (S.del 9 (S.more_targets (S.single (S.name_at
     9 (codes "a"))) (S.more_targets (S.single (S.attribute_at 9 (S.name 9 (codes "b")) (codes "x"))) (S.more_targets (S.single (S.item_at 9 (S.name 9
-    (codes "c")) (S.name 9 (codes "d")))) S.no_targets)))) (S.more (S.import 10 ((record { name = codes "m"; alias = None }) ∷ ((record { name = codes
-    "n"; alias = (Some (codes "o")) }) ∷ []))) (S.more (S.import_from 11 (codes "m") ((record { name = codes "p"; alias = None }) ∷ ((record { name =
-    codes "q"; alias = (Some (codes "r")) }) ∷ []))) (S.more (S.global 12 ((codes "a") ∷ [])) (S.more (S.choice 13 (S.branch 13 (S.name 13 (codes
+    (codes "c")) (S.name 9 (codes "d")))) S.no_targets)))) (S.more (S.import 10 ((record { name = codes "m"; alias = None }) ∷ ((record {
+      name = codes
+          "n";
+      alias = (Some (codes "o"));
+    }) ∷ []))) (S.more (S.import_from 11 (codes "m") ((record { name = codes "p"; alias = None }) ∷ ((record {
+      name =
+          codes "q";
+      alias = (Some (codes "r"));
+    }) ∷ []))) (S.more (S.global 12 ((codes "a") ∷ [])) (S.more (S.choice 13 (S.branch 13 (S.name 13 (codes
     "a")) (S.more (S.pass 14) S.none) (S.branch 15 (S.name 15 (codes "b")) (S.more (S.raise_again 16) S.none) S.no_branches)) (S.more (S.raise 18
     (S.name 18 (codes "a")) (S.given (S.name 18 (codes "b")))) S.none)) (S.more (S.while 19 (S.name 19 (codes "a")) (S.more (S.choice 20 (S.branch 20
     (S.name 20 (codes "b")) (S.more (S.break 21) S.none) S.no_branches) S.none) (S.more (S.continue 22) S.none)) (S.more (S.raise 24 (S.name 24 (codes
