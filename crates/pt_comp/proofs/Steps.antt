@@ -35,7 +35,7 @@ use Rattle.pt_comp_expr.proofs.Steps as steps
 use Rattle.pt_comp_expr.proofs.Steps.{popped, on_above}
 use Rattle.pt_comp.specs.Surroundings.{Loop, Surroundings, outermost, in_loop, deeper, under, TakesAll, TakesRaises, end_place, next_place, Has_loop, as_code, held_as, May, May_hold}
 use Rattle.pt_comp.specs.Places.{Deletes, Splits, Starts, at_once, never_left, Act_in, Move_in, Null_in, Assigned_at, All_deleted_at, Left_at, Imported_at, Imported_from_at, Definition_at, Decorated_at, Augmented_at, While_at, For_at, Guarded_at, Ensured_at, Handled_at, Taken_at, behind_target, Items_at, Stm_at, All_at, Branches_at, Handlers_at}
-use Rattle.pt_comp.specs.Law.{addressed, decorators_above, lines_of, Back_at, Nest_on, at_end, at_rest, at_looping, at_iterating, at_unguarded, at_guarded, at_unensured, at_ensured, at_ending, at_handling, at_naming, at_withing, nest_behind_jump, Inside, inside, alone, in_tests, in_exit, Way_on, at_finished, at_stms, at_branches, at_lets_go, at_unbinds, at_tests, at_binding, at_assigns, at_deletes, at_imports, at_imports_from, at_within_items, at_failed, Waits_on, at_dropped, at_assigned, at_asked, at_asked_back, at_iterated, at_deleted_attribute, at_deleted_item, at_deleted_index, at_changed_attribute, at_changed_item, at_changed_index, at_changing, at_changed, at_given_back, at_returned, at_thrown, at_caused, at_message, at_imported, at_imported_origin, at_imported_name, at_matched, at_entered, at_decorated, at_defined, Waiting, Going, Beyond, Lands, lands, lands_by, Leads, is_there, by_jump, m_within, m_deed, m_leave, m_throw, m_truth, m_iter, m_next, m_entry, m_note, m_over, Comes, there, moves, Same, same_act, same_note, same_over, Follows, BlocksBegin, LambdasBegin, GeneratorsBegin}
+use Rattle.pt_comp.specs.Law.{addressed, decorators_above, lines_of, Back_at, Nest_on, at_end, at_rest, at_looping, at_iterating, at_unguarded, at_guarded, at_unensured, at_ensured, at_ending, at_handling, at_naming, at_withing, nest_behind_jump, Inside, inside, alone, in_tests, in_exit, Way_on, at_finished, at_stms, at_branches, at_lets_go, at_unbinds, at_tests, at_binding, at_assigns, at_deletes, at_imports, at_imports_from, at_within_items, at_failed, Waits_on, at_dropped, at_assigned, at_asked, at_asked_back, at_iterated, at_deleted_attribute, at_deleted_item, at_deleted_index, at_changed_attribute, at_changed_item, at_changed_index, at_changing, at_changed, at_given_back, at_returned, at_thrown, at_caused, at_message, at_imported, at_imported_origin, at_imported_name, at_matched, at_entered, at_decorated, at_defined, Waiting, Going, Beyond, Lands, lands, lands_by, Leads, is_there, by_jump, m_within, m_deed, m_leave, m_throw, m_truth, m_iter, m_next, m_entry, m_note, m_over, Comes, there, moves, Same, same_act, same_note, same_over, Follows, WaysGoOn, BusyAlike, BlocksBegin, LambdasBegin, GeneratorsBegin}
 use Rattle.pt_comp.proofs.Rows.{as_under, as_deeper, may_under, may_deeper, raise_in, left_true, left_false, may_swallowed, reaches, all_land, raise_lands, return_passes, jump_passes}
 
 module _ {V : Type 0} (block : Around V) (code : CodeObject V) where
@@ -857,3 +857,25 @@ module _ {V : Type 0} (block : Around V) (code : CodeObject V) where
       within (way (F.finished [])) [] [] end' _ _
       (steps.item_comes block code [] (way (F.finished [])) [] end' k 0 i t cs (F.generating l e []) 0 [] 0 end' behind h (expressions.at_items l e [] refl))
       (by_way (F.finished []) outermost [] end' (at_finished [] outermost [] end' (at_end end' behind_all hr)))
+
+  pub ways_go_on : WaysGoOn block code
+  ways_go_on k x σ p h = way_comes k x σ p h
+
+  pub busy_alike : BusyAlike block code
+  busy_alike _ _ _ _ (at_end p q h) = refl
+  busy_alike _ _ _ _ (at_rest n ss s x σ p q h g) = busy_alike s x σ q g
+  busy_alike _ _ _ _ (at_looping l n e body els s x σ first next other end' h g) = busy_alike s x σ end' g
+  busy_alike _ _ _ _ (at_iterating l n i t body els s x σ first next other end' h g) = busy_alike s x σ end' g
+  busy_alike _ _ _ _ (at_unguarded n els s x σ p q h g) = busy_alike s x σ q g
+  busy_alike _ _ _ _ (at_guarded l n b y body r els s x σ row p q behind end' a h hj hh g) = busy_alike s x σ end' g
+  busy_alike _ _ _ _ (at_unensured tried n s x σ p g) = busy_alike s x σ p g
+  busy_alike _ _ _ _ (at_ensured tried n st ss s x σ row p q end' a hn hf he g) = busy_alike s x σ end' g
+  busy_alike _ _ _ _ (at_ending tried F.normal s x σ p q m h g) = busy_alike s x σ q g
+  busy_alike _ _ _ _ (at_ending tried (F.by (F.raise e)) s x σ p q m h g) = refl
+  busy_alike _ _ _ _ (at_ending tried (F.by (F.return v)) s x σ p q m h g) = busy_alike s x σ q g
+  busy_alike _ _ _ _ (at_ending tried (F.by F.break) s x σ p q m h g) = busy_alike s x σ q g
+  busy_alike _ _ _ _ (at_ending tried (F.by F.continue) s x σ p q m h g) = busy_alike s x σ q g
+  busy_alike _ _ _ _ (at_handling n e s x σ p q h g) = refl
+  busy_alike _ _ _ _ (at_naming y s x σ row p q a hn h g) = busy_alike s x σ q g
+  busy_alike _ _ _ _ (at_withing l n w s x σ row p end' a hn h g) = busy_alike s x σ end' g
+  busy_alike _ _ _ _ (nest_behind_jump s x σ p m q h g) = busy_alike s x σ q g

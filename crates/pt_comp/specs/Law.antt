@@ -13,10 +13,11 @@ use Rattle.pt_control.specs.Turn as T
 use Rattle.pt_control.specs.Turn.{Mark, Around, Deed, Throw, Test, Note, raised_again, Ask, Answer, Reply, End, Turn, act, note, move, over}
 use Rattle.pt_control.specs.Frames as F
 use Rattle.pt_control.specs.Frames.{Abrupt, Completion, Nest, Way, Wait, Address, Definition, Decorating, Control, for_leave, for_throw, for_truth, for_iter, for_item, for_entry, noting, closed}
+use Rattle.pt_control.specs.Bases as bases
 use Rattle.pt_control.specs.Bases.{around_way}
 use Rattle.pt_control.specs.Numbers.{tested_body, behind_body, for_body, for_else}
 use Rattle.pt_control.specs.Control as control
-use Rattle.pt_slots.specs.Slots.{value, iterator, exception, pending, exit, Slots, State, on, reraises, off}
+use Rattle.pt_slots.specs.Slots.{value, iterator, exception, pending, exit, Slots, State, on, reraises, off, active}
 use Rattle.pt_slots.specs.CodeObject.{CodeObject}
 use Rattle.pt_slots.specs.Landing.{land}
 use Rattle.pt_slots.specs.Steps.{after, with_item}
@@ -273,6 +274,14 @@ module _ {V : Type 0} (block : Around V) (code : CodeObject V) where
   -- from all matching states
   abbrev pub Follows : Type 0
   Follows = (c : Control V) (t : State V) → Match c t → Same (control.turn block c) (machine.turn code t)
+
+  -- code comes to such states from where it goes on, as a jump lands there
+  abbrev pub WaysGoOn : Type 0
+  WaysGoOn = (k : Way V) (x : Surroundings) (σ : Slots V) (p : ℕ) → Way_on k x σ p → Comes (control.go block k) (on p σ)
+
+  -- the exception that is active in a nest is that of the slots (8.4.1, 8.4.4)
+  abbrev pub BusyAlike : Type 0
+  BusyAlike = (s : Nest V) (x : Surroundings) (σ : Slots V) (p : ℕ) → Nest_on s x σ p → active σ ≡ bases.active s
 
   -- and code comes from the beginning of its block to such states: a block of statements, a lambda's, and a generator expression's with its first iterator
   abbrev pub BlocksBegin : Type 0

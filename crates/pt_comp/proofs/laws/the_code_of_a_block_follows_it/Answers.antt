@@ -1,4 +1,4 @@
-use Rattle.pt_comp.proofs.Steps.{blocks_begin, follows, generators_begin, lambdas_begin}
+use Rattle.pt_comp.proofs.Steps.{blocks_begin, busy_alike, follows, generators_begin, lambdas_begin, ways_go_on}
 use Rattle.pt_comp.proofs.laws.the_code_of_a_block_follows_it.Goals as goal
 
 pub returns-clause-blocks : goal.returns-clause-blocks
@@ -12,3 +12,9 @@ returns-clause-generators g c = generators_begin
 
 pub returns-clause-follows : goal.returns-clause-follows
 returns-clause-follows g c = follows
+
+pub returns-clause-ways : goal.returns-clause-ways
+returns-clause-ways g c = ways_go_on
+
+pub returns-clause-active : goal.returns-clause-active
+returns-clause-active g c = busy_alike
