@@ -9,7 +9,7 @@ use Rattle.pt_slots.specs.Slots as slots
 use Rattle.pt_slots.specs.Slots.{jump_to, Slot, exception, pending, Slots, on, left_of}
 use Rattle.pt_slots.specs.CodeObject.{CodeObject}
 use Rattle.pt_slots.specs.Landing.{cut, takes, held_by, land}
-use Rattle.pt_comp_expr.specs.Law.{On_top, same, push}
+use Rattle.pt_comp.specs.Law.{Above, level, raised_by}
 use Rattle.pt_comp.specs.Surroundings.{Loop, Surroundings, deeper, under, covers_place, Reached, Within_loop, TakesAll, TakesRaises, end_place, next_place, Has_loop, as_code, held_as, May, May_hold}
 
 module _ {V : Type 0} where
@@ -17,9 +17,9 @@ module _ {V : Type 0} where
   drop_front [] σ = refl
   drop_front (m ∷ ms) σ = drop_front ms σ
 
-  front : (σ τ : Slots V) → On_top σ τ → (ms : Slots V) × (ms ++ σ ≡ τ)
-  front σ _ same = ([], refl)
-  front σ _ (push s τ o) = let h = front σ τ o in (s ∷ h.0, ap (λ u. s ∷ u) h.1)
+  front : (σ τ : Slots V) → Above σ τ → (ms : Slots V) × (ms ++ σ ≡ τ)
+  front σ _ level = ([], refl)
+  front σ _ (raised_by s τ o) = let h = front σ τ o in (s ∷ h.0, ap (λ u. s ∷ u) h.1)
 
   cut_front : (d : ℕ) (ms σ : Slots V) → length σ ≡ d → cut d (ms ++ σ) ≡ σ
   cut_front d ms σ e =
@@ -27,8 +27,12 @@ module _ {V : Type 0} where
       ap (λ k. drop k (ms ++ σ)) i ∙ drop_front ms σ
 
   -- as many slots stay as lie below
-  pub cut_on_top : (d : ℕ) (σ τ : Slots V) → On_top σ τ → length σ ≡ d → cut d τ ≡ σ
-  cut_on_top d σ τ o e = let h = front σ τ o in ap (λ u. cut d u) (sym h.1) ∙ cut_front d h.0 σ e
+  pub cut_above : (d : ℕ) (σ τ : Slots V) → Above σ τ → length σ ≡ d → cut d τ ≡ σ
+  cut_above d σ τ o e = let h = front σ τ o in ap (λ u. cut d u) (sym h.1) ∙ cut_front d h.0 σ e
+
+  pub shorter : (u : Slot V) (σ τ : Slots V) → Above (u ∷ σ) τ → Above σ τ
+  shorter u σ _ level = raised_by u σ level
+  shorter u σ _ (raised_by t τ o) = raised_by t τ (shorter u σ τ o)
 
   -- rows and slots don't change what a completion is
   pub as_under : (a : F.Abrupt V) (r : Handler) (x : Surroundings) → as_code a (under r x) ≡ as_code a x
@@ -102,8 +106,8 @@ module _ {V : Type 0} (code : CodeObject V) where
   stays (r ∷ rows) p τ (e, h) =
       ap (λ b. if b then on r.target.0 (held_by r.always (jump_to p) ∷ cut r.depth τ) else land code rows (jump_to p) τ) e ∙ stays rows p τ h
 
-  pub reaches : (rows : List Handler) (p : ℕ) (σ τ : Slots V) → Reached p rows → On_top σ τ → length σ ≡ code.depth_at p → land code rows (jump_to p) τ ≡ on p σ
-  reaches rows p σ τ h o e = stays rows p τ h ∙ ap (λ u. on p u) (cut_on_top (code.depth_at p) σ τ o e)
+  pub reaches : (rows : List Handler) (p : ℕ) (σ τ : Slots V) → Reached p rows → Above σ τ → length σ ≡ code.depth_at p → land code rows (jump_to p) τ ≡ on p σ
+  reaches rows p σ τ h o e = stays rows p τ h ∙ ap (λ u. on p u) (cut_above (code.depth_at p) σ τ o e)
 
   row_takes : (a : F.Abrupt V) (r : Handler) (x : Surroundings) → TakesAll r x → May a x → takes r (as_code a x) ≡ true
   row_takes (F.raise v) r x h m = refl
@@ -112,18 +116,18 @@ module _ {V : Type 0} (code : CodeObject V) where
   row_takes F.continue r x h m = ap (λ b. r.always && not b) (on_to_next r x.loop h.around m) ∙ ap (λ b. b && true) h.always
 
   -- an always row takes what may come, and an except row a raise
-  pub all_land : (a : F.Abrupt V) (r : Handler) (x : Surroundings) (rows : List Handler) (σ τ : Slots V) → TakesAll r x → May a x → On_top σ τ → length σ ≡ x.depth
+  pub all_land : (a : F.Abrupt V) (r : Handler) (x : Surroundings) (rows : List Handler) (σ τ : Slots V) → TakesAll r x → May a x → Above σ τ → length σ ≡ x.depth
       → land code (r ∷ rows) (as_code a x) τ ≡ on r.target.0 (pending (slots.by (as_code a x)) ∷ σ)
   all_land a r x rows σ τ h m o e =
       ap (λ b. if b then on r.target.0 (held_by r.always (as_code a x) ∷ cut r.depth τ) else land code rows (as_code a x) τ) (row_takes a r x h m)
       ∙ ap (λ b. on r.target.0 (held_by b (as_code a x) ∷ cut r.depth τ)) h.always
-      ∙ ap (λ u. on r.target.0 (pending (slots.by (as_code a x)) ∷ u)) (cut_on_top r.depth σ τ o (e ∙ sym h.depth))
+      ∙ ap (λ u. on r.target.0 (pending (slots.by (as_code a x)) ∷ u)) (cut_above r.depth σ τ o (e ∙ sym h.depth))
 
-  pub raise_lands : (v : V) (r : Handler) (x : Surroundings) (rows : List Handler) (σ τ : Slots V) → TakesRaises r x → On_top σ τ → length σ ≡ x.depth
+  pub raise_lands : (v : V) (r : Handler) (x : Surroundings) (rows : List Handler) (σ τ : Slots V) → TakesRaises r x → Above σ τ → length σ ≡ x.depth
       → land code (r ∷ rows) (slots.raise v) τ ≡ on r.target.0 (exception v ∷ σ)
   raise_lands v r x rows σ τ h o e =
       ap (λ b. on r.target.0 (held_by b (slots.raise v) ∷ cut r.depth τ)) h.except
-      ∙ ap (λ u. on r.target.0 (exception v ∷ u)) (cut_on_top r.depth σ τ o (e ∙ sym h.depth))
+      ∙ ap (λ u. on r.target.0 (exception v ∷ u)) (cut_above r.depth σ τ o (e ∙ sym h.depth))
 
   -- what an except row doesn't take
   passes : (g : slots.Abrupt V) (r : Handler) (rows : List Handler) (τ : Slots V) → takes r g ≡ false → land code (r ∷ rows) g τ ≡ land code rows g τ

@@ -14,17 +14,17 @@ use Rattle.pt_control.specs.Turn.{Mark, Around, Deed, Throw, Test, Note, raised_
 use Rattle.pt_control.specs.Frames as F
 use Rattle.pt_control.specs.Frames.{Abrupt, Completion, Nest, Way, Wait, Address, Definition, Decorating, Control, for_leave, for_throw, for_truth, for_iter, for_item, for_entry, noting, closed}
 use Rattle.pt_control.specs.Bases as bases
-use Rattle.pt_control.specs.Bases.{around_way}
+use Rattle.pt_control.specs.Bases.{way_base, around_way}
 use Rattle.pt_control.specs.Numbers.{tested_body, behind_body, for_body, for_else}
 use Rattle.pt_control.specs.Control as control
-use Rattle.pt_slots.specs.Slots.{value, iterator, exception, pending, exit, Slots, State, on, reraises, off, active}
+use Rattle.pt_slots.specs.Slots.{Slot, value, iterator, exception, pending, exit, Slots, State, on, reraises, off, active}
 use Rattle.pt_slots.specs.CodeObject.{CodeObject}
 use Rattle.pt_slots.specs.Landing.{land}
 use Rattle.pt_slots.specs.Steps.{after, with_item}
 use Rattle.pt_slots.specs.Machine as machine
 use Rattle.pt_comp_expr.specs.Places.{◌⨾◌, act_mark, Stores, Op_at, Exp_at}
 use Rattle.pt_comp_expr.specs.Law as expressions
-use Rattle.pt_comp_expr.specs.Law.{On_top, Outer, wait, way}
+use Rattle.pt_comp_expr.specs.Law.{Outer, wait, way, active_at}
 use Rattle.pt_comp.specs.Surroundings.{Surroundings, outermost, in_loop, deeper, under, TakesAll, TakesRaises, as_code, held_as, May, May_hold}
 use Rattle.pt_comp.specs.Places.{Deletes, DeletesAttribute, Splits, Value_at, Act_in, Move_in, Jump_in, Null_in, Store_in, Assigned_at, Back_to_name, Back_to_attribute, Back_to_item, Changed_at, All_deleted_at, Failed_at, Thrown_at, Imported_at, Imported_from_at, Bound_at, Decorated_at, While_at, For_at, Taken_at, behind_target, Items_at, All_at, Branches_at, Handlers_at, Block_at, Lambda_at, Generator_at}
 
@@ -42,6 +42,11 @@ decorators_above (d ∷ ds) ss = value d.value ∷ decorators_above ds ss
 abbrev pub lines_of : {V : Type 0} → List (Decorating V) → List ℕ
 lines_of [] = []
 lines_of (d ∷ ds) = d.line ∷ lines_of ds
+
+-- slots with any others above them
+pub data Above {V : Type 0} (σ : Slots V) : Slots V → Type 0 where
+  level : Above σ σ
+  raised_by : (u : Slot V) (τ : Slots V) → Above σ τ → Above σ (u ∷ τ)
 
 module _ {V : Type 0} (block : Around V) (code : CodeObject V) where
   abbrev pub Back_at : Address V → (n l : ℕ) → Surroundings → ℕ → ℕ → Type 0
@@ -87,10 +92,15 @@ module _ {V : Type 0} (block : Around V) (code : CodeObject V) where
 
   -- a nest to which a raise goes from these slots. The tests of handlers and an exit that is due are code of the statement around
   pub data Inside : Nest V → Surroundings → Slots V → Type 0 where
-    inside : (s : Nest V) (x : Surroundings) (σ τ : Slots V) (p : ℕ) → Nest_on s x σ p → On_top σ τ → Inside s x τ
+    inside : (s : Nest V) (x : Surroundings) (σ τ : Slots V) (p : ℕ) → Nest_on s x σ p → Above σ τ → Inside s x τ
     alone : (τ : Slots V) → Inside [] outermost τ
     in_tests : (n : ℕ) (e : V) (s : Nest V) (x : Surroundings) (τ : Slots V) → Inside s x τ → Inside (F.testing n e ∷ s) x τ
     in_exit : (n : ℕ) (w : V) (held : Completion V) (s : Nest V) (x : Surroundings) (τ : Slots V) → Inside s x τ → Inside (F.exiting n w held ∷ s) x τ
+
+  -- the same where the exception that is active is that of the nest
+  pub record Within (s : Nest V) (x : Surroundings) (σ : Slots V) : Type 0 where
+    pub stands : Inside s x σ
+    pub same_active : active σ ≡ bases.active s
 
   -- the same of what waits for nothing
   pub data Way_on : Way V → Surroundings → Slots V → (pc : ℕ) → Type 0 where
@@ -107,7 +117,7 @@ module _ {V : Type 0} (block : Around V) (code : CodeObject V) where
     at_tests : (k n : ℕ) (hs : Handlers) (e : V) (s : Nest V) (x : Surroundings) (σ : Slots V) (p end : ℕ)
         → Handlers_at block code hs n end x p → Nest_on s x σ end → Way_on (F.tests k n hs e s) x (exception e ∷ σ) p
     at_binding : (l n : ℕ) (y : Name) (e : V) (k : Way V) (s : Nest V) (x z : Surroundings) (σ : Slots V) (p q r : ℕ)
-        → Move_in block code x instr.Caught p q → Store_in block code x y n l q r → Way_on k z (exception e ∷ σ) r → Inside s x (exception e ∷ σ)
+        → Move_in block code x instr.Caught p q → Store_in block code x y n l q r → Way_on k z (exception e ∷ σ) r → Within s x (exception e ∷ σ)
         → Way_on (F.binding l n y e k s) x (exception e ∷ σ) p
     at_assigns : (n : ℕ) (v : V) (ts : Tgts) (s : Nest V) (x : Surroundings) (σ : Slots V) (p q : ℕ)
         → Assigned_at block code ts n x p q → Nest_on s x σ q → Way_on (F.assigns n v ts s) x (value v ∷ σ) p
@@ -120,7 +130,7 @@ module _ {V : Type 0} (block : Around V) (code : CodeObject V) where
     at_within_items : (n : ℕ) (is : Items) (body : Stms) (s : Nest V) (x : Surroundings) (σ : Slots V) (p q : ℕ)
         → Items_at block code is (All_at block code body) (stms_size body) n x p q → Nest_on s x σ q → Way_on (F.within_items n is body s) x σ p
     at_failed : (l n : ℕ) (m : Opt) (s : Nest V) (x : Surroundings) (σ : Slots V) (p q : ℕ)
-        → Failed_at block code m l n x p q → Inside s x σ → Way_on (F.failed l n m s) x σ p
+        → Failed_at block code m l n x p q → Within s x σ → Way_on (F.failed l n m s) x σ p
 
   -- by moves the code comes to where it goes on so
   pub data Lands : Way V → State V → Type 0 where
@@ -135,21 +145,25 @@ module _ {V : Type 0} (block : Around V) (code : CodeObject V) where
         → Assigned_at block code ts n x p q → Nest_on s x σ q → Waits_on (F.assigned n ts s) x σ p
     -- a test goes to the next place or to another, whichever way round
     at_asked : (l n : ℕ) (t f : Way V) (x z : Surroundings) (σ : Slots V) (p q other : ℕ)
-        → Act_in block code x (instr.JumpUnless (record { 0 = other })) n l p q → Way_on t z σ q → Way_on f x σ other → Waits_on (F.asked l n t f) x σ p
+        → Act_in block code x (instr.JumpUnless (record { 0 = other })) n l p q → Way_on t z σ q → Way_on f x σ other
+        → active σ ≡ bases.active (way_base f) → Waits_on (F.asked l n t f) x σ p
     at_asked_back : (l n : ℕ) (t f : Way V) (x z : Surroundings) (σ : Slots V) (p q other : ℕ)
-        → Act_in block code x (instr.JumpIf (record { 0 = other })) n l p q → Way_on t z σ other → Way_on f x σ q → Waits_on (F.asked l n t f) x σ p
+        → Act_in block code x (instr.JumpIf (record { 0 = other })) n l p q → Way_on t z σ other → Way_on f x σ q
+        → active σ ≡ bases.active (way_base f) → Waits_on (F.asked l n t f) x σ p
     at_iterated : (l k n m : ℕ) (t : Tgt) (body els : Stms) (s : Nest V) (x : Surroundings) (σ : Slots V) (p q first next other end : ℕ)
         → Act_in block code x instr.Iter k l p q → Act_in block code x (instr.Next (record { 0 = other })) n m q first
         → For_at block code m n t (All_at block code body (for_body n t)) (All_at block code els (for_else n t body) x) x first next other end
         → Nest_on s x σ end → Waits_on (F.iterated l k (F.for_over m n t body els s)) x σ p
     -- the parts of a place that is deleted, or changed by an operator, are due
     at_deleted_attribute : (l n : ℕ) (y : Name) (k : Way V) (x : Surroundings) (σ : Slots V) (p q : ℕ)
-        → DeletesAttribute block code x.rows (block.spelled y) (act_mark p n l false) p q → Way_on k x σ q → Waits_on (F.of_attribute l n y (F.deleting k)) x σ p
+        → DeletesAttribute block code x.rows (block.spelled y) (act_mark p n l false) p q → Way_on k x σ q → active σ ≡ bases.active (way_base k)
+        → Waits_on (F.of_attribute l n y (F.deleting k)) x σ p
     at_deleted_item : (l n : ℕ) (i : Exp) (k : Way V) (x : Surroundings) (σ : Slots V) (p q : ℕ)
         → (Exp_at block code x.rows i n false (around_way k) ⨾ Act_in block code x instr.DelItem (n + size i) l) p q → Way_on k x σ q
-        → Waits_on (F.of_item l n i (F.deleting k)) x σ p
+        → active σ ≡ bases.active (way_base k) → Waits_on (F.of_item l n i (F.deleting k)) x σ p
     at_deleted_index : (l n : ℕ) (a : V) (k : Way V) (x : Surroundings) (σ : Slots V) (p q : ℕ)
-        → Act_in block code x instr.DelItem n l p q → Way_on k x σ q → Waits_on (F.at_item l n a (F.deleting k)) x (value a ∷ σ) p
+        → Act_in block code x instr.DelItem n l p q → Way_on k x σ q → active σ ≡ bases.active (way_base k)
+        → Waits_on (F.at_item l n a (F.deleting k)) x (value a ∷ σ) p
     at_changed_attribute : (l n j : ℕ) (y : Name) (o : BinOp) (e : Exp) (s : Nest V) (x : Surroundings) (σ : Slots V) (p q : ℕ)
         → (Move_in block code x instr.Copy ⨾ Op_at block code x.rows (T.get (block.spelled y)) l n false 1
         ⨾ Changed_at block code o e j (n + 1) (λ m. Back_to_attribute block code y m l x) x) p q → Nest_on s x σ q
@@ -171,13 +185,13 @@ module _ {V : Type 0} (block : Around V) (code : CodeObject V) where
     at_given_back : (n k : ℕ) (to : Address V) (s : Nest V) (x : Surroundings) (σ : Slots V) (p q : ℕ)
         → Back_at to n k x p q → Nest_on s x σ q → Waits_on (F.change_stored n k to s) x (addressed to σ) p
     at_returned : (l n : ℕ) (s : Nest V) (x : Surroundings) (σ : Slots V) (p q : ℕ)
-        → Act_in block code x instr.Return n l p q → Inside s x σ → Waits_on (F.returned_by l n s) x σ p
+        → Act_in block code x instr.Return n l p q → Within s x σ → Waits_on (F.returned_by l n s) x σ p
     at_thrown : (l n : ℕ) (c : Opt) (s : Nest V) (x : Surroundings) (σ : Slots V) (p q : ℕ)
-        → Thrown_at block code c l n x p q → Inside s x σ → Waits_on (F.thrown l n c s) x σ p
+        → Thrown_at block code c l n x p q → Within s x σ → Waits_on (F.thrown l n c s) x σ p
     at_caused : (l n : ℕ) (v : V) (s : Nest V) (x : Surroundings) (σ : Slots V) (p q : ℕ)
-        → Act_in block code x instr.RaiseFrom n l p q → Inside s x σ → Waits_on (F.caused l n v s) x (value v ∷ σ) p
+        → Act_in block code x instr.RaiseFrom n l p q → Within s x σ → Waits_on (F.caused l n v s) x (value v ∷ σ) p
     at_message : (l n : ℕ) (s : Nest V) (x : Surroundings) (σ : Slots V) (p q : ℕ)
-        → Act_in block code x (instr.AssertFail true) n l p q → Inside s x σ → Waits_on (F.message_of l n s) x σ p
+        → Act_in block code x (instr.AssertFail true) n l p q → Within s x σ → Waits_on (F.message_of l n s) x σ p
     at_imported : (l n : ℕ) (y : Name) (xs : List Alias) (s : Nest V) (x : Surroundings) (σ : Slots V) (p q : ℕ)
         → (Store_in block code x y n l ⨾ Imported_at block code xs l (n + 1) x) p q → Nest_on s x σ q → Waits_on (F.imported l n y xs s) x σ p
     at_imported_origin : (l n : ℕ) (xs : List Alias) (s : Nest V) (x : Surroundings) (σ : Slots V) (p q : ℕ)
@@ -211,6 +225,7 @@ module _ {V : Type 0} (block : Around V) (code : CodeObject V) where
     pub surroundings : Surroundings
     pub same_rows : surroundings.rows ≡ rows
     pub stands : Way_on k surroundings σ pc
+    pub same_active : active σ ≡ bases.active (way_base k)
 
   abbrev pub Beyond : Outer V → List Handler → Slots V → (pc : ℕ) → Type 0
   Beyond (wait w) rows σ p = Waiting w rows σ p
@@ -221,30 +236,36 @@ module _ {V : Type 0} (block : Around V) (code : CodeObject V) where
     is_there : (p : ℕ) → Leads x p p
     by_jump : (p m q : ℕ) → Jump_in block code x q p m → Leads x p q
 
+  -- what is active at an act. An ask without a mark has none: while a name is unbound behind a raise, code has that raise already
+  abbrev pub Active_as : Option Mark → Nest V → State V → Type 0
+  Active_as (Some m) s t = active_at t ≡ bases.active s
+  Active_as None s t = Unit {0}
+
   -- a state of the code stands for one of control, at the beginning of an act or of an ask without a mark, at a note, or at the end
   pub data Match : Control V → State V → Type 0 where
     m_within : (outer : Outer V) (rows : List Handler) (σ : Slots V) (p : ℕ) (c : Control V) (t : State V)
         → Beyond outer rows σ p → expressions.Match block code rows outer σ p c t → Match c t
     m_deed : (m : Option Mark) (d : Deed V) (k : Way V) (s : Nest V) (x : Surroundings) (t : State V) (i : Ins) (τ : Slots V) (u : State V) (c : Control V)
         → machine.turn code t ≡ act m (T.deed d) (after code i τ (λ r. u)) → control.turn block c ≡ act m (T.deed d) (control.after_deed block k s)
-        → i.rows ≡ x.rows → Inside s x τ → Lands k u → Match c t
+        → i.rows ≡ x.rows → Inside s x τ → Lands k u → Active_as m s t → control.nest_at c ≡ s → Match c t
     m_leave : (m : Mark) (a : Abrupt V) (s : Nest V) (x : Surroundings) (t : State V) (i : Ins) (τ : Slots V)
         → machine.turn code t ≡ act (Some m) (T.leave (control.leave_by block a)) (after code i τ (λ r. land code x.rows (as_code a x) τ))
-        → i.rows ≡ x.rows → May a x → Inside s x τ → Match (for_leave m a s) t
+        → i.rows ≡ x.rows → May a x → Inside s x τ → active_at t ≡ bases.active s → Match (for_leave m a s) t
     m_throw : (m : Mark) (a : Throw V) (s : Nest V) (x : Surroundings) (t : State V) (i : Ins) (τ : Slots V)
-        → machine.turn code t ≡ act (Some m) (T.throw a) (after code i τ (λ r. elim r [ ])) → i.rows ≡ x.rows → Inside s x τ → Match (for_throw m a s) t
+        → machine.turn code t ≡ act (Some m) (T.throw a) (after code i τ (λ r. elim r [ ])) → i.rows ≡ x.rows → Inside s x τ → active_at t ≡ bases.active s
+        → Match (for_throw m a s) t
     m_truth : (m : Mark) (a : Test V) (k f : Way V) (s : Nest V) (x : Surroundings) (t : State V) (i : Ins) (τ : Slots V) (next : Bool → State V)
         → machine.turn code t ≡ act (Some m) (T.test a) (after code i τ next) → i.rows ≡ x.rows → Inside s x τ → Lands k (next true) → Lands f (next false)
-        → Match (for_truth m a k f s) t
+        → active_at t ≡ bases.active s → Match (for_truth m a k f s) t
     m_iter : (m : Mark) (v : V) (l n : ℕ) (tg : Tgt) (body els : Stms) (s : Nest V) (x : Surroundings) (t : State V) (i : Ins) (σ : Slots V) (q first next other end : ℕ)
         → machine.turn code t ≡ act (Some m) (T.iter_of v) (after code i σ (λ it. on q (iterator it ∷ σ))) → i.rows ≡ x.rows
         → Act_in block code x (instr.Next (record { 0 = other })) n l q first
         → For_at block code l n tg (All_at block code body (for_body n tg)) (All_at block code els (for_else n tg body) x) x first next other end
-        → Nest_on s x σ end → Match (for_iter m v (F.for_over l n tg body els s)) t
+        → Nest_on s x σ end → active_at t ≡ active σ → Match (for_iter m v (F.for_over l n tg body els s)) t
     m_next : (m : Mark) (it : V) (l n : ℕ) (tg : Tgt) (body els : Stms) (s : Nest V) (x : Surroundings) (t : State V) (i : Ins) (σ : Slots V) (first next other end : ℕ)
         → machine.turn code t ≡ act (Some m) (T.next_of it) (after code i σ (with_item code i other it σ)) → i.rows ≡ x.rows → Leads x i.next first
         → For_at block code l n tg (All_at block code body (for_body n tg)) (All_at block code els (for_else n tg body) x) x first next other end
-        → Nest_on s x σ end
+        → Nest_on s x σ end → active_at t ≡ active σ
         → Match (for_item m it (n + 1) tg (F.stms (for_body n tg) body (F.iterating l n it tg body els ∷ s)) (F.stms (for_else n tg body) els s)) t
     m_entry : (m : Mark) (v : V) (l n : ℕ) (tg : Option Tgt) (is : Items) (body : Stms) (s : Nest V) (x : Surroundings) (t : State V) (i : Ins) (σ : Slots V)
         (row : Handler) (q end : ℕ)
@@ -253,9 +274,9 @@ module _ {V : Type 0} (block : Around V) (code : CodeObject V) where
         ⨾ Items_at block code is (All_at block code body) (stms_size body) (behind_target block code tg n) (under row (deeper x))
         ⨾ Move_in block code (under row x) instr.Normal) q row.target.0
         → (Act_in block code x instr.Exit (behind_target block code tg n + items_size is (stms_size body)) l ⨾ Move_in block code x instr.EndFinally)
-        row.target.0 end → Nest_on s x σ end → Match (for_entry m v l n tg is body s) t
+        row.target.0 end → Nest_on s x σ end → active_at t ≡ active σ → Match (for_entry m v l n tg is body s) t
     m_note : (e : V) (s : Nest V) (x : Surroundings) (rows : List Handler) (τ : Slots V)
-        → rows ≡ x.rows → Inside s x τ → Match (noting (raised_again e) (F.raises e s) s) (reraises e rows τ)
+        → rows ≡ x.rows → Inside s x τ → active τ ≡ bases.active s → Match (noting (raised_again e) (F.raises e s) s) (reraises e rows τ)
     m_over : (e : End V) → Match (closed e) (off e)
 
   -- by moves the code comes to such a state
@@ -279,9 +300,14 @@ module _ {V : Type 0} (block : Around V) (code : CodeObject V) where
   abbrev pub WaysGoOn : Type 0
   WaysGoOn = (k : Way V) (x : Surroundings) (σ : Slots V) (p : ℕ) → Way_on k x σ p → Comes (control.go block k) (on p σ)
 
-  -- the exception that is active in a nest is that of the slots (8.4.1, 8.4.4)
-  abbrev pub BusyAlike : Type 0
-  BusyAlike = (s : Nest V) (x : Surroundings) (σ : Slots V) (p : ℕ) → Nest_on s x σ p → active σ ≡ bases.active s
+  -- a turn at which it may be asked which exception is active: an act, a note or the end
+  abbrev pub Looks : Turn (State V) V → Type 0
+  Looks (act None a k) = ⊥
+  Looks t = Unit {0}
+
+  -- in matching states the same exception is active (8.4.1, 8.4.4)
+  abbrev pub ActiveAlike : Type 0
+  ActiveAlike = (c : Control V) (t : State V) → Match c t → Looks (machine.turn code t) → active_at t ≡ control.context_at c
 
   -- and code comes from the beginning of its block to such states: a block of statements, a lambda's, and a generator expression's with its first iterator
   abbrev pub BlocksBegin : Type 0

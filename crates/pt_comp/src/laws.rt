@@ -4,8 +4,8 @@ ghost use Rattle.pt_control.specs.Turn.{Around};
 ghost use Rattle.pt_slots.specs.CodeObject.{CodeObject};
 ghost use Rattle.pt_comp_expr.specs.Samples.{sample_block};
 ghost use Rattle.pt_comp.specs.Law.{
+  ActiveAlike,
   BlocksBegin,
-  BusyAlike,
   Follows,
   GeneratorsBegin,
   LambdasBegin,
@@ -17,15 +17,15 @@ ghost use Rattle.pt_comp.specs.Samples.{every_statement, every_statement_code};
 /// Where the code of a block stands, code and control come from its beginning to states that match.
 /// From all states that match, both have the same act, the same ask without a mark, the same note or
 /// the same end, and behind each reply they come to states that match again. They come to such states
-/// too from each place where code goes on as control does, as behind a jump; and the exception that is
-/// active in a nest is that of its slots.
+/// too from each place where code goes on as control does, as behind a jump. At an act, a note and the
+/// end, the same exception is active in both.
 pub fn the_code_of_a_block_follows_it<V>()
     ensures blocks { (block : Around V) (code : CodeObject V) → BlocksBegin block code }
     ensures lambdas { (block : Around V) (code : CodeObject V) → LambdasBegin block code }
     ensures generators { (block : Around V) (code : CodeObject V) → GeneratorsBegin block code }
     ensures follows { (block : Around V) (code : CodeObject V) → Follows block code }
     ensures ways { (block : Around V) (code : CodeObject V) → WaysGoOn block code }
-    ensures active { (block : Around V) (code : CodeObject V) → BusyAlike block code }
+    ensures active { (block : Around V) (code : CodeObject V) → ActiveAlike block code }
 {}
 
 /// A block that holds every statement has code that stands so.

@@ -12,12 +12,13 @@ use Rattle.pt_control.specs.Turn as T
 use Rattle.pt_control.specs.Turn.{Mark, mark, Around, Variable, Operation, Seek, Deed, Ask, Answer, Reply, Turn, act, move, over}
 use Rattle.pt_control.specs.Frames as F
 use Rattle.pt_control.specs.Frames.{Operand, Nest, Way, Wait, Over, Rounds, Stores, Control, for_value, for_truth, for_iter, for_item, for_unpack, for_delegate, silent_value}
+use Rattle.pt_control.specs.Bases as bases
 use Rattle.pt_control.specs.Bases.{base, way_base, around, around_way, around_rounds, rounds_line}
 use Rattle.pt_control.specs.Completions.{complete}
 use Rattle.pt_control.specs.Expressions.{begin_exp, target_names, clause_names, built_as}
 use Rattle.pt_control.specs.Statements as statements
 use Rattle.pt_control.specs.Control as control
-use Rattle.pt_slots.specs.Slots.{raise, Slot, value, cell, iterator, Slots, State, on}
+use Rattle.pt_slots.specs.Slots.{raise, Slot, value, cell, iterator, Slots, State, on, thrown_to, reraises, off, busy_with, active}
 use Rattle.pt_slots.specs.CodeObject.{CodeObject}
 use Rattle.pt_slots.specs.Landing.{land}
 use Rattle.pt_slots.specs.Pops.{giving}
@@ -25,10 +26,22 @@ use Rattle.pt_slots.specs.Steps.{after, with_item, delegated}
 use Rattle.pt_slots.specs.Machine as machine
 use Rattle.pt_comp_expr.specs.Places.{count, above, cells_above, iterators_above, act_mark, ins, Act_at, Move_at, Null_at, Made_at, Exp_at, Behind_at, Spec_at, Links_at, Ands_at, Ors_at, Clauses_at, Item_at, Target_at, Targets_at, Renewed_at, Sets, here, ◌⨾◌}
 
--- slots with others above them
+-- slots with others above them, none of which is busy with an exception
 pub data On_top {V : Type 0} (ss : Slots V) : Slots V → Type 0 where
   same : On_top ss ss
-  push : (s : Slot V) (ts : Slots V) → On_top ss ts → On_top ss (s ∷ ts)
+  push : (s : Slot V) (ts : Slots V) → On_top ss ts → busy_with s ≡ None → On_top ss (s ∷ ts)
+
+-- the exception that is active in a state (8.4.1, 8.4.4)
+abbrev pub active_at : {V : Type 0} → State V → Option V
+active_at (on p ss) = active ss
+active_at (thrown_to p e ss) = active ss
+active_at (reraises e rows ss) = active ss
+active_at (off e) = None
+
+-- an instruction that stands under these rows takes no slot that is busy, and leaves these
+pub record Leaves {V : Type 0} (t : State V) (i : Ins) (rows : List Handler) (ss : Slots V) : Type 0 where
+  pub same_rows : i.rows ≡ rows
+  pub same_active : active_at t ≡ active ss
 
 -- the result of the comprehension that clauses lie in
 pub data Makes {V : Type 0} : Rounds V → V → Type 0 where
@@ -196,37 +209,38 @@ module _ {V : Type 0} (block : Around V) (code : CodeObject V) (rows : List Hand
   -- a state of the code stands for one of control, at the beginning of an act or of an ask without a mark
   pub data Match : Control V → State V → Type 0 where
     m_value : (m : Mark) (a : Seek V) (w : Wait V) (t : State V) (i : Ins) (ss ts : Slots V) (q : ℕ)
-        → machine.turn code t ≡ act (Some m) (T.seek a) (after code i ts (λ v. on q (value v ∷ ss))) → i.rows ≡ rows → On_top ss ts → Waits_on w ss q
+        → machine.turn code t ≡ act (Some m) (T.seek a) (after code i ts (λ v. on q (value v ∷ ss))) → Leaves t i rows ts → On_top ss ts → Waits_on w ss q
         → Match (for_value m a w) t
     m_cell : (x : Variable) (l n : ℕ) (g : Bool) (op : Operation) (lower : List V → Slots V → Slots V) (cs vs before : List V) (xs : List Variable) (w : Wait V)
         (t : State V) (i : Ins) (ss ts : Slots V) (p q : ℕ)
-        → machine.turn code t ≡ act None (T.seek (T.cell_of x)) (after code i ts (λ v. on p (cell v ∷ cells_above cs (lower vs ss)))) → i.rows ≡ rows
+        → machine.turn code t ≡ act None (T.seek (T.cell_of x)) (after code i ts (λ v. on p (cell v ∷ cells_above cs (lower vs ss)))) → Leaves t i rows ts
         → On_top ss ts
         → On_top ss (lower vs ss) → Made_at block code rows xs op lower l n g (count vs) (suc (count cs)) p q → before ≡ cs ++ vs → Waits_on w ss q
         → Match (silent_value (T.cell_of x) (F.celled l n g op before xs w)) t
     m_truth : (m : Mark) (v : V) (t f : Way V) (s : Nest V) (st : State V) (i : Ins) (ts : Slots V) (next : Bool → State V)
-        → machine.turn code st ≡ act (Some m) (T.test (T.branch v)) (after code i ts next) → i.rows ≡ rows → Inside s ts → Lands t (next true)
+        → machine.turn code st ≡ act (Some m) (T.test (T.branch v)) (after code i ts next) → Leaves st i rows ts → Inside s ts → Lands t (next true)
         → Lands f (next false)
         → Match (for_truth m (T.branch v) t f s) st
     m_deed : (m : Option Mark) (d : Deed V) (k : Way V) (s : Nest V) (t : State V) (i : Ins) (ts : Slots V) (u : State V) (c : Control V)
         → machine.turn code t ≡ act m (T.deed d) (after code i ts (λ x. u)) → control.turn block c ≡ act m (T.deed d) (control.after_deed block k s)
-        → i.rows ≡ rows → Inside s ts → Lands k u → Match c t
+        → control.nest_at c ≡ s
+        → Leaves t i rows ts → Inside s ts → Lands k u → Match c t
     m_item : (m : Mark) (it : V) (n : ℕ) (tg : Tgt) (k f : Way V) (t : State V) (i : Ins) (ss : Slots V) (q q' to : ℕ)
-        → machine.turn code t ≡ act (Some m) (T.next_of it) (after code i ss (with_item code i to it ss)) → i.rows ≡ rows → i.next ≡ q
+        → machine.turn code t ≡ act (Some m) (T.next_of it) (after code i ss (with_item code i to it ss)) → Leaves t i rows ss → i.next ≡ q
         → Target_at block code rows tg n (around_way k) q q' → Way_on k (iterator it ∷ ss) q' → Way_on f ss to
         → Inside (way_base k) ss → Match (for_item m it n tg k f) t
     m_unpack : (m : Mark) (v : V) (n : ℕ) (ts : Tgts) (k : Way V) (t : State V) (i : Ins) (ss : Slots V) (q q' : ℕ)
         → machine.turn code t
         ≡ act (Some m) (T.unpack v (statements.count ts) (statements.star_of ts)) (after code i ss (λ vs. on q (giving (statements.count ts) vs ss)))
-        → i.rows ≡ rows → Targets_at block code rows ts n (around_way k) q q' → Way_on k ss q' → Inside (way_base k) ss
+        → Leaves t i rows ss → Targets_at block code rows ts n (around_way k) q q' → Way_on k ss q' → Inside (way_base k) ss
         → Match (for_unpack m v n ts k (way_base k)) t
     m_iter : (m : Mark) (v : V) (o : Over V) (t : State V) (i : Ins) (ss : Slots V) (q : ℕ)
-        → machine.turn code t ≡ act (Some m) (T.iter_of v) (after code i ss (λ it. on q (iterator it ∷ ss))) → i.rows ≡ rows → Over_on o ss q
+        → machine.turn code t ≡ act (Some m) (T.iter_of v) (after code i ss (λ it. on q (iterator it ∷ ss))) → Leaves t i rows ss → Over_on o ss q
         → Match (for_iter m v o) t
     m_delegate : (l n : ℕ) (it u : V) (r : Reply V V) (w : Wait V) (t : State V) (ss : Slots V) (p q : ℕ)
         → Act_at block code rows instr.Delegate n l false p q
         → machine.turn code t ≡ act (Some (mark n l false)) (T.delegate it r) (after code (ins instr.Delegate (act_mark p n l false) q rows) ss
-        (delegated code p (ins instr.Delegate (act_mark p n l false) q rows) it u ss)) → Waits_on w ss q
+        (delegated code p (ins instr.Delegate (act_mark p n l false) q rows) it u ss)) → active_at t ≡ active ss → Waits_on w ss q
         → Match (for_delegate (mark n l false) it r w) t
 
   -- by moves the code comes to such a state
@@ -262,6 +276,11 @@ module _ {V : Type 0} (block : Around V) (code : CodeObject V) where
   AllStore = (rows : List Handler) (k : Way V) (lowest : Slots V) (end : ℕ) (t : Tgt) (v : V) (n from : ℕ)
       → Target_at block code rows t n (around_way k) from end
       → Nears block code rows (way k) lowest end (statements.begin_store block t v n k) (on from (value v ∷ lowest))
+
+  -- the exception that is active in control there is that of the nest behind, and in code that of the slots below
+  abbrev pub AllActive : Type 0
+  AllActive = (rows : List Handler) (outer : Outer V) (lowest : Slots V) (end : ℕ) (c : Control V) (t : State V) → Match block code rows outer lowest end c t
+      → (control.context_at c ≡ bases.active (outer_base outer)) × (active_at t ≡ active lowest)
 
   abbrev pub AllFollow : Type 0
   AllFollow = (rows : List Handler) (outer : Outer V) (lowest : Slots V) (end : ℕ) → Follows block code rows outer lowest end
