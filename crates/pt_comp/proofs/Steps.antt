@@ -36,7 +36,7 @@ use Rattle.pt_comp_expr.proofs.Steps as steps
 use Rattle.pt_comp_expr.proofs.Steps.{on_above}
 use Rattle.pt_comp.specs.Surroundings.{Loop, Surroundings, outermost, in_loop, deeper, under, TakesAll, TakesRaises, end_place, next_place, Has_loop, as_code, held_as, May, May_hold}
 use Rattle.pt_comp.specs.Places.{Deletes, Splits, Starts, at_once, never_left, Act_in, Move_in, Null_in, Assigned_at, All_deleted_at, Left_at, Imported_at, Imported_from_at, Definition_at, Decorated_at, Augmented_at, While_at, For_at, Guarded_at, Ensured_at, Handled_at, Taken_at, behind_target, Items_at, Stm_at, All_at, Branches_at, Handlers_at}
-use Rattle.pt_comp.specs.Law.{Above, level, raised_by, Within, Looks, Active_as, Match, addressed, decorators_above, lines_of, Back_at, Nest_on, at_end, at_rest, at_looping, at_iterating, at_unguarded, at_guarded, at_unensured, at_ensured, at_ending, at_handling, at_naming, at_withing, nest_behind_jump, Inside, inside, alone, in_tests, in_exit, Way_on, at_finished, at_stms, at_branches, at_lets_go, at_unbinds, at_tests, at_binding, at_assigns, at_deletes, at_imports, at_imports_from, at_within_items, at_failed, Waits_on, at_dropped, at_assigned, at_asked, at_asked_back, at_iterated, at_deleted_attribute, at_deleted_item, at_deleted_index, at_changed_attribute, at_changed_item, at_changed_index, at_changing, at_changed, at_given_back, at_returned, at_thrown, at_caused, at_message, at_imported, at_imported_origin, at_imported_name, at_matched, at_entered, at_decorated, at_defined, Waiting, Going, Beyond, Lands, lands, lands_by, Leads, is_there, by_jump, m_within, m_deed, m_leave, m_throw, m_truth, m_iter, m_next, m_entry, m_note, m_over, Comes, there, moves, Same, same_act, same_note, same_over, Follows, WaysGoOn, ActiveAlike, BlocksBegin, LambdasBegin, GeneratorsBegin}
+use Rattle.pt_comp.specs.Law.{Above, level, raised_by, Within, Looks, Active_as, addressed, decorators_above, lines_of, Back_at, Nest_on, at_end, at_rest, at_looping, at_iterating, at_unguarded, at_guarded, at_unensured, at_ensured, at_ending, at_handling, at_naming, at_withing, nest_behind_jump, Inside, inside, alone, in_tests, in_exit, Way_on, at_finished, at_stms, at_branches, at_lets_go, at_unbinds, at_tests, at_binding, at_assigns, at_deletes, at_imports, at_imports_from, at_within_items, at_failed, Waits_on, at_dropped, at_assigned, at_asked, at_asked_back, at_iterated, at_deleted_attribute, at_deleted_item, at_deleted_index, at_changed_attribute, at_changed_item, at_changed_index, at_changing, at_changed, at_given_back, at_returned, at_thrown, at_caused, at_message, at_imported, at_imported_origin, at_imported_name, at_matched, at_entered, at_decorated, at_defined, Waiting, Going, Beyond, Lands, lands, lands_by, Leads, is_there, by_jump, m_within, m_deed, m_leave, m_throw, m_truth, m_iter, m_next, m_entry, m_note, m_over, Comes, there, moves, Same, same_act, same_note, same_over, Follows, WaysGoOn, ActiveAlike, BlocksBegin, LambdasBegin, GeneratorsBegin}
 use Rattle.pt_comp.proofs.Rows.{shorter, as_under, as_deeper, may_under, may_deeper, raise_in, left_true, left_false, may_swallowed, reaches, all_land, raise_lands, return_passes, jump_passes}
 
 module _ {V : Type 0} (block : Around V) (code : CodeObject V) where
