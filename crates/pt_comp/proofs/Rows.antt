@@ -10,7 +10,7 @@ use Rattle.pt_slots.specs.Slots.{jump_to, Slot, exception, pending, Slots, on, l
 use Rattle.pt_slots.specs.CodeObject.{CodeObject}
 use Rattle.pt_slots.specs.Landing.{cut, takes, held_by, land}
 use Rattle.pt_comp.specs.Law.{Above, level, raised_by}
-use Rattle.pt_comp.specs.Surroundings.{Loop, Surroundings, deeper, under, covers_place, Reached, Within_loop, TakesAll, TakesRaises, end_place, next_place, Has_loop, as_code, held_as, May, May_hold}
+use Rattle.pt_comp.specs.Surroundings.{Loop, Surroundings, deeper, under, covers_place, Reached, Within_loop, TakesAll, TakesRaises, end_place, next_place, Ends, Goes_on, as_code, held_as, May, May_hold}
 
 module _ {V : Type 0} where
   drop_front : (ms σ : Slots V) → drop (length ms) (ms ++ σ) ≡ σ
@@ -47,18 +47,6 @@ module _ {V : Type 0} where
   as_deeper F.break x = refl
   as_deeper F.continue x = refl
 
-  pub may_under : (a : F.Abrupt V) (r : Handler) (x : Surroundings) → May a (under r x) → May a x
-  may_under (F.raise v) r x m = m
-  may_under (F.return v) r x m = m
-  may_under F.break r x m = m
-  may_under F.continue r x m = m
-
-  pub may_deeper : (a : F.Abrupt V) (x : Surroundings) → May a (deeper x) → May a x
-  may_deeper (F.raise v) x m = m
-  may_deeper (F.return v) x m = m
-  may_deeper F.break x m = m
-  may_deeper F.continue x m = m
-
   -- what an exit leaves
   pub raise_in : (c : F.Completion V) (x : Surroundings) → slots.raise_of (held_as c x) ≡ completions.raise_of c
   raise_in F.normal x = refl
@@ -81,25 +69,38 @@ module _ {V : Type 0} where
   left_false (F.by F.break) x = refl
   left_false (F.by F.continue) x = refl
 
-  pub may_swallowed : (c : F.Completion V) (x : Surroundings) → May_hold c x → May_hold (swallowed c) x
+and_false : (b c : Bool) → c ≡ false → (c && b) ≡ false
+and_false b c e = ap (λ u. u && b) e
+
+module _ {V : Type 0} (code : CodeObject V) where
+  -- rows and slots don't change what may come
+  pub may_under : (a : F.Abrupt V) (r : Handler) (x : Surroundings) → May code a (under r x) → May code a x
+  may_under (F.raise v) r x m = m
+  may_under (F.return v) r x m = m
+  may_under F.break r x m = m
+  may_under F.continue r x m = m
+
+  pub may_deeper : (a : F.Abrupt V) (x : Surroundings) → May code a (deeper x) → May code a x
+  may_deeper (F.raise v) x m = m
+  may_deeper (F.return v) x m = m
+  may_deeper F.break x m = m
+  may_deeper F.continue x m = m
+
+  pub may_swallowed : (c : F.Completion V) (x : Surroundings) → May_hold code c x → May_hold code (swallowed c) x
   may_swallowed F.normal x m = m
   may_swallowed (F.by (F.raise v)) x m = tt
   may_swallowed (F.by (F.return v)) x m = m
   may_swallowed (F.by F.break) x m = m
   may_swallowed (F.by F.continue) x m = m
 
-out_of : (r : Handler) (o : Option Loop) → Within_loop r o → Has_loop o → covers_place r (end_place o) ≡ false
-out_of r None h m = elim m [ ]
-out_of r (Some l) h m = h.1
+  out_of : (r : Handler) (o : Option Loop) → Within_loop r o → Ends code o → covers_place r (end_place o) ≡ false
+  out_of r None h m = elim m [ ]
+  out_of r (Some l) h m = h.1
 
-on_to_next : (r : Handler) (o : Option Loop) → Within_loop r o → Has_loop o → covers_place r (next_place o) ≡ false
-on_to_next r None h m = elim m [ ]
-on_to_next r (Some l) h m = h.0
+  on_to_next : (r : Handler) (o : Option Loop) → Within_loop r o → Goes_on code o → covers_place r (next_place o) ≡ false
+  on_to_next r None h m = elim m [ ]
+  on_to_next r (Some l) h m = h.0
 
-and_false : (b c : Bool) → c ≡ false → (c && b) ≡ false
-and_false b c e = ap (λ u. u && b) e
-
-module _ {V : Type 0} (code : CodeObject V) where
   -- what leaves for a place that is reached is taken by no row
   stays : (rows : List Handler) (p : ℕ) (τ : Slots V) → Reached p rows → land code rows (jump_to p) τ ≡ on p (cut (code.depth_at p) τ)
   stays [] p τ h = refl
@@ -109,14 +110,14 @@ module _ {V : Type 0} (code : CodeObject V) where
   pub reaches : (rows : List Handler) (p : ℕ) (σ τ : Slots V) → Reached p rows → Above σ τ → length σ ≡ code.depth_at p → land code rows (jump_to p) τ ≡ on p σ
   reaches rows p σ τ h o e = stays rows p τ h ∙ ap (λ u. on p u) (cut_above (code.depth_at p) σ τ o e)
 
-  row_takes : (a : F.Abrupt V) (r : Handler) (x : Surroundings) → TakesAll r x → May a x → takes r (as_code a x) ≡ true
+  row_takes : (a : F.Abrupt V) (r : Handler) (x : Surroundings) → TakesAll r x → May code a x → takes r (as_code a x) ≡ true
   row_takes (F.raise v) r x h m = refl
   row_takes (F.return v) r x h m = h.always
   row_takes F.break r x h m = ap (λ b. r.always && not b) (out_of r x.loop h.around m) ∙ ap (λ b. b && true) h.always
   row_takes F.continue r x h m = ap (λ b. r.always && not b) (on_to_next r x.loop h.around m) ∙ ap (λ b. b && true) h.always
 
   -- an always row takes what may come, and an except row a raise
-  pub all_land : (a : F.Abrupt V) (r : Handler) (x : Surroundings) (rows : List Handler) (σ τ : Slots V) → TakesAll r x → May a x → Above σ τ → length σ ≡ x.depth
+  pub all_land : (a : F.Abrupt V) (r : Handler) (x : Surroundings) (rows : List Handler) (σ τ : Slots V) → TakesAll r x → May code a x → Above σ τ → length σ ≡ x.depth
       → land code (r ∷ rows) (as_code a x) τ ≡ on r.target.0 (pending (slots.by (as_code a x)) ∷ σ)
   all_land a r x rows σ τ h m o e =
       ap (λ b. if b then on r.target.0 (held_by r.always (as_code a x) ∷ cut r.depth τ) else land code rows (as_code a x) τ) (row_takes a r x h m)

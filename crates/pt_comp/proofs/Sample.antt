@@ -1,6 +1,7 @@
 -- The code of the sample stands where the relation says.
 use Rattle.std.proofs.Common.{◌≡◌, ℕ, List, [], ◌∷◌, Bool, true, false, Option, None, refl}
 use Rattle.std.specs.Prelude.{if◌then◌else◌}
+use Rattle.pt_base.specs.declared.operators.BinOp.TheVariants as binary
 use Rattle.pt_ranges.specs.declared.lines.ActMark.{ActMark}
 use Rattle.pt_ranges.specs.declared.handlers.Handler.{Handler}
 use Rattle.pt_tree.specs.Syntax.{Name}
@@ -15,7 +16,7 @@ use Rattle.pt_slots.specs.Instructions.{perform, operates}
 use Rattle.pt_comp_expr.specs.Samples.{sample_block}
 use Rattle.pt_comp_expr.specs.Places.{above, ins, Ins_at, Seeks, Null_at, Cell_at, Stores, Sets, Unpacks, Operates}
 use Rattle.pt_comp_expr.proofs.Operations.{takes_values, takes_both, takes_base}
-use Rattle.pt_comp.specs.Places.{Deletes, DeletesAttribute, ImportsName, GivesTrue, Splits, at_once, never_left, Block_at}
+use Rattle.pt_comp.specs.Places.{Deletes, DeletesAttribute, ImportsName, GivesTruth, LeadsOn, Splits, at_once, never_left, Block_at}
 use Rattle.pt_comp.specs.Samples.{every_statement, every_statement_code, row_0, row_1, row_2, row_3, row_4, row_5}
 
 -- an instruction of the sample stands, and does what it is to do
@@ -68,10 +69,15 @@ at_import_name : {rows : List Handler} {x : Name} {m : Option ActMark} {from to 
     → ImportsName sample_block every_statement_code rows x m from to
 at_import_name j h e = record { instr = j; stands = h; does = e }
 
-at_true : {rows : List Handler} {from to : ℕ} (j : Instr) → Stands rows j None from to
+at_truth : {rows : List Handler} {from to : ℕ} (j : Instr) → Stands rows j None from to
     → ((ss : Slots ℕ) → perform every_statement_code from (ins j None to rows) j ss ≡ move (on to (value 1 ∷ ss)))
-    → GivesTrue sample_block every_statement_code rows from to
-at_true j h e = record { instr = j; stands = h; does = e }
+    → GivesTruth sample_block every_statement_code rows true from to
+at_truth j h e = record { instr = j; stands = h; does = e }
+
+at_lead : {rows : List Handler} {from to : ℕ} (j : Instr) → Stands rows j None from to
+    → ((ss : Slots ℕ) → perform every_statement_code from (ins j None to rows) j (value 1 ∷ ss) ≡ move (on to ss))
+    → LeadsOn sample_block every_statement_code rows true from to
+at_lead j h e = record { instr = j; stands = h; does = e }
 
 at_split : {rows : List Handler} {other from to : ℕ} (j : Instr) → Stands rows j None from to
     → ((ss : Slots ℕ) → perform every_statement_code from (ins j None to rows) j (value 1 ∷ ss) ≡ move (on to ss))
@@ -333,7 +339,7 @@ stands = (
                                                                 65,
                                                                 (
                                                                   64,
-                                                                  (never_left 62 63 64 65 (at_true (instr.Const (record { 0 = 2 })) refl (λ ss. refl)) (at_split (instr.JumpUnless (record { 0 = 65 })) refl (λ ss. refl) (λ ss. refl))),
+                                                                  (never_left 62 63 64 true (at_truth (instr.Const (record { 0 = 2 })) refl (λ ss. refl)) (at_lead (instr.JumpUnless (record { 0 = 65 })) refl (λ ss. refl))),
                                                                   (65, refl, refl),
                                                                 ),
                                                                 refl,
@@ -342,7 +348,7 @@ stands = (
                                                           ),
                                                           (
                                                             68,
-                                                            (never_left 66 67 68 71 (at_true (instr.Const (record { 0 = 2 })) refl (λ ss. refl)) (at_split (instr.JumpUnless (record { 0 = 71 })) refl (λ ss. refl) (λ ss. refl))),
+                                                            (never_left 66 67 68 true (at_truth (instr.Const (record { 0 = 2 })) refl (λ ss. refl)) (at_lead (instr.JumpUnless (record { 0 = 71 })) refl (λ ss. refl))),
                                                             (
                                                               71,
                                                               (
@@ -368,8 +374,6 @@ stands = (
                                                             (
                                                               tt,
                                                               tt,
-                                                              refl,
-                                                              refl,
                                                               (
                                                                 73,
                                                                 (at_once 73),
@@ -387,8 +391,8 @@ stands = (
                                                                           78,
                                                                           (
                                                                             77,
-                                                                            (never_left 75 76 77 78 (at_true (instr.Const (record { 0 = 2 })) refl (λ ss. refl)) (at_split (instr.JumpUnless (record { 0 = 78 })) refl (λ ss. refl) (λ ss. refl))),
-                                                                            (78, refl, refl),
+                                                                            (never_left 75 76 77 true (at_truth (instr.Const (record { 0 = 2 })) refl (λ ss. refl)) (at_lead (instr.JumpUnless (record { 0 = 78 })) refl (λ ss. refl))),
+                                                                            (78, (refl, refl), refl),
                                                                           ),
                                                                           refl,
                                                                         ),
@@ -398,15 +402,15 @@ stands = (
                                                                   ),
                                                                   (
                                                                     81,
-                                                                    (never_left 79 80 81 82 (at_true (instr.Const (record { 0 = 2 })) refl (λ ss. refl)) (at_split (instr.JumpUnless (record { 0 = 82 })) refl (λ ss. refl) (λ ss. refl))),
-                                                                    (82, refl, refl),
+                                                                    (never_left 79 80 81 true (at_truth (instr.Const (record { 0 = 2 })) refl (λ ss. refl)) (at_lead (instr.JumpUnless (record { 0 = 82 })) refl (λ ss. refl))),
+                                                                    (82, (refl, refl), refl),
                                                                   ),
                                                                 ),
                                                               ),
                                                               (83, (at_seek (instr.Local (record { 0 = 1 })) refl (λ ss. refl)), refl),
                                                               (
                                                                 86,
-                                                                (never_left 84 85 86 88 (at_true (instr.Const (record { 0 = 2 })) refl (λ ss. refl)) (at_split (instr.JumpUnless (record { 0 = 88 })) refl (λ ss. refl) (λ ss. refl))),
+                                                                (never_left 84 85 86 true (at_truth (instr.Const (record { 0 = 2 })) refl (λ ss. refl)) (at_lead (instr.JumpUnless (record { 0 = 88 })) refl (λ ss. refl))),
                                                                 (88, (87, (at_seek (instr.Local (record { 0 = 1 })) refl (λ ss. refl)), refl), refl),
                                                               ),
                                                             ),
@@ -424,8 +428,6 @@ stands = (
                                                                 (
                                                                   tt,
                                                                   tt,
-                                                                  refl,
-                                                                  refl,
                                                                   (
                                                                     92,
                                                                     (at_store (instr.SetLocal (record { 0 = 1 })) refl (λ v ss. refl)),
@@ -460,8 +462,8 @@ stands = (
                                                                                           97,
                                                                                           (
                                                                                             96,
-                                                                                            (never_left 94 95 96 97 (at_true (instr.Const (record { 0 = 2 })) refl (λ ss. refl)) (at_split (instr.JumpUnless (record { 0 = 97 })) refl (λ ss. refl) (λ ss. refl))),
-                                                                                            (97, refl, refl),
+                                                                                            (never_left 94 95 96 true (at_truth (instr.Const (record { 0 = 2 })) refl (λ ss. refl)) (at_lead (instr.JumpUnless (record { 0 = 97 })) refl (λ ss. refl))),
+                                                                                            (97, (refl, refl), refl),
                                                                                           ),
                                                                                           (98, (97, (at_once 97), (98, refl, refl)), refl),
                                                                                         ),
@@ -489,8 +491,8 @@ stands = (
                                                                                                         107,
                                                                                                         (
                                                                                                           106,
-                                                                                                          (never_left 104 105 106 107 (at_true (instr.Const (record { 0 = 2 })) refl (λ ss. refl)) (at_split (instr.JumpUnless (record { 0 = 107 })) refl (λ ss. refl) (λ ss. refl))),
-                                                                                                          (107, refl, refl),
+                                                                                                          (never_left 104 105 106 true (at_truth (instr.Const (record { 0 = 2 })) refl (λ ss. refl)) (at_lead (instr.JumpUnless (record { 0 = 107 })) refl (λ ss. refl))),
+                                                                                                          (107, (refl, refl), refl),
                                                                                                         ),
                                                                                                         refl,
                                                                                                       ),
@@ -528,7 +530,7 @@ stands = (
                                                                                                     121,
                                                                                                     (
                                                                                                       119,
-                                                                                                      (never_left 117 118 119 121 (at_true (instr.Const (record { 0 = 2 })) refl (λ ss. refl)) (at_split (instr.JumpUnless (record { 0 = 121 })) refl (λ ss. refl) (λ ss. refl))),
+                                                                                                      (never_left 117 118 119 true (at_truth (instr.Const (record { 0 = 2 })) refl (λ ss. refl)) (at_lead (instr.JumpUnless (record { 0 = 121 })) refl (λ ss. refl))),
                                                                                                       (
                                                                                                         121,
                                                                                                         (
@@ -696,7 +698,7 @@ stands = (
                                                                                                 154,
                                                                                                 (
                                                                                                   152,
-                                                                                                  (never_left 150 151 152 154 (at_true (instr.Const (record { 0 = 2 })) refl (λ ss. refl)) (at_split (instr.JumpUnless (record { 0 = 154 })) refl (λ ss. refl) (λ ss. refl))),
+                                                                                                  (never_left 150 151 152 true (at_truth (instr.Const (record { 0 = 2 })) refl (λ ss. refl)) (at_lead (instr.JumpUnless (record { 0 = 154 })) refl (λ ss. refl))),
                                                                                                   (
                                                                                                     154,
                                                                                                     (

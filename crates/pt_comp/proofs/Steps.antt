@@ -34,8 +34,8 @@ use Rattle.pt_comp_expr.specs.Law as expressions
 use Rattle.pt_comp_expr.specs.Law.{On_top, Outer, wait, way, active_at}
 use Rattle.pt_comp_expr.proofs.Steps as steps
 use Rattle.pt_comp_expr.proofs.Steps.{on_above}
-use Rattle.pt_comp.specs.Surroundings.{Loop, Surroundings, outermost, in_loop, deeper, under, TakesAll, TakesRaises, end_place, next_place, Has_loop, as_code, held_as, May, May_hold}
-use Rattle.pt_comp.specs.Places.{Deletes, Splits, Starts, at_once, never_left, Act_in, Move_in, Null_in, Assigned_at, All_deleted_at, Left_at, Imported_at, Imported_from_at, Definition_at, Decorated_at, Augmented_at, While_at, For_at, Guarded_at, Ensured_at, Handled_at, Taken_at, behind_target, Items_at, Stm_at, All_at, Branches_at, Handlers_at}
+use Rattle.pt_comp.specs.Surroundings.{Loop, Surroundings, outermost, in_while, in_for, deeper, under, TakesAll, TakesRaises, end_place, next_place, Ends, Goes_on, as_code, held_as, May, May_hold}
+use Rattle.pt_comp.specs.Places.{Deletes, Splits, Starts, at_once, behind_nop, never_left, Act_in, Move_in, Null_in, Assigned_at, All_deleted_at, Left_at, Imported_at, Imported_from_at, Definition_at, Decorated_at, Augmented_at, While_at, For_at, Guarded_at, Ensured_at, Handled_at, Taken_at, behind_target, Items_at, Stm_at, All_at, Branches_at, Handlers_at}
 use Rattle.pt_comp.specs.Law.{Above, level, raised_by, Within, Looks, Active_as, addressed, decorators_above, lines_of, Back_at, Nest_on, at_end, at_rest, at_looping, at_iterating, at_unguarded, at_guarded, at_unensured, at_ensured, at_ending, at_handling, at_naming, at_withing, nest_behind_jump, Inside, inside, alone, in_tests, in_exit, Way_on, at_finished, at_stms, at_branches, at_lets_go, at_unbinds, at_tests, at_binding, at_assigns, at_deletes, at_imports, at_imports_from, at_within_items, at_failed, Waits_on, at_dropped, at_assigned, at_asked, at_asked_back, at_iterated, at_deleted_attribute, at_deleted_item, at_deleted_index, at_changed_attribute, at_changed_item, at_changed_index, at_changing, at_changed, at_given_back, at_returned, at_thrown, at_caused, at_message, at_imported, at_imported_origin, at_imported_name, at_matched, at_entered, at_decorated, at_defined, Waiting, Going, Beyond, Lands, lands, lands_by, Leads, is_there, by_jump, m_within, m_deed, m_leave, m_throw, m_truth, m_iter, m_next, m_entry, m_note, m_over, Comes, there, moves, Same, same_act, same_note, same_over, Follows, WaysGoOn, ActiveAlike, BlocksBegin, LambdasBegin, GeneratorsBegin}
 use Rattle.pt_comp.proofs.Rows.{shorter, as_under, as_deeper, may_under, may_deeper, raise_in, left_true, left_false, may_swallowed, reaches, all_land, raise_lands, return_passes, jump_passes}
 
@@ -81,8 +81,9 @@ module _ {V : Type 0} (block : Around V) (code : CodeObject V) where
 
   start_moves : (c : Control V) (x : Surroundings) (p q : ℕ) (σ : Slots V) → Starts block code x.rows p q → C c (on q σ) → C c (on p σ)
   start_moves c x _ _ σ (at_once p) k = k
-  start_moves c x _ _ σ (never_left p m q other h hs) k =
-      moved c p _ σ _ h.stands (h.does σ) (moved c m _ (value (code.truth true) ∷ σ) _ hs.stands (hs.does true σ) k)
+  start_moves c x _ _ σ (behind_nop p q h) k = moved c p _ σ (on q σ) h refl k
+  start_moves c x _ _ σ (never_left p m q b h hs) k =
+      moved c p _ σ _ h.stands (h.does σ) (moved c m _ (value (code.truth b) ∷ σ) _ hs.stands (hs.does σ) k)
 
   from_here : (s : Nest V) (x : Surroundings) (σ : Slots V) (p : ℕ) → N s x σ p → Inside block code s x σ
   from_here s x σ p g = inside s x σ σ p g level
@@ -202,36 +203,36 @@ module _ {V : Type 0} (block : Around V) (code : CodeObject V) where
   retest_comes : (l n : ℕ) (e : Exp) (body els : Stms) (s : Nest V) (x : Surroundings) (σ : Slots V) (first next other end' : ℕ)
       → While_at block code l n e (All_at block code body (tested_body n e)) (All_at block code els (behind_body n e body) x) x first next other end'
       → N s x σ end' → C (begin_test block l n true e body els s) (on next σ)
-  retest_comes l n e body els s x σ first next other end' (rn, re, dn, de, hb, (m, hc, hj), ho) g =
+  retest_comes l n e body els s x σ first next other end' (rn, re, hb, (m, hc, hj), ho) g =
       value_comes _ x σ next m e n true hc
-      (at_asked_back l (n + size e) _ _ x (in_loop next end' x) σ m other first hj
-      (at_stms (tested_body n e) body _ (in_loop next end' x) σ first next hb
-      (at_looping l n e body els s x σ first next other end' (rn, re, dn, de, hb, (m, hc, hj), ho) g))
+      (at_asked_back l (n + size e) _ _ x (in_while next end' x) σ m other first hj
+      (at_stms (tested_body n e) body _ (in_while next end' x) σ first next hb
+      (at_looping l n e body els s x σ first next other end' (rn, re, hb, (m, hc, hj), ho) g))
       (at_stms (behind_body n e body) els s x σ other end' ho g) (busy_alike s x σ end' g))
 
   next_comes : (l n : ℕ) (i : V) (t : Tgt) (body els : Stms) (s : Nest V) (x : Surroundings) (σ : Slots V) (first next other end' : ℕ)
       → For_at block code l n t (All_at block code body (for_body n t)) (All_at block code els (for_else n t body) x) x first next other end'
       → N s x σ end' → C (begin_next block l n true i t body els s) (on next (iterator i ∷ σ))
-  next_comes l n i t body els s x σ first next other end' (rn, re, dn, de, hb, (m, hn, hj), ho) g =
+  next_comes l n i t body els s x σ first next other end' (rn, re, hb, (m, hn, hj), ho) g =
       there _ _ (m_next (mark n l true) i l n t body els s x (on next (iterator i ∷ σ)) (ins (instr.Next (record { 0 = other })) (act_mark next n l true) m x.rows) σ first next other end'
-      (turned next _ (iterator i ∷ σ) _ hn refl) refl (by_jump m other first hj) (rn, re, dn, de, hb, (m, hn, hj), ho) g refl)
+      (turned next _ (iterator i ∷ σ) _ hn refl) refl (by_jump m other first hj) (rn, re, hb, (m, hn, hj), ho) g refl)
 
   -- 7.9, 7.10
   break_comes : (o : Option Loop) (n l : ℕ) (s : Nest V) (x : Surroundings) (σ : Slots V) (p q r : ℕ) → o ≡ x.loop
-      → Left_at block code o (λ a. a.end) n l x p r → N s x σ q → C (for_leave (mark n l false) F.break s) (on p σ)
+      → Left_at block code o (λ a. a.end) (λ a. a.end_depth) n l x p r → N s x σ q → C (for_leave (mark n l false) F.break s) (on p σ)
   break_comes None n l s x σ p q r e h g = elim h [ ]
-  break_comes (Some a) n l s x σ p q r e h g =
+  break_comes (Some a) n l s x σ p q r e (d, h) g =
       there _ _ (m_leave (mark n l false) F.break s x (on p σ) (ins (instr.Leave (record { 0 = a.end })) (act_mark p n l false) r x.rows) σ
       (turned p _ σ _ h refl ∙ ap (λ o. act (Some (mark n l false)) (T.leave T.jumping) (after code (ins (instr.Leave (record { 0 = a.end })) (act_mark p n l false) r x.rows) σ (λ u. land code x.rows (jump_to (end_place o)) σ))) e)
-      refl (subst (λ o. Has_loop o) e tt) (from_here s x σ q g) (busy_alike s x σ q g))
+      refl (subst (λ o. Ends code o) e d) (from_here s x σ q g) (busy_alike s x σ q g))
 
   continue_comes : (o : Option Loop) (n l : ℕ) (s : Nest V) (x : Surroundings) (σ : Slots V) (p q r : ℕ) → o ≡ x.loop
-      → Left_at block code o (λ a. a.next) n l x p r → N s x σ q → C (for_leave (mark n l false) F.continue s) (on p σ)
+      → Left_at block code o (λ a. a.next) (λ a. a.next_depth) n l x p r → N s x σ q → C (for_leave (mark n l false) F.continue s) (on p σ)
   continue_comes None n l s x σ p q r e h g = elim h [ ]
-  continue_comes (Some a) n l s x σ p q r e h g =
+  continue_comes (Some a) n l s x σ p q r e (d, h) g =
       there _ _ (m_leave (mark n l false) F.continue s x (on p σ) (ins (instr.Leave (record { 0 = a.next })) (act_mark p n l false) r x.rows) σ
       (turned p _ σ _ h refl ∙ ap (λ o. act (Some (mark n l false)) (T.leave T.jumping) (after code (ins (instr.Leave (record { 0 = a.next })) (act_mark p n l false) r x.rows) σ (λ u. land code x.rows (jump_to (next_place o)) σ))) e)
-      refl (subst (λ o. Has_loop o) e tt) (from_here s x σ q g) (busy_alike s x σ q g))
+      refl (subst (λ o. Goes_on code o) e d) (from_here s x σ q g) (busy_alike s x σ q g))
 
   nothing_comes : (l n : ℕ) (k : Way V) (s : Nest V) (x : Surroundings) (σ : Slots V) (p q : ℕ) → Act_in block code x instr.Nop n l p q → Inside block code s x σ
       → Lands block code k (on q σ) → active σ ≡ bases.active s → C (F.for_deed (mark n l false) T.nothing k s) (on p σ)
@@ -295,11 +296,11 @@ module _ {V : Type 0} (block : Around V) (code : CodeObject V) where
         value_comes (F.asked k (n + size e) (F.stms (tested_body n e) body s) (F.branches (behind_body n e body) r els s)) x σ p m e n false he
         (at_asked k (n + size e) _ _ x x σ m m' other hj
         (at_stms (tested_body n e) body s x σ m' m2 hb (nest_behind_jump s x σ m2 other q out g)) (at_branches (behind_body n e body) r els s x σ other q hr g) (busy_alike s x σ q g))
-    begin_stm_comes (S.while l e body els) n s x σ p q c (first, next, other, (m, he, hj), (rn, re, dn, de, hb, ht, ho)) g a =
+    begin_stm_comes (S.while l e body els) n s x σ p q c (first, next, other, (m, he, hj), (rn, re, hb, ht, ho)) g a =
         value_comes (F.asked l (n + size e) (F.stms (tested_body n e) body (F.looping l n e body els ∷ s)) (F.stms (behind_body n e body) els s)) x σ p m e n false he
-        (at_asked l (n + size e) _ _ x (in_loop next q x) σ m first other hj
-        (at_stms (tested_body n e) body _ (in_loop next q x) σ first next hb
-        (at_looping l n e body els s x σ first next other q (rn, re, dn, de, hb, ht, ho) g))
+        (at_asked l (n + size e) _ _ x (in_while next q x) σ m first other hj
+        (at_stms (tested_body n e) body _ (in_while next q x) σ first next hb
+        (at_looping l n e body els s x σ first next other q (rn, re, hb, ht, ho) g))
         (at_stms (behind_body n e body) els s x σ other q ho g) (busy_alike s x σ q g))
     begin_stm_comes (S.for l t it body els) n s x σ p q c (first, next, other, (m, hi, (m', ht, hn)), h) g a =
         value_comes (F.iterated l (n + size it) (F.for_over l (n + size it + 1) t body els s)) x σ p m it n false hi
@@ -389,13 +390,13 @@ module _ {V : Type 0} (block : Around V) (code : CodeObject V) where
   -- how a completion goes on from a place: one that is normal, and any other one
   pub record Both (s : Nest V) (x : Surroundings) (σ : Slots V) (p : ℕ) : Type 0 where
     pub normally : C (complete block F.normal s) (on p σ)
-    pub abruptly : (a : Abrupt V) → May a x → (τ : Slots V) → Above σ τ → C (complete block (F.by a) s) (land code x.rows (as_code a x) τ)
+    pub abruptly : (a : Abrupt V) → May code a x → (τ : Slots V) → Above σ τ → C (complete block (F.by a) s) (land code x.rows (as_code a x) τ)
 
   -- the end of a `finally` part lets go on what it holds
   reraised : (v : V) (s : Nest V) (x : Surroundings) (σ : Slots V) → Within block code s x σ → C (let_go block (F.by (F.raise v)) s) (reraises v x.rows σ)
   reraised v s x σ g = there _ _ (m_note v s x x.rows σ refl g.stands g.same_active)
 
-  goes_on : (held : Completion V) (s : Nest V) (x : Surroundings) (σ : Slots V) (p q : ℕ) → May_hold held x → Move_in block code x instr.EndFinally p q
+  goes_on : (held : Completion V) (s : Nest V) (x : Surroundings) (σ : Slots V) (p q : ℕ) → May_hold code held x → Move_in block code x instr.EndFinally p q
       → N s x σ q → Both s x σ q → C (let_go block held s) (on p (pending (held_as held x) ∷ σ))
   goes_on F.normal s x σ p q m h g b = moved _ p _ (pending slots.normal ∷ σ) (on q σ) h refl b.normally
   goes_on (F.by (F.raise v)) s x σ p q m h g b =
@@ -409,7 +410,7 @@ module _ {V : Type 0} (block : Around V) (code : CodeObject V) where
   rethrown v s x σ p q g h = moved _ p _ (exception v ∷ σ) (reraises v x.rows σ) h refl (reraised v s x σ g)
 
   -- a `finally` part begins with what it holds
-  to_finally : (held : Completion V) (tried n : ℕ) (st : Stm) (ss : Stms) (s : Nest V) (x : Surroundings) (σ : Slots V) (p q end' : ℕ) → May_hold held x
+  to_finally : (held : Completion V) (tried n : ℕ) (st : Stm) (ss : Stms) (s : Nest V) (x : Surroundings) (σ : Slots V) (p q end' : ℕ) → May_hold code held x
       → All_at block code (more st ss) n (deeper x) p q → Move_in block code x instr.EndFinally q end' → N s x σ end' → Both s x σ end'
       → C (begin_all block (more st ss) n (F.ending tried held ∷ s) (let_go block held s)) (on p (pending (held_as held x) ∷ σ))
   to_finally held tried n st ss s x σ p q end' m hf he g b =
@@ -417,7 +418,7 @@ module _ {V : Type 0} (block : Around V) (code : CodeObject V) where
       (at_ending tried held s x σ q end' m he g) (goes_on held s x σ q end' m he g b)
 
   -- the name of a handler is unbound
-  unbound : (held : Completion V) (y : Name) (s : Nest V) (x : Surroundings) (σ : Slots V) (p q : ℕ) → May_hold held x
+  unbound : (held : Completion V) (y : Name) (s : Nest V) (x : Surroundings) (σ : Slots V) (p q : ℕ) → May_hold code held x
       → (Null_in block code x ⨾ Stores block code x.rows (block.variable [] y) None ⨾ Deletes block code x.rows (block.variable [] y) None
       ⨾ Move_in block code x instr.EndFinally) p q → N s x σ q
       → C (silent_deed (T.store (block.variable [] y) block.null) (F.unbinds y held s) s) (on p (pending (held_as held x) ∷ σ))
@@ -436,7 +437,7 @@ module _ {V : Type 0} (block : Around V) (code : CodeObject V) where
   exit_active (F.by F.break) n w s x σ a = a
   exit_active (F.by F.continue) n w s x σ a = a
 
-  exits : (held : Completion V) (l n : ℕ) (w : V) (s : Nest V) (x : Surroundings) (σ : Slots V) (p end' : ℕ) → May_hold held x
+  exits : (held : Completion V) (l n : ℕ) (w : V) (s : Nest V) (x : Surroundings) (σ : Slots V) (p end' : ℕ) → May_hold code held x
       → (Act_in block code x instr.Exit n l ⨾ Move_in block code x instr.EndFinally) p end' → N s x σ end'
       → C (for_truth (mark n l false) (T.exit_of w (raise_of held)) (F.lets_go (swallowed held) s) (F.lets_go held s) (F.exiting n w held ∷ s))
       (on p (pending (held_as held x) ∷ exit w ∷ σ))
@@ -447,11 +448,11 @@ module _ {V : Type 0} (block : Around V) (code : CodeObject V) where
       ∙ ap (λ o. act (Some (mark n l false)) (T.test (T.exit_of w o)) (after code (ins instr.Exit (act_mark p n l false) q x.rows) σ (λ b. on q (pending (left_of b (held_as held x)) ∷ σ)))) (raise_in held x))
       refl (in_exit n w held s x σ (from_here s x σ end' g))
       (subst (λ u. Lands block code (F.lets_go (swallowed held) s) (on q (pending u ∷ σ))) (sym (left_true held x))
-      (lands _ x _ q (at_lets_go (swallowed held) s x σ q end' (may_swallowed held x m) he g)))
+      (lands _ x _ q (at_lets_go (swallowed held) s x σ q end' (may_swallowed code held x m) he g)))
       (subst (λ u. Lands block code (F.lets_go held s) (on q (pending u ∷ σ))) (sym (left_false held x)) (lands _ x _ q (at_lets_go held s x σ q end' m he g)))
       (exit_active held n w s x σ (busy_alike s x σ end' g)))
 
-  alone_abrupt : (a : Abrupt V) → May a outermost → (τ : Slots V) → C (complete block (F.by a) []) (land code [] (as_code a outermost) τ)
+  alone_abrupt : (a : Abrupt V) → May code a outermost → (τ : Slots V) → C (complete block (F.by a) []) (land code [] (as_code a outermost) τ)
   alone_abrupt (F.raise v) m τ = there _ _ (m_over (left_by v))
   alone_abrupt (F.return v) m τ = there _ _ (m_over (gave v))
   alone_abrupt F.break m τ = elim m [ ]
@@ -459,30 +460,30 @@ module _ {V : Type 0} (block : Around V) (code : CodeObject V) where
 
   while_abrupt : (l n : ℕ) (e : Exp) (body els : Stms) (s : Nest V) (x : Surroundings) (σ : Slots V) (first next other end' : ℕ)
       → While_at block code l n e (All_at block code body (tested_body n e)) (All_at block code els (behind_body n e body) x) x first next other end'
-      → N s x σ end' → Both s x σ end' → (a : Abrupt V) (τ : Slots V) → Above σ τ
-      → C (complete block (F.by a) (F.looping l n e body els ∷ s)) (land code x.rows (as_code a (in_loop next end' x)) τ)
-  while_abrupt l n e body els s x σ first next other end' h g b (F.raise v) τ o = b.abruptly (F.raise v) tt τ o
-  while_abrupt l n e body els s x σ first next other end' h g b (F.return v) τ o = b.abruptly (F.return v) tt τ o
-  while_abrupt l n e body els s x σ first next other end' (rn, re, dn, de, hb, ht, ho) g b F.break τ o =
-      subst (λ t. C (complete block F.normal s) t) (sym (reaches code x.rows end' σ τ re o (depth s x σ end' g ∙ sym de))) b.normally
-  while_abrupt l n e body els s x σ first next other end' (rn, re, dn, de, hb, ht, ho) g b F.continue τ o =
-      subst (λ t. C (begin_test block l n true e body els s) t) (sym (reaches code x.rows next σ τ rn o (depth s x σ end' g ∙ sym dn)))
-      (retest_comes l n e body els s x σ first next other end' (rn, re, dn, de, hb, ht, ho) g)
+      → N s x σ end' → Both s x σ end' → (a : Abrupt V) → May code a (in_while next end' x) → (τ : Slots V) → Above σ τ
+      → C (complete block (F.by a) (F.looping l n e body els ∷ s)) (land code x.rows (as_code a (in_while next end' x)) τ)
+  while_abrupt l n e body els s x σ first next other end' h g b (F.raise v) may τ o = b.abruptly (F.raise v) tt τ o
+  while_abrupt l n e body els s x σ first next other end' h g b (F.return v) may τ o = b.abruptly (F.return v) tt τ o
+  while_abrupt l n e body els s x σ first next other end' (rn, re, hb, ht, ho) g b F.break may τ o =
+      subst (λ t. C (complete block F.normal s) t) (sym (reaches code x.rows end' σ τ re o (depth s x σ end' g ∙ sym may))) b.normally
+  while_abrupt l n e body els s x σ first next other end' (rn, re, hb, ht, ho) g b F.continue may τ o =
+      subst (λ t. C (begin_test block l n true e body els s) t) (sym (reaches code x.rows next σ τ rn o (depth s x σ end' g ∙ sym may)))
+      (retest_comes l n e body els s x σ first next other end' (rn, re, hb, ht, ho) g)
 
   for_abrupt : (l n : ℕ) (i : V) (t : Tgt) (body els : Stms) (s : Nest V) (x : Surroundings) (σ : Slots V) (first next other end' : ℕ)
       → For_at block code l n t (All_at block code body (for_body n t)) (All_at block code els (for_else n t body) x) x first next other end'
-      → N s x σ end' → Both s x σ end' → (a : Abrupt V) (τ : Slots V) → Above (iterator i ∷ σ) τ
-      → C (complete block (F.by a) (F.iterating l n i t body els ∷ s)) (land code x.rows (as_code a (in_loop next end' (deeper x))) τ)
-  for_abrupt l n i t body els s x σ first next other end' h g b (F.raise v) τ o = b.abruptly (F.raise v) tt τ (shorter (iterator i) σ τ o)
-  for_abrupt l n i t body els s x σ first next other end' h g b (F.return v) τ o = b.abruptly (F.return v) tt τ (shorter (iterator i) σ τ o)
-  for_abrupt l n i t body els s x σ first next other end' (rn, re, dn, de, hb, ht, ho) g b F.break τ o =
-      subst (λ t. C (complete block F.normal s) t) (sym (reaches code x.rows end' σ τ re (shorter (iterator i) σ τ o) (depth s x σ end' g ∙ sym de))) b.normally
-  for_abrupt l n i t body els s x σ first next other end' (rn, re, dn, de, hb, ht, ho) g b F.continue τ o =
-      subst (λ u. C (begin_next block l n true i t body els s) u) (sym (reaches code x.rows next (iterator i ∷ σ) τ rn o (ap (λ d. suc d) (depth s x σ end' g) ∙ sym dn)))
-      (next_comes l n i t body els s x σ first next other end' (rn, re, dn, de, hb, ht, ho) g)
+      → N s x σ end' → Both s x σ end' → (a : Abrupt V) → May code a (in_for next end' x) → (τ : Slots V) → Above (iterator i ∷ σ) τ
+      → C (complete block (F.by a) (F.iterating l n i t body els ∷ s)) (land code x.rows (as_code a (in_for next end' x)) τ)
+  for_abrupt l n i t body els s x σ first next other end' h g b (F.raise v) may τ o = b.abruptly (F.raise v) tt τ (shorter (iterator i) σ τ o)
+  for_abrupt l n i t body els s x σ first next other end' h g b (F.return v) may τ o = b.abruptly (F.return v) tt τ (shorter (iterator i) σ τ o)
+  for_abrupt l n i t body els s x σ first next other end' (rn, re, hb, ht, ho) g b F.break may τ o =
+      subst (λ t. C (complete block F.normal s) t) (sym (reaches code x.rows end' σ τ re (shorter (iterator i) σ τ o) (depth s x σ end' g ∙ sym may))) b.normally
+  for_abrupt l n i t body els s x σ first next other end' (rn, re, hb, ht, ho) g b F.continue may τ o =
+      subst (λ u. C (begin_next block l n true i t body els s) u) (sym (reaches code x.rows next (iterator i ∷ σ) τ rn o (ap (λ d. suc d) (depth s x σ end' g) ∙ sym may)))
+      (next_comes l n i t body els s x σ first next other end' (rn, re, hb, ht, ho) g)
 
   unguarded_abrupt : (n : ℕ) (els : Stms) (s : Nest V) (x : Surroundings) (σ : Slots V) (q : ℕ) → Both s x σ q
-      → (a : Abrupt V) → May a x → (τ : Slots V) → Above σ τ → C (complete block (F.by a) (F.guarded n S.no_handlers els ∷ s)) (land code x.rows (as_code a x) τ)
+      → (a : Abrupt V) → May code a x → (τ : Slots V) → Above σ τ → C (complete block (F.by a) (F.guarded n S.no_handlers els ∷ s)) (land code x.rows (as_code a x) τ)
   unguarded_abrupt n els s x σ q b (F.raise v) m τ o = b.abruptly (F.raise v) m τ o
   unguarded_abrupt n els s x σ q b (F.return v) m τ o = b.abruptly (F.return v) m τ o
   unguarded_abrupt n els s x σ q b F.break m τ o = b.abruptly F.break m τ o
@@ -490,7 +491,7 @@ module _ {V : Type 0} (block : Around V) (code : CodeObject V) where
 
   guarded_abrupt : (l n : ℕ) (d : Opt) (y : Option Name) (body : Stms) (r : Handlers) (els : Stms) (s : Nest V) (x : Surroundings) (σ : Slots V) (row : Handler) (end' : ℕ)
       → TakesRaises row x → Handlers_at block code (S.handler l d y body r) n end' x row.target.0 → N s x σ end' → Both s x σ end'
-      → (a : Abrupt V) → May a x → (τ : Slots V) → Above σ τ
+      → (a : Abrupt V) → May code a x → (τ : Slots V) → Above σ τ
       → C (complete block (F.by a) (F.guarded n (S.handler l d y body r) els ∷ s)) (land code (row ∷ x.rows) (as_code a (under row x)) τ)
   guarded_abrupt l n d y body r els s x σ row end' h hh g b (F.raise v) m τ o =
       subst (λ t. C (complete block (F.by (F.raise v)) (F.guarded n (S.handler l d y body r) els ∷ s)) t) (sym (raise_lands code v row x x.rows σ τ h o (depth s x σ end' g)))
@@ -503,16 +504,16 @@ module _ {V : Type 0} (block : Around V) (code : CodeObject V) where
       subst (λ t. C (complete block (F.by F.continue) s) t) (sym (jump_passes code (next_place x.loop) row x x.rows τ h)) (b.abruptly F.continue m τ o)
 
   -- what leaves the part that a row covers lands behind it
-  under_row : (c : Control V) (a : Abrupt V) (row : Handler) (x : Surroundings) (rows : List Handler) (σ τ : Slots V) → TakesAll row x → May a (under row x) → Above σ τ
-      → length σ ≡ x.depth → (May a x → C c (on row.target.0 (pending (slots.by (as_code a x)) ∷ σ))) → C c (land code (row ∷ rows) (as_code a (under row x)) τ)
+  under_row : (c : Control V) (a : Abrupt V) (row : Handler) (x : Surroundings) (rows : List Handler) (σ τ : Slots V) → TakesAll row x → May code a (under row x) → Above σ τ
+      → length σ ≡ x.depth → (May code a x → C c (on row.target.0 (pending (slots.by (as_code a x)) ∷ σ))) → C c (land code (row ∷ rows) (as_code a (under row x)) τ)
   under_row c a row x rows σ τ h m o d k =
-      subst (λ t. C c t) (sym (ap (λ u. land code (row ∷ rows) u τ) (as_under a row x) ∙ all_land code a row x rows σ τ h (may_under a row x m) o d)) (k (may_under a row x m))
+      subst (λ t. C c t) (sym (ap (λ u. land code (row ∷ rows) u τ) (as_under a row x) ∙ all_land code a row x rows σ τ h (may_under code a row x m) o d)) (k (may_under code a row x m))
 
   -- one slot more is cut
-  above_slot : (s : Nest V) (x : Surroundings) (u : Slot V) (σ : Slots V) (q : ℕ) → Both s x σ q → (a : Abrupt V) → May a (deeper x) → (τ : Slots V) → Above (u ∷ σ) τ
+  above_slot : (s : Nest V) (x : Surroundings) (u : Slot V) (σ : Slots V) (q : ℕ) → Both s x σ q → (a : Abrupt V) → May code a (deeper x) → (τ : Slots V) → Above (u ∷ σ) τ
       → C (complete block (F.by a) s) (land code x.rows (as_code a (deeper x)) τ)
   above_slot s x u σ q b a m τ o =
-      subst (λ v. C (complete block (F.by a) s) (land code x.rows v τ)) (sym (as_deeper a x)) (b.abruptly a (may_deeper a x m) τ (shorter u σ τ o))
+      subst (λ v. C (complete block (F.by a) s) (land code x.rows v τ)) (sym (as_deeper a x)) (b.abruptly a (may_deeper code a x m) τ (shorter u σ τ o))
 
   pub both : (s : Nest V) (x : Surroundings) (σ : Slots V) (p : ℕ) → N s x σ p → Both s x σ p
   both _ _ _ _ (at_end p q (m, hn, hr)) = record {
@@ -525,11 +526,11 @@ module _ {V : Type 0} (block : Around V) (code : CodeObject V) where
   }
   both _ _ _ _ (at_looping l n e body els s x σ first next other end' h g) = let b = both s x σ end' g in record {
     normally = retest_comes l n e body els s x σ first next other end' h g;
-    abruptly = λ a m τ o. while_abrupt l n e body els s x σ first next other end' h g b a τ o;
+    abruptly = λ a m τ o. while_abrupt l n e body els s x σ first next other end' h g b a m τ o;
   }
   both _ _ _ _ (at_iterating l n i t body els s x σ first next other end' h g) = let b = both s x σ end' g in record {
     normally = next_comes l n i t body els s x σ first next other end' h g;
-    abruptly = λ a m τ o. for_abrupt l n i t body els s x σ first next other end' h g b a τ o;
+    abruptly = λ a m τ o. for_abrupt l n i t body els s x σ first next other end' h g b a m τ o;
   }
   both _ _ _ _ (at_unguarded n els s x σ p q h g) = let b = both s x σ q g in record {
     normally = begin_all_comes els _ s x σ p q _ h g b.normally;
@@ -537,7 +538,7 @@ module _ {V : Type 0} (block : Around V) (code : CodeObject V) where
   }
   both _ _ _ _ (at_guarded l n d y body r els s x σ row p q behind end' a h hj hh g) = let b = both s x σ end' g in record {
     normally = begin_all_comes els _ s x σ p q _ h (nest_behind_jump s x σ q behind end' hj g) (moved _ q _ σ (on end' σ) hj refl b.normally);
-    abruptly = λ u m τ o. guarded_abrupt l n d y body r els s x σ row end' a hh g b u (may_under u row x m) τ o;
+    abruptly = λ u m τ o. guarded_abrupt l n d y body r els s x σ row end' a hh g b u (may_under code u row x m) τ o;
   }
   both _ _ _ _ (at_unensured tried n s x σ p g) = let b = both s x σ p g in record {
     normally = b.normally;
@@ -562,7 +563,7 @@ module _ {V : Type 0} (block : Around V) (code : CodeObject V) where
   both _ _ _ _ (at_withing l n w s x σ row p end' t hn h g) = record {
     normally = moved _ p _ (exit w ∷ σ) (on row.target.0 (pending slots.normal ∷ exit w ∷ σ)) hn refl (exits F.normal l n w s x σ row.target.0 end' tt h g);
     abruptly = λ a m τ o. under_row _ a row (deeper x) x.rows (exit w ∷ σ) τ t m o (ap (λ d. suc d) (depth s x σ end' g))
-        (λ may. subst (λ u. C (complete block (F.by a) (F.withing l n w ∷ s)) (on row.target.0 (pending (slots.by u) ∷ exit w ∷ σ))) (sym (as_deeper a x)) (exits (F.by a) l n w s x σ row.target.0 end' (may_deeper a x may) h g));
+        (λ may. subst (λ u. C (complete block (F.by a) (F.withing l n w ∷ s)) (on row.target.0 (pending (slots.by u) ∷ exit w ∷ σ))) (sym (as_deeper a x)) (exits (F.by a) l n w s x σ row.target.0 end' (may_deeper code a x may) h g));
   }
   both _ _ _ _ (nest_behind_jump s x σ p m q h g) = let b = both s x σ q g in record {
     normally = moved _ p _ σ (on q σ) h refl b.normally;
@@ -570,7 +571,7 @@ module _ {V : Type 0} (block : Around V) (code : CodeObject V) where
   }
 
   -- a completion goes from within a nest
-  leave_inside : (s : Nest V) (x : Surroundings) (τ : Slots V) → Inside block code s x τ → (a : Abrupt V) → May a x → C (complete block (F.by a) s) (land code x.rows (as_code a x) τ)
+  leave_inside : (s : Nest V) (x : Surroundings) (τ : Slots V) → Inside block code s x τ → (a : Abrupt V) → May code a x → C (complete block (F.by a) s) (land code x.rows (as_code a x) τ)
   leave_inside _ _ _ (inside s x σ τ p g o) a m = let b = both s x σ p g in b.abruptly a m τ o
   leave_inside _ _ _ (alone τ) a m = alone_abrupt a m τ
   leave_inside _ _ _ (in_tests n e s x τ h) a m = leave_inside s x τ h a m
@@ -788,7 +789,7 @@ module _ {V : Type 0} (block : Around V) (code : CodeObject V) where
   deed_replies k s x i τ u e g h (got a) = lands_comes k u h
   deed_replies k s x i τ u e g h (raised v) = raise_inside s x τ i e g v
 
-  leave_replies : (a : Abrupt V) (s : Nest V) (x : Surroundings) (i : Ins) (τ : Slots V) → i.rows ≡ x.rows → May a x → Inside block code s x τ
+  leave_replies : (a : Abrupt V) (s : Nest V) (x : Surroundings) (i : Ins) (τ : Slots V) → i.rows ≡ x.rows → May code a x → Inside block code s x τ
       → (r : Reply V (Unit {0})) → C (control.after_leave block a s r) (after code i τ (λ u. land code x.rows (as_code a x) τ) r)
   leave_replies a s x i τ e m g (got u) = leave_inside s x τ g a m
   leave_replies a s x i τ e m g (raised v) = raise_inside s x τ i e g v
@@ -824,16 +825,16 @@ module _ {V : Type 0} (block : Around V) (code : CodeObject V) where
       → (r : Reply V (Option V))
       → C (control.after_item block (n + 1) t (F.stms (for_body n t) body (F.iterating l n it t body els ∷ s)) (F.stms (for_else n t body) els s) r)
       (after code i σ (with_item code i other it σ) r)
-  next_replies it l n t body els s x i σ first next other end' e hl (rn, re, dn, de, (m, ht, hb), hh, ho) g (got (Some v)) =
+  next_replies it l n t body els s x i σ first next other end' e hl (rn, re, (m, ht, hb), hh, ho) g (got (Some v)) =
       let k = F.stms (for_body n t) body (F.iterating l n it t body els ∷ s) in
-      let z = in_loop next end' (deeper x) in
+      let z = in_for next end' x in
       leads_comes _ x i.next first (value v ∷ iterator it ∷ σ) hl
       (within (way k) x.rows (iterator it ∷ σ) m _ _
       (steps.store_comes block code x.rows (way k) (iterator it ∷ σ) m t v (n + 1) (F.stores (n + 1 + target_size t) F.no_more k) (iterator it ∷ σ) first m ht
       (expressions.at_stores _ F.no_more k (iterator it ∷ σ) m m refl (expressions.at_out k refl)))
       (by_way k z (iterator it ∷ σ) m (at_stms (for_body n t) body _ z (iterator it ∷ σ) m next hb
-      (at_iterating l n it t body els s x σ first next other end' (rn, re, dn, de, (m, ht, hb), hh, ho) g)) (busy_alike s x σ end' g)))
-  next_replies it l n t body els s x i σ first next other end' e hl (rn, re, dn, de, hb, hh, ho) g (got None) =
+      (at_iterating l n it t body els s x σ first next other end' (rn, re, (m, ht, hb), hh, ho) g)) (busy_alike s x σ end' g)))
+  next_replies it l n t body els s x i σ first next other end' e hl (rn, re, hb, hh, ho) g (got None) =
       way_comes _ x σ other (at_stms (for_else n t body) els s x σ other end' ho g)
   next_replies it l n t body els s x i σ first next other end' e hl h g (raised v) = raise_inside s x σ i e (from_here s x σ end' g) v
 

@@ -25,7 +25,7 @@ use Rattle.pt_slots.specs.Machine as machine
 use Rattle.pt_comp_expr.specs.Places.{◌⨾◌, act_mark, Stores, Op_at, Exp_at}
 use Rattle.pt_comp_expr.specs.Law as expressions
 use Rattle.pt_comp_expr.specs.Law.{Outer, wait, way, active_at}
-use Rattle.pt_comp.specs.Surroundings.{Surroundings, outermost, in_loop, deeper, under, TakesAll, TakesRaises, as_code, held_as, May, May_hold}
+use Rattle.pt_comp.specs.Surroundings.{Surroundings, outermost, in_while, in_for, deeper, under, TakesAll, TakesRaises, as_code, held_as, May, May_hold}
 use Rattle.pt_comp.specs.Places.{Deletes, DeletesAttribute, Splits, Value_at, Act_in, Move_in, Jump_in, Null_in, Store_in, Assigned_at, Back_to_name, Back_to_attribute, Back_to_item, Changed_at, All_deleted_at, Failed_at, Thrown_at, Imported_at, Imported_from_at, Bound_at, Decorated_at, While_at, For_at, Taken_at, behind_target, Items_at, All_at, Branches_at, Handlers_at, Block_at, Lambda_at, Generator_at}
 
 -- the parts of a place that is changed lie on top
@@ -61,10 +61,10 @@ module _ {V : Type 0} (block : Around V) (code : CodeObject V) where
         → All_at block code ss n x p q → Nest_on s x σ q → Nest_on (F.rest n ss ∷ s) x σ p
     at_looping : (l n : ℕ) (c : Exp) (body els : Stms) (s : Nest V) (x : Surroundings) (σ : Slots V) (first next other end : ℕ)
         → While_at block code l n c (All_at block code body (tested_body n c)) (All_at block code els (behind_body n c body) x) x first next other end
-        → Nest_on s x σ end → Nest_on (F.looping l n c body els ∷ s) (in_loop next end x) σ next
+        → Nest_on s x σ end → Nest_on (F.looping l n c body els ∷ s) (in_while next end x) σ next
     at_iterating : (l n : ℕ) (i : V) (t : Tgt) (body els : Stms) (s : Nest V) (x : Surroundings) (σ : Slots V) (first next other end : ℕ)
         → For_at block code l n t (All_at block code body (for_body n t)) (All_at block code els (for_else n t body) x) x first next other end
-        → Nest_on s x σ end → Nest_on (F.iterating l n i t body els ∷ s) (in_loop next end (deeper x)) (iterator i ∷ σ) next
+        → Nest_on s x σ end → Nest_on (F.iterating l n i t body els ∷ s) (in_for next end x) (iterator i ∷ σ) next
     at_unguarded : (n : ℕ) (els : Stms) (s : Nest V) (x : Surroundings) (σ : Slots V) (p q : ℕ)
         → All_at block code els (n + handlers_size S.no_handlers) x p q → Nest_on s x σ q → Nest_on (F.guarded n S.no_handlers els ∷ s) x σ p
     at_guarded : (l n : ℕ) (c : Opt) (y : Option Name) (body : Stms) (r : Handlers) (els : Stms) (s : Nest V) (x : Surroundings) (σ : Slots V) (row : Handler)
@@ -76,7 +76,7 @@ module _ {V : Type 0} (block : Around V) (code : CodeObject V) where
         → TakesAll row x → Move_in block code (under row x) instr.Normal p row.target.0 → All_at block code (more st ss) n (deeper x) row.target.0 q
         → Move_in block code x instr.EndFinally q end → Nest_on s x σ end → Nest_on (F.ensuring tried n (more st ss) ∷ s) (under row x) σ p
     at_ending : (tried : ℕ) (held : Completion V) (s : Nest V) (x : Surroundings) (σ : Slots V) (p q : ℕ)
-        → May_hold held x → Move_in block code x instr.EndFinally p q → Nest_on s x σ q
+        → May_hold code held x → Move_in block code x instr.EndFinally p q → Nest_on s x σ q
         → Nest_on (F.ending tried held ∷ s) (deeper x) (pending (held_as held x) ∷ σ) p
     at_handling : (n : ℕ) (e : V) (s : Nest V) (x : Surroundings) (σ : Slots V) (p q : ℕ)
         → Move_in block code x instr.EndHandler p q → Nest_on s x σ q → Nest_on (F.handling n e ∷ s) (deeper x) (exception e ∷ σ) p
@@ -110,9 +110,9 @@ module _ {V : Type 0} (block : Around V) (code : CodeObject V) where
     at_branches : (n : ℕ) (bs : Branches) (els : Stms) (s : Nest V) (x : Surroundings) (σ : Slots V) (p q : ℕ)
         → Branches_at block code bs (λ m. All_at block code els m x) n x p q → Nest_on s x σ q → Way_on (F.branches n bs els s) x σ p
     at_lets_go : (held : Completion V) (s : Nest V) (x : Surroundings) (σ : Slots V) (p q : ℕ)
-        → May_hold held x → Move_in block code x instr.EndFinally p q → Nest_on s x σ q → Way_on (F.lets_go held s) x (pending (held_as held x) ∷ σ) p
+        → May_hold code held x → Move_in block code x instr.EndFinally p q → Nest_on s x σ q → Way_on (F.lets_go held s) x (pending (held_as held x) ∷ σ) p
     at_unbinds : (y : Name) (held : Completion V) (s : Nest V) (x : Surroundings) (σ : Slots V) (p q : ℕ)
-        → May_hold held x → (Deletes block code x.rows (block.variable [] y) None ⨾ Move_in block code x instr.EndFinally) p q → Nest_on s x σ q
+        → May_hold code held x → (Deletes block code x.rows (block.variable [] y) None ⨾ Move_in block code x instr.EndFinally) p q → Nest_on s x σ q
         → Way_on (F.unbinds y held s) x (pending (held_as held x) ∷ σ) p
     at_tests : (k n : ℕ) (hs : Handlers) (e : V) (s : Nest V) (x : Surroundings) (σ : Slots V) (p end : ℕ)
         → Handlers_at block code hs n end x p → Nest_on s x σ end → Way_on (F.tests k n hs e s) x (exception e ∷ σ) p
@@ -250,7 +250,7 @@ module _ {V : Type 0} (block : Around V) (code : CodeObject V) where
         → i.rows ≡ x.rows → Inside s x τ → Lands k u → Active_as m s t → control.nest_at c ≡ s → Match c t
     m_leave : (m : Mark) (a : Abrupt V) (s : Nest V) (x : Surroundings) (t : State V) (i : Ins) (τ : Slots V)
         → machine.turn code t ≡ act (Some m) (T.leave (control.leave_by block a)) (after code i τ (λ r. land code x.rows (as_code a x) τ))
-        → i.rows ≡ x.rows → May a x → Inside s x τ → active_at t ≡ bases.active s → Match (for_leave m a s) t
+        → i.rows ≡ x.rows → May code a x → Inside s x τ → active_at t ≡ bases.active s → Match (for_leave m a s) t
     m_throw : (m : Mark) (a : Throw V) (s : Nest V) (x : Surroundings) (t : State V) (i : Ins) (τ : Slots V)
         → machine.turn code t ≡ act (Some m) (T.throw a) (after code i τ (λ r. elim r [ ])) → i.rows ≡ x.rows → Inside s x τ → active_at t ≡ bases.active s
         → Match (for_throw m a s) t

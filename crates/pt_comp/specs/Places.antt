@@ -21,7 +21,7 @@ use Rattle.pt_slots.specs.CodeObject.{CodeObject}
 use Rattle.pt_slots.specs.Steps.{asks, does}
 use Rattle.pt_slots.specs.Instructions.{perform}
 use Rattle.pt_comp_expr.specs.Places.{◌⨾◌, here, above, act_mark, ins, Ins_at, Act_at, Move_at, Null_at, Stores, Sets, Made_at, Op_at, Exp_at, Clauses_at, Target_at}
-use Rattle.pt_comp.specs.Surroundings.{Loop, Surroundings, outermost, in_loop, deeper, under, Reached, TakesAll, TakesRaises}
+use Rattle.pt_comp.specs.Surroundings.{Loop, Surroundings, outermost, in_while, in_for, deeper, under, Reached, TakesAll, TakesRaises}
 
 module _ {V : Type 0} (block : Around V) (code : CodeObject V) (rows : List Handler) where
   -- an instruction that deletes a name, and one that deletes an attribute
@@ -43,22 +43,29 @@ module _ {V : Type 0} (block : Around V) (code : CodeObject V) (rows : List Hand
     pub does : (v : V) (ss : Slots V) → perform code from (ins instr m to rows) instr (value v ∷ ss)
         ≡ asks code (ins instr m to rows) (T.seek (T.operate (T.import_name x) (v ∷ []))) (value v ∷ ss) (λ u. on to (value u ∷ value v ∷ ss))
 
-  -- without an act: one that gives True, and one that goes by a truth to the next place or to another
-  pub record GivesTrue (from to : ℕ) : Type 0 where
-    pub instr : Instr
-    pub stands : Ins_at block code rows instr None from to
-    pub does : (ss : Slots V) → perform code from (ins instr None to rows) instr ss ≡ move (on to (value (code.truth true) ∷ ss))
-
+  -- without an act: one that goes by a truth to the next place or to another; one that gives a truth, and one by which that leads to the next place
   pub record Splits (other from to : ℕ) : Type 0 where
     pub instr : Instr
     pub stands : Ins_at block code rows instr None from to
     pub does : (b : Bool) (ss : Slots V)
         → perform code from (ins instr None to rows) instr (value (code.truth b) ∷ ss) ≡ move (on (if b then to else other) ss)
 
-  -- the start of a statement, to which nothing need come: a branch that is never taken leads on from there, whatever its target is
+  pub record GivesTruth (b : Bool) (from to : ℕ) : Type 0 where
+    pub instr : Instr
+    pub stands : Ins_at block code rows instr None from to
+    pub does : (ss : Slots V) → perform code from (ins instr None to rows) instr ss ≡ move (on to (value (code.truth b) ∷ ss))
+
+  pub record LeadsOn (b : Bool) (from to : ℕ) : Type 0 where
+    pub instr : Instr
+    pub stands : Ins_at block code rows instr None from to
+    pub does : (ss : Slots V) → perform code from (ins instr None to rows) instr (value (code.truth b) ∷ ss) ≡ move (on to ss)
+
+  -- the start of a statement: that stands there at once, or behind an instruction that does nothing, so that one without acts has a place of its own, or
+  -- behind a branch that is never taken, so that what stands behind it is reached. Where that branch goes to doesn't matter
   pub data Starts : ℕ → ℕ → Type 0 where
     at_once : (p : ℕ) → Starts p p
-    never_left : (p m q other : ℕ) → GivesTrue p m → Splits other m q → Starts p q
+    behind_nop : (p q : ℕ) → Move_at block code rows instr.Nop p q → Starts p q
+    never_left : (p m q : ℕ) (b : Bool) → GivesTruth b p m → LeadsOn b m q → Starts p q
 
 module _ {V : Type 0} (block : Around V) (code : CodeObject V) where
   -- what stands in surroundings
@@ -134,9 +141,9 @@ module _ {V : Type 0} (block : Around V) (code : CodeObject V) where
   Thrown_at (S.given c) l n x = Value_at x c n false ⨾ Act_in x instr.RaiseFrom (n + size c) l
 
   -- 7.9, 7.10: the loop around is left for its next test, or for its end
-  abbrev pub Left_at : Option Loop → (place : Loop → ℕ) → (n l : ℕ) → Surroundings → ℕ → ℕ → Type 0
-  Left_at None place n l x = λ from to. ⊥
-  Left_at (Some a) place n l x = Act_in x (instr.Leave (record { 0 = place a })) n l
+  abbrev pub Left_at : Option Loop → (place depth : Loop → ℕ) → (n l : ℕ) → Surroundings → ℕ → ℕ → Type 0
+  Left_at None place depth n l x = λ from to. ⊥
+  Left_at (Some a) place depth n l x = λ from to. (code.depth_at (place a) ≡ depth a) × Act_in x (instr.Leave (record { 0 = place a })) n l from to
 
   -- 7.11
   abbrev pub Imported_at : List Alias → (l n : ℕ) → Surroundings → ℕ → ℕ → Type 0
@@ -175,8 +182,7 @@ module _ {V : Type 0} (block : Around V) (code : CodeObject V) where
   abbrev pub While_at : (l n : ℕ) → Exp → (body : Surroundings → ℕ → ℕ → Type 0) → (otherwise : ℕ → ℕ → Type 0) → Surroundings
       → (first next other end : ℕ) → Type 0
   While_at l n c body otherwise x first next other end =
-      Reached next x.rows × Reached end x.rows × (code.depth_at next ≡ x.depth) × (code.depth_at end ≡ x.depth)
-      × body (in_loop next end x) first next
+      Reached next x.rows × Reached end x.rows × body (in_while next end x) first next
       × (Value_at x c n true ⨾ Act_in x (instr.JumpIf (record { 0 = first })) (n + size c) l) next other
       × otherwise other end
 
@@ -184,8 +190,8 @@ module _ {V : Type 0} (block : Around V) (code : CodeObject V) where
   abbrev pub For_at : (l n : ℕ) → Tgt → (body : Surroundings → ℕ → ℕ → Type 0) → (otherwise : ℕ → ℕ → Type 0) → Surroundings
       → (first next other end : ℕ) → Type 0
   For_at l n t body otherwise x first next other end =
-      Reached next x.rows × Reached end x.rows × (code.depth_at next ≡ suc x.depth) × (code.depth_at end ≡ x.depth)
-      × (Target_at block code x.rows t (n + 1) [] ⨾ body (in_loop next end (deeper x))) first next
+      Reached next x.rows × Reached end x.rows
+      × (Target_at block code x.rows t (n + 1) [] ⨾ body (in_for next end x)) first next
       × (Act_at block code x.rows (instr.Next (record { 0 = other })) n l true ⨾ Jump_in x first) next other
       × otherwise other end
 
@@ -242,8 +248,8 @@ module _ {V : Type 0} (block : Around V) (code : CodeObject V) where
     Stm_at (S.return l e) n x = Returned_at e l n x
     Stm_at (S.raise l e c) n x = Value_at x e n false ⨾ Thrown_at c l (n + size e) x
     Stm_at (S.raise_again l) n x = Act_in x instr.RaiseAgain n l
-    Stm_at (S.break l) n x = Left_at x.loop (λ a. a.end) n l x
-    Stm_at (S.continue l) n x = Left_at x.loop (λ a. a.next) n l x
+    Stm_at (S.break l) n x = Left_at x.loop (λ a. a.end) (λ a. a.end_depth) n l x
+    Stm_at (S.continue l) n x = Left_at x.loop (λ a. a.next) (λ a. a.next_depth) n l x
     Stm_at (S.import l xs) n x = Imported_at xs l n x
     Stm_at (S.import_from l m xs) n x =
         Made_at block code x.rows [] (T.import (block.spelled m)) above l n false 0 0 ⨾ Imported_from_at xs l (n + 1) x

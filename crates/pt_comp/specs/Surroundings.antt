@@ -6,11 +6,14 @@ use Rattle.pt_control.specs.Frames as F
 use Rattle.pt_control.specs.Frames.{Nest}
 use Rattle.pt_slots.specs.Slots as slots
 use Rattle.pt_slots.specs.Slots.{jump_to}
+use Rattle.pt_slots.specs.CodeObject.{CodeObject}
 
--- the places to which a `continue` and a `break` go (7.9, 7.10)
+-- the places to which a `continue` and a `break` go, and how many slots lie there (7.9, 7.10)
 pub record Loop : Type 0 where
   pub next : ℕ
+  pub next_depth : ℕ
   pub end : ℕ
+  pub end_depth : ℕ
 
 -- the rows stand inner first
 pub record Surroundings : Type 0 where
@@ -21,8 +24,12 @@ pub record Surroundings : Type 0 where
 abbrev pub outermost : Surroundings
 outermost = record { rows = []; depth = 0; loop = None }
 
-abbrev pub in_loop : (next end : ℕ) → Surroundings → Surroundings
-in_loop next end x = record x { loop = Some (record { next = next; end = end }) }
+-- in the body of a `while`, and in that of a `for`, whose iterator lies in a slot
+abbrev pub in_while : (next end : ℕ) → Surroundings → Surroundings
+in_while next end x = record x { loop = Some (record { next = next; next_depth = x.depth; end = end; end_depth = x.depth }) }
+
+abbrev pub in_for : (next end : ℕ) → Surroundings → Surroundings
+in_for next end x = record x { depth = suc x.depth; loop = Some (record { next = next; next_depth = suc x.depth; end = end; end_depth = x.depth }) }
 
 -- above one slot more, and under one row more
 abbrev pub deeper : Surroundings → Surroundings
@@ -63,10 +70,6 @@ abbrev pub next_place : Option Loop → ℕ
 next_place None = 0
 next_place (Some l) = l.next
 
-abbrev pub Has_loop : Option Loop → Type 0
-Has_loop None = ⊥
-Has_loop (Some l) = Unit {0}
-
 module _ {V : Type 0} where
   abbrev pub as_code : F.Abrupt V → Surroundings → slots.Abrupt V
   as_code (F.raise v) x = slots.raise v
@@ -78,11 +81,21 @@ module _ {V : Type 0} where
   held_as F.normal x = slots.normal
   held_as (F.by a) x = slots.by (as_code a x)
 
+module _ {V : Type 0} (code : CodeObject V) where
+  -- as many slots lie there as is said
+  abbrev pub Ends : Option Loop → Type 0
+  Ends None = ⊥
+  Ends (Some l) = code.depth_at l.end ≡ l.end_depth
+
+  abbrev pub Goes_on : Option Loop → Type 0
+  Goes_on None = ⊥
+  Goes_on (Some l) = code.depth_at l.next ≡ l.next_depth
+
   abbrev pub May : F.Abrupt V → Surroundings → Type 0
   May (F.raise v) x = Unit {0}
   May (F.return v) x = Unit {0}
-  May F.break x = Has_loop x.loop
-  May F.continue x = Has_loop x.loop
+  May F.break x = Ends x.loop
+  May F.continue x = Goes_on x.loop
 
   abbrev pub May_hold : F.Completion V → Surroundings → Type 0
   May_hold F.normal x = Unit {0}
