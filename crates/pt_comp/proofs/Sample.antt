@@ -1,9 +1,10 @@
 -- The code of the sample stands where the relation says.
-use Rattle.std.proofs.Common.{◌≡◌, ℕ, List, [], ◌∷◌, Bool, true, false, Option, None, refl}
+use Rattle.std.proofs.Common.{◌≡◌, ◌<◌, ℕ, Contains, get_or, arith, List, [], ◌∷◌, Bool, true, false, Option, None, refl}
 use Rattle.std.specs.Prelude.{if◌then◌else◌}
 use Rattle.pt_base.specs.declared.operators.BinOp.TheVariants as binary
 use Rattle.pt_ranges.specs.declared.lines.ActMark.{ActMark}
 use Rattle.pt_ranges.specs.declared.handlers.Handler.{Handler}
+use Rattle.pt_code.specs.declared.Start.{Start}
 use Rattle.pt_tree.specs.Syntax.{Name}
 use Rattle.pt_instr.specs.declared.Instr.{Instr}
 use Rattle.pt_instr.specs.declared.Instr.TheVariants as instr
@@ -17,7 +18,7 @@ use Rattle.pt_comp_expr.specs.Samples.{sample_block}
 use Rattle.pt_comp_expr.specs.Places.{above, ins, Ins_at, Seeks, Null_at, Cell_at, Stores, Sets, Unpacks, Operates}
 use Rattle.pt_comp_expr.proofs.Operations.{takes_values, takes_both, takes_base}
 use Rattle.pt_comp.specs.Places.{Deletes, DeletesAttribute, ImportsName, GivesTruth, LeadsOn, Splits, at_once, never_left, Block_at}
-use Rattle.pt_comp.specs.Samples.{every_statement, every_statement_code, row_0, row_1, row_2, row_3, row_4, row_5}
+use Rattle.pt_comp.specs.Samples.{every_statement, every_statement_code, every_statement_starts, row_0, row_1, row_2, row_3, row_4, row_5}
 
 -- an instruction of the sample stands, and does what it is to do
 abbrev Stands : List Handler → Instr → Option ActMark → ℕ → ℕ → Type 0
@@ -107,708 +108,896 @@ of_class : {rows : List Handler} {op : Operation} {c : ℕ} {m : Option ActMark}
     → Operates sample_block every_statement_code rows op above 1 c m from to
 of_class {rows} {op} {c} {m} {from} {to} j h e = takes_base sample_block every_statement_code rows op c j m from to h e
 
-pub stands : Block_at sample_block every_statement_code every_statement
+begins_at : {s : Start} (k : ℕ) → k < 38 → get_or every_statement_starts k s ≡ s → Contains every_statement_starts s
+begins_at k l e = (k, l, e)
+
+pub stands : Block_at sample_block every_statement_code every_statement_starts every_statement
 stands = (
   179,
   181,
   (
-    0,
-    (at_once 0),
+    (begins_at 0 (omega arith) refl),
     (
-      11,
+      0,
+      (at_once 0),
       (
-        1,
-        (at_seek (instr.Local (record { 0 = 0 })) refl (λ ss. refl)),
+        11,
         (
-          2,
-          refl,
+          1,
+          (at_seek (instr.Local (record { 0 = 0 })) refl (λ ss. refl)),
           (
-            4,
-            (3, (at_seek (instr.Local (record { 0 = 1 })) refl (λ ss. refl)), (at_set (instr.SetAttr (record { 0 = 0 })) refl (λ v a ss. refl))),
+            2,
+            refl,
             (
-              5,
-              refl,
+              4,
+              (3, (at_seek (instr.Local (record { 0 = 1 })) refl (λ ss. refl)), (at_set (instr.SetAttr (record { 0 = 0 })) refl (λ v a ss. refl))),
               (
-                10,
+                5,
+                refl,
                 (
-                  6,
-                  (at_unpack (instr.UnpackStar 1 0) refl (λ v ss. refl)),
+                  10,
                   (
-                    7,
-                    (at_store (instr.SetLocal (record { 0 = 2 })) refl (λ v ss. refl)),
+                    6,
+                    (at_unpack (instr.UnpackStar 1 0) refl (λ v ss. refl)),
                     (
-                      10,
+                      7,
+                      (at_store (instr.SetLocal (record { 0 = 2 })) refl (λ v ss. refl)),
                       (
-                        8,
-                        (at_seek (instr.Local (record { 0 = 3 })) refl (λ ss. refl)),
-                        (9, (at_seek (instr.Const (record { 0 = 0 })) refl (λ ss. refl)), refl),
+                        10,
+                        (
+                          8,
+                          (at_seek (instr.Local (record { 0 = 3 })) refl (λ ss. refl)),
+                          (9, (at_seek (instr.Const (record { 0 = 0 })) refl (λ ss. refl)), refl),
+                        ),
+                        refl,
                       ),
-                      refl,
                     ),
                   ),
+                  (at_store (instr.SetLocal (record { 0 = 4 })) refl (λ v ss. refl)),
                 ),
-                (at_store (instr.SetLocal (record { 0 = 4 })) refl (λ v ss. refl)),
               ),
             ),
           ),
         ),
-      ),
-      (
-        11,
-        (at_once 11),
         (
-          15,
+          (begins_at 1 (omega arith) refl),
           (
-            12,
-            (at_seek (instr.Local (record { 0 = 1 })) refl (λ ss. refl)),
+            11,
+            (at_once 11),
             (
-              13,
-              (at_seek (instr.Const (record { 0 = 1 })) refl (λ ss. refl)),
-              (14, refl, (at_store (instr.SetLocal (record { 0 = 1 })) refl (λ v ss. refl))),
-            ),
-          ),
-          (
-            15,
-            (at_once 15),
-            (
-              22,
+              15,
               (
-                16,
+                12,
                 (at_seek (instr.Local (record { 0 = 1 })) refl (λ ss. refl)),
                 (
-                  17,
-                  refl,
-                  (
-                    18,
-                    (of_values (instr.Attr (record { 0 = 0 })) refl (λ ss. refl)),
-                    (
-                      19,
-                      (at_seek (instr.Local (record { 0 = 2 })) refl (λ ss. refl)),
-                      (20, refl, (21, refl, (at_set (instr.SetAttr (record { 0 = 0 })) refl (λ v a ss. refl)))),
-                    ),
-                  ),
+                  13,
+                  (at_seek (instr.Const (record { 0 = 1 })) refl (λ ss. refl)),
+                  (14, refl, (at_store (instr.SetLocal (record { 0 = 1 })) refl (λ v ss. refl))),
                 ),
               ),
               (
-                22,
-                (at_once 22),
+                (begins_at 2 (omega arith) refl),
                 (
-                  30,
+                  15,
+                  (at_once 15),
                   (
-                    23,
-                    (at_seek (instr.Local (record { 0 = 1 })) refl (λ ss. refl)),
+                    22,
                     (
-                      24,
-                      (at_seek (instr.Local (record { 0 = 2 })) refl (λ ss. refl)),
+                      16,
+                      (at_seek (instr.Local (record { 0 = 1 })) refl (λ ss. refl)),
                       (
-                        25,
+                        17,
                         refl,
                         (
-                          26,
-                          (of_values instr.Item refl (λ ss. refl)),
-                          (27, (at_seek (instr.Local (record { 0 = 3 })) refl (λ ss. refl)), (28, refl, (29, refl, refl))),
+                          18,
+                          (of_values (instr.Attr (record { 0 = 0 })) refl (λ ss. refl)),
+                          (
+                            19,
+                            (at_seek (instr.Local (record { 0 = 2 })) refl (λ ss. refl)),
+                            (20, refl, (21, refl, (at_set (instr.SetAttr (record { 0 = 0 })) refl (λ v a ss. refl)))),
+                          ),
                         ),
                       ),
                     ),
-                  ),
-                  (
-                    30,
-                    (at_once 30),
                     (
-                      31,
-                      refl,
+                      (begins_at 3 (omega arith) refl),
                       (
-                        31,
-                        (at_once 31),
+                        22,
+                        (at_once 22),
                         (
-                          33,
+                          30,
                           (
-                            32,
-                            (at_seek (instr.Local (record { 0 = 3 })) refl (λ ss. refl)),
-                            (at_store (instr.SetLocal (record { 0 = 2 })) refl (λ v ss. refl)),
+                            23,
+                            (at_seek (instr.Local (record { 0 = 1 })) refl (λ ss. refl)),
+                            (
+                              24,
+                              (at_seek (instr.Local (record { 0 = 2 })) refl (λ ss. refl)),
+                              (
+                                25,
+                                refl,
+                                (
+                                  26,
+                                  (of_values instr.Item refl (λ ss. refl)),
+                                  (27, (at_seek (instr.Local (record { 0 = 3 })) refl (λ ss. refl)), (28, refl, (29, refl, refl))),
+                                ),
+                              ),
+                            ),
                           ),
                           (
-                            33,
-                            (at_once 33),
+                            (begins_at 4 (omega arith) refl),
                             (
-                              36,
-                              (34, (at_seek (instr.Local (record { 0 = 1 })) refl (λ ss. refl)), (35, refl, refl)),
+                              30,
+                              (at_once 30),
                               (
-                                36,
-                                (at_once 36),
+                                31,
+                                refl,
                                 (
-                                  40,
+                                  (begins_at 5 (omega arith) refl),
                                   (
-                                    37,
-                                    (at_seek (instr.Local (record { 0 = 1 })) refl (λ ss. refl)),
-                                    (38, refl, (39, (at_seek (instr.Local (record { 0 = 2 })) refl (λ ss. refl)), refl)),
-                                  ),
-                                  (
-                                    40,
-                                    (at_once 40),
+                                    31,
+                                    (at_once 31),
                                     (
-                                      46,
+                                      33,
                                       (
-                                        41,
-                                        (at_delete (instr.DelLocal (record { 0 = 1 })) refl (λ ss. refl)),
-                                        (
-                                          43,
-                                          (
-                                            42,
-                                            (at_seek (instr.Local (record { 0 = 2 })) refl (λ ss. refl)),
-                                            (at_delete_attribute (instr.DelAttr (record { 0 = 0 })) refl (λ a ss. refl)),
-                                          ),
-                                          (
-                                            46,
-                                            (
-                                              44,
-                                              (at_seek (instr.Local (record { 0 = 3 })) refl (λ ss. refl)),
-                                              (45, (at_seek (instr.Local (record { 0 = 4 })) refl (λ ss. refl)), refl),
-                                            ),
-                                            refl,
-                                          ),
-                                        ),
+                                        32,
+                                        (at_seek (instr.Local (record { 0 = 3 })) refl (λ ss. refl)),
+                                        (at_store (instr.SetLocal (record { 0 = 2 })) refl (λ v ss. refl)),
                                       ),
                                       (
-                                        46,
-                                        (at_once 46),
+                                        (begins_at 6 (omega arith) refl),
                                         (
-                                          50,
+                                          33,
+                                          (at_once 33),
                                           (
-                                            47,
-                                            (of_values (instr.Import (record { 0 = 1 })) refl (λ ss. refl)),
+                                            36,
+                                            (34, (at_seek (instr.Local (record { 0 = 1 })) refl (λ ss. refl)), (35, refl, refl)),
                                             (
-                                              48,
-                                              (at_store (instr.SetLocal (record { 0 = 5 })) refl (λ v ss. refl)),
+                                              (begins_at 7 (omega arith) refl),
                                               (
-                                                49,
-                                                (of_values (instr.Import (record { 0 = 2 })) refl (λ ss. refl)),
-                                                (50, (at_store (instr.SetLocal (record { 0 = 6 })) refl (λ v ss. refl)), refl),
-                                              ),
-                                            ),
-                                          ),
-                                          (
-                                            50,
-                                            (at_once 50),
-                                            (
-                                              56,
-                                              (
-                                                51,
-                                                (of_values (instr.Import (record { 0 = 1 })) refl (λ ss. refl)),
+                                                36,
+                                                (at_once 36),
                                                 (
-                                                  52,
-                                                  (at_import_name (instr.ImportName (record { 0 = 3 })) refl (λ v ss. refl)),
+                                                  40,
                                                   (
-                                                    53,
-                                                    (at_store (instr.SetLocal (record { 0 = 7 })) refl (λ v ss. refl)),
-                                                    (
-                                                      54,
-                                                      (at_import_name (instr.ImportName (record { 0 = 4 })) refl (λ v ss. refl)),
-                                                      (55, (at_store (instr.SetLocal (record { 0 = 8 })) refl (λ v ss. refl)), refl),
-                                                    ),
+                                                    37,
+                                                    (at_seek (instr.Local (record { 0 = 1 })) refl (λ ss. refl)),
+                                                    (38, refl, (39, (at_seek (instr.Local (record { 0 = 2 })) refl (λ ss. refl)), refl)),
                                                   ),
-                                                ),
-                                              ),
-                                              (
-                                                56,
-                                                (at_once 56),
-                                                (
-                                                  56,
-                                                  refl,
                                                   (
-                                                    56,
-                                                    (at_once 56),
+                                                    (begins_at 8 (omega arith) refl),
                                                     (
-                                                      71,
+                                                      40,
+                                                      (at_once 40),
                                                       (
-                                                        60,
+                                                        46,
                                                         (
-                                                          57,
-                                                          (at_seek (instr.Local (record { 0 = 1 })) refl (λ ss. refl)),
-                                                          (58, refl, (59, (58, (at_once 58), (59, refl, refl)), refl)),
-                                                        ),
-                                                        (
-                                                          66,
+                                                          41,
+                                                          (at_delete (instr.DelLocal (record { 0 = 1 })) refl (λ ss. refl)),
                                                           (
-                                                            61,
-                                                            (at_seek (instr.Local (record { 0 = 2 })) refl (λ ss. refl)),
+                                                            43,
                                                             (
-                                                              62,
-                                                              refl,
-                                                              (
-                                                                65,
-                                                                (
-                                                                  64,
-                                                                  (never_left 62 63 64 true (at_truth (instr.Const (record { 0 = 2 })) refl (λ ss. refl)) (at_lead (instr.JumpUnless (record { 0 = 65 })) refl (λ ss. refl))),
-                                                                  (65, refl, refl),
-                                                                ),
-                                                                refl,
-                                                              ),
+                                                              42,
+                                                              (at_seek (instr.Local (record { 0 = 2 })) refl (λ ss. refl)),
+                                                              (at_delete_attribute (instr.DelAttr (record { 0 = 0 })) refl (λ a ss. refl)),
                                                             ),
-                                                          ),
-                                                          (
-                                                            68,
-                                                            (never_left 66 67 68 true (at_truth (instr.Const (record { 0 = 2 })) refl (λ ss. refl)) (at_lead (instr.JumpUnless (record { 0 = 71 })) refl (λ ss. refl))),
                                                             (
-                                                              71,
+                                                              46,
                                                               (
-                                                                69,
-                                                                (at_seek (instr.Local (record { 0 = 1 })) refl (λ ss. refl)),
-                                                                (70, (at_seek (instr.Local (record { 0 = 2 })) refl (λ ss. refl)), refl),
+                                                                44,
+                                                                (at_seek (instr.Local (record { 0 = 3 })) refl (λ ss. refl)),
+                                                                (45, (at_seek (instr.Local (record { 0 = 4 })) refl (λ ss. refl)), refl),
                                                               ),
                                                               refl,
                                                             ),
                                                           ),
                                                         ),
-                                                      ),
-                                                      (
-                                                        71,
-                                                        (at_once 71),
                                                         (
-                                                          88,
+                                                          (begins_at 9 (omega arith) refl),
                                                           (
-                                                            73,
-                                                            82,
-                                                            84,
-                                                            (72, (at_seek (instr.Local (record { 0 = 1 })) refl (λ ss. refl)), refl),
+                                                            46,
+                                                            (at_once 46),
                                                             (
-                                                              tt,
-                                                              tt,
+                                                              50,
                                                               (
-                                                                73,
-                                                                (at_once 73),
+                                                                47,
+                                                                (of_values (instr.Import (record { 0 = 1 })) refl (λ ss. refl)),
                                                                 (
-                                                                  79,
+                                                                  48,
+                                                                  (at_store (instr.SetLocal (record { 0 = 5 })) refl (λ v ss. refl)),
                                                                   (
-                                                                    79,
+                                                                    49,
+                                                                    (of_values (instr.Import (record { 0 = 2 })) refl (λ ss. refl)),
+                                                                    (50, (at_store (instr.SetLocal (record { 0 = 6 })) refl (λ v ss. refl)), refl),
+                                                                  ),
+                                                                ),
+                                                              ),
+                                                              (
+                                                                (begins_at 10 (omega arith) refl),
+                                                                (
+                                                                  50,
+                                                                  (at_once 50),
+                                                                  (
+                                                                    56,
                                                                     (
-                                                                      74,
-                                                                      (at_seek (instr.Local (record { 0 = 2 })) refl (λ ss. refl)),
+                                                                      51,
+                                                                      (of_values (instr.Import (record { 0 = 1 })) refl (λ ss. refl)),
                                                                       (
-                                                                        75,
-                                                                        refl,
+                                                                        52,
+                                                                        (at_import_name (instr.ImportName (record { 0 = 3 })) refl (λ v ss. refl)),
                                                                         (
-                                                                          78,
+                                                                          53,
+                                                                          (at_store (instr.SetLocal (record { 0 = 7 })) refl (λ v ss. refl)),
                                                                           (
-                                                                            77,
-                                                                            (never_left 75 76 77 true (at_truth (instr.Const (record { 0 = 2 })) refl (λ ss. refl)) (at_lead (instr.JumpUnless (record { 0 = 78 })) refl (λ ss. refl))),
-                                                                            (78, (refl, refl), refl),
+                                                                            54,
+                                                                            (at_import_name (instr.ImportName (record { 0 = 4 })) refl (λ v ss. refl)),
+                                                                            (
+                                                                              55,
+                                                                              (at_store (instr.SetLocal (record { 0 = 8 })) refl (λ v ss. refl)),
+                                                                              refl,
+                                                                            ),
                                                                           ),
-                                                                          refl,
                                                                         ),
                                                                       ),
                                                                     ),
-                                                                    refl,
-                                                                  ),
-                                                                  (
-                                                                    81,
-                                                                    (never_left 79 80 81 true (at_truth (instr.Const (record { 0 = 2 })) refl (λ ss. refl)) (at_lead (instr.JumpUnless (record { 0 = 82 })) refl (λ ss. refl))),
-                                                                    (82, (refl, refl), refl),
-                                                                  ),
-                                                                ),
-                                                              ),
-                                                              (83, (at_seek (instr.Local (record { 0 = 1 })) refl (λ ss. refl)), refl),
-                                                              (
-                                                                86,
-                                                                (never_left 84 85 86 true (at_truth (instr.Const (record { 0 = 2 })) refl (λ ss. refl)) (at_lead (instr.JumpUnless (record { 0 = 88 })) refl (λ ss. refl))),
-                                                                (88, (87, (at_seek (instr.Local (record { 0 = 1 })) refl (λ ss. refl)), refl), refl),
-                                                              ),
-                                                            ),
-                                                          ),
-                                                          (
-                                                            88,
-                                                            (at_once 88),
-                                                            (
-                                                              138,
-                                                              (
-                                                                91,
-                                                                135,
-                                                                137,
-                                                                (89, (at_seek (instr.Local (record { 0 = 2 })) refl (λ ss. refl)), (90, refl, refl)),
-                                                                (
-                                                                  tt,
-                                                                  tt,
-                                                                  (
-                                                                    92,
-                                                                    (at_store (instr.SetLocal (record { 0 = 1 })) refl (λ v ss. refl)),
                                                                     (
-                                                                      92,
-                                                                      (at_once 92),
+                                                                      (begins_at 11 (omega arith) refl),
                                                                       (
-                                                                        135,
+                                                                        56,
+                                                                        (at_once 56),
                                                                         (
-                                                                          93,
+                                                                          56,
                                                                           refl,
                                                                           (
-                                                                            row_2,
-                                                                            (record { depth = refl; always = refl; around = (refl, refl) }),
+                                                                            (begins_at 12 (omega arith) refl),
                                                                             (
-                                                                              131,
+                                                                              56,
+                                                                              (at_once 56),
                                                                               (
-                                                                                131,
+                                                                                71,
                                                                                 (
-                                                                                  93,
-                                                                                  (at_once 93),
+                                                                                  60,
                                                                                   (
-                                                                                    131,
+                                                                                    57,
+                                                                                    (at_seek (instr.Local (record { 0 = 1 })) refl (λ ss. refl)),
                                                                                     (
-                                                                                      94,
+                                                                                      58,
                                                                                       refl,
                                                                                       (
-                                                                                        row_0,
-                                                                                        99,
-                                                                                        (record { depth = refl; except = refl }),
+                                                                                        59,
                                                                                         (
-                                                                                          97,
-                                                                                          (
-                                                                                            96,
-                                                                                            (never_left 94 95 96 true (at_truth (instr.Const (record { 0 = 2 })) refl (λ ss. refl)) (at_lead (instr.JumpUnless (record { 0 = 97 })) refl (λ ss. refl))),
-                                                                                            (97, (refl, refl), refl),
-                                                                                          ),
-                                                                                          (98, (97, (at_once 97), (98, refl, refl)), refl),
+                                                                                          (begins_at 13 (omega arith) refl),
+                                                                                          (58, (at_once 58), (59, refl, refl)),
                                                                                         ),
-                                                                                        (
-                                                                                          114,
-                                                                                          (
-                                                                                            100,
-                                                                                            (at_seek (instr.Local (record { 0 = 2 })) refl (λ ss. refl)),
-                                                                                            (
-                                                                                              101,
-                                                                                              refl,
-                                                                                              (
-                                                                                                102,
-                                                                                                (at_split (instr.JumpUnless (record { 0 = 114 })) refl (λ ss. refl) (λ ss. refl)),
-                                                                                                (
-                                                                                                  row_1,
-                                                                                                  (record { depth = refl; always = refl; around = (refl, refl) }),
-                                                                                                  (
-                                                                                                    103,
-                                                                                                    refl,
-                                                                                                    (
-                                                                                                      104,
-                                                                                                      (at_store (instr.SetLocal (record { 0 = 3 })) refl (λ v ss. refl)),
-                                                                                                      (
-                                                                                                        107,
-                                                                                                        (
-                                                                                                          106,
-                                                                                                          (never_left 104 105 106 true (at_truth (instr.Const (record { 0 = 2 })) refl (λ ss. refl)) (at_lead (instr.JumpUnless (record { 0 = 107 })) refl (λ ss. refl))),
-                                                                                                          (107, (refl, refl), refl),
-                                                                                                        ),
-                                                                                                        refl,
-                                                                                                      ),
-                                                                                                    ),
-                                                                                                  ),
-                                                                                                  (
-                                                                                                    109,
-                                                                                                    (at_null (instr.Const (record { 0 = 3 })) refl (λ ss. refl)),
-                                                                                                    (
-                                                                                                      110,
-                                                                                                      (at_store (instr.SetLocal (record { 0 = 3 })) refl (λ v ss. refl)),
-                                                                                                      (
-                                                                                                        111,
-                                                                                                        (at_delete (instr.DelLocal (record { 0 = 3 })) refl (λ ss. refl)),
-                                                                                                        (112, refl, (113, refl, refl)),
-                                                                                                      ),
-                                                                                                    ),
-                                                                                                  ),
-                                                                                                ),
-                                                                                              ),
-                                                                                            ),
-                                                                                          ),
-                                                                                          (
-                                                                                            123,
-                                                                                            (
-                                                                                              115,
-                                                                                              (at_seek (instr.Local (record { 0 = 4 })) refl (λ ss. refl)),
-                                                                                              (
-                                                                                                116,
-                                                                                                refl,
-                                                                                                (
-                                                                                                  117,
-                                                                                                  (at_split (instr.JumpUnless (record { 0 = 123 })) refl (λ ss. refl) (λ ss. refl)),
-                                                                                                  (
-                                                                                                    121,
-                                                                                                    (
-                                                                                                      119,
-                                                                                                      (never_left 117 118 119 true (at_truth (instr.Const (record { 0 = 2 })) refl (λ ss. refl)) (at_lead (instr.JumpUnless (record { 0 = 121 })) refl (λ ss. refl))),
-                                                                                                      (
-                                                                                                        121,
-                                                                                                        (
-                                                                                                          120,
-                                                                                                          (at_seek (instr.Local (record { 0 = 1 })) refl (λ ss. refl)),
-                                                                                                          refl,
-                                                                                                        ),
-                                                                                                        refl,
-                                                                                                      ),
-                                                                                                    ),
-                                                                                                    (122, refl, refl),
-                                                                                                  ),
-                                                                                                ),
-                                                                                              ),
-                                                                                            ),
-                                                                                            (
-                                                                                              130,
-                                                                                              (
-                                                                                                124,
-                                                                                                (at_null (instr.Const (record { 0 = 3 })) refl (λ ss. refl)),
-                                                                                                (
-                                                                                                  125,
-                                                                                                  refl,
-                                                                                                  (
-                                                                                                    126,
-                                                                                                    (at_split (instr.JumpUnless (record { 0 = 130 })) refl (λ ss. refl) (λ ss. refl)),
-                                                                                                    (
-                                                                                                      128,
-                                                                                                      (
-                                                                                                        126,
-                                                                                                        (at_once 126),
-                                                                                                        (
-                                                                                                          128,
-                                                                                                          (
-                                                                                                            127,
-                                                                                                            (at_seek (instr.Local (record { 0 = 1 })) refl (λ ss. refl)),
-                                                                                                            refl,
-                                                                                                          ),
-                                                                                                          refl,
-                                                                                                        ),
-                                                                                                      ),
-                                                                                                      (129, refl, refl),
-                                                                                                    ),
-                                                                                                  ),
-                                                                                                ),
-                                                                                              ),
-                                                                                              (131, refl),
-                                                                                            ),
-                                                                                          ),
-                                                                                        ),
+                                                                                        refl,
                                                                                       ),
                                                                                     ),
-                                                                                    refl,
                                                                                   ),
-                                                                                ),
-                                                                                refl,
-                                                                              ),
-                                                                              refl,
-                                                                            ),
-                                                                            (
-                                                                              134,
-                                                                              (
-                                                                                132,
-                                                                                (at_once 132),
-                                                                                (
-                                                                                  134,
                                                                                   (
-                                                                                    133,
-                                                                                    (at_seek (instr.Local (record { 0 = 1 })) refl (λ ss. refl)),
-                                                                                    refl,
-                                                                                  ),
-                                                                                  refl,
-                                                                                ),
-                                                                              ),
-                                                                              refl,
-                                                                            ),
-                                                                          ),
-                                                                        ),
-                                                                        refl,
-                                                                      ),
-                                                                    ),
-                                                                  ),
-                                                                  (136, refl, refl),
-                                                                  (137, (at_once 137), (138, refl, refl)),
-                                                                ),
-                                                              ),
-                                                              (
-                                                                138,
-                                                                (at_once 138),
-                                                                (
-                                                                  161,
-                                                                  (
-                                                                    row_5,
-                                                                    (record { depth = refl; always = refl; around = tt }),
-                                                                    (
-                                                                      139,
-                                                                      (at_seek (instr.Local (record { 0 = 1 })) refl (λ ss. refl)),
-                                                                      (
-                                                                        140,
-                                                                        refl,
-                                                                        (
-                                                                          143,
-                                                                          (
-                                                                            141,
-                                                                            (at_unpack (instr.Unpack 2) refl (λ v ss. refl)),
-                                                                            (
-                                                                              142,
-                                                                              (at_store (instr.SetLocal (record { 0 = 2 })) refl (λ v ss. refl)),
-                                                                              (
-                                                                                143,
-                                                                                (at_store (instr.SetLocal (record { 0 = 3 })) refl (λ v ss. refl)),
-                                                                                refl,
-                                                                              ),
-                                                                            ),
-                                                                          ),
-                                                                          (
-                                                                            158,
-                                                                            (
-                                                                              row_4,
-                                                                              (record { depth = refl; always = refl; around = tt }),
-                                                                              (
-                                                                                144,
-                                                                                (at_seek (instr.Local (record { 0 = 4 })) refl (λ ss. refl)),
-                                                                                (
-                                                                                  145,
-                                                                                  refl,
-                                                                                  (
-                                                                                    146,
-                                                                                    refl,
+                                                                                    66,
                                                                                     (
-                                                                                      155,
+                                                                                      61,
+                                                                                      (at_seek (instr.Local (record { 0 = 2 })) refl (λ ss. refl)),
                                                                                       (
-                                                                                        146,
-                                                                                        (at_once 146),
+                                                                                        62,
+                                                                                        refl,
                                                                                         (
-                                                                                          155,
+                                                                                          65,
                                                                                           (
-                                                                                            147,
-                                                                                            refl,
+                                                                                            (begins_at 14 (omega arith) refl),
                                                                                             (
-                                                                                              row_3,
-                                                                                              (record { depth = refl; always = refl; around = tt }),
-                                                                                              (
-                                                                                                149,
-                                                                                                (
-                                                                                                  149,
-                                                                                                  (
-                                                                                                    147,
-                                                                                                    (at_once 147),
-                                                                                                    (
-                                                                                                      149,
-                                                                                                      (
-                                                                                                        148,
-                                                                                                        (at_seek (instr.Local (record { 0 = 1 })) refl (λ ss. refl)),
-                                                                                                        refl,
-                                                                                                      ),
-                                                                                                      refl,
-                                                                                                    ),
-                                                                                                  ),
-                                                                                                  refl,
-                                                                                                ),
-                                                                                                refl,
-                                                                                              ),
-                                                                                              (
-                                                                                                154,
-                                                                                                (
-                                                                                                  152,
-                                                                                                  (never_left 150 151 152 true (at_truth (instr.Const (record { 0 = 2 })) refl (λ ss. refl)) (at_lead (instr.JumpUnless (record { 0 = 154 })) refl (λ ss. refl))),
-                                                                                                  (
-                                                                                                    154,
-                                                                                                    (
-                                                                                                      153,
-                                                                                                      (at_null (instr.Const (record { 0 = 3 })) refl (λ ss. refl)),
-                                                                                                      refl,
-                                                                                                    ),
-                                                                                                    refl,
-                                                                                                  ),
-                                                                                                ),
-                                                                                                refl,
-                                                                                              ),
+                                                                                              64,
+                                                                                              (never_left 62 63 64 true (at_truth (instr.Const (record { 0 = 2 })) refl (λ ss. refl)) (at_lead (instr.JumpUnless (record { 0 = 65 })) refl (λ ss. refl))),
+                                                                                              (65, refl, refl),
                                                                                             ),
                                                                                           ),
                                                                                           refl,
                                                                                         ),
                                                                                       ),
-                                                                                      refl,
+                                                                                    ),
+                                                                                    (
+                                                                                      (begins_at 15 (omega arith) refl),
+                                                                                      (
+                                                                                        68,
+                                                                                        (never_left 66 67 68 true (at_truth (instr.Const (record { 0 = 2 })) refl (λ ss. refl)) (at_lead (instr.JumpUnless (record { 0 = 71 })) refl (λ ss. refl))),
+                                                                                        (
+                                                                                          71,
+                                                                                          (
+                                                                                            69,
+                                                                                            (at_seek (instr.Local (record { 0 = 1 })) refl (λ ss. refl)),
+                                                                                            (
+                                                                                              70,
+                                                                                              (at_seek (instr.Local (record { 0 = 2 })) refl (λ ss. refl)),
+                                                                                              refl,
+                                                                                            ),
+                                                                                          ),
+                                                                                          refl,
+                                                                                        ),
+                                                                                      ),
                                                                                     ),
                                                                                   ),
                                                                                 ),
-                                                                              ),
-                                                                              (157, refl, refl),
-                                                                            ),
-                                                                            refl,
-                                                                          ),
-                                                                        ),
-                                                                      ),
-                                                                    ),
-                                                                    (160, refl, refl),
-                                                                  ),
-                                                                  (
-                                                                    161,
-                                                                    (at_once 161),
-                                                                    (
-                                                                      169,
-                                                                      (
-                                                                        162,
-                                                                        (at_seek (instr.Local (record { 0 = 1 })) refl (λ ss. refl)),
-                                                                        (
-                                                                          163,
-                                                                          (at_seek (instr.Local (record { 0 = 2 })) refl (λ ss. refl)),
-                                                                          (
-                                                                            166,
-                                                                            (
-                                                                              164,
-                                                                              (at_seek (instr.Local (record { 0 = 3 })) refl (λ ss. refl)),
-                                                                              (
-                                                                                165,
-                                                                                (at_cell (instr.PushCell (record { 0 = 0 })) refl (λ ss. refl)),
-                                                                                (of_both (instr.MakeFunction (record { 0 = 1 }) 1 (record { 0 = 0 })) refl (λ ss. refl)),
-                                                                              ),
-                                                                            ),
-                                                                            (
-                                                                              167,
-                                                                              (of_values (instr.Call 1) refl (λ ss. refl)),
-                                                                              (
-                                                                                168,
-                                                                                (of_values (instr.Call 1) refl (λ ss. refl)),
-                                                                                (at_store (instr.SetLocal (record { 0 = 9 })) refl (λ v ss. refl)),
-                                                                              ),
-                                                                            ),
-                                                                          ),
-                                                                        ),
-                                                                      ),
-                                                                      (
-                                                                        169,
-                                                                        (at_once 169),
-                                                                        (
-                                                                          173,
-                                                                          (
-                                                                            170,
-                                                                            (at_null (instr.Const (record { 0 = 3 })) refl (λ ss. refl)),
-                                                                            (
-                                                                              172,
-                                                                              (
-                                                                                171,
-                                                                                (at_cell (instr.PushCell (record { 0 = 0 })) refl (λ ss. refl)),
-                                                                                (of_class (instr.MakeClass (record { 0 = 2 })) refl (λ ss. refl)),
-                                                                              ),
-                                                                              (at_store (instr.SetLocal (record { 0 = 10 })) refl (λ v ss. refl)),
-                                                                            ),
-                                                                          ),
-                                                                          (
-                                                                            173,
-                                                                            (at_once 173),
-                                                                            (
-                                                                              179,
-                                                                              (
-                                                                                174,
-                                                                                (at_seek (instr.Local (record { 0 = 1 })) refl (λ ss. refl)),
                                                                                 (
-                                                                                  175,
-                                                                                  (at_seek (instr.Local (record { 0 = 2 })) refl (λ ss. refl)),
+                                                                                  (begins_at 16 (omega arith) refl),
                                                                                   (
-                                                                                    177,
+                                                                                    71,
+                                                                                    (at_once 71),
                                                                                     (
-                                                                                      176,
-                                                                                      (at_cell (instr.PushCell (record { 0 = 0 })) refl (λ ss. refl)),
-                                                                                      (of_class (instr.MakeClass (record { 0 = 3 })) refl (λ ss. refl)),
-                                                                                    ),
-                                                                                    (
-                                                                                      178,
-                                                                                      (of_values (instr.Call 1) refl (λ ss. refl)),
-                                                                                      (at_store (instr.SetLocal (record { 0 = 11 })) refl (λ v ss. refl)),
+                                                                                      88,
+                                                                                      (
+                                                                                        73,
+                                                                                        82,
+                                                                                        84,
+                                                                                        (
+                                                                                          72,
+                                                                                          (at_seek (instr.Local (record { 0 = 1 })) refl (λ ss. refl)),
+                                                                                          refl,
+                                                                                        ),
+                                                                                        (
+                                                                                          tt,
+                                                                                          tt,
+                                                                                          (
+                                                                                            (begins_at 17 (omega arith) refl),
+                                                                                            (
+                                                                                              73,
+                                                                                              (at_once 73),
+                                                                                              (
+                                                                                                79,
+                                                                                                (
+                                                                                                  79,
+                                                                                                  (
+                                                                                                    74,
+                                                                                                    (at_seek (instr.Local (record { 0 = 2 })) refl (λ ss. refl)),
+                                                                                                    (
+                                                                                                      75,
+                                                                                                      refl,
+                                                                                                      (
+                                                                                                        78,
+                                                                                                        (
+                                                                                                          (begins_at 18 (omega arith) refl),
+                                                                                                          (
+                                                                                                            77,
+                                                                                                            (never_left 75 76 77 true (at_truth (instr.Const (record { 0 = 2 })) refl (λ ss. refl)) (at_lead (instr.JumpUnless (record { 0 = 78 })) refl (λ ss. refl))),
+                                                                                                            (78, (refl, refl), refl),
+                                                                                                          ),
+                                                                                                        ),
+                                                                                                        refl,
+                                                                                                      ),
+                                                                                                    ),
+                                                                                                  ),
+                                                                                                  refl,
+                                                                                                ),
+                                                                                                (
+                                                                                                  (begins_at 19 (omega arith) refl),
+                                                                                                  (
+                                                                                                    81,
+                                                                                                    (never_left 79 80 81 true (at_truth (instr.Const (record { 0 = 2 })) refl (λ ss. refl)) (at_lead (instr.JumpUnless (record { 0 = 82 })) refl (λ ss. refl))),
+                                                                                                    (82, (refl, refl), refl),
+                                                                                                  ),
+                                                                                                ),
+                                                                                              ),
+                                                                                            ),
+                                                                                          ),
+                                                                                          (
+                                                                                            83,
+                                                                                            (at_seek (instr.Local (record { 0 = 1 })) refl (λ ss. refl)),
+                                                                                            refl,
+                                                                                          ),
+                                                                                          (
+                                                                                            (begins_at 20 (omega arith) refl),
+                                                                                            (
+                                                                                              86,
+                                                                                              (never_left 84 85 86 true (at_truth (instr.Const (record { 0 = 2 })) refl (λ ss. refl)) (at_lead (instr.JumpUnless (record { 0 = 88 })) refl (λ ss. refl))),
+                                                                                              (
+                                                                                                88,
+                                                                                                (
+                                                                                                  87,
+                                                                                                  (at_seek (instr.Local (record { 0 = 1 })) refl (λ ss. refl)),
+                                                                                                  refl,
+                                                                                                ),
+                                                                                                refl,
+                                                                                              ),
+                                                                                            ),
+                                                                                          ),
+                                                                                        ),
+                                                                                      ),
+                                                                                      (
+                                                                                        (begins_at 21 (omega arith) refl),
+                                                                                        (
+                                                                                          88,
+                                                                                          (at_once 88),
+                                                                                          (
+                                                                                            138,
+                                                                                            (
+                                                                                              91,
+                                                                                              135,
+                                                                                              137,
+                                                                                              (
+                                                                                                89,
+                                                                                                (at_seek (instr.Local (record { 0 = 2 })) refl (λ ss. refl)),
+                                                                                                (90, refl, refl),
+                                                                                              ),
+                                                                                              (
+                                                                                                tt,
+                                                                                                tt,
+                                                                                                (
+                                                                                                  92,
+                                                                                                  (at_store (instr.SetLocal (record { 0 = 1 })) refl (λ v ss. refl)),
+                                                                                                  (
+                                                                                                    (begins_at 22 (omega arith) refl),
+                                                                                                    (
+                                                                                                      92,
+                                                                                                      (at_once 92),
+                                                                                                      (
+                                                                                                        135,
+                                                                                                        (
+                                                                                                          93,
+                                                                                                          refl,
+                                                                                                          (
+                                                                                                            row_2,
+                                                                                                            (record { depth = refl; always = refl; around = (refl, refl) }),
+                                                                                                            (
+                                                                                                              131,
+                                                                                                              (
+                                                                                                                131,
+                                                                                                                (
+                                                                                                                  (begins_at 23 (omega arith) refl),
+                                                                                                                  (
+                                                                                                                    93,
+                                                                                                                    (at_once 93),
+                                                                                                                    (
+                                                                                                                      131,
+                                                                                                                      (
+                                                                                                                        94,
+                                                                                                                        refl,
+                                                                                                                        (
+                                                                                                                          row_0,
+                                                                                                                          99,
+                                                                                                                          (record { depth = refl; except = refl }),
+                                                                                                                          (
+                                                                                                                            97,
+                                                                                                                            (
+                                                                                                                              (begins_at 24 (omega arith) refl),
+                                                                                                                              (
+                                                                                                                                96,
+                                                                                                                                (never_left 94 95 96 true (at_truth (instr.Const (record { 0 = 2 })) refl (λ ss. refl)) (at_lead (instr.JumpUnless (record { 0 = 97 })) refl (λ ss. refl))),
+                                                                                                                                (
+                                                                                                                                  97,
+                                                                                                                                  (refl, refl),
+                                                                                                                                  refl,
+                                                                                                                                ),
+                                                                                                                              ),
+                                                                                                                            ),
+                                                                                                                            (
+                                                                                                                              98,
+                                                                                                                              (
+                                                                                                                                (begins_at 25 (omega arith) refl),
+                                                                                                                                (
+                                                                                                                                  97,
+                                                                                                                                  (at_once 97),
+                                                                                                                                  (98, refl, refl),
+                                                                                                                                ),
+                                                                                                                              ),
+                                                                                                                              refl,
+                                                                                                                            ),
+                                                                                                                          ),
+                                                                                                                          (
+                                                                                                                            114,
+                                                                                                                            (
+                                                                                                                              100,
+                                                                                                                              (at_seek (instr.Local (record { 0 = 2 })) refl (λ ss. refl)),
+                                                                                                                              (
+                                                                                                                                101,
+                                                                                                                                refl,
+                                                                                                                                (
+                                                                                                                                  102,
+                                                                                                                                  (at_split (instr.JumpUnless (record { 0 = 114 })) refl (λ ss. refl) (λ ss. refl)),
+                                                                                                                                  (
+                                                                                                                                    row_1,
+                                                                                                                                    (record { depth = refl; always = refl; around = (refl, refl) }),
+                                                                                                                                    (
+                                                                                                                                      103,
+                                                                                                                                      refl,
+                                                                                                                                      (
+                                                                                                                                        104,
+                                                                                                                                        (at_store (instr.SetLocal (record { 0 = 3 })) refl (λ v ss. refl)),
+                                                                                                                                        (
+                                                                                                                                          107,
+                                                                                                                                          (
+                                                                                                                                            (begins_at 26 (omega arith) refl),
+                                                                                                                                            (
+                                                                                                                                              106,
+                                                                                                                                              (never_left 104 105 106 true (at_truth (instr.Const (record { 0 = 2 })) refl (λ ss. refl)) (at_lead (instr.JumpUnless (record { 0 = 107 })) refl (λ ss. refl))),
+                                                                                                                                              (
+                                                                                                                                                107,
+                                                                                                                                                (
+                                                                                                                                                  refl,
+                                                                                                                                                  refl,
+                                                                                                                                                ),
+                                                                                                                                                refl,
+                                                                                                                                              ),
+                                                                                                                                            ),
+                                                                                                                                          ),
+                                                                                                                                          refl,
+                                                                                                                                        ),
+                                                                                                                                      ),
+                                                                                                                                    ),
+                                                                                                                                    (
+                                                                                                                                      109,
+                                                                                                                                      (at_null (instr.Const (record { 0 = 3 })) refl (λ ss. refl)),
+                                                                                                                                      (
+                                                                                                                                        110,
+                                                                                                                                        (at_store (instr.SetLocal (record { 0 = 3 })) refl (λ v ss. refl)),
+                                                                                                                                        (
+                                                                                                                                          111,
+                                                                                                                                          (at_delete (instr.DelLocal (record { 0 = 3 })) refl (λ ss. refl)),
+                                                                                                                                          (
+                                                                                                                                            112,
+                                                                                                                                            refl,
+                                                                                                                                            (
+                                                                                                                                              113,
+                                                                                                                                              refl,
+                                                                                                                                              refl,
+                                                                                                                                            ),
+                                                                                                                                          ),
+                                                                                                                                        ),
+                                                                                                                                      ),
+                                                                                                                                    ),
+                                                                                                                                  ),
+                                                                                                                                ),
+                                                                                                                              ),
+                                                                                                                            ),
+                                                                                                                            (
+                                                                                                                              123,
+                                                                                                                              (
+                                                                                                                                115,
+                                                                                                                                (at_seek (instr.Local (record { 0 = 4 })) refl (λ ss. refl)),
+                                                                                                                                (
+                                                                                                                                  116,
+                                                                                                                                  refl,
+                                                                                                                                  (
+                                                                                                                                    117,
+                                                                                                                                    (at_split (instr.JumpUnless (record { 0 = 123 })) refl (λ ss. refl) (λ ss. refl)),
+                                                                                                                                    (
+                                                                                                                                      121,
+                                                                                                                                      (
+                                                                                                                                        (begins_at 27 (omega arith) refl),
+                                                                                                                                        (
+                                                                                                                                          119,
+                                                                                                                                          (never_left 117 118 119 true (at_truth (instr.Const (record { 0 = 2 })) refl (λ ss. refl)) (at_lead (instr.JumpUnless (record { 0 = 121 })) refl (λ ss. refl))),
+                                                                                                                                          (
+                                                                                                                                            121,
+                                                                                                                                            (
+                                                                                                                                              120,
+                                                                                                                                              (at_seek (instr.Local (record { 0 = 1 })) refl (λ ss. refl)),
+                                                                                                                                              refl,
+                                                                                                                                            ),
+                                                                                                                                            refl,
+                                                                                                                                          ),
+                                                                                                                                        ),
+                                                                                                                                      ),
+                                                                                                                                      (
+                                                                                                                                        122,
+                                                                                                                                        refl,
+                                                                                                                                        refl,
+                                                                                                                                      ),
+                                                                                                                                    ),
+                                                                                                                                  ),
+                                                                                                                                ),
+                                                                                                                              ),
+                                                                                                                              (
+                                                                                                                                130,
+                                                                                                                                (
+                                                                                                                                  124,
+                                                                                                                                  (at_null (instr.Const (record { 0 = 3 })) refl (λ ss. refl)),
+                                                                                                                                  (
+                                                                                                                                    125,
+                                                                                                                                    refl,
+                                                                                                                                    (
+                                                                                                                                      126,
+                                                                                                                                      (at_split (instr.JumpUnless (record { 0 = 130 })) refl (λ ss. refl) (λ ss. refl)),
+                                                                                                                                      (
+                                                                                                                                        128,
+                                                                                                                                        (
+                                                                                                                                          (begins_at 28 (omega arith) refl),
+                                                                                                                                          (
+                                                                                                                                            126,
+                                                                                                                                            (at_once 126),
+                                                                                                                                            (
+                                                                                                                                              128,
+                                                                                                                                              (
+                                                                                                                                                127,
+                                                                                                                                                (at_seek (instr.Local (record { 0 = 1 })) refl (λ ss. refl)),
+                                                                                                                                                refl,
+                                                                                                                                              ),
+                                                                                                                                              refl,
+                                                                                                                                            ),
+                                                                                                                                          ),
+                                                                                                                                        ),
+                                                                                                                                        (
+                                                                                                                                          129,
+                                                                                                                                          refl,
+                                                                                                                                          refl,
+                                                                                                                                        ),
+                                                                                                                                      ),
+                                                                                                                                    ),
+                                                                                                                                  ),
+                                                                                                                                ),
+                                                                                                                                (131, refl),
+                                                                                                                              ),
+                                                                                                                            ),
+                                                                                                                          ),
+                                                                                                                        ),
+                                                                                                                      ),
+                                                                                                                      refl,
+                                                                                                                    ),
+                                                                                                                  ),
+                                                                                                                ),
+                                                                                                                refl,
+                                                                                                              ),
+                                                                                                              refl,
+                                                                                                            ),
+                                                                                                            (
+                                                                                                              134,
+                                                                                                              (
+                                                                                                                (begins_at 29 (omega arith) refl),
+                                                                                                                (
+                                                                                                                  132,
+                                                                                                                  (at_once 132),
+                                                                                                                  (
+                                                                                                                    134,
+                                                                                                                    (
+                                                                                                                      133,
+                                                                                                                      (at_seek (instr.Local (record { 0 = 1 })) refl (λ ss. refl)),
+                                                                                                                      refl,
+                                                                                                                    ),
+                                                                                                                    refl,
+                                                                                                                  ),
+                                                                                                                ),
+                                                                                                              ),
+                                                                                                              refl,
+                                                                                                            ),
+                                                                                                          ),
+                                                                                                        ),
+                                                                                                        refl,
+                                                                                                      ),
+                                                                                                    ),
+                                                                                                  ),
+                                                                                                ),
+                                                                                                (136, refl, refl),
+                                                                                                (
+                                                                                                  (begins_at 30 (omega arith) refl),
+                                                                                                  (137, (at_once 137), (138, refl, refl)),
+                                                                                                ),
+                                                                                              ),
+                                                                                            ),
+                                                                                            (
+                                                                                              (begins_at 31 (omega arith) refl),
+                                                                                              (
+                                                                                                138,
+                                                                                                (at_once 138),
+                                                                                                (
+                                                                                                  161,
+                                                                                                  (
+                                                                                                    row_5,
+                                                                                                    (record { depth = refl; always = refl; around = tt }),
+                                                                                                    (
+                                                                                                      139,
+                                                                                                      (at_seek (instr.Local (record { 0 = 1 })) refl (λ ss. refl)),
+                                                                                                      (
+                                                                                                        140,
+                                                                                                        refl,
+                                                                                                        (
+                                                                                                          143,
+                                                                                                          (
+                                                                                                            141,
+                                                                                                            (at_unpack (instr.Unpack 2) refl (λ v ss. refl)),
+                                                                                                            (
+                                                                                                              142,
+                                                                                                              (at_store (instr.SetLocal (record { 0 = 2 })) refl (λ v ss. refl)),
+                                                                                                              (
+                                                                                                                143,
+                                                                                                                (at_store (instr.SetLocal (record { 0 = 3 })) refl (λ v ss. refl)),
+                                                                                                                refl,
+                                                                                                              ),
+                                                                                                            ),
+                                                                                                          ),
+                                                                                                          (
+                                                                                                            158,
+                                                                                                            (
+                                                                                                              row_4,
+                                                                                                              (record { depth = refl; always = refl; around = tt }),
+                                                                                                              (
+                                                                                                                144,
+                                                                                                                (at_seek (instr.Local (record { 0 = 4 })) refl (λ ss. refl)),
+                                                                                                                (
+                                                                                                                  145,
+                                                                                                                  refl,
+                                                                                                                  (
+                                                                                                                    146,
+                                                                                                                    refl,
+                                                                                                                    (
+                                                                                                                      155,
+                                                                                                                      (
+                                                                                                                        (begins_at 32 (omega arith) refl),
+                                                                                                                        (
+                                                                                                                          146,
+                                                                                                                          (at_once 146),
+                                                                                                                          (
+                                                                                                                            155,
+                                                                                                                            (
+                                                                                                                              147,
+                                                                                                                              refl,
+                                                                                                                              (
+                                                                                                                                row_3,
+                                                                                                                                (record { depth = refl; always = refl; around = tt }),
+                                                                                                                                (
+                                                                                                                                  149,
+                                                                                                                                  (
+                                                                                                                                    149,
+                                                                                                                                    (
+                                                                                                                                      (begins_at 33 (omega arith) refl),
+                                                                                                                                      (
+                                                                                                                                        147,
+                                                                                                                                        (at_once 147),
+                                                                                                                                        (
+                                                                                                                                          149,
+                                                                                                                                          (
+                                                                                                                                            148,
+                                                                                                                                            (at_seek (instr.Local (record { 0 = 1 })) refl (λ ss. refl)),
+                                                                                                                                            refl,
+                                                                                                                                          ),
+                                                                                                                                          refl,
+                                                                                                                                        ),
+                                                                                                                                      ),
+                                                                                                                                    ),
+                                                                                                                                    refl,
+                                                                                                                                  ),
+                                                                                                                                  refl,
+                                                                                                                                ),
+                                                                                                                                (
+                                                                                                                                  154,
+                                                                                                                                  (
+                                                                                                                                    (begins_at 34 (omega arith) refl),
+                                                                                                                                    (
+                                                                                                                                      152,
+                                                                                                                                      (never_left 150 151 152 true (at_truth (instr.Const (record { 0 = 2 })) refl (λ ss. refl)) (at_lead (instr.JumpUnless (record { 0 = 154 })) refl (λ ss. refl))),
+                                                                                                                                      (
+                                                                                                                                        154,
+                                                                                                                                        (
+                                                                                                                                          153,
+                                                                                                                                          (at_null (instr.Const (record { 0 = 3 })) refl (λ ss. refl)),
+                                                                                                                                          refl,
+                                                                                                                                        ),
+                                                                                                                                        refl,
+                                                                                                                                      ),
+                                                                                                                                    ),
+                                                                                                                                  ),
+                                                                                                                                  refl,
+                                                                                                                                ),
+                                                                                                                              ),
+                                                                                                                            ),
+                                                                                                                            refl,
+                                                                                                                          ),
+                                                                                                                        ),
+                                                                                                                      ),
+                                                                                                                      refl,
+                                                                                                                    ),
+                                                                                                                  ),
+                                                                                                                ),
+                                                                                                              ),
+                                                                                                              (157, refl, refl),
+                                                                                                            ),
+                                                                                                            refl,
+                                                                                                          ),
+                                                                                                        ),
+                                                                                                      ),
+                                                                                                    ),
+                                                                                                    (160, refl, refl),
+                                                                                                  ),
+                                                                                                  (
+                                                                                                    (begins_at 35 (omega arith) refl),
+                                                                                                    (
+                                                                                                      161,
+                                                                                                      (at_once 161),
+                                                                                                      (
+                                                                                                        169,
+                                                                                                        (
+                                                                                                          162,
+                                                                                                          (at_seek (instr.Local (record { 0 = 1 })) refl (λ ss. refl)),
+                                                                                                          (
+                                                                                                            163,
+                                                                                                            (at_seek (instr.Local (record { 0 = 2 })) refl (λ ss. refl)),
+                                                                                                            (
+                                                                                                              166,
+                                                                                                              (
+                                                                                                                164,
+                                                                                                                (at_seek (instr.Local (record { 0 = 3 })) refl (λ ss. refl)),
+                                                                                                                (
+                                                                                                                  165,
+                                                                                                                  (at_cell (instr.PushCell (record { 0 = 0 })) refl (λ ss. refl)),
+                                                                                                                  (of_both (instr.MakeFunction (record { 0 = 1 }) 1 (record { 0 = 0 })) refl (λ ss. refl)),
+                                                                                                                ),
+                                                                                                              ),
+                                                                                                              (
+                                                                                                                167,
+                                                                                                                (of_values (instr.Call 1) refl (λ ss. refl)),
+                                                                                                                (
+                                                                                                                  168,
+                                                                                                                  (of_values (instr.Call 1) refl (λ ss. refl)),
+                                                                                                                  (at_store (instr.SetLocal (record { 0 = 9 })) refl (λ v ss. refl)),
+                                                                                                                ),
+                                                                                                              ),
+                                                                                                            ),
+                                                                                                          ),
+                                                                                                        ),
+                                                                                                        (
+                                                                                                          (begins_at 36 (omega arith) refl),
+                                                                                                          (
+                                                                                                            169,
+                                                                                                            (at_once 169),
+                                                                                                            (
+                                                                                                              173,
+                                                                                                              (
+                                                                                                                170,
+                                                                                                                (at_null (instr.Const (record { 0 = 3 })) refl (λ ss. refl)),
+                                                                                                                (
+                                                                                                                  172,
+                                                                                                                  (
+                                                                                                                    171,
+                                                                                                                    (at_cell (instr.PushCell (record { 0 = 0 })) refl (λ ss. refl)),
+                                                                                                                    (of_class (instr.MakeClass (record { 0 = 2 })) refl (λ ss. refl)),
+                                                                                                                  ),
+                                                                                                                  (at_store (instr.SetLocal (record { 0 = 10 })) refl (λ v ss. refl)),
+                                                                                                                ),
+                                                                                                              ),
+                                                                                                              (
+                                                                                                                (begins_at 37 (omega arith) refl),
+                                                                                                                (
+                                                                                                                  173,
+                                                                                                                  (at_once 173),
+                                                                                                                  (
+                                                                                                                    179,
+                                                                                                                    (
+                                                                                                                      174,
+                                                                                                                      (at_seek (instr.Local (record { 0 = 1 })) refl (λ ss. refl)),
+                                                                                                                      (
+                                                                                                                        175,
+                                                                                                                        (at_seek (instr.Local (record { 0 = 2 })) refl (λ ss. refl)),
+                                                                                                                        (
+                                                                                                                          177,
+                                                                                                                          (
+                                                                                                                            176,
+                                                                                                                            (at_cell (instr.PushCell (record { 0 = 0 })) refl (λ ss. refl)),
+                                                                                                                            (of_class (instr.MakeClass (record { 0 = 3 })) refl (λ ss. refl)),
+                                                                                                                          ),
+                                                                                                                          (
+                                                                                                                            178,
+                                                                                                                            (of_values (instr.Call 1) refl (λ ss. refl)),
+                                                                                                                            (at_store (instr.SetLocal (record { 0 = 11 })) refl (λ v ss. refl)),
+                                                                                                                          ),
+                                                                                                                        ),
+                                                                                                                      ),
+                                                                                                                    ),
+                                                                                                                    refl,
+                                                                                                                  ),
+                                                                                                                ),
+                                                                                                              ),
+                                                                                                            ),
+                                                                                                          ),
+                                                                                                        ),
+                                                                                                      ),
+                                                                                                    ),
+                                                                                                  ),
+                                                                                                ),
+                                                                                              ),
+                                                                                            ),
+                                                                                          ),
+                                                                                        ),
+                                                                                      ),
                                                                                     ),
                                                                                   ),
                                                                                 ),
                                                                               ),
-                                                                              refl,
                                                                             ),
                                                                           ),
                                                                         ),

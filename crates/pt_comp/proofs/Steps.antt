@@ -10,6 +10,7 @@ use Rattle.pt_tree.specs.Syntax.{Name, Exp, Opt, Clauses, Place, Tgt, Tgts, Deco
 use Rattle.pt_tree.specs.Sizes.{size, target_size, params_size, items_size, stm_size, stms_size, handlers_size}
 use Rattle.pt_instr.specs.declared.Instr.TheVariants as instr
 use Rattle.pt_code.specs.View.{Ins}
+use Rattle.pt_code.specs.declared.Start.{Start}
 use Rattle.pt_control.specs.Turn as T
 use Rattle.pt_control.specs.Turn.{Mark, mark, Around, Variable, Operation, Deed, Throw, Test, Note, raised_again, gave, left_by, Reply, got, raised, Turn, act, note, move, over}
 use Rattle.pt_control.specs.Frames as F
@@ -51,7 +52,7 @@ module _ {V : Type 0} (block : Around V) (code : CodeObject V) where
 
   -- the exception that is active in a nest is that of the slots
   busy_alike : (s : Nest V) (x : Surroundings) (σ : Slots V) (p : ℕ) → N s x σ p → active σ ≡ bases.active s
-  busy_alike _ _ _ _ (at_end p q h) = refl
+  busy_alike _ _ _ _ (at_end starts p q h) = refl
   busy_alike _ _ _ _ (at_rest n ss s x σ p q h g) = busy_alike s x σ q g
   busy_alike _ _ _ _ (at_looping l n e body els s x σ first next other end' h g) = busy_alike s x σ end' g
   busy_alike _ _ _ _ (at_iterating l n i t body els s x σ first next other end' h g) = busy_alike s x σ end' g
@@ -321,7 +322,7 @@ module _ {V : Type 0} (block : Around V) (code : CodeObject V) where
     begin_all_comes : (ss : Stms) (n : ℕ) (s : Nest V) (x : Surroundings) (σ : Slots V) (p q : ℕ) (c : Control V)
         → All_at block code ss n x p q → N s x σ q → C c (on q σ) → C (begin_all block ss n s c) (on p σ)
     begin_all_comes none n s x σ p q c h g a = subst (λ r. C c (on r σ)) (sym h) a
-    begin_all_comes (more st ss) n s x σ p q c (m, hs, (m', h, hr)) g a =
+    begin_all_comes (more st ss) n s x σ p q c (hst, (m, hs, (m', h, hr))) g a =
         start_moves _ x p m σ hs
         (begin_stm_comes st n (F.rest (n + stm_size st) ss ∷ s) x σ m m' _ h (at_rest (n + stm_size st) ss s x σ m' q hr g)
         (begin_all_comes ss (n + stm_size st) s x σ m' q c hr g a))
@@ -373,7 +374,7 @@ module _ {V : Type 0} (block : Around V) (code : CodeObject V) where
 
   -- how many slots lie below
   pub depth : (s : Nest V) (x : Surroundings) (σ : Slots V) (p : ℕ) → N s x σ p → length σ ≡ x.depth
-  depth _ _ _ _ (at_end p q h) = refl
+  depth _ _ _ _ (at_end starts p q h) = refl
   depth _ _ _ _ (at_rest n ss s x σ p q h g) = depth s x σ q g
   depth _ _ _ _ (at_looping l n e body els s x σ first next other end' h g) = depth s x σ end' g
   depth _ _ _ _ (at_iterating l n i t body els s x σ first next other end' h g) = ap (λ d. suc d) (depth s x σ end' g)
@@ -452,11 +453,12 @@ module _ {V : Type 0} (block : Around V) (code : CodeObject V) where
       (subst (λ u. Lands block code (F.lets_go held s) (on q (pending u ∷ σ))) (sym (left_false held x)) (lands _ x _ q (at_lets_go held s x σ q end' m he g)))
       (exit_active held n w s x σ (busy_alike s x σ end' g)))
 
-  alone_abrupt : (a : Abrupt V) → May code a outermost → (τ : Slots V) → C (complete block (F.by a) []) (land code [] (as_code a outermost) τ)
-  alone_abrupt (F.raise v) m τ = there _ _ (m_over (left_by v))
-  alone_abrupt (F.return v) m τ = there _ _ (m_over (gave v))
-  alone_abrupt F.break m τ = elim m [ ]
-  alone_abrupt F.continue m τ = elim m [ ]
+  alone_abrupt : (starts : List Start) (a : Abrupt V) → May code a (outermost starts) → (τ : Slots V)
+      → C (complete block (F.by a) []) (land code [] (as_code a (outermost starts)) τ)
+  alone_abrupt starts (F.raise v) m τ = there _ _ (m_over (left_by v))
+  alone_abrupt starts (F.return v) m τ = there _ _ (m_over (gave v))
+  alone_abrupt starts F.break m τ = elim m [ ]
+  alone_abrupt starts F.continue m τ = elim m [ ]
 
   while_abrupt : (l n : ℕ) (e : Exp) (body els : Stms) (s : Nest V) (x : Surroundings) (σ : Slots V) (first next other end' : ℕ)
       → While_at block code l n e (All_at block code body (tested_body n e)) (All_at block code els (behind_body n e body) x) x first next other end'
@@ -516,9 +518,9 @@ module _ {V : Type 0} (block : Around V) (code : CodeObject V) where
       subst (λ v. C (complete block (F.by a) s) (land code x.rows v τ)) (sym (as_deeper a x)) (b.abruptly a (may_deeper code a x m) τ (shorter u σ τ o))
 
   pub both : (s : Nest V) (x : Surroundings) (σ : Slots V) (p : ℕ) → N s x σ p → Both s x σ p
-  both _ _ _ _ (at_end p q (m, hn, hr)) = record {
-    normally = null_moves _ outermost p m [] hn (moved _ m _ (value block.null ∷ []) (off (gave block.null)) hr refl (there _ _ (m_over (gave block.null))));
-    abruptly = λ a m τ o. alone_abrupt a m τ;
+  both _ _ _ _ (at_end starts p q (m, hn, hr)) = record {
+    normally = null_moves _ (outermost starts) p m [] hn (moved _ m _ (value block.null ∷ []) (off (gave block.null)) hr refl (there _ _ (m_over (gave block.null))));
+    abruptly = λ a m τ o. alone_abrupt starts a m τ;
   }
   both _ _ _ _ (at_rest n ss s x σ p q h g) = let b = both s x σ q g in record {
     normally = begin_all_comes ss n s x σ p q _ h g b.normally;
@@ -573,7 +575,7 @@ module _ {V : Type 0} (block : Around V) (code : CodeObject V) where
   -- a completion goes from within a nest
   leave_inside : (s : Nest V) (x : Surroundings) (τ : Slots V) → Inside block code s x τ → (a : Abrupt V) → May code a x → C (complete block (F.by a) s) (land code x.rows (as_code a x) τ)
   leave_inside _ _ _ (inside s x σ τ p g o) a m = let b = both s x σ p g in b.abruptly a m τ o
-  leave_inside _ _ _ (alone τ) a m = alone_abrupt a m τ
+  leave_inside _ _ _ (alone starts τ) a m = alone_abrupt starts a m τ
   leave_inside _ _ _ (in_tests n e s x τ h) a m = leave_inside s x τ h a m
   leave_inside _ _ _ (in_exit n w held s x τ h) a m = leave_inside s x τ h a m
 
@@ -583,7 +585,7 @@ module _ {V : Type 0} (block : Around V) (code : CodeObject V) where
 
   inside_push : (s : Nest V) (x : Surroundings) (u : Slot V) (τ : Slots V) → Inside block code s x τ → Inside block code s x (u ∷ τ)
   inside_push _ _ u _ (inside s x σ τ p g o) = inside s x σ (u ∷ τ) p g (raised_by u τ o)
-  inside_push _ _ u _ (alone τ) = alone (u ∷ τ)
+  inside_push _ _ u _ (alone starts τ) = alone starts (u ∷ τ)
   inside_push _ _ u _ (in_tests n e s x τ h) = in_tests n e s x (u ∷ τ) (inside_push s x u τ h)
   inside_push _ _ u _ (in_exit n w held s x τ h) = in_exit n w held s x (u ∷ τ) (inside_push s x u τ h)
 
@@ -880,19 +882,19 @@ module _ {V : Type 0} (block : Around V) (code : CodeObject V) where
   follows _ _ (m_over e) = same_over e
 
   pub blocks_begin : BlocksBegin block code
-  blocks_begin ss (end', behind, h, hr) =
-      let g = at_end end' behind hr in
-      let b = both [] outermost [] end' g in
-      begin_all_comes ss 0 [] outermost [] 0 end' _ h g b.normally
+  blocks_begin starts ss (end', behind, h, hr) =
+      let g = at_end starts end' behind hr in
+      let b = both [] (outermost starts) [] end' g in
+      begin_all_comes ss 0 [] (outermost starts) [] 0 end' _ h g b.normally
 
   pub lambdas_begin : LambdasBegin block code
-  lambdas_begin l e (behind, (m, he, h)) = value_comes (F.returned_by l (size e) []) outermost [] 0 m e 0 false he (at_returned l (size e) [] outermost [] m behind h (record { stands = alone []; same_active = refl }))
+  lambdas_begin l e (behind, (m, he, h)) = value_comes (F.returned_by l (size e) []) (outermost []) [] 0 m e 0 false he (at_returned l (size e) [] (outermost []) [] m behind h (record { stands = alone [] []; same_active = refl }))
 
   pub generators_begin : GeneratorsBegin block code
   generators_begin l e k t cs i (end', behind, behind_all, h, hr) =
       within (way (F.finished [])) [] [] end' _ _
       (steps.item_comes block code [] (way (F.finished [])) [] end' k 0 i t cs (F.generating l e []) 0 [] 0 end' behind h (expressions.at_items l e [] refl))
-      (by_way (F.finished []) outermost [] end' (at_finished [] outermost [] end' (at_end end' behind_all hr)) refl)
+      (by_way (F.finished []) (outermost []) [] end' (at_finished [] (outermost []) [] end' (at_end [] end' behind_all hr)) refl)
 
   pub ways_go_on : WaysGoOn block code
   ways_go_on k x σ p h = way_comes k x σ p h

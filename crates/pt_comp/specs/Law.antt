@@ -9,6 +9,7 @@ use Rattle.pt_tree.specs.Syntax.{Name, Exp, Opt, Clauses, Place, Tgt, Tgts, Deco
 use Rattle.pt_tree.specs.Sizes.{size, items_size, stms_size, handlers_size}
 use Rattle.pt_instr.specs.declared.Instr.TheVariants as instr
 use Rattle.pt_code.specs.View.{Ins}
+use Rattle.pt_code.specs.declared.Start.{Start}
 use Rattle.pt_control.specs.Turn as T
 use Rattle.pt_control.specs.Turn.{Mark, Around, Deed, Throw, Test, Note, raised_again, Ask, Answer, Reply, End, Turn, act, note, move, over}
 use Rattle.pt_control.specs.Frames as F
@@ -56,7 +57,8 @@ module _ {V : Type 0} (block : Around V) (code : CodeObject V) where
 
   -- where a statement is complete with these slots, the code at this place goes on as the nest does
   pub data Nest_on : Nest V → Surroundings → Slots V → (pc : ℕ) → Type 0 where
-    at_end : (p q : ℕ) → (Null_in block code outermost ⨾ Move_in block code outermost instr.Return) p q → Nest_on [] outermost [] p
+    at_end : (starts : List Start) (p q : ℕ) → (Null_in block code (outermost starts) ⨾ Move_in block code (outermost starts) instr.Return) p q
+        → Nest_on [] (outermost starts) [] p
     at_rest : (n : ℕ) (ss : Stms) (s : Nest V) (x : Surroundings) (σ : Slots V) (p q : ℕ)
         → All_at block code ss n x p q → Nest_on s x σ q → Nest_on (F.rest n ss ∷ s) x σ p
     at_looping : (l n : ℕ) (c : Exp) (body els : Stms) (s : Nest V) (x : Surroundings) (σ : Slots V) (first next other end : ℕ)
@@ -93,7 +95,7 @@ module _ {V : Type 0} (block : Around V) (code : CodeObject V) where
   -- a nest to which a raise goes from these slots. The tests of handlers and an exit that is due are code of the statement around
   pub data Inside : Nest V → Surroundings → Slots V → Type 0 where
     inside : (s : Nest V) (x : Surroundings) (σ τ : Slots V) (p : ℕ) → Nest_on s x σ p → Above σ τ → Inside s x τ
-    alone : (τ : Slots V) → Inside [] outermost τ
+    alone : (starts : List Start) (τ : Slots V) → Inside [] (outermost starts) τ
     in_tests : (n : ℕ) (e : V) (s : Nest V) (x : Surroundings) (τ : Slots V) → Inside s x τ → Inside (F.testing n e ∷ s) x τ
     in_exit : (n : ℕ) (w : V) (held : Completion V) (s : Nest V) (x : Surroundings) (τ : Slots V) → Inside s x τ → Inside (F.exiting n w held ∷ s) x τ
 
@@ -311,7 +313,7 @@ module _ {V : Type 0} (block : Around V) (code : CodeObject V) where
 
   -- and code comes from the beginning of its block to such states: a block of statements, a lambda's, and a generator expression's with its first iterator
   abbrev pub BlocksBegin : Type 0
-  BlocksBegin = (ss : Stms) → Block_at block code ss → Comes (control.start block ss) machine.start
+  BlocksBegin = (starts : List Start) (ss : Stms) → Block_at block code starts ss → Comes (control.start block ss) machine.start
 
   abbrev pub LambdasBegin : Type 0
   LambdasBegin = (l : ℕ) (e : Exp) → Lambda_at block code l e → Comes (control.start_lambda block l e) machine.start

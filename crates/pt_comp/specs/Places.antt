@@ -1,9 +1,10 @@
 -- Where the code of a statement, of statements and of a block stands: a relation of two places, by recursion over the tree. The numbers of acts are spelled as control
 -- spells them. A statement's first place is its start.
-use Rattle.std.specs.Prelude.{◌≡◌, ℕ, ◌+◌, suc, List, [], ◌∷◌, Bool, true, false, Option, Some, None, if◌then◌else◌}
+use Rattle.std.specs.Prelude.{Contains, ◌≡◌, ℕ, ◌+◌, suc, List, [], ◌∷◌, Bool, true, false, Option, Some, None, if◌then◌else◌}
 use Rattle.pt_base.specs.declared.operators.BinOp.{BinOp}
 use Rattle.pt_ranges.specs.declared.lines.ActMark.{ActMark}
 use Rattle.pt_ranges.specs.declared.handlers.Handler.{Handler}
+use Rattle.pt_code.specs.declared.Start.{Start}
 use Rattle.pt_tree.specs.declared.expression.Constant.TheVariants as constant
 use Rattle.pt_tree.specs.declared.statement.Alias.{Alias}
 use Rattle.pt_tree.specs.Syntax as S
@@ -16,6 +17,7 @@ use Rattle.pt_control.specs.Turn.{Around, Variable, move}
 use Rattle.pt_control.specs.Frames.{Definition, a_function, a_class}
 use Rattle.pt_control.specs.Numbers.{tested_body, behind_body, for_body, for_else, try_handlers, try_finally, handler_body}
 use Rattle.pt_control.specs.Statements.{all_places, bound_name}
+use Rattle.pt_control.specs.Jump.{starts_on}
 use Rattle.pt_slots.specs.Slots.{Slots, value, on}
 use Rattle.pt_slots.specs.CodeObject.{CodeObject}
 use Rattle.pt_slots.specs.Steps.{asks, does}
@@ -271,7 +273,8 @@ module _ {V : Type 0} (block : Around V) (code : CodeObject V) where
 
     pub All_at : Stms → (n : ℕ) → Surroundings → ℕ → ℕ → Type 0
     All_at none n x = here
-    All_at (more st ss) n x = Starts block code x.rows ⨾ Stm_at st n x ⨾ All_at ss (n + stm_size st) x
+    All_at (more st ss) n x = λ from to. Contains x.starts (record { pc = record { 0 = from }; line = record { 0 = starts_on st } })
+        × (Starts block code x.rows ⨾ Stm_at st n x ⨾ All_at ss (n + stm_size st) x) from to
 
     -- 8.1
     pub Branches_at : Branches → (otherwise : (n : ℕ) → ℕ → ℕ → Type 0) → (n : ℕ) → Surroundings → ℕ → ℕ → Type 0
@@ -290,16 +293,16 @@ module _ {V : Type 0} (block : Around V) (code : CodeObject V) where
         × (Value_at x c n false ⨾ Act_in x instr.Match (n + size c) l ⨾ Splits block code x.rows other ⨾ Handled_at l (n + size c) y (All_at body) end x) from other
         × Handlers_at r (handler_body (n + size c) y + stms_size body) end x other
 
-  -- a block of statements, which gives None at its end; a lambda's; and that of a generator expression
-  abbrev pub Block_at : Stms → Type 0
-  Block_at ss = (end behind : ℕ) × All_at ss 0 outermost 0 end × (Null_in outermost ⨾ Move_in outermost instr.Return) end behind
+  -- a block of statements with its starts, which gives None at its end; a lambda's; and that of a generator expression
+  abbrev pub Block_at : List Start → Stms → Type 0
+  Block_at starts ss = (end behind : ℕ) × All_at ss 0 (outermost starts) 0 end × (Null_in (outermost starts) ⨾ Move_in (outermost starts) instr.Return) end behind
 
   abbrev pub Lambda_at : (l : ℕ) → Exp → Type 0
-  Lambda_at l e = (behind : ℕ) × (Value_at outermost e 0 false ⨾ Act_in outermost instr.Return (size e) l) 0 behind
+  Lambda_at l e = (behind : ℕ) × (Value_at (outermost []) e 0 false ⨾ Act_in (outermost []) instr.Return (size e) l) 0 behind
 
   abbrev pub Generator_at : (l : ℕ) → (item : Exp) → (for_line : ℕ) → Tgt → Clauses → Type 0
   Generator_at l e k t cs = (end behind behind_all : ℕ)
-      × (Act_in outermost (instr.Next (record { 0 = end })) 0 k ⨾ Target_at block code [] t (0 + 1) []
-      ⨾ Clauses_at block code [] cs l (0 + 1 + target_size t) 1 0 [] (λ n d head. Value_at outermost e n false ⨾ Act_in outermost instr.Yield (n + size e) l
-      ⨾ Act_in outermost instr.Pop (n + size e + 1) l ⨾ Jump_in outermost head)) 0 behind
-      × (Null_in outermost ⨾ Move_in outermost instr.Return) end behind_all
+      × (Act_in (outermost []) (instr.Next (record { 0 = end })) 0 k ⨾ Target_at block code [] t (0 + 1) []
+      ⨾ Clauses_at block code [] cs l (0 + 1 + target_size t) 1 0 [] (λ n d head. Value_at (outermost []) e n false ⨾ Act_in (outermost []) instr.Yield (n + size e) l
+      ⨾ Act_in (outermost []) instr.Pop (n + size e + 1) l ⨾ Jump_in (outermost []) head)) 0 behind
+      × (Null_in (outermost []) ⨾ Move_in (outermost []) instr.Return) end behind_all

@@ -2,6 +2,7 @@
 use Rattle.std.specs.Prelude.{ℕ, pos, List, [], ◌∷◌, codes, Bool, true, false, Some, None}
 use Rattle.pt_base.specs.declared.operators.BinOp.TheVariants as binary
 use Rattle.pt_ranges.specs.declared.handlers.Handler.{Handler}
+use Rattle.pt_code.specs.declared.Start.{Start}
 use Rattle.pt_tree.specs.declared.expression.Constant.{Constant}
 use Rattle.pt_tree.specs.declared.expression.Constant.TheVariants as constant
 use Rattle.pt_tree.specs.Syntax as S
@@ -194,6 +195,16 @@ texts = codes "x" ∷ codes "m" ∷ codes "n" ∷ codes "p" ∷ codes "q" ∷ []
 
 abbrev lists : List (List Name)
 lists = (codes "y" ∷ []) ∷ []
+
+abbrev start : (pc line : ℕ) → Start
+start p l = record { pc = record { 0 = p }; line = record { 0 = l } }
+
+abbrev pub every_statement_starts : List Start
+every_statement_starts =
+    start 0 1 ∷ start 11 2 ∷ start 15 3 ∷ start 22 4 ∷ start 30 5 ∷ start 31 6 ∷ start 33 7 ∷ start 36 8 ∷ start 40 9 ∷ start 46 10 ∷ start 50 11 ∷
+    start 56 12 ∷ start 56 13 ∷ start 58 14 ∷ start 62 16 ∷ start 66 18 ∷ start 71 19 ∷ start 73 20 ∷ start 75 21 ∷ start 79 22 ∷ start 84 24 ∷
+    start 88 25 ∷ start 92 26 ∷ start 93 27 ∷ start 94 28 ∷ start 97 36 ∷ start 104 30 ∷ start 117 32 ∷ start 126 34 ∷ start 132 38 ∷ start 137 40 ∷
+    start 138 41 ∷ start 146 42 ∷ start 147 43 ∷ start 150 45 ∷ start 161 46 ∷ start 169 50 ∷ start 173 52 ∷ []
 
 -- how many slots lie where loops go on and end
 abbrev depths : List ℕ

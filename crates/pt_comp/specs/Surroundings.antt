@@ -1,7 +1,8 @@
--- What the code of a statement depends on: the handler rows that cover it, how many slots lie below, and the loop around it.
+-- What the code of a statement depends on: the handler rows that cover it, how many slots lie below, the loop around it, and the starts of the block.
 use Rattle.std.specs.Prelude.{◌≡◌, ℕ, suc, List, [], ◌∷◌, Bool, true, false, not, ◌&&◌, Option, Some, None}
 use Rattle.pt_ranges.specs.declared.handlers.Handler.{Handler}
 use Rattle.pt_ranges.specs.Rows.{covers}
+use Rattle.pt_code.specs.declared.Start.{Start}
 use Rattle.pt_control.specs.Frames as F
 use Rattle.pt_control.specs.Frames.{Nest}
 use Rattle.pt_slots.specs.Slots as slots
@@ -20,9 +21,10 @@ pub record Surroundings : Type 0 where
   pub rows : List Handler
   pub depth : ℕ
   pub loop : Option Loop
+  pub starts : List Start
 
-abbrev pub outermost : Surroundings
-outermost = record { rows = []; depth = 0; loop = None }
+abbrev pub outermost : List Start → Surroundings
+outermost starts = record { rows = []; depth = 0; loop = None; starts = starts }
 
 -- in the body of a `while`, and in that of a `for`, whose iterator lies in a slot
 abbrev pub in_while : (next end : ℕ) → Surroundings → Surroundings

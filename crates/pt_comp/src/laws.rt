@@ -12,7 +12,11 @@ ghost use Rattle.pt_comp.specs.Law.{
   WaysGoOn,
 };
 ghost use Rattle.pt_comp.specs.Places.{Block_at};
-ghost use Rattle.pt_comp.specs.Samples.{every_statement, every_statement_code};
+ghost use Rattle.pt_comp.specs.Samples.{
+  every_statement,
+  every_statement_code,
+  every_statement_starts,
+};
 
 /// Where the code of a block stands, code and control come from its beginning to states that match.
 /// From all states that match, both have the same act, the same ask without a mark, the same note or
@@ -31,5 +35,5 @@ pub fn the_code_of_a_block_follows_it<V>()
 /// A block that holds every statement has code that stands so.
 #[tactic(auto, using(crate::proofs::Sample::stands))]
 pub fn every_statement_has_code()
-    ensures { Block_at sample_block every_statement_code every_statement }
+    ensures { Block_at sample_block every_statement_code every_statement_starts every_statement }
 {}
