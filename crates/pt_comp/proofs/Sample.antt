@@ -1,7 +1,6 @@
 -- The code of the sample stands where the relation says.
 use Rattle.std.proofs.Common.{◌≡◌, ◌<◌, ℕ, Contains, get_or, arith, List, [], ◌∷◌, Bool, true, false, Option, None, refl}
 use Rattle.std.specs.Prelude.{if◌then◌else◌}
-use Rattle.pt_base.specs.declared.operators.BinOp.TheVariants as binary
 use Rattle.pt_ranges.specs.declared.lines.ActMark.{ActMark}
 use Rattle.pt_ranges.specs.declared.handlers.Handler.{Handler}
 use Rattle.pt_code.specs.declared.Start.{Start}

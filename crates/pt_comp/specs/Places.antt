@@ -1,6 +1,6 @@
 -- Where the code of a statement, of statements and of a block stands: a relation of two places, by recursion over the tree. The numbers of acts are spelled as control
 -- spells them. A statement's first place is its start.
-use Rattle.std.specs.Prelude.{Contains, ◌≡◌, ℕ, ◌+◌, suc, List, [], ◌∷◌, Bool, true, false, Option, Some, None, if◌then◌else◌}
+use Rattle.std.specs.Prelude.{Contains, ◌≡◌, ℕ, ◌+◌, List, [], ◌∷◌, Bool, true, false, Option, Some, None, if◌then◌else◌}
 use Rattle.pt_base.specs.declared.operators.BinOp.{BinOp}
 use Rattle.pt_ranges.specs.declared.lines.ActMark.{ActMark}
 use Rattle.pt_ranges.specs.declared.handlers.Handler.{Handler}
