@@ -8,7 +8,7 @@ use Rattle.pt_control.specs.Turn as T
 use Rattle.pt_control.specs.Turn.{Around, Operation, Turn}
 use Rattle.pt_slots.specs.Slots.{Slots}
 use Rattle.pt_slots.specs.CodeObject.{CodeObject}
-use Rattle.pt_slots.specs.Pops.{Next, values, cells, an_iterator}
+use Rattle.pt_slots.specs.Pops.{Next, values, cells, one, an_iterator}
 use Rattle.pt_slots.specs.Steps.{gives}
 use Rattle.pt_slots.specs.Instructions.{perform, operates}
 use Rattle.pt_comp_expr.specs.Places.{count, above, cells_above, iterators_above, ins, Ins_at, Operates}
@@ -56,6 +56,23 @@ module _ {V : Type 0} (block : Around V) (code : CodeObject V) (rows : List Hand
       → ((ss : Slots V) → perform code from (ins j m to rows) j ss ≡ operates code from (ins j m to rows) op k ss)
       → Operates block code rows op above k 0 m from to
   takes_values op k j m from to h e = takes_both op k 0 j m from to h e
+
+  -- one that takes cells and one value, as that of a class takes its base
+  pub takes_base : (op : Operation) (c : ℕ) (j : Instr) (m : Option ActMark) (from to : ℕ) → Ins_at block code rows j m from to
+      → ((ss : Slots V) → perform code from (ins j m to rows) j ss
+      ≡ cells c [] ss (λ cs below. one below (λ v under. gives code (ins j m to rows) (T.operate op (v ∷ cs)) under)))
+      → Operates block code rows op above 1 c m from to
+  takes_base op c j m from to h e = record { instr = j; stands = h; does = does }
+    where
+      does : (cs vs : List V) (ss : Slots V) → count cs ≡ c → count vs ≡ 1
+          → perform code from (ins j m to rows) j (cells_above cs (above vs ss)) ≡ gives code (ins j m to rows) (T.operate op (reverse (cs ++ vs))) ss
+      does cs [] ss ec ev = absurd (let never : ⊥ = omega arith in never)
+      does cs (v ∷ []) ss ec ev =
+          e (cells_above cs (above (v ∷ []) ss))
+          ∙ ap (λ c. cells c [] (cells_above cs (above (v ∷ []) ss)) (λ cs below. one below (λ v under. gives code (ins j m to rows) (T.operate op (v ∷ cs)) under))) (sym ec)
+          ∙ cells_taken cs [] (above (v ∷ []) ss) (λ cs below. one below (λ v under. gives code (ins j m to rows) (T.operate op (v ∷ cs)) under))
+          ∙ ap (λ u. gives code (ins j m to rows) (T.operate op u) ss) (behind_cells cs (v ∷ []))
+      does cs (v ∷ u ∷ vs) ss ec ev = absurd (let never : ⊥ = omega arith in never)
 
   -- one that takes cells and an iterator
   pub takes_iterator : (op : Operation) (c : ℕ) (j : Instr) (m : Option ActMark) (from to : ℕ) → Ins_at block code rows j m from to

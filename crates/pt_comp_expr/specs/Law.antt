@@ -1,5 +1,5 @@
--- When a state of the code stands for a state of control within an expression, and that code follows: for every wait behind the expression, with the slots that lie
--- below and the place behind its code.
+-- When a state of the code stands for a state of control within an expression or a target, and that code follows: whatever goes on behind it, with the slots that
+-- lie below and the place behind its code.
 use Rattle.std.specs.Prelude.{◌≡◌, ℕ, ◌+◌, suc, List, [], ◌∷◌, ◌++◌, map, Bool, true, false, Option, Some, None}
 use Rattle.pt_base.specs.declared.operators.CompareOp.{CompareOp}
 use Rattle.pt_ranges.specs.declared.handlers.Handler.{Handler}
@@ -12,12 +12,13 @@ use Rattle.pt_control.specs.Turn as T
 use Rattle.pt_control.specs.Turn.{Mark, mark, Around, Variable, Operation, Seek, Deed, Ask, Answer, Reply, Turn, act, move, over}
 use Rattle.pt_control.specs.Frames as F
 use Rattle.pt_control.specs.Frames.{Operand, Nest, Way, Wait, Over, Rounds, Stores, Control, for_value, for_truth, for_iter, for_item, for_unpack, for_delegate, silent_value}
+use Rattle.pt_control.specs.Bases as bases
 use Rattle.pt_control.specs.Bases.{base, way_base, around, around_way, around_rounds, rounds_line}
 use Rattle.pt_control.specs.Completions.{complete}
 use Rattle.pt_control.specs.Expressions.{begin_exp, target_names, clause_names, built_as}
 use Rattle.pt_control.specs.Statements as statements
 use Rattle.pt_control.specs.Control as control
-use Rattle.pt_slots.specs.Slots.{raise, Slot, value, cell, iterator, Slots, State, on}
+use Rattle.pt_slots.specs.Slots.{raise, Slot, value, cell, iterator, Slots, State, on, thrown_to, reraises, off, busy_with, active}
 use Rattle.pt_slots.specs.CodeObject.{CodeObject}
 use Rattle.pt_slots.specs.Landing.{land}
 use Rattle.pt_slots.specs.Pops.{giving}
@@ -25,15 +26,37 @@ use Rattle.pt_slots.specs.Steps.{after, with_item, delegated}
 use Rattle.pt_slots.specs.Machine as machine
 use Rattle.pt_comp_expr.specs.Places.{count, above, cells_above, iterators_above, act_mark, ins, Act_at, Move_at, Null_at, Made_at, Exp_at, Behind_at, Spec_at, Links_at, Ands_at, Ors_at, Clauses_at, Item_at, Target_at, Targets_at, Renewed_at, Sets, here, ◌⨾◌}
 
--- slots with others above them
+-- slots with others above them, none of which is busy with an exception
 pub data On_top {V : Type 0} (ss : Slots V) : Slots V → Type 0 where
   same : On_top ss ss
-  push : (s : Slot V) (ts : Slots V) → On_top ss ts → On_top ss (s ∷ ts)
+  push : (s : Slot V) (ts : Slots V) → On_top ss ts → busy_with s ≡ None → On_top ss (s ∷ ts)
+
+-- the exception that is active in a state (8.4.1, 8.4.4)
+abbrev pub active_at : {V : Type 0} → State V → Option V
+active_at (on p ss) = active ss
+active_at (thrown_to p e ss) = active ss
+active_at (reraises e rows ss) = active ss
+active_at (off e) = None
+
+-- an instruction that stands under these rows takes no slot that is busy, and leaves these
+pub record Leaves {V : Type 0} (t : State V) (i : Ins) (rows : List Handler) (ss : Slots V) : Type 0 where
+  pub same_rows : i.rows ≡ rows
+  pub same_active : active_at t ≡ active ss
 
 -- the result of the comprehension that clauses lie in
 pub data Makes {V : Type 0} : Rounds V → V → Type 0 where
   makes : (l n : ℕ) (m : Made) (v : V) (w : Wait V) → Makes (F.collecting l n m v w) v
   makes_in : (l n : ℕ) (i : V) (t : Tgt) (cs : Clauses) (r : Rounds V) (v : V) → Makes r v → Makes (F.round_of l n i t cs r) v
+
+-- what goes on behind: a wait for the value of an expression, or what waits for nothing, behind a target and behind the last item of a generator expression
+pub data Outer (V : Type 0) : Type 0 where
+  wait : Wait V → Outer V
+  way : Way V → Outer V
+
+-- the nest to which a raise goes from there
+abbrev pub outer_base : {V : Type 0} → Outer V → Nest V
+outer_base (wait w) = base w
+outer_base (way k) = way_base k
 
 -- the values that are due to targets, the first on top
 abbrev pub stored : {V : Type 0} → Stores V → Slots V → Slots V
@@ -48,7 +71,8 @@ module _ {V : Type 0} (block : Around V) (code : CodeObject V) (rows : List Hand
   -- what is done with the item behind the last clause
   abbrev pub Last_at : Rounds V → (n d head : ℕ) → ℕ → ℕ → Type 0
   Last_at (F.collecting l k m v w) n d head = Item_at block code rows m l n d head (k ∷ around w)
-  Last_at (F.generating l e s) n d head = λ from to. ⊥
+  Last_at (F.generating l e s) n d head = Exp_at block code rows e n false [] ⨾ Act_at block code rows instr.Yield (n + size e) l false
+      ⨾ Act_at block code rows instr.Pop (n + size e + 1) l false ⨾ Move_at block code rows (instr.Jump (record { 0 = head }))
   Last_at (F.round_of l k i t cs r) n d head = Last_at r n d head
 
   -- the next item of a clause is taken at a place, or that of the clause around; and then the clauses behind
@@ -57,11 +81,11 @@ module _ {V : Type 0} (block : Around V) (code : CodeObject V) (rows : List Hand
       ⨾ Target_at block code rows t (n + 1) (around_rounds r)
       ⨾ Clauses_at block code rows cs (rounds_line r) (n + 1 + target_size t) (suc d) at (around_rounds r) (Last_at r)) at
 
-module _ {V : Type 0} (block : Around V) (code : CodeObject V) (rows : List Handler) (outer : Wait V) (lowest : Slots V) (end : ℕ) where
+module _ {V : Type 0} (block : Around V) (code : CodeObject V) (rows : List Handler) (outer : Outer V) (lowest : Slots V) (end : ℕ) where
   mutual
     -- where a value is there above these slots, the code at this place goes on as the wait does
     pub data Waits_on : Wait V → Slots V → ℕ → Type 0 where
-      at_end : Waits_on outer lowest end
+      at_end : (w : Wait V) → wait w ≡ outer → Waits_on w lowest end
       at_operands : (l n : ℕ) (op : Operation) (before : List V) (behind : List Operand) (w : Wait V) (ss : Slots V) (p q : ℕ)
           → Behind_at block code rows behind op l n (suc (count before)) (around w) p q → Waits_on w ss q
           → Waits_on (F.operands l n op before behind w) (above before ss) p
@@ -108,6 +132,14 @@ module _ {V : Type 0} (block : Around V) (code : CodeObject V) (rows : List Hand
       at_entered : (l n d head : ℕ) (key made : V) (r : Rounds V) (ss : Slots V) (p q : ℕ)
           → (Act_at block code rows (instr.DictAdd (suc d)) n l false ⨾ Move_at block code rows (instr.Jump (record { 0 = head }))) p q
           → Makes r made → Rounds_on r d ss head → Waits_on (F.added_to_dict l n key made r) (value key ∷ ss) p
+      -- the item of a generator expression is due, and what is sent to it
+      at_item_yielded : (l n head : ℕ) (r : Rounds V) (d : ℕ) (ss : Slots V) (p q : ℕ)
+          → (Act_at block code rows instr.Yield n l false ⨾ Act_at block code rows instr.Pop (n + 1) l false
+          ⨾ Move_at block code rows (instr.Jump (record { 0 = head }))) p q
+          → Rounds_on r d ss head → Waits_on (F.item_yielded l n r) ss p
+      at_item_sent : (l n head : ℕ) (r : Rounds V) (d : ℕ) (ss : Slots V) (p q : ℕ)
+          → (Act_at block code rows instr.Pop n l false ⨾ Move_at block code rows (instr.Jump (record { 0 = head }))) p q
+          → Rounds_on r d ss head → Waits_on (F.item_sent l n r) ss p
       -- the parts of a target that is stored to are due
       at_attribute : (l n : ℕ) (x : Name) (v : V) (k : Way V) (ss : Slots V) (p q : ℕ)
           → Sets block code rows (block.spelled x) (act_mark p n l false) p q → Way_on k ss q → Waits_on (F.of_attribute l n x (F.storing v k)) (value v ∷ ss) p
@@ -123,6 +155,7 @@ module _ {V : Type 0} (block : Around V) (code : CodeObject V) (rows : List Hand
 
     -- the same where nothing is due
     pub data Way_on : Way V → Slots V → ℕ → Type 0 where
+      at_out : (k : Way V) → way k ≡ outer → Way_on k lowest end
       at_value : (n : ℕ) (e : Exp) (w : Wait V) (ss : Slots V) (p q : ℕ)
           → Exp_at block code rows e n false (around w) p q → Waits_on w ss q → Way_on (F.value n e w) ss p
       at_given : (v : V) (w : Wait V) (ss : Slots V) (p : ℕ) → Waits_on w ss p → Way_on (F.given v w) (value v ∷ ss) p
@@ -144,6 +177,7 @@ module _ {V : Type 0} (block : Around V) (code : CodeObject V) (rows : List Hand
     pub data Rounds_on : Rounds V → (d : ℕ) → Slots V → ℕ → Type 0 where
       at_result : (l n : ℕ) (m : Made) (made : V) (w : Wait V) (ss : Slots V) (p : ℕ) → Waits_on w ss p
           → Rounds_on (F.collecting l n m made w) 0 (value made ∷ ss) p
+      at_items : (l : ℕ) (e : Exp) (s : Nest V) → way (F.finished s) ≡ outer → Rounds_on (F.generating l e s) 0 lowest end
       at_clause : (l n d : ℕ) (i : V) (t : Tgt) (cs : Clauses) (r : Rounds V) (ss : Slots V) (p head end' : ℕ)
           → Item_taken block code rows l n t cs r d p head end' → Rounds_on r d ss head → Rounds_on (F.round_of l n i t cs r) (suc d) (iterator i ∷ ss) p
 
@@ -167,6 +201,7 @@ module _ {V : Type 0} (block : Around V) (code : CodeObject V) (rows : List Hand
   -- a nest to which a raise goes from these slots
   pub data Inside : Nest V → Slots V → Type 0 where
     inside : (w : Wait V) (ss ts : Slots V) (q : ℕ) → Waits_on w ss q → On_top ss ts → Inside (base w) ts
+    inside_out : (k : Way V) (ts : Slots V) → way k ≡ outer → On_top lowest ts → Inside (way_base k) ts
 
   pub data Lands : Way V → State V → Type 0 where
     lands : (k : Way V) (ss : Slots V) (q : ℕ) → Way_on k ss q → Lands k (on q ss)
@@ -174,45 +209,52 @@ module _ {V : Type 0} (block : Around V) (code : CodeObject V) (rows : List Hand
   -- a state of the code stands for one of control, at the beginning of an act or of an ask without a mark
   pub data Match : Control V → State V → Type 0 where
     m_value : (m : Mark) (a : Seek V) (w : Wait V) (t : State V) (i : Ins) (ss ts : Slots V) (q : ℕ)
-        → machine.turn code t ≡ act (Some m) (T.seek a) (after code i ts (λ v. on q (value v ∷ ss))) → i.rows ≡ rows → On_top ss ts → Waits_on w ss q
+        → machine.turn code t ≡ act (Some m) (T.seek a) (after code i ts (λ v. on q (value v ∷ ss))) → Leaves t i rows ts → On_top ss ts → Waits_on w ss q
         → Match (for_value m a w) t
     m_cell : (x : Variable) (l n : ℕ) (g : Bool) (op : Operation) (lower : List V → Slots V → Slots V) (cs vs before : List V) (xs : List Variable) (w : Wait V)
         (t : State V) (i : Ins) (ss ts : Slots V) (p q : ℕ)
-        → machine.turn code t ≡ act None (T.seek (T.cell_of x)) (after code i ts (λ v. on p (cell v ∷ cells_above cs (lower vs ss)))) → i.rows ≡ rows
+        → machine.turn code t ≡ act None (T.seek (T.cell_of x)) (after code i ts (λ v. on p (cell v ∷ cells_above cs (lower vs ss)))) → Leaves t i rows ts
         → On_top ss ts
         → On_top ss (lower vs ss) → Made_at block code rows xs op lower l n g (count vs) (suc (count cs)) p q → before ≡ cs ++ vs → Waits_on w ss q
         → Match (silent_value (T.cell_of x) (F.celled l n g op before xs w)) t
     m_truth : (m : Mark) (v : V) (t f : Way V) (s : Nest V) (st : State V) (i : Ins) (ts : Slots V) (next : Bool → State V)
-        → machine.turn code st ≡ act (Some m) (T.test (T.branch v)) (after code i ts next) → i.rows ≡ rows → Inside s ts → Lands t (next true)
+        → machine.turn code st ≡ act (Some m) (T.test (T.branch v)) (after code i ts next) → Leaves st i rows ts → Inside s ts → Lands t (next true)
         → Lands f (next false)
         → Match (for_truth m (T.branch v) t f s) st
     m_deed : (m : Option Mark) (d : Deed V) (k : Way V) (s : Nest V) (t : State V) (i : Ins) (ts : Slots V) (u : State V) (c : Control V)
         → machine.turn code t ≡ act m (T.deed d) (after code i ts (λ x. u)) → control.turn block c ≡ act m (T.deed d) (control.after_deed block k s)
-        → i.rows ≡ rows → Inside s ts → Lands k u → Match c t
+        → control.nest_at c ≡ s
+        → Leaves t i rows ts → Inside s ts → Lands k u → Match c t
     m_item : (m : Mark) (it : V) (n : ℕ) (tg : Tgt) (k f : Way V) (t : State V) (i : Ins) (ss : Slots V) (q q' to : ℕ)
-        → machine.turn code t ≡ act (Some m) (T.next_of it) (after code i ss (with_item code i to it ss)) → i.rows ≡ rows → i.next ≡ q
+        → machine.turn code t ≡ act (Some m) (T.next_of it) (after code i ss (with_item code i to it ss)) → Leaves t i rows ss → i.next ≡ q
         → Target_at block code rows tg n (around_way k) q q' → Way_on k (iterator it ∷ ss) q' → Way_on f ss to
         → Inside (way_base k) ss → Match (for_item m it n tg k f) t
     m_unpack : (m : Mark) (v : V) (n : ℕ) (ts : Tgts) (k : Way V) (t : State V) (i : Ins) (ss : Slots V) (q q' : ℕ)
         → machine.turn code t
         ≡ act (Some m) (T.unpack v (statements.count ts) (statements.star_of ts)) (after code i ss (λ vs. on q (giving (statements.count ts) vs ss)))
-        → i.rows ≡ rows → Targets_at block code rows ts n (around_way k) q q' → Way_on k ss q' → Inside (way_base k) ss
+        → Leaves t i rows ss → Targets_at block code rows ts n (around_way k) q q' → Way_on k ss q' → Inside (way_base k) ss
         → Match (for_unpack m v n ts k (way_base k)) t
     m_iter : (m : Mark) (v : V) (o : Over V) (t : State V) (i : Ins) (ss : Slots V) (q : ℕ)
-        → machine.turn code t ≡ act (Some m) (T.iter_of v) (after code i ss (λ it. on q (iterator it ∷ ss))) → i.rows ≡ rows → Over_on o ss q
+        → machine.turn code t ≡ act (Some m) (T.iter_of v) (after code i ss (λ it. on q (iterator it ∷ ss))) → Leaves t i rows ss → Over_on o ss q
         → Match (for_iter m v o) t
     m_delegate : (l n : ℕ) (it u : V) (r : Reply V V) (w : Wait V) (t : State V) (ss : Slots V) (p q : ℕ)
         → Act_at block code rows instr.Delegate n l false p q
         → machine.turn code t ≡ act (Some (mark n l false)) (T.delegate it r) (after code (ins instr.Delegate (act_mark p n l false) q rows) ss
-        (delegated code p (ins instr.Delegate (act_mark p n l false) q rows) it u ss)) → Waits_on w ss q
+        (delegated code p (ins instr.Delegate (act_mark p n l false) q rows) it u ss)) → active_at t ≡ active ss → Waits_on w ss q
         → Match (for_delegate (mark n l false) it r w) t
 
-  -- by moves the code comes to such a state, or the expression has its value, or a raise leaves it
+  -- by moves the code comes to such a state
+  pub data Nears : Control V → State V → Type 0 where
+    there : (c : Control V) (t : State V) → Match c t → Nears c t
+    moves : (c : Control V) (t u : State V) → machine.turn code t ≡ move u → Nears c u → Nears c t
+
+  -- or the expression has its value, the target has it, or a raise leaves them
   pub data Comes : Control V → State V → Type 0 where
-    there : (c : Control V) (t : State V) → Match c t → Comes c t
-    moves : (c : Control V) (t u : State V) → machine.turn code t ≡ move u → Comes c u → Comes c t
-    given : (v : V) → Comes (control.deliver block v outer) (on end (value v ∷ lowest))
-    left : (v : V) (ts : Slots V) → On_top lowest ts → Comes (complete block (F.by (F.raise v)) (base outer)) (land code rows (raise v) ts)
+    near : (c : Control V) (t : State V) → Nears c t → Comes c t
+    moves_on : (c : Control V) (t u : State V) → machine.turn code t ≡ move u → Comes c u → Comes c t
+    given : (w : Wait V) (v : V) → wait w ≡ outer → Comes (control.deliver block v w) (on end (value v ∷ lowest))
+    gone : (k : Way V) → way k ≡ outer → Comes (control.go block k) (on end lowest)
+    left : (v : V) (ts : Slots V) → On_top lowest ts → Comes (complete block (F.by (F.raise v)) (outer_base outer)) (land code rows (raise v) ts)
 
   -- the same act or ask, behind which each reply leads to states that come together again
   pub data Same : Turn (Control V) V → Turn (State V) V → Type 0 where
@@ -223,15 +265,22 @@ module _ {V : Type 0} (block : Around V) (code : CodeObject V) (rows : List Hand
   abbrev pub Follows : Type 0
   Follows = (c : Control V) (t : State V) → Match c t → Same (control.turn block c) (machine.turn code t)
 
-  -- and the code of an expression comes from its beginning to such states
-  abbrev pub Begins : Exp → (n : ℕ) → (g : Bool) → (from : ℕ) → Type 0
-  Begins e n g from = Exp_at block code rows e n g (around outer) from end → Comes (begin_exp block e n g outer) (on from lowest)
-
 module _ {V : Type 0} (block : Around V) (code : CodeObject V) where
-  -- wherever the code of an expression stands
+  -- the code of an expression comes from its beginning to such states, wherever it stands and whatever waits for its value
   abbrev pub AllBegin : Type 0
-  AllBegin = (rows : List Handler) (outer : Wait V) (lowest : Slots V) (end : ℕ) (e : Exp) (n : ℕ) (g : Bool) (from : ℕ)
-      → Begins block code rows outer lowest end e n g from
+  AllBegin = (rows : List Handler) (w : Wait V) (lowest : Slots V) (end : ℕ) (e : Exp) (n : ℕ) (g : Bool) (from : ℕ)
+      → Exp_at block code rows e n g (around w) from end → Nears block code rows (wait w) lowest end (begin_exp block e n g w) (on from lowest)
+
+  -- and so does that of a target to which a value is due
+  abbrev pub AllStore : Type 0
+  AllStore = (rows : List Handler) (k : Way V) (lowest : Slots V) (end : ℕ) (t : Tgt) (v : V) (n from : ℕ)
+      → Target_at block code rows t n (around_way k) from end
+      → Nears block code rows (way k) lowest end (statements.begin_store block t v n k) (on from (value v ∷ lowest))
+
+  -- the exception that is active in control there is that of the nest behind, and in code that of the slots below
+  abbrev pub AllActive : Type 0
+  AllActive = (rows : List Handler) (outer : Outer V) (lowest : Slots V) (end : ℕ) (c : Control V) (t : State V) → Match block code rows outer lowest end c t
+      → (control.context_at c ≡ bases.active (outer_base outer)) × (active_at t ≡ active lowest)
 
   abbrev pub AllFollow : Type 0
-  AllFollow = (rows : List Handler) (outer : Wait V) (lowest : Slots V) (end : ℕ) → Follows block code rows outer lowest end
+  AllFollow = (rows : List Handler) (outer : Outer V) (lowest : Slots V) (end : ℕ) → Follows block code rows outer lowest end

@@ -16,7 +16,7 @@ use Rattle.pt_slots.specs.CodeObject.{Pool, CodeObject, local}
 use Rattle.pt_slots.specs.Samples.{Placed, acts, moves, laid, item_at, truth_of, known_truth}
 
 -- each name is a local one, and each block takes the cell of `c` along
-abbrev cell : Variable
+abbrev pub cell : Variable
 cell = record { scope = T.cell; name = codes "c" }
 
 abbrev pub sample_block : Around ℕ

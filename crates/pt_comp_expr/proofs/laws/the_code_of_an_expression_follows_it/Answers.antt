@@ -1,5 +1,11 @@
-use Rattle.pt_comp_expr.proofs.Steps.{begins}
+use Rattle.pt_comp_expr.proofs.Steps.{all_active, begins, begins_to_store}
 use Rattle.pt_comp_expr.proofs.laws.the_code_of_an_expression_follows_it.Goals as goal
 
 pub returns-clause-begins : goal.returns-clause-begins
 returns-clause-begins g c = begins
+
+pub returns-clause-stores : goal.returns-clause-stores
+returns-clause-stores g c = begins_to_store
+
+pub returns-clause-active : goal.returns-clause-active
+returns-clause-active g c = all_active

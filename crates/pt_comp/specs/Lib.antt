@@ -1,0 +1,4 @@
+pub mod Surroundings
+pub mod Places
+pub mod Law
+pub mod Samples
