@@ -1,1 +1,5 @@
 pub mod KindLemmas
+pub mod Ways
+pub mod SlotLaw
+pub mod NeverStuck
+pub mod Certificates

@@ -1,7 +1,8 @@
 -- What laws say of code that fits: the machine on its slots is never stuck.
-use Rattle.std.specs.Prelude.{◌≡◌, ℕ, ◌≤◌, List, [], ◌∷◌, ◌++◌, length, map, reverse, Option, Some}
+use Rattle.std.specs.Prelude.{◌≡◌, ℕ, ◌≤◌, List, [], ◌∷◌, length, map, reverse, false, Option, Some}
 use Rattle.pt_instr.specs.declared.Instr.TheVariants.{Delegate}
 use Rattle.pt_instr.specs.declared.kinds.Kind.{Kind}
+use Rattle.pt_instr.specs.declared.kinds.Kind.TheVariants.{Iter}
 use Rattle.pt_instr.specs.Effects.{Kinds}
 use Rattle.pt_ranges.specs.declared.handlers.Handler.{Handler}
 use Rattle.pt_code.specs.View.{Ins}
@@ -9,6 +10,7 @@ use Rattle.pt_control.specs.Turn.{Mark, Ask, Note, Reply, Turn, Answer, act, not
 use Rattle.pt_slots.specs.Slots.{jump_to, by, Slot, pending, Slots, State, on, thrown_to, reraises, off, kind_of}
 use Rattle.pt_slots.specs.CodeObject.{CodeObject}
 use Rattle.pt_slots.specs.Machine as machine
+use Rattle.pt_slots.specs.Needs.{is_stuck}
 use Rattle.pt_fits.specs.Block.{Block, effect, kinds_at_start}
 use Rattle.pt_fits.specs.Steps.{below}
 use Rattle.pt_fits.specs.Places.{Gets, Reached}
@@ -83,6 +85,15 @@ module _ {V : Type 0} (code : CodeObject V) where
         → (r : Reply V (Answer V a)) → Comes s (next r)
     notes : {s t : State V} → Comes s t → {n : Note V} {next : Reply V (Unit {0}) → State V} → machine.turn code t ≡ note n next → (r : Reply V (Unit {0})) → Comes s (next r)
 
+-- a block starts with no slots, a generator expression with its iterator (6.2.8)
+pub data Starts {V : Type 0} (b : Block) : State V → Type 0 where
+  empty : (i : Ins) → b.at 0 ≡ Some i → kinds_at_start b.kind ≡ [] → Starts b machine.start
+  iterating : (i : Ins) → b.at 0 ≡ Some i → kinds_at_start b.kind ≡ Iter ∷ [] → (iterator : V) → Starts b (machine.start_generator iterator)
+
 -- from slots of the kinds of a place a turn finds all that it takes, and leaves slots of the kinds of the place to which it goes
 abbrev pub SlotsFit : {V : Type 0} → CodeObject V → Block → Type 0
 SlotsFit {V} code b = Runs code b → Fits b → (s : State V) → Sound b s → GoesOn b (machine.turn code s)
+
+-- no state to which the machine comes from the start of the block is stuck
+abbrev pub NeverStuck : {V : Type 0} → CodeObject V → Block → Type 0
+NeverStuck {V} code b = Runs code b → Fits b → (s t : State V) → Starts b s → Comes code s t → is_stuck (machine.turn code t) ≡ false

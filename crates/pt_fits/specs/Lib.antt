@@ -8,3 +8,4 @@ pub mod Agreement
 pub mod Fits
 pub mod Jumps
 pub mod Laws
+pub mod Samples

@@ -7,7 +7,7 @@ use Rattle.pt_fits.specs.Steps.{step, steps}
 
 -- a place is where an instruction starts; these are the kinds that it gets through the instructions at p and below
 pub data Gets (b : Block) (p : ℕ) : (pc : ℕ) → Kinds → Type 0 where
-  start : Gets b p 0 (kinds_at_start b.kind)
+  start : (j : Ins) → b.at 0 ≡ Some j → Gets b p 0 (kinds_at_start b.kind)
   onward : {q r kept : ℕ} {ks ls : Kinds} → Gets b p q ks → q ≤ p → Contains (steps b q ks) (step r ls kept) → (j : Ins) → b.at r ≡ Some j → Gets b p r ls
 
 -- an instruction at p or below whose place gets these kinds

@@ -1,0 +1,6 @@
+//! Which code fits: the kinds of slots that each place gets, and laws.
+#![tactic(auto)]
+
+mod laws;
+
+pub use laws::{code_that_fits_is_never_stuck, slots_have_the_kinds_of_their_place};
