@@ -181,15 +181,19 @@ class Block:
         return out
 
     def gets(self, p):
-        """All pairs of a place and kinds that it gets through the instructions at p and below."""
+        """All pairs of a place and kinds that it gets through the instructions at p and below; None where two lengths meet, as there may be
+        kinds without end then."""
         first = (0, I if self.b["kind"] == EXPRESSION else "")
         seen, due = {first}, [first]
+        lengths = {0: len(first[1])}
         while due:
             q, ks = due.pop()
             if q > p or q not in self.at:
                 continue
             for r, ls, _ in self.steps(q, ks):
                 if r in self.at and (r, ls) not in seen:
+                    if lengths.setdefault(r, len(ls)) != len(ls):
+                        return None
                     seen.add((r, ls))
                     due.append((r, ls))
         return seen
@@ -268,11 +272,11 @@ class Block:
     def disagrees(self, p):
         """The first of the failures in their order, or None."""
         gets = self.gets(p)
+        if gets is None:
+            return (23, p)
         lists = {}
         for q, ks in gets:
             lists.setdefault(q, []).append(ks)
-        if any(len({len(ks) for ks in kss}) > 1 for kss in lists.values()):
-            return (23, p)
         reached = [(q, ks) for q, ks in gets if q <= p]
         failing = []
         for n, row in enumerate(self.b["handlers"]):

@@ -172,7 +172,7 @@ module _ (b : Block) (n : ℕ) (t : List Entry) (whole : closed b n t ≡ true) 
   reached_passes : (test : Ins → ℕ → Kinds → Bool) → pass_up_to b n test t ≡ true → {q : ℕ} {i : Ins} {ks : Kinds} → Reached b p q i ks → test i q ks ≡ true
   reached_passes test f {q = q} {i = i} {ks = ks} r = passes b n test t f q ks (listed r.gets) (let l = r.low in omega (arith, l, up)) i r.stands
 
-  no_lengths_meet : one_length t ≡ true → LengthsMeet b p → ⊥
+  pub no_lengths_meet : one_length t ≡ true → LengthsMeet b p → ⊥
   no_lengths_meet f (A.two {q = q} {ks = ks} {ls = ls} g h e) = two_truths (nat_eq (length ks) (length ls))
       (follows (nat_eq q q) _ (at_entry (λ r ls. not (nat_eq q r) || nat_eq (length ks) (length ls)) t
       (at_entry (λ q ks. list_all (λ f. not (nat_eq q f.pc) || nat_eq (length ks) (length f.kinds)) t) t f q ks (listed g)) q ls (listed h)) (eq-eqb q q refl)) e
@@ -182,7 +182,7 @@ module _ (b : Block) (n : ℕ) (t : List Entry) (whole : closed b n t ≡ true) 
       follows (nat_eq q q) _ (at_entry (λ r ls. not (nat_eq q r) || are_kinds ks ls) t
       (at_entry (λ q ks. list_all (λ f. not (nat_eq q f.pc) || are_kinds ks f.kinds) t) t f q ks (listed g)) q ls (listed h)) (eq-eqb q q refl)
 
-  no_handler_fails : rows_within b n t ≡ true → cuts_alike b n t ≡ true → (row : Handler) → HandlerFails b p row → ⊥
+  pub no_handler_fails : rows_within b n t ≡ true → cuts_alike b n t ≡ true → (row : Handler) → HandlerFails b p row → ⊥
   no_handler_fails f g row (A.too_deep {i = i} {ks = ks} r c e) = two_truths (is_within (effect b.links i.instr) ks row)
       (at_item (is_within (effect b.links i.instr) ks) i.rows (reached_passes (λ i q ks. list_all (is_within (effect b.links i.instr) ks) i.rows) f r) row c) e
   no_handler_fails f g row (A.differs {i = i} {j = j} {ks = ks} {ls = ls} r c u d e) = two_truths (are_kinds (cut row ks) (cut row ls))
@@ -195,11 +195,11 @@ module _ (b : Block) (n : ℕ) (t : List Entry) (whole : closed b n t ≡ true) 
   no_leave_stands : no_leaves b n t ≡ true → Stands b p → ⊥
   no_leave_stands f s = false≢true (subst (λ j. not (is_leave j) ≡ true) s.is (reached_passes (λ i q ks. not (is_leave i.instr)) f s.reached))
 
-  never_too_few : all_enough b n t ≡ true → no_leaves b n t ≡ true → TooFew b p → ⊥
+  pub never_too_few : all_enough b n t ≡ true → no_leaves b n t ≡ true → TooFew b p → ⊥
   never_too_few f g (A.lacks r e) = two_truths _ (reached_passes (λ i q ks. has_enough (effect b.links i.instr) ks) f r) e
   never_too_few f g (A.leaves l h e) = no_leave_stands g (leaving_stands l)
 
-  no_kinds_clash : one_list t ≡ true → all_find b n t ≡ true → all_may_stand b n t ≡ true → no_leaves b n t ≡ true → KindsClash b p → ⊥
+  pub no_kinds_clash : one_list t ≡ true → all_find b n t ≡ true → all_may_stand b n t ≡ true → no_leaves b n t ≡ true → KindsClash b p → ⊥
   no_kinds_clash o f m g (A.two g1 g2 e) = two_truths _ (no_lists_meet o g1 g2) e
   no_kinds_clash o f m g (A.lacks r e) = two_truths _ (reached_passes (λ i q ks. finds (effect b.links i.instr) ks) f r) e
   no_kinds_clash o f m g (A.misplaced r e) = two_truths _ (reached_passes (λ i q ks. may_stand b.kind b.links i.instr) m r) e
@@ -252,13 +252,13 @@ tables_hold b f n e = each (rows_hold b) f n e
     each (x ∷ xs) f (suc n) e = each xs (both x (list_all (λ x. x) xs) f).1 n e
 
 module _ (b : Block) (t : List Entry) (a : Agreeing b b.size t) where
-  all_arrive : AllArrive b
+  pub all_arrive : AllArrive b
   all_arrive pc i ks r t2 e = absurd (no_leave_stands b b.size t a.whole b.size refl_le a.leaves (record { pc = pc; ins = i; kinds = ks; reached = r; target = t2; is = e }))
     where
       refl_le : b.size ≤ b.size
       refl_le = omega arith
 
-  never_deep : all_shallow t ≡ true → TooDeep b → ⊥
+  pub never_deep : all_shallow t ≡ true → TooDeep b → ⊥
   never_deep f d = let h : length d.kinds ≤ MOST = leb-true (length d.kinds) MOST
       (at_entry (λ q ks. nat_le (length ks) MOST) t f d.pc d.kinds (listed b b.size t a.whole b.size (let l : b.size ≤ b.size = omega arith in l) d.gets)) in
       let m = d.more in let never : ⊥ = omega (arith, h, m) in never

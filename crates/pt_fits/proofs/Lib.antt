@@ -3,3 +3,4 @@ pub mod Ways
 pub mod SlotLaw
 pub mod NeverStuck
 pub mod Certificates
+pub mod RowProofs

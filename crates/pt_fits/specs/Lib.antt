@@ -9,3 +9,4 @@ pub mod Fits
 pub mod Jumps
 pub mod Laws
 pub mod Samples
+pub mod Rows

@@ -3,6 +3,7 @@
 ghost use Rattle.pt_slots.specs.CodeObject.{CodeObject};
 ghost use Rattle.pt_fits.specs.Block.{Block};
 ghost use Rattle.pt_fits.specs.Laws.{NeverStuck, SlotsFit};
+ghost use Rattle.pt_fits.specs.Rows.{FirstFits, FirstIsFile, FirstIsSeen, HandlerIsNowhere, HandlerIsTooDeep, HeldLeaveLacks, JumpGoesAstray, LoopIsSilent, ValueIsNoCompletion};
 
 /// From slots that have the kinds of a place, each turn finds all that it takes, and leaves slots
 /// that have the kinds of the place to which it goes.
@@ -16,4 +17,19 @@ pub fn slots_have_the_kinds_of_their_place<V>()
 #[tactic(auto, using(crate::proofs::NeverStuck::never_stuck))]
 pub fn code_that_fits_is_never_stuck<V>()
     ensures { (code : CodeObject V) (b : Block) → NeverStuck code b }
+{}
+
+/// What is answered to samples, which are computed from the kinds of their places: the first is a
+/// file, and its block fits; each other one is refused where it is said.
+#[tactic(auto, using(crate::proofs::RowProofs::first_is_file, crate::proofs::RowProofs::first_is_seen, crate::proofs::RowProofs::first_fits, crate::proofs::RowProofs::value_is_no_completion, crate::proofs::RowProofs::loop_is_silent, crate::proofs::RowProofs::jump_goes_astray, crate::proofs::RowProofs::held_leave_lacks, crate::proofs::RowProofs::handler_is_nowhere, crate::proofs::RowProofs::handler_is_too_deep))]
+pub fn samples_fit_or_are_refused()
+    ensures file { FirstIsFile }
+    ensures view { FirstIsSeen }
+    ensures fits { FirstFits }
+    ensures value { ValueIsNoCompletion }
+    ensures silent { LoopIsSilent }
+    ensures astray { JumpGoesAstray }
+    ensures held { HeldLeaveLacks }
+    ensures nowhere { HandlerIsNowhere }
+    ensures deep { HandlerIsTooDeep }
 {}
