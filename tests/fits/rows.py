@@ -133,3 +133,4 @@ if __name__ == "__main__":
             bad += 1
             print("%s: %s, and not %s" % (name, got, want))
     print("%d rows, %d of them otherwise" % (len(ROWS), bad))
+    raise SystemExit(bad > 0)

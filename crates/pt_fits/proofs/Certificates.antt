@@ -1,27 +1,26 @@
 -- A table of the kinds of places, from which what holds of a block is computed.
-use Rattle.std.proofs.Common.{◌≡◌, ℕ, ◌≤◌, ◌<◌, zero, suc, Bool, true, false, not, ◌&&◌, ◌||◌, if◌then◌else◌, List, [], ◌∷◌, ◌++◌, length, Option, Some, None, refl, sym, ap, ◌∙◌, subst, arith}
+use Rattle.std.proofs.Common.{◌≡◌, ℕ, ◌≤◌, ◌<◌, zero, suc, Bool, true, false, not, ◌&&◌, ◌||◌, List, [], ◌∷◌, length, Option, Some, None, refl, sym, ap, ◌∙◌, subst, arith}
 use Rattle.std.specs.Prelude.{Contains, nat_eq, nat_le, nat_lt, slice_get, is_some}
 use Rattle.std.specs.List.{list_all, list_any}
 use Rattle.std.proofs.lemmas.Bool.{true≢false, false≢true, leb-true, le-leb, ltb-true, eqb-true, eq-eqb}
 use Rattle.pt_instr.specs.declared.Instr.{Instr}
 use Rattle.pt_instr.specs.declared.Instr.TheVariants as instr
-use Rattle.pt_instr.specs.declared.kinds.Kind.{Kind}
 use Rattle.pt_instr.specs.Effects.{Kinds}
 use Rattle.pt_ranges.specs.declared.handlers.Handler.{Handler}
 use Rattle.pt_code.specs.View.{Ins}
-use Rattle.pt_fits.specs.Block.{Links, Block, effect, kinds_at_start}
+use Rattle.pt_fits.specs.Block.{Block, effect, kinds_at_start}
 use Rattle.pt_fits.specs.Steps.{Step, step, steps, are_kinds, has_enough, finds, is_within, cut}
 use Rattle.pt_fits.specs.Places as P
 use Rattle.pt_fits.specs.Places.{Gets, Reached}
 use Rattle.pt_fits.specs.Leaves as L
 use Rattle.pt_fits.specs.Leaves.{Departs, Goes, Holds, Leaving}
 use Rattle.pt_fits.specs.Standing.{may_stand}
-use Rattle.pt_fits.specs.Tables.{is_place, rows_hold, RowFails}
+use Rattle.pt_fits.specs.Tables.{is_place, rows_hold}
 use Rattle.pt_fits.specs.Agreement as A
 use Rattle.pt_fits.specs.Agreement.{LengthsMeet, HandlerFails, TooFew, KindsClash, Strays, Agrees}
 use Rattle.pt_fits.specs.Fits as F
 use Rattle.pt_fits.specs.Fits.{Fits, Disagrees, MOST, TooDeep, Unmarked, Silent, once, more, AllArrive, IsLost, SilentLoop, TablesHold}
-use Rattle.pt_fits.proofs.KindLemmas.{both, either, same_kinds}
+use Rattle.pt_fits.proofs.KindLemmas.{both, same_kinds}
 
 pub record Entry : Type 0 where
   pub pc : ℕ
@@ -270,6 +269,7 @@ module _ (b : Block) (t : List Entry) (a : Agreeing b b.size t) where
     where
       same_ins : Some i ≡ Some u.ins
       same_ins = sym g.stands ∙ u.stands
+
       silent : is_unmarked i ≡ true
       silent = subst (λ o. elim o as (λ z. Type 0) [ None ↦ ⊥ | Some z ↦ is_unmarked z ≡ true ]) (sym same_ins) (ap (λ m. not (is_some m)) u.silent)
   goes_forward f u (L.by_leave c g) = absurd (no_leave_stands b b.size t a.whole b.size (let l : b.size ≤ b.size = omega arith in l) a.leaves (departs_stands c))

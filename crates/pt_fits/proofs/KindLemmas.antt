@@ -1,6 +1,6 @@
 -- Tests of kinds, and lists that are cut.
-use Rattle.std.proofs.Common.{◌≡◌, ℕ, ◌+◌, ◌-◌, ◌≤◌, ◌<◌, zero, suc, Bool, true, false, ◌&&◌, ◌||◌, List, [], ◌∷◌, ◌++◌, length, reverse, take, drop, replicate, refl, sym, ap, ◌∙◌, subst, arith, length-append, length-drop}
-use Rattle.std.proofs.lemmas.List.{reverse-append, replicate-append-replicate, take-append-drop, take-append-le, length-take-le, length-reverse}
+use Rattle.std.proofs.Common.{◌≡◌, ℕ, ◌+◌, ◌-◌, ◌≤◌, zero, suc, Bool, true, false, ◌&&◌, ◌||◌, List, [], ◌∷◌, ◌++◌, length, reverse, take, drop, replicate, refl, sym, ap, ◌∙◌, arith, length-drop}
+use Rattle.std.proofs.lemmas.List.{reverse-append, replicate-append-replicate, take-append-drop, length-take-le, length-reverse}
 use Rattle.std.proofs.Math.Seq.{drop-append_seam}
 use Rattle.std.proofs.lemmas.Bool.{true≢false, false≢true}
 use Rattle.pt_instr.specs.declared.effects.Effect.{Effect}
@@ -66,6 +66,7 @@ lowest d xs = ap (λ n. drop n (reverse xs)) (sym counted) ∙ (ap (λ ys. drop 
   where
     counted : length (reverse (drop d xs)) ≡ length xs - d
     counted = length-reverse (drop d xs) ∙ length-drop d xs
+
     parted : reverse xs ≡ reverse (drop d xs) ++ reverse (take d xs)
     parted = ap reverse (sym (take-append-drop d xs)) ∙ reverse-append (take d xs) (drop d xs)
 

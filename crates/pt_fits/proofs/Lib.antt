@@ -4,3 +4,4 @@ pub mod SlotLaw
 pub mod NeverStuck
 pub mod Certificates
 pub mod RowProofs
+pub mod OneAnswer

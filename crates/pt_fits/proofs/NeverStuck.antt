@@ -1,10 +1,7 @@
 -- Code that fits is never stuck, whatever is replied.
-use Rattle.std.proofs.Common.{◌≡◌, ℕ, List, [], ◌∷◌, reverse, false, Some, refl, sym, ap, ◌∙◌, subst}
-use Rattle.pt_instr.specs.declared.kinds.Kind.{Kind}
-use Rattle.pt_instr.specs.declared.kinds.Kind.TheVariants.{Iter}
-use Rattle.pt_code.specs.View.{Ins}
+use Rattle.std.proofs.Common.{◌≡◌, reverse, false, refl, sym, ap, subst}
 use Rattle.pt_control.specs.Turn.{Turn, act, note, move, over, stuck}
-use Rattle.pt_slots.specs.Slots.{State, iterator}
+use Rattle.pt_slots.specs.Slots.{State}
 use Rattle.pt_slots.specs.CodeObject.{CodeObject}
 use Rattle.pt_slots.specs.Machine.{turn}
 use Rattle.pt_slots.specs.Needs.{is_stuck}

@@ -1,16 +1,14 @@
 -- The samples fit, or are refused, as is computed from their tables.
-use Rattle.std.proofs.Common.{◌≡◌, ℕ, ◌≤◌, ◌<◌, zero, suc, true, false, List, [], ◌∷◌, Option, None, refl, arith}
-use Rattle.std.specs.Prelude.{Contains}
+use Rattle.std.proofs.Common.{ℕ, ◌<◌, true, false, List, [], ◌∷◌, None, refl, arith}
 use Rattle.pt_ranges.specs.declared.handlers.Handler.{Handler}
 use Rattle.pt_instr.specs.declared.Instr.{Instr}
 use Rattle.pt_instr.specs.declared.Instr.TheVariants as instr
 use Rattle.pt_instr.specs.declared.kinds.Kind.TheVariants.{Value, Pending}
-use Rattle.pt_instr.specs.Effects.{Kinds, effect_of}
+use Rattle.pt_instr.specs.Effects.{effect_of}
 use Rattle.pt_instr.specs.Encoding.{code_of}
 use Rattle.pt_code.specs.File.{number, signature, names, tables, block, file}
-use Rattle.pt_code.specs.View.{Ins, IsView}
+use Rattle.pt_code.specs.View.{Ins}
 use Rattle.pt_fits.specs.Block.{Block}
-use Rattle.pt_fits.specs.Steps.{step, steps}
 use Rattle.pt_fits.specs.Places as P
 use Rattle.pt_fits.specs.Places.{Gets, Reached}
 use Rattle.pt_fits.specs.Leaves as L

@@ -1,8 +1,8 @@
 -- From slots of the kinds of a place, each turn finds all that it takes, and leaves slots of the kinds of the place to which it goes.
-use Rattle.std.proofs.Common.{◌≡◌, ℕ, ◌+◌, ◌-◌, ◌≤◌, ◌<◌, zero, suc, min, Bool, true, false, ◌&&◌, ◌||◌, if◌then◌else◌, List, [], ◌∷◌, ◌++◌, length, map, reverse, replicate, drop, take, Option, Some, None, refl, sym, ap, ◌∙◌, subst, arith, option_map, length-append, append_assoc}
+use Rattle.std.proofs.Common.{◌≡◌, ℕ, ◌+◌, ◌-◌, ◌≤◌, ◌<◌, zero, suc, min, Bool, true, false, ◌||◌, if◌then◌else◌, List, [], ◌∷◌, ◌++◌, length, map, reverse, replicate, drop, take, Option, Some, None, refl, sym, ap, ◌∙◌, subst, arith, append_assoc}
 use Rattle.std.specs.Prelude.{Contains, cond, slice_get}
 use Rattle.std.proofs.lemmas.List.{reverse-append, replicate-append-replicate, map-append, drop-map, length-map, length-reverse, length-take-le, take-append-drop}
-use Rattle.std.proofs.lemmas.Bool.{true≢false, false≢true, leb-true}
+use Rattle.std.proofs.lemmas.Bool.{false≢true, leb-true}
 use Rattle.pt_ranges.specs.declared.lines.ActMark.{ActMark}
 use Rattle.pt_ranges.specs.declared.handlers.Handler.{Handler}
 use Rattle.pt_tree.specs.declared.expression.Constant.{Constant}
@@ -25,17 +25,16 @@ use Rattle.pt_slots.specs.Pops.{Next, values, cells, one, two, three, an_iterato
 use Rattle.pt_slots.specs.Steps.{dropped, kept, unmarked, after, asks, gives, does, decided, throws, goes, leaves, gives_known, branches, with_item, delegated, delegates, lets_go}
 use Rattle.pt_slots.specs.Instructions.{conversion_of, all_positional, last_named, role_of, operates, jumps, perform}
 use Rattle.pt_slots.specs.Machine.{turn, here, thrown_here, after_note}
-use Rattle.pt_fits.specs.Block.{Links, Block, effect, captured}
+use Rattle.pt_fits.specs.Block.{Block, effect}
 use Rattle.pt_fits.specs.Steps as F
 use Rattle.pt_fits.specs.Steps.{is_kind, spared, below, is_value, has_value, has_enough, finds, is_within, given_behind, swaps_iterator, target_of, are_kinds, taken}
-use Rattle.pt_fits.specs.Places as P
 use Rattle.pt_fits.specs.Places.{Gets, Reached}
 use Rattle.pt_fits.specs.Leaves as L
 use Rattle.pt_fits.specs.Leaves.{Departs, Goes, Common, Holds, Leaving, taker, takes_leave}
 use Rattle.pt_fits.specs.Fits.{Fits, Arrives}
 use Rattle.pt_fits.specs.Laws.{SlotsFit, Runs, MayHold, AllMayHold, Stack, At, Sent, Rising, Sound, GoesOn}
-use Rattle.pt_fits.proofs.KindLemmas.{both, either, same_kinds, prefix_taken, reverse_replicate, split, no_swap, found_takes, length_below, lowest, take_take}
-use Rattle.pt_fits.proofs.Ways.{first, later, found_contained, Way, within, behind, at_target, stays, at_handler, enough, found, departs_arrive, holds_arrive, target_fits}
+use Rattle.pt_fits.proofs.KindLemmas.{both, either, same_kinds, prefix_taken, reverse_replicate, split, no_swap, length_below, lowest, take_take}
+use Rattle.pt_fits.proofs.Ways.{place_of, first, later, found_contained, Way, within, behind, at_target, stays, at_handler, found, departs_arrive, target_fits}
 
 -- a list begins with a kind
 abbrev Heads : Kind → List Kind → Type 0
@@ -280,8 +279,10 @@ module _ {V : Type 0} (code : CodeObject V) (b : Block) (runs : Runs code b) (fi
       gets = (at_handler b fits q i ks reached row c).gets;
       stack = record {
         kinds = ap (λ k. k ∷ map kind_of ss) e ∙ (ap (λ xs. F.held_by row ∷ xs) st.kinds ∙ sym (reverse-append (F.cut row ks) (F.held_by row ∷ [])));
-        holds = (subst (λ d. MayHold b row.target.0 d s) (sym counted) h,
-            all_kept b q row.target.0 row.depth ss (at_handler b fits q i ks reached row c).goes (let m = counted in omega (arith, m)) st.holds);
+        holds = (
+          subst (λ d. MayHold b row.target.0 d s) (sym counted) h,
+          all_kept b q row.target.0 row.depth ss (at_handler b fits q i ks reached row c).goes (let m = counted in omega (arith, m)) st.holds,
+        );
       };
     }
       where
@@ -360,6 +361,7 @@ module _ {V : Type 0} (code : CodeObject V) (b : Block) (runs : Runs code b) (fi
         is_taken row e = let (c, f) = found_contained (takes_leave t) i.rows row e in
             let a = (both row.always _ f).0 in
             landed row c (landing.held_by row.always (jump_to t)) (always_holds row (jump_to t) a) (always_free row t a (L.caught dep row e)) (landing.cut row.depth ss) (cuts row c)
+
         arrived : Arrives b t → At b t (landing.cut (code.depth_at t) ss)
         arrived a = let (l, p) = target_fits b fits (L.free dep) a.gets in
             let s = subst (λ xs. Stack b q (reverse xs) (landing.cut (length a.kinds) ss)) (prefix_taken a.kinds low p) (cut_stack b q (length a.kinds) low ss st) in
@@ -456,8 +458,10 @@ module _ {V : Type 0} (code : CodeObject V) (b : Block) (runs : Runs code b) (fi
         either_way : (t : Bool) → Sound b (decided code t on_true on_false v ss)
         either_way true = f
         either_way false = g
+
         asked : GoesOn b (asks code i (T.test (T.branch v)) ss (λ t. decided code t on_true on_false v ss))
         asked = asks_ok ss cuts (T.test (T.branch v)) (λ t. decided code t on_true on_false v ss) (λ t. either_way t)
+
         by_truth : (o : Option Bool) → GoesOn b (branches code i o on_true on_false v ss)
         by_truth None = asked
         by_truth (Some true) = unmarked_ok i.mark _ _ f asked
@@ -517,6 +521,7 @@ module _ {V : Type 0} (code : CodeObject V) (b : Block) (runs : Runs code b) (fi
             holds = (tt, (tt, st.holds));
           };
         }
+
         answered : (d : Delegated V) → Sound b (delegated code q i it u low d)
         answered (T.returned v) = next_with fs n (kind.Value ∷ []) g (value v ∷ []) refl (tt, tt) low st
         answered (T.resumed (got v)) = back v
@@ -712,10 +717,6 @@ module _ {V : Type 0} (code : CodeObject V) (b : Block) (runs : Runs code b) (fi
     by_instruction instr.EndFinally fs ss st = if_completion b q _ ss _ (tops fs refl ss st) (λ v low m h base. by_end fs low v (sym (size_of b q ks ss st) ∙ m) h base)
     by_instruction (instr.Import t) fs ss st = operates_ok fs refl refl (T.import (code.pool.text t.0)) 0 ss (tops fs refl ss st)
     by_instruction (instr.ImportName t) fs ss st = by_import fs ss st
-
-  place_of : {p q : ℕ} {ks : Kinds} → Gets b p q ks → (i : Ins) × (b.at q ≡ Some i)
-  place_of (P.start i e) = (i, e)
-  place_of (P.onward g l c i e) = (i, e)
 
   known : {pc : ℕ} {ks : Kinds} (i : Ins) → b.at pc ≡ Some i → Gets b b.size pc ks → Reached b b.size pc i ks
   known {pc = pc} i e g = record { gets = g; low = runs.inside pc i e; stands = e }

@@ -1,16 +1,14 @@
 -- What holds of an instruction that is reached in a block that fits: it finds what it takes, and each way on leads to a place that gets its kinds.
-use Rattle.std.proofs.Common.{◌≡◌, ℕ, ◌+◌, ◌-◌, ◌≤◌, ◌<◌, zero, suc, min, Bool, true, false, ◌&&◌, if◌then◌else◌, List, [], ◌∷◌, ◌++◌, length, map, filter, take, Option, Some, None, refl, sym, ap, ◌∙◌, subst, arith}
-use Rattle.std.specs.Prelude.{Contains, cond, nat_le, nat_eq, find, not}
+use Rattle.std.proofs.Common.{◌≡◌, ℕ, ◌+◌, ◌≤◌, zero, suc, min, Bool, true, false, if◌then◌else◌, List, [], ◌∷◌, ◌++◌, length, map, filter, Option, Some, None, refl, sym, ap, ◌∙◌, subst, arith}
+use Rattle.std.specs.Prelude.{Contains, cond, find}
 use Rattle.std.proofs.lemmas.List.Elements.{Contains-append_left, Contains-append_right}
-use Rattle.std.proofs.lemmas.Bool.{true_from_ne_false, leb-true, eqb-true}
-use Rattle.pt_instr.specs.declared.Instr.{Instr}
-use Rattle.pt_instr.specs.declared.Instr.TheVariants as instr
+use Rattle.std.proofs.lemmas.Bool.{true_from_ne_false, leb-true}
 use Rattle.pt_instr.specs.declared.effects.Effect.{Effect}
 use Rattle.pt_instr.specs.Effects.{Kinds}
 use Rattle.pt_ranges.specs.declared.handlers.Handler.{Handler}
 use Rattle.pt_code.specs.View.{Ins}
-use Rattle.pt_fits.specs.Block.{Links, Block, effect}
-use Rattle.pt_fits.specs.Steps.{Step, step, steps, steps_of, by_instruction, by_handlers, onward, aside, again, gives, given_behind, spared, below, has_enough, finds, is_within, cut, held_by, landing, target_of, is_prefix}
+use Rattle.pt_fits.specs.Block.{Block, effect}
+use Rattle.pt_fits.specs.Steps.{step, steps, steps_of, by_instruction, by_handlers, onward, aside, again, gives, given_behind, spared, below, has_enough, finds, is_within, cut, held_by, landing, target_of, is_prefix}
 use Rattle.pt_fits.specs.Places.{Gets, Reached}
 use Rattle.pt_fits.specs.Places as places
 use Rattle.pt_fits.specs.Leaves as L
@@ -33,6 +31,11 @@ module _ {X : Type 0} where
       by_test ih true f e = let same : y ≡ x = (subst (λ o. elim o as (λ z. Type 0) [ None ↦ Unit {0} | Some z ↦ z ≡ x ]) (sym e) refl) in
           subst (λ z. Contains (y ∷ ys) z × (test z ≡ true)) same (first y ys, f)
       by_test ih false f e = let (c, g) = ih e in (later y ys x c, g)
+
+-- what gets kinds is a place
+pub place_of : {b : Block} {p q : ℕ} {ks : Kinds} → Gets b p q ks → (i : Ins) × (b.at q ≡ Some i)
+place_of (places.start i e) = (i, e)
+place_of (places.onward g l c i e) = (i, e)
 
 -- a way on, to a place that gets its kinds
 pub record Way (b : Block) (from to : ℕ) (ks : Kinds) (kept : ℕ) : Type 0 where
@@ -57,6 +60,7 @@ module _ (b : Block) (fits : Fits b) (q : ℕ) (i : Ins) (ks : Kinds) (reached :
     where
       among : Contains (steps b q ks) (step r ls k)
       among = subst (λ o. Contains (steps_of b.links q ks o) (step r ls k)) (sym reached.stands) c
+
       arrives : (o : Option Ins) → b.at r ≡ o → Way b q r ls k
       arrives (Some j) at = record { gets = places.onward reached.gets reached.low among j at; goes = L.by_row reached among at }
       arrives None at = absurd (fits.agrees.inside (A.goes reached among at))

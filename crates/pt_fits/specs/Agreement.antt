@@ -1,5 +1,5 @@
 -- How a block may fail to agree up to a place, by the kinds that places get through the instructions there and below. Each failure has its witness.
-use Rattle.std.specs.Prelude.{◌≡◌, ℕ, List, length, Contains, Bool, false, nat_eq, nat_le, Option, Some, None}
+use Rattle.std.specs.Prelude.{◌≡◌, ℕ, length, Contains, false, nat_eq, nat_le, None}
 use Rattle.pt_instr.specs.declared.Instr.TheVariants.{Leave}
 use Rattle.pt_instr.specs.Effects.{Kinds}
 use Rattle.pt_ranges.specs.declared.handlers.Handler.{Handler}

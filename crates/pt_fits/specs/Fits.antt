@@ -1,5 +1,5 @@
 -- Which blocks fit, so that code from anyone can run, and why one is refused.
-use Rattle.std.specs.Prelude.{◌≡◌, ◌⊎◌, ℕ, ◌<◌, List, length, Option, Some, None}
+use Rattle.std.specs.Prelude.{◌≡◌, ℕ, ◌<◌, length, Some, None}
 use Rattle.pt_instr.specs.declared.Instr.TheVariants.{Leave}
 use Rattle.pt_instr.specs.Effects.{Kinds}
 use Rattle.pt_ranges.specs.declared.handlers.Handler.{Handler}

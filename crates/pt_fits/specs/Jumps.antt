@@ -1,6 +1,5 @@
 -- Where a jump to a line leads, said of slots (Library Reference, "inspect": `f_lineno`).
-use Rattle.std.specs.Prelude.{◌≡◌, ℕ, ◌<◌, List, length, slice_get, Contains, Option, Some}
-use Rattle.pt_code.specs.declared.Start.{Start}
+use Rattle.std.specs.Prelude.{◌≡◌, ℕ, ◌<◌, length, slice_get, Contains, Some}
 use Rattle.pt_instr.specs.declared.kinds.Kind.{Kind}
 use Rattle.pt_instr.specs.declared.kinds.Kind.TheVariants.{Pending}
 use Rattle.pt_instr.specs.Effects.{Kinds}
@@ -42,5 +41,5 @@ pub data Jumps (b : Block) (from : ℕ) (ks : Kinds) (line : ℕ) : Answer → T
   through : (to : ℕ) (ls : Kinds) → IsLeast (Starts b line) to → Gets b b.size to ls → ThroughFinally b from to ks ls → Jumps b from ks line out_of_finally
   enters : (to : ℕ) (ls : Kinds) → IsLeast (Starts b line) to → Gets b b.size to ls → (ThroughFinally b from to ks ls → ⊥) → Into b from to ls
       → Jumps b from ks line into_block
-  goes : (to : ℕ) (ls : Kinds) → IsLeast (Starts b line) to → Gets b b.size to ls → (ThroughFinally b from to ks ls → ⊥) → (Into b from to ls → ⊥)
-      → Jumps b from ks line (lands to (length ls))
+  goes : (to : ℕ) (ls : Kinds) → IsLeast (Starts b line) to → Gets b b.size to ls → (ThroughFinally b from to ks ls → ⊥)
+      → ((d : ℕ) → d < length ls → InCommon b d from to) → Jumps b from ks line (lands to (length ls))

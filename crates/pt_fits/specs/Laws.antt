@@ -15,14 +15,18 @@ use Rattle.pt_fits.specs.Block.{Block, effect, kinds_at_start}
 use Rattle.pt_fits.specs.Steps.{below}
 use Rattle.pt_fits.specs.Places.{Gets, Reached}
 use Rattle.pt_fits.specs.Leaves.{Holds}
-use Rattle.pt_fits.specs.Fits.{Fits}
+use Rattle.pt_fits.specs.Fits.{Fits, Misfit, Refused}
+
+-- no instruction stands behind the end
+abbrev pub IsLaid : Block → Type 0
+IsLaid b = (pc : ℕ) (i : Ins) → b.at pc ≡ Some i → pc ≤ b.size
 
 -- the machine runs the instructions of the block: with as many cells as its blocks take along, and it knows how many slots lie where a jump leads
 pub record Runs {V : Type 0} (code : CodeObject V) (b : Block) : Type 0 where
   pub at : (pc : ℕ) → code.at pc ≡ b.at pc
   pub captures : (n : ℕ) → code.pool.captures n ≡ b.links.captures n
   pub depth_at : (pc : ℕ) (ks : Kinds) → Gets b b.size pc ks → code.depth_at pc ≡ length ks
-  pub inside : (pc : ℕ) (i : Ins) → b.at pc ≡ Some i → pc ≤ b.size
+  pub inside : IsLaid b
 
 module _ {V : Type 0} (b : Block) where
   -- what slot d of a place holds, if it is a jump, is one that the slot may hold
@@ -97,3 +101,11 @@ SlotsFit {V} code b = Runs code b → Fits b → (s : State V) → Sound b s →
 -- no state to which the machine comes from the start of the block is stuck
 abbrev pub NeverStuck : {V : Type 0} → CodeObject V → Block → Type 0
 NeverStuck {V} code b = Runs code b → Fits b → (s t : State V) → Starts b s → Comes code s t → is_stuck (machine.turn code t) ≡ false
+
+-- code that fits isn't refused
+abbrev pub FitsUnrefused : Block → Type 0
+FitsUnrefused b = IsLaid b → Fits b → (m : Misfit) → Refused b m → ⊥
+
+-- what is refused is so for one reason at one place
+abbrev pub OneRefusal : Block → Type 0
+OneRefusal b = IsLaid b → (m n : Misfit) → Refused b m → Refused b n → m ≡ n

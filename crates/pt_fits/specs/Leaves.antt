@@ -5,7 +5,6 @@ use Rattle.pt_instr.specs.declared.Instr.TheVariants.{Leave, EndFinally, Exit}
 use Rattle.pt_instr.specs.Effects.{Kinds}
 use Rattle.pt_ranges.specs.declared.handlers.Handler.{Handler}
 use Rattle.pt_ranges.specs.Rows.{covers}
-use Rattle.pt_base.specs.declared.numbers.Pc.{Pc}
 use Rattle.pt_code.specs.View.{Ins}
 use Rattle.pt_fits.specs.Block.{Block}
 use Rattle.pt_fits.specs.Steps.{step, steps, cut}

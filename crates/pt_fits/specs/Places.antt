@@ -1,5 +1,5 @@
 -- Which kinds of slots a place gets: the least relation that the ways on of instructions make (as data flow in a verifier of bytecode).
-use Rattle.std.specs.Prelude.{◌≡◌, ℕ, ◌≤◌, Contains, Option, Some}
+use Rattle.std.specs.Prelude.{◌≡◌, ℕ, ◌≤◌, Contains, Some}
 use Rattle.pt_instr.specs.Effects.{Kinds}
 use Rattle.pt_code.specs.View.{Ins}
 use Rattle.pt_fits.specs.Block.{Block, kinds_at_start}

@@ -1,7 +1,6 @@
 -- Code that fits, and code that doesn't, as rows.
-use Rattle.std.specs.Prelude.{ℕ, List, [], ◌∷◌, length, Bool, true, false}
+use Rattle.std.specs.Prelude.{ℕ, List, [], ◌∷◌, Bool, false}
 use Rattle.std.specs.List.{flat_map}
-
 use Rattle.pt_ranges.specs.declared.handlers.Handler.{Handler}
 use Rattle.pt_instr.specs.declared.Instr.{Instr}
 use Rattle.pt_instr.specs.declared.Instr.TheVariants as instr

@@ -1,5 +1,5 @@
 -- Which instructions may stand in a block of which kind, and what they may name (Language Reference 4.2.2, 6.2.8, 6.2.9, 6.3.4, 8.7, 8.8).
-use Rattle.std.specs.Prelude.{ℕ, List, [], ◌∷◌, length, Bool, true, false, not, ◌&&◌, ◌||◌, nat_eq, nat_le, Option, Some, None}
+use Rattle.std.specs.Prelude.{ℕ, List, [], ◌∷◌, length, Bool, true, false, not, ◌&&◌, nat_eq, nat_le, Option, Some}
 use Rattle.std.specs.Str.{bytes_eq}
 use Rattle.std.specs.List.{list_any, list_all}
 use Rattle.pt_tree.specs.Syntax.{Name}
@@ -7,7 +7,7 @@ use Rattle.pt_instr.specs.declared.Instr.{Instr}
 use Rattle.pt_instr.specs.declared.Instr.TheVariants as instr
 use Rattle.pt_code.specs.declared.BlockKind.{BlockKind}
 use Rattle.pt_code.specs.declared.BlockKind.TheVariants as block
-use Rattle.pt_fits.specs.Block.{Links, Block}
+use Rattle.pt_fits.specs.Block.{Links}
 
 abbrev pub may_yield : BlockKind → Bool
 may_yield block.Generator = true

@@ -2,7 +2,7 @@
 
 ghost use Rattle.pt_slots.specs.CodeObject.{CodeObject};
 ghost use Rattle.pt_fits.specs.Block.{Block};
-ghost use Rattle.pt_fits.specs.Laws.{NeverStuck, SlotsFit};
+ghost use Rattle.pt_fits.specs.Laws.{FitsUnrefused, NeverStuck, OneRefusal, SlotsFit};
 ghost use Rattle.pt_fits.specs.Rows.{FirstFits, FirstIsFile, FirstIsSeen, HandlerIsNowhere, HandlerIsTooDeep, HeldLeaveLacks, JumpGoesAstray, LoopIsSilent, ValueIsNoCompletion};
 
 /// From slots that have the kinds of a place, each turn finds all that it takes, and leaves slots
@@ -32,4 +32,11 @@ pub fn samples_fit_or_are_refused()
     ensures held { HeldLeaveLacks }
     ensures nowhere { HandlerIsNowhere }
     ensures deep { HandlerIsTooDeep }
+{}
+
+/// Code that fits isn't refused, and what is refused is so for one reason at one place.
+#[tactic(auto, using(crate::proofs::OneAnswer::fits_isnt_refused, crate::proofs::OneAnswer::one_refusal_at_most))]
+pub fn a_block_has_one_answer()
+    ensures fits { (b : Block) → FitsUnrefused b }
+    ensures refusal { (b : Block) → OneRefusal b }
 {}
