@@ -10,7 +10,10 @@ use Rattle.pt_fits.specs.Places as P
 use Rattle.pt_fits.specs.Fits.{Fits}
 use Rattle.pt_fits.specs.Laws as laws
 use Rattle.pt_fits.specs.Laws.{Runs, Sound, GoesOn, Comes, Starts, NeverStuck}
+use Rattle.pt_fits.specs.Jumps.{lands, Jumps}
 use Rattle.pt_fits.proofs.SlotLaw.{slots_fit}
+use Rattle.pt_fits.proofs.CommonSlots.{one_list}
+use Rattle.pt_fits.proofs.JumpLaw.{jumps_land}
 
 not_stuck : {V : Type 0} (b : Block) (t : Turn (State V) V) → GoesOn b t → is_stuck t ≡ false
 not_stuck b (act m a next) g = refl
@@ -27,13 +30,15 @@ module _ {V : Type 0} (code : CodeObject V) (b : Block) (runs : Runs code b) (fi
   goes_on : (s : State V) (t : Turn (State V) V) → Sound b s → turn code s ≡ t → GoesOn b t
   goes_on s t sound e = subst (GoesOn b) e (slots_fit code b runs fits s sound)
 
-  stays_sound : {s t : State V} → Comes code s t → Sound b s → Sound b t
+  stays_sound : {s t : State V} → Comes code b s t → Sound b s → Sound b t
   stays_sound laws.here sound = sound
   stays_sound (laws.moves c e) sound = goes_on _ _ (stays_sound c sound) e
   stays_sound (laws.acts c e r) sound = goes_on _ _ (stays_sound c sound) e r
   stays_sound (laws.notes c e r) sound = goes_on _ _ (stays_sound c sound) e r
+  stays_sound (laws.jumps {pc = pc} {ss = ss} c ks g line to depth j) sound = let a = stays_sound c sound in
+      jumps_land V b fits pc ss a line to depth (subst (λ ls. Jumps b pc ls line (lands to depth)) (one_list b fits g a.gets) j)
 
-  nowhere_stuck : (s t : State V) → Starts b s → Comes code s t → is_stuck (turn code t) ≡ false
+  nowhere_stuck : (s t : State V) → Starts b s → Comes code b s t → is_stuck (turn code t) ≡ false
   nowhere_stuck s t f c = not_stuck b (turn code t) (slots_fit code b runs fits t (stays_sound c (starts_sound b f)))
 
 pub never_stuck : {V : Type 0} (code : CodeObject V) (b : Block) → NeverStuck code b

@@ -105,11 +105,11 @@ module _ {V : Type 0} (b : Block) where
   under : (pc : ℕ) (ls : List Kind) (k : Kind) (s : Slot V) (ss : Slots V) → Stack b pc (k ∷ ls) (s ∷ ss) → Stack b pc ls ss
   under pc ls k s ss st = record { kinds = let h : rest (map kind_of (s ∷ ss)) ≡ rest (k ∷ ls) = ap rest st.kinds in h; holds = st.holds.1 }
 
-  size_of : (pc : ℕ) (ks : Kinds) (ss : Slots V) → Stack b pc (reverse ks) ss → length ss ≡ length ks
+  pub size_of : (pc : ℕ) (ks : Kinds) (ss : Slots V) → Stack b pc (reverse ks) ss → length ss ≡ length ks
   size_of pc ks ss st = sym (length-map ss kind_of) ∙ (ap length st.kinds ∙ length-reverse ks)
 
   -- the lowest slots
-  cut_stack : (pc d : ℕ) (ks : Kinds) (ss : Slots V) → Stack b pc (reverse ks) ss → Stack b pc (reverse (take d ks)) (landing.cut d ss)
+  pub cut_stack : (pc d : ℕ) (ks : Kinds) (ss : Slots V) → Stack b pc (reverse ks) ss → Stack b pc (reverse (take d ks)) (landing.cut d ss)
   cut_stack pc d ks ss st = record {
     kinds = sym (drop-map kind_of (length ss - d) ss) ∙ (ap (drop (length ss - d)) st.kinds ∙ (ap (λ n. drop (n - d) (reverse ks)) (size_of pc ks ss st) ∙ lowest d ks));
     holds = dropped_holds pc (length ss - d) ss st.holds;

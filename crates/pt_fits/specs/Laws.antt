@@ -5,17 +5,21 @@ use Rattle.pt_instr.specs.declared.kinds.Kind.{Kind}
 use Rattle.pt_instr.specs.declared.kinds.Kind.TheVariants.{Iter}
 use Rattle.pt_instr.specs.Effects.{Kinds}
 use Rattle.pt_ranges.specs.declared.handlers.Handler.{Handler}
-use Rattle.pt_code.specs.View.{Ins}
+use Rattle.pt_code.specs.declared.CodeBlock.{CodeBlock}
+use Rattle.pt_code.specs.declared.Code.{Code}
+use Rattle.pt_code.specs.View.{Ins, IsView}
 use Rattle.pt_control.specs.Turn.{Mark, Ask, Note, Reply, Turn, Answer, act, note, move, over, stuck}
 use Rattle.pt_slots.specs.Slots.{jump_to, by, Slot, pending, Slots, State, on, thrown_to, reraises, off, kind_of}
 use Rattle.pt_slots.specs.CodeObject.{CodeObject}
+use Rattle.pt_slots.specs.Landing.{cut}
 use Rattle.pt_slots.specs.Machine as machine
 use Rattle.pt_slots.specs.Needs.{is_stuck}
-use Rattle.pt_fits.specs.Block.{Block, effect, kinds_at_start}
+use Rattle.pt_fits.specs.Block.{Block, effect, kinds_at_start, block_of}
 use Rattle.pt_fits.specs.Steps.{below}
 use Rattle.pt_fits.specs.Places.{Gets, Reached}
 use Rattle.pt_fits.specs.Leaves.{Holds}
 use Rattle.pt_fits.specs.Fits.{Fits, Misfit, Refused}
+use Rattle.pt_fits.specs.Jumps.{lands, Jumps}
 
 -- no instruction stands behind the end
 abbrev pub IsLaid : Block → Type 0
@@ -80,14 +84,16 @@ module _ {V : Type 0} (b : Block) where
   GoesOn (over e) = Unit {0}
   GoesOn stuck = ⊥
 
-module _ {V : Type 0} (code : CodeObject V) where
-  -- the states that a machine comes to, whatever is replied
+module _ {V : Type 0} (code : CodeObject V) (b : Block) where
+  -- the states that a machine comes to, whatever is replied and wherever a debugger jumps
   pub data Comes : (from to : State V) → Type 0 where
     here : {s : State V} → Comes s s
     moves : {s t u : State V} → Comes s t → machine.turn code t ≡ move u → Comes s u
     acts : {s t : State V} → Comes s t → {m : Option Mark} {a : Ask V} {next : Reply V (Answer V a) → State V} → machine.turn code t ≡ act m a next
         → (r : Reply V (Answer V a)) → Comes s (next r)
     notes : {s t : State V} → Comes s t → {n : Note V} {next : Reply V (Unit {0}) → State V} → machine.turn code t ≡ note n next → (r : Reply V (Unit {0})) → Comes s (next r)
+    jumps : {s : State V} {pc : ℕ} {ss : Slots V} → Comes s (on pc ss) → (ks : Kinds) → Gets b b.size pc ks → (line to depth : ℕ) → Jumps b pc ks line (lands to depth)
+        → Comes s (on to (cut depth ss))
 
 -- a block starts with no slots, a generator expression with its iterator (6.2.8)
 pub data Starts {V : Type 0} (b : Block) : State V → Type 0 where
@@ -100,7 +106,11 @@ SlotsFit {V} code b = Runs code b → Fits b → (s : State V) → Sound b s →
 
 -- no state to which the machine comes from the start of the block is stuck
 abbrev pub NeverStuck : {V : Type 0} → CodeObject V → Block → Type 0
-NeverStuck {V} code b = Runs code b → Fits b → (s t : State V) → Starts b s → Comes code s t → is_stuck (machine.turn code t) ≡ false
+NeverStuck {V} code b = Runs code b → Fits b → (s t : State V) → Starts b s → Comes code b s t → is_stuck (machine.turn code t) ≡ false
+
+-- behind a jump that is permitted the slots have the kinds of its target, and what they hold they may hold
+abbrev pub JumpsLand : (V : Type 0) → Block → Type 0
+JumpsLand V b = Fits b → (from : ℕ) (ss : Slots V) (a : At b from ss) (line to depth : ℕ) → Jumps b from a.kinds line (lands to depth) → At b to (cut depth ss)
 
 -- code that fits isn't refused
 abbrev pub FitsUnrefused : Block → Type 0
@@ -109,3 +119,7 @@ FitsUnrefused b = IsLaid b → Fits b → (m : Misfit) → Refused b m → ⊥
 -- what is refused is so for one reason at one place
 abbrev pub OneRefusal : Block → Type 0
 OneRefusal b = IsLaid b → (m n : Misfit) → Refused b m → Refused b n → m ≡ n
+
+-- in a block as it is seen no instruction stands behind the end
+abbrev pub ViewIsLaid : Type 0
+ViewIsLaid = (c : Code) (b : CodeBlock) (view : ℕ → Option Ins) → IsView b view → IsLaid (block_of c b view)

@@ -2,7 +2,7 @@
 
 ghost use Rattle.pt_slots.specs.CodeObject.{CodeObject};
 ghost use Rattle.pt_fits.specs.Block.{Block};
-ghost use Rattle.pt_fits.specs.Laws.{FitsUnrefused, NeverStuck, OneRefusal, SlotsFit};
+ghost use Rattle.pt_fits.specs.Laws.{FitsUnrefused, JumpsLand, NeverStuck, OneRefusal, SlotsFit, ViewIsLaid};
 ghost use Rattle.pt_fits.specs.Rows.{FirstFits, FirstIsFile, FirstIsSeen, HandlerIsNowhere, HandlerIsTooDeep, HeldLeaveLacks, JumpGoesAstray, LoopIsSilent, ValueIsNoCompletion};
 
 /// From slots that have the kinds of a place, each turn finds all that it takes, and leaves slots
@@ -12,8 +12,15 @@ pub fn slots_have_the_kinds_of_their_place<V>()
     ensures { (code : CodeObject V) (b : Block) → SlotsFit code b }
 {}
 
+/// Behind a jump that is permitted the slots have the kinds of its target.
+#[tactic(auto, using(crate::proofs::JumpLaw::jumps_land))]
+pub fn jumps_land_on_slots_of_their_target<V>()
+    ensures { (b : Block) → JumpsLand V b }
+{}
+
 /// Code that fits is never stuck: no state to which the machine comes from the start of a block,
-/// whatever is answered to its asks and whatever is raised, lacks what its instruction takes.
+/// whatever is answered to its asks, whatever is raised and wherever a debugger jumps, lacks what
+/// its instruction takes.
 #[tactic(auto, using(crate::proofs::NeverStuck::never_stuck))]
 pub fn code_that_fits_is_never_stuck<V>()
     ensures { (code : CodeObject V) (b : Block) → NeverStuck code b }
@@ -39,4 +46,9 @@ pub fn samples_fit_or_are_refused()
 pub fn a_block_has_one_answer()
     ensures fits { (b : Block) → FitsUnrefused b }
     ensures refusal { (b : Block) → OneRefusal b }
+{}
+
+/// A block of a code file is laid within its bytes, whatever stands in it.
+pub fn a_block_is_laid_in_its_bytes()
+    ensures { ViewIsLaid }
 {}
