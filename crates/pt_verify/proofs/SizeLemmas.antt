@@ -1,8 +1,8 @@
 -- The sizes of steps are the lengths of the kinds there.
-use Rattle.std.proofs.Common.{◌≡◌, ℕ, ◌+◌, ◌-◌, ◌≤◌, ◌<◌, zero, suc, Bool, true, false, ◌&&◌, if◌then◌else◌, List, [], ◌∷◌, ◌++◌, length, map, filter, take, Option, Some, None, refl, sym, ap, ◌∙◌, subst, arith, length-append}
-use Rattle.std.specs.Prelude.{Contains, cond, nat_eq, nat_le, slice_index_or}
+use Rattle.std.proofs.Common.{◌≡◌, ℕ, ◌+◌, ◌≤◌, zero, suc, Bool, true, false, if◌then◌else◌, List, [], ◌∷◌, ◌++◌, length, map, filter, take, Option, Some, None, refl, sym, ap, ◌∙◌, subst, arith, length-append}
+use Rattle.std.specs.Prelude.{Contains, cond, nat_eq}
 use Rattle.std.proofs.lemmas.List.{map-append, length-take-le}
-use Rattle.std.proofs.lemmas.Bool.{true≢false, false≢true, leb-true}
+use Rattle.std.proofs.lemmas.Bool.{false≢true, leb-true}
 use Rattle.pt_instr.specs.declared.Instr.{Instr}
 use Rattle.pt_instr.specs.declared.Instr.TheVariants as instr
 use Rattle.pt_instr.specs.declared.effects.Effect.{Effect}
@@ -11,7 +11,7 @@ use Rattle.pt_instr.specs.Effects.{Kinds, effect_of}
 use Rattle.pt_ranges.specs.declared.handlers.Handler.{Handler}
 use Rattle.pt_code.specs.View.{Ins}
 use Rattle.pt_fits.specs.Block.{Links, Block, effect, captured, kinds_at_start}
-use Rattle.pt_fits.specs.Steps.{Step, step, steps, steps_of, by_instruction, by_handlers, held_by, onward, aside, again, gives, given_behind, spared, below, swaps_iterator, has_enough, is_within, landing, target_of}
+use Rattle.pt_fits.specs.Steps.{Step, step, steps, steps_of, by_instruction, by_handlers, held_by, onward, aside, again, given_behind, spared, below, swaps_iterator, has_enough, is_within, landing, target_of}
 use Rattle.pt_fits.specs.Places as P
 use Rattle.pt_fits.specs.Places.{Gets, Reached}
 use Rattle.pt_fits.specs.Agreement as A
@@ -122,8 +122,12 @@ module _ (b : Block) (p : ℕ) where
       arrived s d f
     where
       arrived : (s : Step) → Contains (steps b q ks) s → size_of s ≡ sized r m → GetsSize b p r m
-      arrived s d f = record { kinds = s.kinds; gets = subst (λ r. Gets b p r s.kinds) (ap (λ t. t.to) f)
-          (P.onward g l d i (subst (λ r. b.at r ≡ Some i) (sym (ap (λ t. t.to) f)) e)); long = ap (λ t. t.size) f }
+      arrived s d f = record {
+        kinds = s.kinds;
+        gets = subst (λ r. Gets b p r s.kinds) (ap (λ t. t.to) f)
+            (P.onward g l d i (subst (λ r. b.at r ≡ Some i) (sym (ap (λ t. t.to) f)) e));
+        long = ap (λ t. t.size) f;
+      }
 
   sizes_have : {q n : ℕ} → Sized b p q n → GetsSize b p q n
   sizes_have (S.start i e) = record { kinds = kinds_at_start b.kind; gets = P.start i e; long = refl }
@@ -146,8 +150,14 @@ module _ (b : Block) (p : ℕ) where
 
   deep_row : (row : Handler) → RowTooDeep b p row → Deep b p row
   deep_row row (S.deep {q = q} {n = n} {i = i} s l a c e) = let g = sizes_have b p s in
-      record { pc = q; ins = i; kinds = g.kinds; reached = record { gets = g.gets; low = l; stands = a }; under = c;
-          fails = subst (λ n. leaves_enough (effect b.links i.instr) n row ≡ false) (sym g.long) e }
+      record {
+        pc = q;
+        ins = i;
+        kinds = g.kinds;
+        reached = record { gets = g.gets; low = l; stands = a };
+        under = c;
+        fails = subst (λ n. leaves_enough (effect b.links i.instr) n row ≡ false) (sym g.long) e;
+      }
 
   few_lacks : Few b p → Lacks b p
   few_lacks f = S.lacks (kinds_have_sizes b p f.pc f.kinds f.reached.gets) f.reached.low f.reached.stands f.fails

@@ -1,5 +1,5 @@
 -- Sizes are the lengths of kinds, so they decide what lengths decide.
-use Rattle.std.specs.Prelude.{◌≡◌, ℕ, ◌≤◌, Contains, Bool, false, length, Some}
+use Rattle.std.specs.Prelude.{◌≡◌, ℕ, Contains, false, length}
 use Rattle.pt_instr.specs.Effects.{Kinds}
 use Rattle.pt_ranges.specs.declared.handlers.Handler.{Handler}
 use Rattle.pt_code.specs.View.{Ins}
