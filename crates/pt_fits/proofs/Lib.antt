@@ -1,0 +1,10 @@
+pub mod KindLemmas
+pub mod Ways
+pub mod SlotLaw
+pub mod Certificates
+pub mod RowProofs
+pub mod OneAnswer
+pub mod ViewLaid
+pub mod CommonSlots
+pub mod JumpLaw
+pub mod NeverStuck

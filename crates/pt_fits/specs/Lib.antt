@@ -1,0 +1,12 @@
+pub mod Block
+pub mod Steps
+pub mod Places
+pub mod Leaves
+pub mod Standing
+pub mod Tables
+pub mod Agreement
+pub mod Fits
+pub mod Jumps
+pub mod Laws
+pub mod Samples
+pub mod Rows

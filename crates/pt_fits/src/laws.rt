@@ -1,0 +1,54 @@
+//! Laws of code that fits, each the contract of a function that does nothing.
+
+ghost use Rattle.pt_slots.specs.CodeObject.{CodeObject};
+ghost use Rattle.pt_fits.specs.Block.{Block};
+ghost use Rattle.pt_fits.specs.Laws.{FitsUnrefused, JumpsLand, NeverStuck, OneRefusal, SlotsFit, ViewIsLaid};
+ghost use Rattle.pt_fits.specs.Rows.{FirstFits, FirstIsFile, FirstIsSeen, HandlerIsNowhere, HandlerIsTooDeep, HeldLeaveLacks, JumpGoesAstray, LoopIsSilent, ValueIsNoCompletion};
+
+/// From slots that have the kinds of a place, each turn finds all that it takes, and leaves slots
+/// that have the kinds of the place to which it goes.
+#[tactic(auto, using(crate::proofs::SlotLaw::slots_fit))]
+pub fn slots_have_the_kinds_of_their_place<V>()
+    ensures { (code : CodeObject V) (b : Block) → SlotsFit code b }
+{}
+
+/// Behind a jump that is permitted the slots have the kinds of its target.
+#[tactic(auto, using(crate::proofs::JumpLaw::jumps_land))]
+pub fn jumps_land_on_slots_of_their_target<V>()
+    ensures { (b : Block) → JumpsLand V b }
+{}
+
+/// Code that fits is never stuck: no state to which the machine comes from the start of a block,
+/// whatever is answered to its asks, whatever is raised and wherever a debugger jumps, lacks what
+/// its instruction takes.
+#[tactic(auto, using(crate::proofs::NeverStuck::never_stuck))]
+pub fn code_that_fits_is_never_stuck<V>()
+    ensures { (code : CodeObject V) (b : Block) → NeverStuck code b }
+{}
+
+/// What is answered to samples, which are computed from the kinds of their places: the first is a
+/// file, and its block fits; each other one is refused where it is said.
+#[tactic(auto, using(crate::proofs::RowProofs::first_is_file, crate::proofs::RowProofs::first_is_seen, crate::proofs::RowProofs::first_fits, crate::proofs::RowProofs::value_is_no_completion, crate::proofs::RowProofs::loop_is_silent, crate::proofs::RowProofs::jump_goes_astray, crate::proofs::RowProofs::held_leave_lacks, crate::proofs::RowProofs::handler_is_nowhere, crate::proofs::RowProofs::handler_is_too_deep))]
+pub fn samples_fit_or_are_refused()
+    ensures file { FirstIsFile }
+    ensures view { FirstIsSeen }
+    ensures fits { FirstFits }
+    ensures value { ValueIsNoCompletion }
+    ensures silent { LoopIsSilent }
+    ensures astray { JumpGoesAstray }
+    ensures held { HeldLeaveLacks }
+    ensures nowhere { HandlerIsNowhere }
+    ensures deep { HandlerIsTooDeep }
+{}
+
+/// Code that fits isn't refused, and what is refused is so for one reason at one place.
+#[tactic(auto, using(crate::proofs::OneAnswer::fits_isnt_refused, crate::proofs::OneAnswer::one_refusal_at_most))]
+pub fn a_block_has_one_answer()
+    ensures fits { (b : Block) → FitsUnrefused b }
+    ensures refusal { (b : Block) → OneRefusal b }
+{}
+
+/// A block of a code file is laid within its bytes, whatever stands in it.
+pub fn a_block_is_laid_in_its_bytes()
+    ensures { ViewIsLaid }
+{}

@@ -1,0 +1,22 @@
+//! Laws of what the verifier computes, each the contract of a function that does nothing.
+
+ghost use Rattle.std.specs.Prelude.{ℕ};
+ghost use Rattle.pt_ranges.specs.declared.handlers.Handler.{Handler};
+ghost use Rattle.pt_fits.specs.Block.{Block};
+ghost use Rattle.pt_verify.specs.Laws.{AsDeep, AsFew, AsLengths, KindsHaveSizes, SizesHaveKinds};
+
+/// The sizes of places are the lengths of their kinds, whatever these are.
+#[tactic(auto, using(crate::proofs::SizeLemmas::kinds_have_sizes, crate::proofs::SizeLemmas::sizes_have_kinds))]
+pub fn sizes_are_lengths()
+    ensures kinds { (b : Block) → KindsHaveSizes b }
+    ensures sizes { (b : Block) → SizesHaveKinds b }
+{}
+
+/// So sizes decide whether lengths meet, whether a handler row is too deep and whether an
+/// instruction has enough slots.
+#[tactic(auto, using(crate::proofs::SizeLemmas::sizes_meet_as_lengths, crate::proofs::SizeLemmas::rows_are_as_deep, crate::proofs::SizeLemmas::lack_as_few))]
+pub fn sizes_decide()
+    ensures meet { (b : Block) (p : ℕ) → AsLengths b p }
+    ensures deep { (b : Block) (p : ℕ) (row : Handler) → AsDeep b p row }
+    ensures few { (b : Block) (p : ℕ) → AsFew b p }
+{}
