@@ -64,7 +64,7 @@ class Rows:
         self.grown = self.get("prim_heap")
 
     def get(self, name):
-        return self.all.get("Rattle.pt_prims.specs.Prim", name)
+        return self.all.get("Rattle.pt_prims.specs.Operations", name)
 
     @staticmethod
     def value(word, heap, places):

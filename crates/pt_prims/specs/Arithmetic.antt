@@ -66,9 +66,17 @@ binary_by op h a b operand.Text k = text_beside op h a b
 binary_by op h a b k operand.Text = text_beside op h a b
 binary_by op h a b k l = binary_type_error op h a b
 
+abbrev pub operands_binary : BinOp → List Object → Value → Value → Content
+operands_binary op h a b = binary_by op h a b (operand_of h a) (operand_of h b)
+
+-- a truth value and another operand
+abbrev pub truth_binary : BinOp → List Object → Bool → Value → Content
+truth_binary op h a (value.Bool b) = truths_binary op a b
+truth_binary op h a b = operands_binary op h (value.Bool a) b
+
 abbrev pub binary_content : BinOp → List Object → Value → Value → Content
-binary_content op h (value.Bool a) (value.Bool b) = truths_binary op a b
-binary_content op h a b = binary_by op h a b (operand_of h a) (operand_of h b)
+binary_content op h (value.Bool a) b = truth_binary op h a b
+binary_content op h a b = operands_binary op h a b
 
 abbrev pub unary_by : UnOp → List Object → Value → Operand → Content
 unary_by op h a (operand.Number x) = integer_content (unary_answer op x)

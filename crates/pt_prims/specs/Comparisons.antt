@@ -1,8 +1,8 @@
 -- What comparisons give (Language Reference 6.10).
-use Rattle.std.specs.Prelude.{ℕ, ℤ, Bool, true, false, not, ◌||◌, List, Option, Some, None, nat_eq, int_lt, slice_get, if◌then◌else◌}
+use Rattle.std.specs.Prelude.{ℕ, ℤ, Bool, true, false, not, ◌||◌, List, Option, Some, nat_eq, int_lt, slice_get, if◌then◌else◌}
 use Rattle.std.specs.Str.{bytes_eq}
 use Rattle.pt_base.specs.declared.operators.CompareOp.{CompareOp}
-use Rattle.pt_base.specs.declared.operators.CompareOp.TheVariants.{Less, LessEqual, Greater, GreaterEqual, Equal, NotEqual, In, NotIn, Is, IsNot}
+use Rattle.pt_base.specs.declared.operators.CompareOp.TheVariants.{Less, LessEqual, Greater, Equal, NotEqual, In, NotIn, Is, IsNot}
 use Rattle.pt_base.specs.declared.numbers.ObjId.{ObjId}
 use Rattle.pt_base.specs.declared.what.What.TheVariants.{Feature}
 use Rattle.pt_heap.specs.declared.value.Value.{Value}

@@ -5,5 +5,5 @@ pub mod Arithmetic
 pub mod Comparisons
 pub mod Truths
 pub mod Printing
-pub mod Prim
+pub mod Operations
 pub mod Laws

@@ -1,5 +1,5 @@
 -- Which values are true (Library Reference, "Truth Value Testing"; Language Reference 6.11).
-use Rattle.std.specs.Prelude.{ℕ, ℤ, pos, zero, Bool, true, false, not, List, [], ◌∷◌, Option, Some, None, slice_get}
+use Rattle.std.specs.Prelude.{ℕ, ℤ, pos, zero, Bool, true, false, not, List, ◌∷◌, Option, Some}
 use Rattle.pt_base.specs.declared.what.What.TheVariants.{Feature}
 use Rattle.pt_heap.specs.declared.value.Value.{Value}
 use Rattle.pt_heap.specs.declared.value.Value.TheVariants as value

@@ -48,16 +48,21 @@ abbrev pub sentence : (parts : List (List ℕ)) → List ℕ
 sentence [] = []
 sentence (p ∷ ps) = p ++ sentence ps
 
+-- an operator between two texts, the classes of its operands and a quote
+abbrev pub error_of_one : (before sign behind class : List ℕ) → Content
+error_of_one before sign behind c = Raise TYPE_ERROR (sentence (before ∷ sign ∷ behind ∷ c ∷ codes "'" ∷ []))
+
+abbrev pub error_of_two : (before sign behind first second : List ℕ) → Content
+error_of_two before sign behind a b =
+    Raise TYPE_ERROR (sentence (before ∷ sign ∷ behind ∷ a ∷ codes "' and '" ∷ b ∷ codes "'" ∷ []))
+
 abbrev pub binary_type_error : BinOp → List Object → Value → Value → Content
 binary_type_error op h a b =
-    Raise TYPE_ERROR (sentence (codes "unsupported operand type(s) for " ∷ binary_sign op ∷ codes ": '" ∷ class_name h a ∷
-    codes "' and '" ∷ class_name h b ∷ codes "'" ∷ []))
+    error_of_two (codes "unsupported operand type(s) for ") (binary_sign op) (codes ": '") (class_name h a) (class_name h b)
 
 abbrev pub unary_type_error : UnOp → List Object → Value → Content
-unary_type_error op h a =
-    Raise TYPE_ERROR (sentence (codes "bad operand type for unary " ∷ unary_sign op ∷ codes ": '" ∷ class_name h a ∷ codes "'" ∷ []))
+unary_type_error op h a = error_of_one (codes "bad operand type for unary ") (unary_sign op) (codes ": '") (class_name h a)
 
 abbrev pub order_type_error : CompareOp → List Object → Value → Value → Content
 order_type_error op h a b =
-    Raise TYPE_ERROR (sentence (codes "'" ∷ comparison_sign op ∷ codes "' not supported between instances of '" ∷ class_name h a ∷
-    codes "' and '" ∷ class_name h b ∷ codes "'" ∷ []))
+    error_of_two (codes "'") (comparison_sign op) (codes "' not supported between instances of '") (class_name h a) (class_name h b)

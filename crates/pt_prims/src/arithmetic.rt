@@ -1,8 +1,8 @@
 ghost use Rattle.std.specs.Prelude.{◌≡◌, IfOk, OnOk};
 ghost use Rattle.std.specs.Option.{option_copied};
-ghost use Rattle.pt_prims.specs.Arithmetic.{binary_by, binary_content, integer_content};
-ghost use Rattle.pt_prims.specs.Arithmetic.{text_beside, texts_binary, truths_binary};
-ghost use Rattle.pt_prims.specs.Arithmetic.{unary_content};
+ghost use Rattle.pt_prims.specs.Arithmetic.{binary_content, integer_content, operands_binary};
+ghost use Rattle.pt_prims.specs.Arithmetic.{text_beside, texts_binary, truth_binary};
+ghost use Rattle.pt_prims.specs.Arithmetic.{truths_binary, unary_content};
 ghost use Rattle.pt_prims.specs.declared.content.Content.TheVariants.{Raise};
 
 use crate::Helper;
@@ -79,27 +79,35 @@ fn text_beside(alloc: Global, op: BinOp, heap: &Heap, a: Value, b: Value) -> Res
 }
 
 /// A binary operator, by what the operands are.
-fn binary_by(
+fn operands_binary(
     alloc: Global,
     op: BinOp,
     heap: &Heap,
     a: Value,
     b: Value,
-    k: Operand,
-    l: Operand,
 ) -> Result<Content, Memory>
-    ensures { IfOk result (λ content. content ≡ binary_by op heap.now a b k l) }
+    ensures { IfOk result (λ content. content ≡ operands_binary op heap.now a b) }
 {
-    match (k, l) {
-        (Operand::Number(a), Operand::Number(b)) => integer_content(
-            alloc,
-            pt_ints::binary(op, a, b),
-        ),
+    match (operand_of(heap, a), operand_of(heap, b)) {
+        (Operand::Number(a), Operand::Number(b)) => {
+            let answer = pt_ints::binary(op, a, b);
+            integer_content(alloc, answer)
+        }
         (Operand::Instance, _) | (_, Operand::Instance) => Ok(Content::Help(Helper::BinaryOf)),
         (Operand::Compound, _) | (_, Operand::Compound) => Ok(Content::Outside(What::Feature)),
         (Operand::Text, Operand::Text) => texts_binary(alloc, op, heap, a, b),
         (Operand::Text, _) | (_, Operand::Text) => text_beside(alloc, op, heap, a, b),
         _ => binary_type_error(alloc, op, heap, a, b),
+    }
+}
+
+/// A binary operator at a truth value and another operand.
+fn truth_binary(alloc: Global, op: BinOp, heap: &Heap, a: bool, b: Value) -> Result<Content, Memory>
+    ensures { IfOk result (λ content. content ≡ truth_binary op heap.now a b) }
+{
+    match b {
+        Value::Bool(b) => truths_binary(alloc, op, a, b),
+        _ => operands_binary(alloc, op, heap, Value::Bool(a), b),
     }
 }
 
@@ -113,12 +121,9 @@ pub fn binary_content(
 ) -> Result<Content, Memory>
     ensures { IfOk result (λ content. content ≡ binary_content op heap.now a b) }
 {
-    match (a, b) {
-        (Value::Bool(a), Value::Bool(b)) => truths_binary(alloc, op, a, b),
-        _ => {
-            let (k, l) = (operand_of(heap, a), operand_of(heap, b));
-            binary_by(alloc, op, heap, a, b, k, l)
-        }
+    match a {
+        Value::Bool(a) => truth_binary(alloc, op, heap, a, b),
+        _ => operands_binary(alloc, op, heap, a, b),
     }
 }
 

@@ -13,7 +13,7 @@ use std::alloc::Global;
 
 /// Whether these are two texts with the same characters.
 fn same_text(a: Option<&Str>, b: Option<&Str>) -> bool
-    ensures { result ≡ same_text (option_copied a) (option_copied b) }
+    ensures { result ≡ same_text (option_copied a.entry) (option_copied b.entry) }
 {
     match (a, b) {
         (Some(a), Some(b)) => a.text().is(b.text().as_str()),

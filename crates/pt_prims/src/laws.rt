@@ -7,7 +7,7 @@ ghost use Rattle.pt_prims.specs.declared.class.TheConstants.{TYPE_ERROR, VALUE_E
 ghost use Rattle.pt_prims.specs.declared.class.TheConstants.{ZERO_DIVISION_ERROR};
 ghost use Rattle.pt_prims.specs.declared.op.Op.{Op};
 ghost use Rattle.pt_prims.specs.Laws.{start_name, Stay};
-ghost use Rattle.pt_prims.specs.Prim.{prim_heap};
+ghost use Rattle.pt_prims.specs.Operations.{prim_heap};
 
 /// The classes of the errors that operations raise stand at their places as a run starts.
 pub fn errors_are_of_their_classes()

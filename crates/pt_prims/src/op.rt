@@ -1,5 +1,5 @@
 ghost use Rattle.std.specs.Prelude.{◌≡◌};
-ghost use Rattle.pt_prims.specs.Prim.{of_function};
+ghost use Rattle.pt_prims.specs.Operations.{of_function};
 
 use pt_base::{BinOp, CompareOp, UnOp};
 

@@ -1,7 +1,7 @@
 ghost use Rattle.std.specs.Prelude.{◌≡◌, IfOk, map};
-ghost use Rattle.pt_prims.specs.TypeErrors.{binary_sign, comparison_sign, binary_type_error};
-ghost use Rattle.pt_prims.specs.TypeErrors.{order_type_error, unary_type_error, sentence};
-ghost use Rattle.pt_prims.specs.TypeErrors.{unary_sign};
+ghost use Rattle.pt_prims.specs.TypeErrors.{binary_sign, binary_type_error, comparison_sign};
+ghost use Rattle.pt_prims.specs.TypeErrors.{error_of_one, error_of_two, order_type_error};
+ghost use Rattle.pt_prims.specs.TypeErrors.{sentence, unary_sign, unary_type_error};
 
 use crate::class::{TYPE_ERROR, class_name};
 use crate::content::Content;
@@ -66,6 +66,43 @@ pub fn sentence(alloc: Global, parts: &[&str]) -> Result<Text, Memory>
     Ok(text)
 }
 
+/// A TypeError that names an operator and the class of its operand.
+fn error_of_one<'a>(
+    alloc: Global,
+    before: &'a str,
+    sign: &'a str,
+    behind: &'a str,
+    class: &'a str,
+) -> Result<Content, Memory>
+    ensures { IfOk result
+        (λ content. content ≡ error_of_one before.now sign.now behind.now class.now) }
+{
+    let text = sentence(alloc, &[before, sign, behind, class, "'"])?;
+    Ok(Content::Raise {
+        class: TYPE_ERROR,
+        text,
+    })
+}
+
+/// A TypeError that names an operator and the classes of its operands.
+fn error_of_two<'a>(
+    alloc: Global,
+    before: &'a str,
+    sign: &'a str,
+    behind: &'a str,
+    a: &'a str,
+    b: &'a str,
+) -> Result<Content, Memory>
+    ensures { IfOk result (λ content.
+        content ≡ error_of_two before.now sign.now behind.now a.now b.now) }
+{
+    let text = sentence(alloc, &[before, sign, behind, a, "' and '", b, "'"])?;
+    Ok(Content::Raise {
+        class: TYPE_ERROR,
+        text,
+    })
+}
+
 /// A binary operator doesn't take these operands.
 pub fn binary_type_error(
     alloc: Global,
@@ -76,42 +113,17 @@ pub fn binary_type_error(
 ) -> Result<Content, Memory>
     ensures { IfOk result (λ content. content ≡ binary_type_error op heap.now a b) }
 {
-    let text = sentence(
-        alloc,
-        &[
-            "unsupported operand type(s) for ",
-            binary_sign(op),
-            ": '",
-            class_name(heap, a),
-            "' and '",
-            class_name(heap, b),
-            "'",
-        ],
-    )?;
-    Ok(Content::Raise {
-        class: TYPE_ERROR,
-        text,
-    })
+    let before = "unsupported operand type(s) for ";
+    let (a, b) = (class_name(heap, a), class_name(heap, b));
+    error_of_two(alloc, before, binary_sign(op), ": '", a, b)
 }
 
 /// A unary operator doesn't take this operand.
 pub fn unary_type_error(alloc: Global, op: UnOp, heap: &Heap, a: Value) -> Result<Content, Memory>
     ensures { IfOk result (λ content. content ≡ unary_type_error op heap.now a) }
 {
-    let text = sentence(
-        alloc,
-        &[
-            "bad operand type for unary ",
-            unary_sign(op),
-            ": '",
-            class_name(heap, a),
-            "'",
-        ],
-    )?;
-    Ok(Content::Raise {
-        class: TYPE_ERROR,
-        text,
-    })
+    let before = "bad operand type for unary ";
+    error_of_one(alloc, before, unary_sign(op), ": '", class_name(heap, a))
 }
 
 /// These operands have no order.
@@ -124,20 +136,7 @@ pub fn order_type_error(
 ) -> Result<Content, Memory>
     ensures { IfOk result (λ content. content ≡ order_type_error op heap.now a b) }
 {
-    let text = sentence(
-        alloc,
-        &[
-            "'",
-            comparison_sign(op),
-            "' not supported between instances of '",
-            class_name(heap, a),
-            "' and '",
-            class_name(heap, b),
-            "'",
-        ],
-    )?;
-    Ok(Content::Raise {
-        class: TYPE_ERROR,
-        text,
-    })
+    let behind = "' not supported between instances of '";
+    let (a, b) = (class_name(heap, a), class_name(heap, b));
+    error_of_two(alloc, "'", comparison_sign(op), behind, a, b)
 }

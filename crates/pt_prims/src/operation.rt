@@ -1,7 +1,7 @@
 ghost use Rattle.std.specs.Prelude.{◌≡◌, IfOk, OnOk, OnErr};
 ghost use Rattle.pt_heap.specs.Sound.{StaysSound};
-ghost use Rattle.pt_prims.specs.Prim.{content_of, grown, placed, prim_answer, prim_heap};
-ghost use Rattle.pt_prims.specs.Prim.{text_place, with_text};
+ghost use Rattle.pt_prims.specs.Operations.{content_of, grown, placed, prim_answer, prim_heap};
+ghost use Rattle.pt_prims.specs.Operations.{text_place, with_text};
 
 use crate::arithmetic::{binary_content, unary_content};
 use crate::comparison::{comparison_content, turned};
