@@ -8,8 +8,8 @@ import re
 
 BY_NAME = {"after", "none_left", "destination", "all", "otherwise"}
 WORD = re.compile(
-    r'\s*(?:("(?:[^"\\]|\\.)*")|([^\W\d][\w\']*(?:\.[\w][\w\']*)*)|(\d+)|(\+\+|==|&&|\|\||[∷≡→×λ⊎≤<(){}\[\],;=.:+\-*/%^])|(\S))')
-LEVELS = [("||",), ("&&",), ("==", "≡", "<", "≤", "⊎", "×"), ("∷", "++"), ("+", "-"), ("*", "/", "%"), ("^",)]
+    r'\s*(?:("(?:[^"\\]|\\.)*")|([^\W\d][\w\']*(?:\.[\w][\w\']*)*)|(\d+)|(\+\+|[+\-*]ℤ|==|&&|\|\||[∷≡→×λ⊎≤<(){}\[\],;=.:+\-*/%^])|(\S))')
+LEVELS = [("||",), ("&&",), ("==", "≡", "<", "≤", "⊎", "×"), ("∷", "++"), ("+", "-", "+ℤ", "-ℤ"), ("*", "/", "%", "*ℤ"), ("^",)]
 
 
 def words(text):
@@ -216,7 +216,7 @@ class Definitions:
 
     def __init__(self, crates, primitives):
         self.crates, self.modules, self.primitives = crates, {}, primitives
-        self.space = {"field": field, "wrong": wrong, "once": once}
+        self.space = {"field": field, "wrong": wrong, "once": once, "quotient": quotient}
         self.count = 0
 
     def file_of(self, path):
@@ -354,6 +354,10 @@ def once(f):
     return lambda: value
 
 
+def quotient(a, b):
+    return a // b if b else 0
+
+
 # how signs are written in Python, where it isn't as here; natural numbers have no difference below 0
 SIGNS = {
     "∷": "({a}, {b})",
@@ -361,8 +365,11 @@ SIGNS = {
     "&&": "({a} and {b})",
     "||": "({a} or {b})",
     "-": "max({a} - {b}, 0)",
-    "/": "({a} // {b})",
+    "/": "quotient({a}, {b})",
     "^": "({a} ** {b})",
+    "+ℤ": "integer(number({a}) + number({b}))",
+    "-ℤ": "integer(number({a}) - number({b}))",
+    "*ℤ": "integer(number({a}) * number({b}))",
 }
 
 
@@ -556,6 +563,7 @@ class Compiler:
             return self.saturated(lambda xs: "(" + ", ".join([repr(name)] + xs) + ("," if not xs else "") + ")", arity, arguments)
         if not callable(p):
             return p
+        name = name.replace("ℤ", "Z")
         self.all.space["std_" + name] = p
         arity = p.__code__.co_argcount
         return self.saturated(lambda xs: f"std_{name}({', '.join(xs)})", arity, arguments)
@@ -593,6 +601,15 @@ def slice_get(xs, n):
     return ("Some", xs[n]) if n < len(xs) else ("None",)
 
 
+def integer(n):
+    """An integer as `pos n` or `negsuc n`, which is -(n + 1)."""
+    return ("pos", n) if n >= 0 else ("negsuc", -n - 1)
+
+
+def number(z):
+    return z[1] if z[0] == "pos" else -z[1] - 1
+
+
 STD = {
     "true": "True", "false": "False", "zero": "0", "suc": lambda n: n + 1,
     "Some": "constructor", "None": "constructor", "pos": "constructor", "negsuc": "constructor", "inl": "constructor", "inr": "constructor",
@@ -614,7 +631,7 @@ STD = {
 }
 
 
-def load(crates):
-    all_ = Definitions(crates, STD)
-    all_.space["joined"] = joined
+def load(crates, words=STD):
+    all_ = Definitions(crates, words)
+    all_.space.update(joined=joined, integer=integer, number=number)
     return all_

@@ -1,0 +1,9 @@
+pub mod Operands
+pub mod Classes
+pub mod TypeErrors
+pub mod Arithmetic
+pub mod Comparisons
+pub mod Truths
+pub mod Printing
+pub mod Operations
+pub mod Laws
