@@ -8,6 +8,7 @@ pub mod Machine
 pub mod Destinations
 pub mod Needs
 pub mod BlockObject
+pub mod Stretches
 pub mod Traces
 pub mod Samples
 pub mod Laws
