@@ -22,17 +22,9 @@ use Rattle.pt_control.specs.Statements.{star_of}
 use Rattle.pt_slots.specs.Slots.{Slots, value, cell, iterator, on}
 use Rattle.pt_slots.specs.CodeObject.{CodeObject}
 use Rattle.pt_slots.specs.Pops.{giving}
+pub use Rattle.pt_slots.specs.Stretches.{◌⨾◌, here, act_mark, ins}
 use Rattle.pt_slots.specs.Steps.{asks, gives, does}
 use Rattle.pt_slots.specs.Instructions.{perform}
-
--- one stretch of code behind another
-infixr 30 ◌⨾◌
-abbrev pub ◌⨾◌ : (ℕ → ℕ → Type 0) → (ℕ → ℕ → Type 0) → ℕ → ℕ → Type 0
-◌⨾◌ a b from to = (mid : ℕ) × a from mid × b mid to
-
--- no code
-abbrev pub here : ℕ → ℕ → Type 0
-here from to = from ≡ to
 
 abbrev pub count : {A : Type 0} → List A → ℕ
 count [] = 0
@@ -50,12 +42,6 @@ cells_above (v ∷ vs) ss = cell v ∷ cells_above vs ss
 abbrev pub iterators_above : {V : Type 0} → List V → Slots V → Slots V
 iterators_above [] ss = ss
 iterators_above (v ∷ vs) ss = iterator v ∷ iterators_above vs ss
-
-abbrev pub act_mark : (pc n l : ℕ) → Bool → Option ActMark
-act_mark pc n l g = Some (record { pc = record { 0 = pc }; act = record { 0 = n }; line = record { 0 = l }; again = g })
-
-abbrev pub ins : Instr → Option ActMark → (next : ℕ) → List Handler → Ins
-ins j m next rows = record { instr = j; mark = m; next = next; rows = rows }
 
 module _ {V : Type 0} (block : Around V) (code : CodeObject V) (rows : List Handler) where
   -- an instruction stands from a place to the next, with an act or without one

@@ -7,6 +7,8 @@ pub mod Instructions
 pub mod Machine
 pub mod Destinations
 pub mod Needs
+pub mod BlockObject
+pub mod Stretches
 pub mod Traces
 pub mod Samples
 pub mod Laws

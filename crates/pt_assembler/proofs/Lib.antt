@@ -1,0 +1,9 @@
+pub mod TableLemmas
+pub mod Shown
+pub mod Growth
+pub mod Named
+pub mod Standing
+pub mod FoundLemmas
+pub mod ListLemmas
+pub mod FitLemmas
+pub mod ImageLemmas

@@ -1,0 +1,5 @@
+pub mod Tables
+pub mod Piece
+pub mod PieceAt
+pub mod Layout
+pub mod Laws
