@@ -2,12 +2,13 @@
 //! keep theirs with nothing moved; holes are dropped all at once when they are more than the
 //! entries.
 
-ghost use Rattle.std.specs.Prelude.{◌≡◌, ◌+◌, ◌<◌, ◌≤◌, ◌++◌, ◌↔◌, [], ◌∷◌, Some, None, IsSome, IsTrue, OnOk, OnErr, filter, is_some, length, slice_get, take, IfOk};
+ghost use Rattle.std.specs.Prelude.{◌≡◌, ◌+◌, ◌<◌, ◌≤◌, ◌++◌, ◌↔◌, [], ◌∷◌, Some, None, IsSome, IsTrue, OnOk, OnErr, filter, is_some, length, slice_get, take, IfOk, ◌^◌};
+ghost use Rattle.std.specs.Option.{option_map};
 ghost use Rattle.std.specs.Str.{bytes_eq};
 ghost use Rattle.std.specs.Map.{set_value};
 ghost use Rattle.indexmap.specs.IndexMap.{get, IsUnique};
 ghost use Rattle.pt_heap.specs.Entries.{found};
-ghost use Rattle.pt_heap.specs.Holes.{entries_of, entry_of, entry_at, entry_in, joined, has_item, AreHoles};
+ghost use Rattle.pt_heap.specs.Holes.{entries_from, entries_of, entry_of, entry_at, entry_in, joined, has_item, with_entry, AreHoles};
 
 use crate::{Key, Seed, Value};
 use indexmap::IndexMap;
@@ -57,6 +58,16 @@ pub fn drop_holes(items: &mut Items)
     );
 }
 
+/// The key and the item of a place that has one.
+pub fn entry(items: &Items, place: usize) -> Option<(&Key, Item)>
+    ensures { entry_at items.now.entries place ≡ option_map (λ e. entry_of e.0.now e.1) result }
+{
+    match items.get_index(place) {
+        Some((key, Some(item))) => Some((key, *item)),
+        _ => None,
+    }
+}
+
 /// Whether the place has no item.
 pub fn is_hole(items: &Items, at: usize) -> bool
     ensures { IsTrue result ↔ (entry_at items.now.entries at ≡ None) }
@@ -71,6 +82,20 @@ pub fn is_hole(items: &Items, at: usize) -> bool
 pub fn past_holes(items: &Items, from: usize) -> usize
     requires { AreHoles from items.now.entries }
     ensures { AreHoles result items.now.entries }
+{
+    for at in from..items.len() {
+        if !is_hole(items, at) {
+            return at;
+        }
+    }
+    items.len()
+}
+
+/// The first place from one on that is no hole, or one past the end.
+pub fn next_place(items: &Items, from: usize) -> usize
+    ensures same { entries_from result items.now.entries ≡ entries_from from items.now.entries }
+    ensures first { entry_at items.now.entries result ≡ slice_get (entries_from from items.now.entries) 0 }
+    ensures fits { result < 2 ^ 63 }
 {
     for at in from..items.len() {
         if !is_hole(items, at) {
@@ -219,7 +244,7 @@ pub fn push(
     requires new { found key (entries_of items.old.entries) ≡ None }
     requires holes { AreHoles start.old items.old.entries }
     requires unique { IsUnique bytes_eq items.old }
-    ensures ok { OnOk result (entries_of items.new.entries ≡ entries_of items.old.entries ++ entry_of key item ∷ []) }
+    ensures ok { OnOk result (entries_of items.new.entries ≡ with_entry items.old.entries key item) }
     ensures err { OnErr result (entries_of items.new.entries ≡ entries_of items.old.entries) }
     ensures holes { AreHoles start.new items.new.entries }
     ensures unique { IsUnique bytes_eq items.new }
