@@ -1,23 +1,21 @@
 -- Names that are given and taken leave a sound heap sound.
-use Rattle.std.proofs.Common.{◌≡◌, ◌∙◌, ◌+◌, ◌<◌, ◌≤◌, ◌⊎◌, inl, inr, ℕ, zero, suc, Bool, true, false, not, ◌&&◌, ◌==◌, List, [], ◌∷◌, ◌++◌, Option, None, Some, IsSome, Contains, length, take, set, slice_get, refl, sym, ap, subst, arith, true≢false, nat_lt, slice_index_or, Result, Ok, Err, eqb-eq, if◌then◌else◌}
+use Rattle.std.proofs.Common.{◌≡◌, ◌∙◌, ◌<◌, ◌≤◌, ◌⊎◌, inl, inr, ℕ, zero, suc, Bool, true, false, not, ◌&&◌, ◌==◌, List, [], ◌∷◌, ◌++◌, Option, None, Some, Contains, length, take, set, slice_get, refl, sym, ap, subst, arith, true≢false, nat_lt, slice_index_or, OnOk, OnErr, Result, Ok, Err, eqb-true, if◌then◌else◌}
 use Rattle.std.specs.Str.{bytes_eq}
 use Rattle.std.proofs.lemmas.List.Elements.{Contains-append_left, Contains-append_right, Contains-append_cases}
 use Rattle.std.proofs.lemmas.Bool.{ltb-true, ltb-false}
 use Rattle.pt_base.specs.declared.numbers.ObjId.{ObjId}
-use Rattle.pt_base.specs.declared.failure.Failure.{Failure}
-use Rattle.pt_base.specs.declared.failure.Failure.TheVariants.{Refused, Memory}
+use Rattle.pt_base.specs.declared.memory.Memory.{Memory as OutOfMemory}
 use Rattle.pt_heap.specs.declared.value.Value.{Value}
 use Rattle.pt_heap.specs.declared.value.Value.TheVariants as value
 use Rattle.pt_heap.specs.declared.object.Object.{Object}
 use Rattle.pt_heap.specs.declared.object.Object.TheVariants as object
 use Rattle.pt_heap.specs.declared.object.Class.{Class as ClassObject}
 use Rattle.pt_heap.specs.Entries.{Entry, found, put, without}
-use Rattle.pt_heap.specs.Sound.{place_of, place_in, places_in, entry_places, places_of, IsClassAt, IsBase, HasClasses, Fits, IsSound, IsWithin}
+use Rattle.pt_heap.specs.Sound.{place_of, place_in, places_in, entry_places, places_of, IsClassAt, HasClasses, Fits, IsSound, IsWithin}
 use Rattle.pt_heap.proofs.SoundLemmas.{sound-set}
 use Rattle.pt_start.specs.Start.{start_objects}
 use Rattle.pt_dicts.specs.Chain.{class_in}
-use Rattle.pt_attrs.specs.Store.{held, is_scripted, names_in, with_names, stored, stored_at, stored_in, deleted, deleted_at, deleted_in, without_name, Changes}
-use Rattle.pt_attrs.specs.declared.look.NoAttr.{NoAttr}
+use Rattle.pt_attrs.specs.Store.{held, is_scripted, names_in, with_names, stored, stored_at, stored_in, deleted, deleted_at, deleted_in, without_name, StaysSound, TakesAt}
 use Rattle.pt_attrs.proofs.StoreLemmas.{held-names}
 
 -- the places in the names after one was given
@@ -31,18 +29,18 @@ put-places k v (e ∷ es) p c = by (bytes_eq k e.key) c (put-places k v es p)
     by true c rest =
         elim (Contains-append_cases (place_of e.first ++ place_of v) (entry_places es) p c) [
           | inl h ↦ elim (Contains-append_cases (place_of e.first) (place_of v) p h) [
-              | inl i ↦ inl (Contains-append_left (place_of e.first ++ place_of e.value) (entry_places es) p (Contains-append_left (place_of e.first) (place_of e.value) p i))
-              | inr i ↦ inr i
-            ]
+            | inl i ↦ inl (Contains-append_left (place_of e.first ++ place_of e.value) (entry_places es) p (Contains-append_left (place_of e.first) (place_of e.value) p i))
+            | inr i ↦ inr i
+          ]
           | inr h ↦ inl (Contains-append_right (place_of e.first ++ place_of e.value) (entry_places es) p h)
         ]
     by false c rest =
         elim (Contains-append_cases (place_of e.first ++ place_of e.value) (entry_places (put k value.None v es)) p c) [
           | inl h ↦ inl (Contains-append_left (place_of e.first ++ place_of e.value) (entry_places es) p h)
           | inr h ↦ elim (rest h) [
-              | inl i ↦ inl (Contains-append_right (place_of e.first ++ place_of e.value) (entry_places es) p i)
-              | inr i ↦ inr i
-            ]
+            | inl i ↦ inl (Contains-append_right (place_of e.first ++ place_of e.value) (entry_places es) p i)
+            | inr i ↦ inr i
+          ]
         ]
 
 -- and after one was taken
@@ -149,7 +147,7 @@ object-unscripted h begins = ap (λ o. is_scripted (class_in o)) (get-take (leng
 bare-holds : (h : List Object) (o : Object) → Begins h → is_bare o ≡ true → held h o ≡ None
 bare-holds h (object.Class c) begins b = bare-class c.scripted c.names b
 bare-holds h (object.Instance x) begins b =
-    let zeroth : x.class.0 ≡ 0 = (eqb-eq x.class.0 0 b) in
+    let zeroth : x.class.0 ≡ 0 = (eqb-true x.class.0 0 b) in
     ap (λ s. if s then Some x.names else None) (ap (λ p. is_scripted (class_in (slice_get h p))) zeroth ∙ object-unscripted h begins)
 bare-holds h (object.Error x) begins b = absurd (true≢false (sym b))
 bare-holds h _ begins b = refl
@@ -194,6 +192,7 @@ stored-sound h (value.Obj id) key v new is s w = by (slice_get h id.0) refl is
     inside o at (Some ns) e k =
         let same : set h id.0 (with_names o (put key value.None v ns)) ≡ new = cc in
         subst (IsSound start_objects) same (sound-with h id.0 o ns (put key value.None v ns) at e (λ p c. elim (put-places key v ns p c) [ inl m ↦ names-within h id.0 o ns at e s p m | inr m ↦ value-within h v w p m ]) s)
+
     by : (o : Option Object) → slice_get h id.0 ≡ o → stored_at h id.0 key v o ≡ Some new → IsSound start_objects new
     by None e k = absurd cc
     by (Some o) e k = inside o e (held h o) refl k
@@ -207,16 +206,21 @@ deleted-sound h (value.Obj id) key new is s = by (slice_get h id.0) refl is
     taken o at ns e (Some f) k =
         let same : set h id.0 (with_names o (without key ns)) ≡ new = cc in
         subst (IsSound start_objects) same (sound-with h id.0 o ns (without key ns) at e (λ p c. names-within h id.0 o ns at e s p (without-places key ns p c)) s)
+
     inside : (o : Object) → slice_get h id.0 ≡ Some o → (n : Option (List Entry)) → held h o ≡ n → deleted_in h id.0 key o n ≡ Some new → IsSound start_objects new
     inside o at None e k = absurd cc
     inside o at (Some ns) e k = taken o at ns e (found key ns) k
+
     by : (o : Option Object) → slice_get h id.0 ≡ o → deleted_at h id.0 key o ≡ Some new → IsSound start_objects new
     by None e k = absurd cc
     by (Some o) e k = inside o e (held h o) refl k
 deleted-sound h _ key new is s = absurd cc
 
--- what is changed as a definition says
-pub changed-sound : (old new : List Object) (r : Result (Unit {0}) (Failure NoAttr)) (wanted : Option (List Object)) → Changes old new r wanted → (wanted ≡ Some new → IsSound start_objects new) → IsSound start_objects old → IsSound start_objects new
-changed-sound old new (Ok u) wanted c some s = some c
-changed-sound old new (Err Memory) wanted c some s = subst (IsSound start_objects) (sym c) s
-changed-sound old new (Err (Refused e)) wanted c some s = subst (IsSound start_objects) (sym c.1) s
+-- what is changed as the definitions say
+pub put-sound : (h : List Object) (to : Value) (key : List ℕ) (v : Value) (new : List Object) (r : Result (Unit {0}) OutOfMemory) → OnOk r (stored h to key v ≡ Some new) → OnErr r (new ≡ h) → IsWithin h v → StaysSound h new
+put-sound h to key v new (Ok u) ok err w s = stored-sound h to key v new ok s w
+put-sound h to key v new (Err e) ok err w s = subst (IsSound start_objects) (sym err) s
+
+pub take-sound : (h : List Object) (id : ObjId) (key : List ℕ) (new : List Object) (had : Bool) → TakesAt h new id key had → StaysSound h new
+take-sound h id key new true t s = deleted-sound h (value.Obj id) key new t s
+take-sound h id key new false t s = subst (IsSound start_objects) (sym t.1) s

@@ -4,8 +4,8 @@ use Rattle.std.specs.List.{filter, AllByRecursion}
 use Rattle.pt_heap.specs.Entries.{Entry, found}
 use Rattle.pt_heap.specs.declared.dict.DictErr.{DictErr}
 use Rattle.pt_heap.specs.declared.dict.DictErr.TheVariants.{Length, Memory}
-use Rattle.pt_dicts.specs.declared.combine.Choice.{Choice}
-use Rattle.pt_dicts.specs.declared.combine.Choice.TheVariants.{All, Common, Missing}
+use Rattle.pt_dicts.specs.declared.sets.Choice.{Choice}
+use Rattle.pt_dicts.specs.declared.sets.Choice.TheVariants.{All, Common, Missing}
 use Rattle.pt_dicts.specs.Combine.{has}
 
 -- whether an item is taken that another set has or lacks

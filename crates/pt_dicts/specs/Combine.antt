@@ -1,5 +1,5 @@
 -- Operations on two sets (Library Reference, "Set Types"; Language Reference 6.7, 6.9). A set is the list of its entries.
-use Rattle.std.specs.Prelude.{◌≡◌, ℕ, Bool, true, false, not, nat_lt, List, [], ◌++◌, Option, None, Some, is_some, Result, Ok, Err, length, if◌then◌else◌}
+use Rattle.std.specs.Prelude.{◌≡◌, Bool, true, false, not, nat_lt, List, [], ◌++◌, is_some, Result, Ok, Err, length, if◌then◌else◌}
 use Rattle.std.specs.List.{filter}
 use Rattle.pt_base.specs.declared.operators.BinOp.{BinOp}
 use Rattle.pt_base.specs.declared.operators.BinOp.TheVariants.{Sub, BitAnd, BitOr, BitXor}

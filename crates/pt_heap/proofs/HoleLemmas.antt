@@ -1,5 +1,5 @@
 -- Entries, and places of which some are holes.
-use Rattle.std.proofs.Common.{◌≡◌, ◌+◌, ◌-◌, ◌<◌, ◌≤◌, ℕ, zero, suc, Bool, true, false, not, cond, List, [], ◌∷◌, ◌++◌, length, take, drop, set, filter, map, Option, None, Some, slice_get, refl, sym, ap, ◌∙◌, subst, arith, add-one, if◌then◌else◌, length-append, ◌≢◌, get_or, lt-ltb, is_some, true≢false, rules}
+use Rattle.std.proofs.Common.{◌≡◌, ◌+◌, ◌-◌, ◌<◌, ◌≤◌, ℕ, zero, suc, Bool, true, false, not, cond, List, [], ◌∷◌, ◌++◌, length, take, drop, set, filter, map, Option, None, Some, slice_get, refl, sym, ap, ◌∙◌, subst, arith, add-one, length-append, ◌≢◌, get_or, lt-ltb, is_some, true≢false, rules}
 use Rattle.std.specs.Str.{bytes_eq}
 use Rattle.std.specs.Map.{lookup, set_value, keys_of}
 use Rattle.std.specs.List.{IsDistinct, AllByRecursion, position, position_or_len}
@@ -15,7 +15,7 @@ use Rattle.std.proofs.lemmas.Slice.Eq.{bytes_eq-Decides}
 use Rattle.pt_heap.specs.declared.items.Item.{Item}
 use Rattle.pt_heap.specs.declared.value.Value.{Value}
 use Rattle.pt_heap.specs.Entries.{Entry, found, put, without, HaveDistinctKeys}
-use Rattle.pt_heap.specs.Holes.{entries_of, entry_of, entry_in, entry_at, joined, has_item, AreHoles}
+use Rattle.pt_heap.specs.Holes.{entries_of, entry_of, entry_at, joined, has_item, AreHoles}
 
 -- the value of an item
 abbrev pub value_in : Option Item → Option Value

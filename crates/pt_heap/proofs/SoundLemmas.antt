@@ -1,7 +1,6 @@
 -- What a heap keeps as objects are added, replaced and taken off.
-use Rattle.std.proofs.Common.{◌≡◌, ◌+◌, ◌<◌, ◌≤◌, ◌⊎◌, inl, inr, ℕ, zero, suc, List, [], ◌∷◌, ◌++◌, length, take, set, Option, None, Some, slice_get, Contains, refl, sym, ap, ◌∙◌, subst, arith}
+use Rattle.std.proofs.Common.{◌≡◌, ◌<◌, ◌≤◌, ◌⊎◌, inl, inr, ℕ, zero, suc, List, [], ◌∷◌, ◌++◌, length, take, set, Option, None, Some, slice_get, Contains, refl, sym, ap, ◌∙◌, subst, arith}
 use Rattle.std.proofs.lemmas.List.{take-append-le, length-append, length-take, length-set}
-use Rattle.std.proofs.lemmas.Option.{slice_get_within}
 use Rattle.pt_heap.specs.declared.object.Object.{Object}
 use Rattle.pt_heap.specs.declared.object.Object.TheVariants.{Str, List as ListOf, Tuple, Dict, Set, Range, Slice, Cursor, View, Function, Method, Builtin, Class, Instance, Error, Generator, Frame, CodeRef, Module, Super}
 use Rattle.pt_heap.specs.declared.object.Class.{Class as ClassObject}

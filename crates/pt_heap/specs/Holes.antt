@@ -20,9 +20,13 @@ entries_of ((k, Some item) ∷ es) = entry_of k item ∷ entries_of es
 abbrev pub entries_from : ℕ → List (List ℕ × Option Item) → List Entry
 entries_from n es = entries_of (drop n es)
 
+-- the first of them
+abbrev pub first_from : ℕ → List (List ℕ × Option Item) → Option Entry
+first_from n es = slice_get (entries_from n es) 0
+
 -- with one more behind them
-abbrev pub with_entry : List (List ℕ × Option Item) → List ℕ → Item → List Entry
-with_entry es k item = entries_of es ++ entry_of k item ∷ []
+abbrev pub one_more : List (List ℕ × Option Item) → List ℕ → Item → List Entry
+one_more es k item = entries_of es ++ entry_of k item ∷ []
 
 -- the item of a place that there may be
 abbrev pub joined : Option (Option Item) → Option Item

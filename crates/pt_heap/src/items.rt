@@ -1,6 +1,6 @@
 //! How a dictionary is kept. A key that is taken out leaves a hole at its place, so that the others
-//! keep theirs with nothing moved; holes are dropped all at once when they are more than the
-//! entries.
+//! keep theirs with nothing moved; holes are dropped all at once when they are more than three
+//! times the entries.
 
 ghost use Rattle.std.specs.Prelude.{◌≡◌, ◌+◌, ◌<◌, ◌≤◌, ◌++◌, ◌↔◌, [], ◌∷◌, Some, None, IsSome, IsTrue, OnOk, OnErr, filter, is_some, length, slice_get, take, IfOk, ◌^◌};
 ghost use Rattle.std.specs.Option.{option_map};
@@ -8,7 +8,7 @@ ghost use Rattle.std.specs.Str.{bytes_eq};
 ghost use Rattle.std.specs.Map.{set_value};
 ghost use Rattle.indexmap.specs.IndexMap.{get, IsUnique};
 ghost use Rattle.pt_heap.specs.Entries.{found};
-ghost use Rattle.pt_heap.specs.Holes.{entries_from, entries_of, entry_of, entry_at, entry_in, joined, has_item, with_entry, AreHoles};
+ghost use Rattle.pt_heap.specs.Holes.{entries_from, entries_of, entry_of, entry_at, entry_in, joined, first_from, has_item, one_more, AreHoles};
 
 use crate::{Key, Seed, Value};
 use indexmap::IndexMap;
@@ -94,7 +94,7 @@ pub fn past_holes(items: &Items, from: usize) -> usize
 /// The first place from one on that is no hole, or one past the end.
 pub fn next_place(items: &Items, from: usize) -> usize
     ensures same { entries_from result items.now.entries ≡ entries_from from items.now.entries }
-    ensures first { entry_at items.now.entries result ≡ slice_get (entries_from from items.now.entries) 0 }
+    ensures first { entry_at items.now.entries result ≡ first_from from items.now.entries }
     ensures fits { result < 2 ^ 63 }
 {
     for at in from..items.len() {
@@ -174,15 +174,15 @@ pub fn make_new(
     vacate(items, key, filler)
 }
 
-/// Drops the holes where they are more than the entries. Else it passes those at the start over,
-/// and answers how many these are.
+/// Drops the holes where they are more than three times the entries. Else it passes those at the
+/// start over, and answers how many these are.
 pub fn settle(items: &mut Items, start: usize, count: usize) -> usize
     requires { AreHoles start items.old.entries }
     ensures entries { entries_of items.new.entries ≡ entries_of items.old.entries }
     ensures holes { AreHoles result items.new.entries }
     ensures unique { IsUnique bytes_eq items.old → IsUnique bytes_eq items.new }
 {
-    if items.len() / 2 > count {
+    if items.len() / 4 > count {
         drop_holes(items);
         return 0;
     }
@@ -244,7 +244,7 @@ pub fn push(
     requires new { found key (entries_of items.old.entries) ≡ None }
     requires holes { AreHoles start.old items.old.entries }
     requires unique { IsUnique bytes_eq items.old }
-    ensures ok { OnOk result (entries_of items.new.entries ≡ with_entry items.old.entries key item) }
+    ensures ok { OnOk result (entries_of items.new.entries ≡ one_more items.old.entries key item) }
     ensures err { OnErr result (entries_of items.new.entries ≡ entries_of items.old.entries) }
     ensures holes { AreHoles start.new items.new.entries }
     ensures unique { IsUnique bytes_eq items.new }

@@ -1,9 +1,10 @@
-ghost use Rattle.std.specs.Prelude.{◌≡◌, ◌++◌, ◌≤◌, [], length, IsTrue};
+ghost use Rattle.std.specs.Prelude.{◌≡◌, ◌++◌, ◌∷◌, ◌≤◌, [], None, is_some, length, IsTrue};
+ghost use Rattle.pt_heap.specs.Entries.{entry, found};
 ghost use Rattle.pt_dicts.specs.Adding.{chosen, is_chosen, Adds, AreNew};
 ghost use Rattle.pt_dicts.specs.Combine.{combined, difference, is_set_operator, limited, Answers};
 
 use pt_base::{BinOp, Dup};
-use pt_heap::{Dict, DictErr};
+use pt_heap::{Dict, DictErr, Key, Value};
 use std::alloc::Global;
 
 /// Which items of a set are taken, beside another set.
@@ -16,14 +17,34 @@ enum Choice {
     Missing,
 }
 
-/// Whether an item is taken that the other set has or lacks.
-fn is_chosen(choice: Choice, there: bool) -> bool
-    ensures { result ≡ is_chosen choice there }
+/// Whether the item with a key is taken.
+fn is_chosen(choice: Choice, other: &Dict, key: &Key) -> bool
+    ensures { result ≡ is_chosen choice (is_some (found key.now other.now)) }
 {
+    let there = other.get(key).is_some();
     match choice {
         Choice::All => true,
         Choice::Common => there,
         Choice::Missing => !there,
+    }
+}
+
+/// Puts a new item behind others.
+fn add_item(
+    alloc: Global,
+    to: &mut Dict,
+    key: &Key,
+    first: Value,
+    value: Value,
+) -> Result<(), DictErr>
+    requires new { found key.now to.old ≡ None }
+    requires room { length to.old ≤ 4194304 }
+    ensures { Adds to.new result (limited (to.old ++ entry key.now first value ∷ [])) }
+{
+    let key = key.dup(alloc)?;
+    match to.insert(key, first, value) {
+        Ok(_) => Ok(()),
+        Err(error) => Err(error),
     }
 }
 
@@ -41,9 +62,8 @@ fn add_chosen(
 {
     let mut left = from.entries();
     while let Some(entry) = left.next() {
-        if is_chosen(choice, other.get(entry.key).is_some()) {
-            let key = entry.key.dup(alloc)?;
-            to.insert(key, entry.first, entry.value)?;
+        if is_chosen(choice, other, entry.key) {
+            add_item(alloc, to, entry.key, entry.first, entry.value)?;
         }
     }
     Ok(())
@@ -51,13 +71,7 @@ fn add_chosen(
 
 /// Puts the chosen items of one set into an empty one, and behind them those that the other has
 /// alone.
-fn add_both(
-    alloc: Global,
-    to: &mut Dict,
-    choice: Choice,
-    a: &Dict,
-    b: &Dict,
-) -> Result<(), DictErr>
+fn add_both(alloc: Global, to: &mut Dict, choice: Choice, a: &Dict, b: &Dict) -> Result<(), DictErr>
     requires { to.old ≡ [] }
     ensures { Adds to.new result (limited (chosen choice b.now a.now ++ difference b.now a.now)) }
 {
@@ -66,13 +80,7 @@ fn add_both(
 }
 
 /// Puts what an operation on two sets gives into an empty one.
-fn add_combined(
-    alloc: Global,
-    to: &mut Dict,
-    op: BinOp,
-    a: &Dict,
-    b: &Dict,
-) -> Result<(), DictErr>
+fn add_combined(alloc: Global, to: &mut Dict, op: BinOp, a: &Dict, b: &Dict) -> Result<(), DictErr>
     requires empty { to.old ≡ [] }
     requires operator { IsTrue (is_set_operator op) }
     ensures { Adds to.new result (limited (combined op a.now b.now)) }
