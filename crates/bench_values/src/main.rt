@@ -51,8 +51,8 @@ fn key(alloc: Global, number: u32) -> Result<Key, Memory> {
     Ok(Key::new(Seq::from_slice(alloc, number.to_le_bytes().as_slice())?))
 }
 
-/// Puts so many entries into a dictionary, asks for each, and takes each out.
-fn entries(alloc: Global, count: u32) -> Result<bool, Memory> {
+/// A dictionary of so many entries.
+fn filled(alloc: Global, count: u32) -> Result<Dict, Memory> {
     let mut dict = Dict::new(alloc, Seed::of(b"entries"));
     for number in 0..count {
         let key = key(alloc, number)?;
@@ -60,12 +60,29 @@ fn entries(alloc: Global, count: u32) -> Result<bool, Memory> {
             return Err(Memory);
         }
     }
+    Ok(dict)
+}
+
+/// Puts so many entries into a dictionary.
+fn insert(alloc: Global, count: u32) -> Result<bool, Memory> {
+    Ok(filled(alloc, count)?.len() == count)
+}
+
+/// Puts so many in, and asks for each.
+fn get(alloc: Global, count: u32) -> Result<bool, Memory> {
+    let dict = filled(alloc, count)?;
     for number in 0..count {
         let key = key(alloc, number)?;
         if dict.get(&key).is_none() {
             return Ok(false);
         }
     }
+    Ok(true)
+}
+
+/// Puts so many in, and takes each out, the first first.
+fn remove(alloc: Global, count: u32) -> Result<bool, Memory> {
+    let mut dict = filled(alloc, count)?;
     for number in 0..count {
         let key = key(alloc, number)?;
         if dict.remove(&key).is_none() {
@@ -76,7 +93,7 @@ fn entries(alloc: Global, count: u32) -> Result<bool, Memory> {
 }
 
 /// Puts so many objects into a heap.
-fn objects(alloc: Global, count: u32) -> Result<bool, Memory> {
+fn add(alloc: Global, count: u32) -> Result<bool, Memory> {
     let mut heap = Heap::new(alloc, Seed::of(b"objects"));
     for number in 0..count {
         if heap.add(Object::Generator(number)).is_err() {
@@ -93,7 +110,7 @@ fn number(word: Option<String>) -> u32 {
     }
 }
 
-/// The words are what is timed and its size: `find`, `replace`, `entries` or `objects`.
+/// The words are what is timed and its size: `find`, `replace`, `insert`, `get`, `remove` or `add`.
 fn main(rt: HostRuntime) -> ExitCode {
     let Ok(mut args) = env::args(&rt) else {
         return ExitCode::from(1);
@@ -106,8 +123,10 @@ fn main(rt: HostRuntime) -> ExitCode {
     let done = match command.as_str() {
         "find" => search(rt.alloc(), size),
         "replace" => substitute(rt.alloc(), size),
-        "entries" => entries(rt.alloc(), size),
-        _ => objects(rt.alloc(), size),
+        "insert" => insert(rt.alloc(), size),
+        "get" => get(rt.alloc(), size),
+        "remove" => remove(rt.alloc(), size),
+        _ => add(rt.alloc(), size),
     };
     match done {
         Ok(true) => ExitCode::from(0),

@@ -14,7 +14,7 @@ one-of : (b : Bool) (ns ms : List Entry) → (if b then Some ns else None) ≡ S
 one-of true ns ms e = cc
 one-of false ns ms e = absurd cc
 
-held-names : (h : List Object) (o : Object) (ns : List Entry) → held h o ≡ Some ns → ns ≡ names_in o
+pub held-names : (h : List Object) (o : Object) (ns : List Entry) → held h o ≡ Some ns → ns ≡ names_in o
 held-names h (object.Class c) ns e = one-of c.scripted c.names ns e
 held-names h (object.Instance x) ns e = one-of (is_scripted (class_in (slice_get h x.class.0))) x.names ns e
 held-names h (object.Error x) ns e = one-of (is_scripted (class_in (slice_get h x.class.0))) x.names ns e

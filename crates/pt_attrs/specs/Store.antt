@@ -9,7 +9,10 @@ use Rattle.pt_heap.specs.declared.object.Object.{Object}
 use Rattle.pt_heap.specs.declared.object.Object.TheVariants as object
 use Rattle.pt_heap.specs.declared.object.Class.{Class as ClassObject}
 use Rattle.pt_heap.specs.Entries.{Entry, found, put, without}
+use Rattle.pt_heap.specs.Sound.{IsSound}
+use Rattle.pt_start.specs.Start.{start_objects}
 use Rattle.pt_dicts.specs.Chain.{class_in}
+use Rattle.pt_dicts.specs.Keys.{name_codes}
 use Rattle.pt_attrs.specs.declared.look.NoAttr.{NoAttr}
 
 abbrev pub is_scripted : Option ClassObject → Bool
@@ -30,6 +33,17 @@ with_names (object.Instance x) names = object.Instance (record x { names = names
 with_names (object.Error x) names = object.Error (record x { names = names })
 with_names o names = o
 
+-- the names in an object, whether or not it holds some for scripts
+abbrev pub names_in : Object → List Entry
+names_in (object.Class c) = c.names
+names_in (object.Instance x) = x.names
+names_in (object.Error x) = x.names
+names_in o = []
+
+-- with a name given a value
+abbrev pub with_name : Object → (key : List ℕ) → Value → Object
+with_name o key v = with_names o (put key value.None v (names_in o))
+
 -- an object stands there and holds names
 abbrev pub Holds : List Object → Option Object → Type 0
 Holds h None = ⊥
@@ -48,13 +62,6 @@ abbrev pub stored : List Object → (to : Value) → (key : List ℕ) → Value 
 stored h (value.Obj id) key v = stored_at h id.0 key v (slice_get h id.0)
 stored h _ key v = None
 
--- the names in an object, whether or not it holds some for scripts
-abbrev pub names_in : Object → List Entry
-names_in (object.Class c) = c.names
-names_in (object.Instance x) = x.names
-names_in (object.Error x) = x.names
-names_in o = []
-
 abbrev pub without_name : List Object → (place : ℕ) → (key : List ℕ) → Object → (names : List Entry) → Option Value → Option (List Object)
 without_name h p key o names None = None
 without_name h p key o names (Some v) = Some (slice_set h p (with_names o (without key names)))
@@ -72,11 +79,22 @@ abbrev pub deleted : List Object → (from : Value) → (key : List ℕ) → Opt
 deleted h (value.Obj id) key = deleted_at h id.0 key (slice_get h id.0)
 deleted h _ key = None
 
+-- the same by the name
+abbrev pub assigned : List Object → (to : Value) → (name : List ℕ) → Value → Option (List Object)
+assigned h to name v = stored h to (name_codes name) v
+
+abbrev pub unassigned : List Object → (from : Value) → (name : List ℕ) → Option (List Object)
+unassigned h from name = deleted h from (name_codes name)
+
 -- the heap is this, unless memory ran out; else it is as before
 abbrev pub Changes : (old new : List Object) → Result (Unit {0}) (Failure NoAttr) → Option (List Object) → Type 0
 Changes old new (Ok u) wanted = wanted ≡ Some new
 Changes old new (Err Memory) wanted = new ≡ old
 Changes old new (Err (Refused e)) wanted = (wanted ≡ None) × (new ≡ old)
+
+-- a heap that is sound over what each run starts with stays so
+abbrev pub StaysSound : (old new : List Object) → Type 0
+StaysSound old new = IsSound start_objects old → IsSound start_objects new
 
 -- the heap without the name, or as before
 abbrev pub TakesAt : (old new : List Object) → ObjId → (key : List ℕ) → Bool → Type 0

@@ -109,9 +109,9 @@ fn value_found(heap: &Heap, key: &Key, value: Value) -> Option<Found>
     }
 }
 
-/// What a name means on a value (Language Reference 6.3.1): a name that the value holds, else one of
-/// its class and the bases of that, of which a function is bound; on what `super` gives, a name of
-/// the bases. Names that a run does not have come first.
+/// What a name means on a value (Language Reference 6.3.1): a name that the value holds, else one
+/// of its class and the bases of that, of which a function is bound; on what `super` gives, a name
+/// of the bases. Names that a run does not have come first.
 pub fn lookup(
     alloc: Global,
     heap: &Heap,

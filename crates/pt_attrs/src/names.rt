@@ -3,7 +3,8 @@ ghost use Rattle.pt_heap.specs.Entries.{found, put, without};
 ghost use Rattle.pt_heap.specs.declared.value.Value.TheVariants as values;
 ghost use Rattle.pt_dicts.specs.Chain.{class_in};
 ghost use Rattle.pt_dicts.specs.Keys.{name_codes};
-ghost use Rattle.pt_attrs.specs.Store.{deleted, held, is_scripted, names_in, stored, with_names, Changes, Holds, TakesAt};
+ghost use Rattle.pt_attrs.specs.Store.{assigned, deleted, held, is_scripted, names_in, stored, unassigned, with_name, with_names, Changes, Holds, StaysSound, TakesAt};
+ghost use Rattle.pt_heap.specs.Sound.{IsWithin};
 
 use crate::NoAttr;
 use pt_base::{Failure, Memory, ObjId};
@@ -49,7 +50,7 @@ fn put(names: &mut Dict, key: Key, value: Value) -> Result<(), Memory>
 
 /// Gives a name of an object a value.
 fn put_in(object: &mut Object, key: Key, value: Value) -> Result<(), Memory>
-    ensures ok { OnOk result (object.new ≡ with_names object.old (put key values.None value (names_in object.old))) }
+    ensures ok { OnOk result (object.new ≡ with_name object.old key value) }
     ensures err { OnErr result (object.new ≡ object.old) }
 {
     match object {
@@ -78,6 +79,7 @@ fn put_at(heap: &mut Heap, id: ObjId, key: Key, value: Value) -> Result<(), Memo
     requires { Holds heap.old (slice_get heap.old id.0) }
     ensures ok { OnOk result (stored heap.old (values.Obj id) key value ≡ Some heap.new) }
     ensures err { OnErr result (heap.new ≡ heap.old) }
+    ensures sound { IsWithin heap.old value → StaysSound heap.old heap.new }
 {
     let mut object = heap.set(id, ABSENT);
     let result = put_in(&mut object, key, value);
@@ -88,7 +90,8 @@ fn put_at(heap: &mut Heap, id: ObjId, key: Key, value: Value) -> Result<(), Memo
 /// Takes a name of the object at a place away, and answers whether it had it.
 fn take_at(heap: &mut Heap, id: ObjId, key: &Key) -> bool
     requires { Holds heap.old (slice_get heap.old id.0) }
-    ensures { TakesAt heap.old heap.new id key.now result }
+    ensures names { TakesAt heap.old heap.new id key.now result }
+    ensures sound { StaysSound heap.old heap.new }
 {
     let mut object = heap.set(id, ABSENT);
     let had = take_from(&mut object, key);
@@ -96,8 +99,8 @@ fn take_at(heap: &mut Heap, id: ObjId, key: &Key) -> bool
     had
 }
 
-/// Gives a name of a value a value (Language Reference 7.2). NoAttr for a value that holds no names:
-/// a script's classes and the instances of these hold some.
+/// Gives a name of a value a value (Language Reference 7.2). NoAttr for a value that holds no
+/// names: a script's classes and the instances of these hold some. A sound heap stays sound.
 pub fn store(
     alloc: Global,
     heap: &mut Heap,
@@ -105,7 +108,8 @@ pub fn store(
     name: &str,
     value: Value,
 ) -> Result<(), Failure<NoAttr>>
-    ensures { Changes heap.old heap.new result (stored heap.old to (name_codes name.now) value) }
+    ensures change { Changes heap.old heap.new result (assigned heap.old to name.now value) }
+    ensures sound { IsWithin heap.old value → StaysSound heap.old heap.new }
 {
     let Value::Obj(id) = to else {
         return Err(Failure::Refused(NoAttr));
@@ -117,14 +121,16 @@ pub fn store(
     Ok(put_at(heap, id, key, value)?)
 }
 
-/// Takes a name of a value away (Language Reference 7.5). NoAttr where the value doesn't hold it.
+/// Takes a name of a value away (Language Reference 7.5). NoAttr where the value doesn't hold it. A
+/// sound heap stays sound.
 pub fn delete(
     alloc: Global,
     heap: &mut Heap,
     from: Value,
     name: &str,
 ) -> Result<(), Failure<NoAttr>>
-    ensures { Changes heap.old heap.new result (deleted heap.old from (name_codes name.now)) }
+    ensures change { Changes heap.old heap.new result (unassigned heap.old from name.now) }
+    ensures sound { StaysSound heap.old heap.new }
 {
     let Value::Obj(id) = from else {
         return Err(Failure::Refused(NoAttr));

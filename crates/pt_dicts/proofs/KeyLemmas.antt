@@ -1,5 +1,5 @@
 -- The numbers of a tuple's key, item by item.
-use Rattle.std.proofs.Common.{◌≡◌, ◌∙◌, ℕ, zero, suc, ◌+◌, ◌-◌, ◌<◌, ◌≤◌, List, [], ◌∷◌, ◌++◌, Result, Ok, Err, length, drop, get_or, refl, sym, ap, subst, arith, append_assoc}
+use Rattle.std.proofs.Common.{◌≡◌, ◌∙◌, ℕ, zero, suc, ◌+◌, ◌-◌, ◌<◌, ◌≤◌, List, [], ◌∷◌, ◌++◌, Result, Ok, Err, length, drop, get_or, IfOk, refl, sym, ap, subst, arith, append_assoc}
 use Rattle.std.specs.Result.{IsErr, IsErrAnd}
 use Rattle.std.proofs.lemmas.List.{at_drop_more, at_drop_all}
 use Rattle.pt_heap.specs.declared.value.Value.{Value}
@@ -7,7 +7,7 @@ use Rattle.pt_heap.specs.declared.value.Value.TheVariants as value
 use Rattle.pt_heap.specs.declared.object.Object.{Object}
 use Rattle.pt_dicts.specs.declared.key.KeyErr.{KeyErr}
 use Rattle.pt_dicts.specs.declared.key.KeyErr.TheVariants.{Unhashable, UserHash, Deep, Memory}
-use Rattle.pt_dicts.specs.Codes.{KeyValue, KeyValues, codes_of, list_codes}
+use Rattle.pt_dicts.specs.Codes.{KeyValue, KeyValues, codes_of, list_codes, AreShort, AllShort}
 use Rattle.pt_dicts.specs.Keys.{key_by, key_value, both, keys_by, as_tuple, tuple_key, coded, coded_list, Writes}
 
 -- numbers before those of a key
@@ -103,3 +103,32 @@ module _ (h : List Object) (depth : ℕ) (some : 0 < depth) (vs : List Value) (i
   tuple-written old now new l inv w =
       let whole : coded (tuple_key h depth vs) ≡ Ok (5 ∷ (inv.0 ++ 255 ∷ [])) = tuple-more h depth vs some ∙ ap (ahead (5 ∷ [])) (inv.2 ∙ ap (ahead inv.0) (items-end at vs i l)) in
       subst (λ r. Writes old new (Ok tt) r) (sym whole) (w ∙ ap (λ l. l ++ 255 ∷ []) inv.1 ∙ append_assoc old (5 ∷ inv.0) (255 ∷ []))
+
+-- numbers are short where those of each item are
+module _ (key : Value → Result KeyValue KeyErr) where
+  first-short : (v : Value) (vs : List Value) → IfOk (key v) AreShort → IfOk (keys_by key vs) AllShort → IfOk (keys_by key (v ∷ vs)) AllShort
+  first-short v vs s t = by (key v) (keys_by key vs) s t
+    where
+      by : (r : Result KeyValue KeyErr) (q : Result KeyValues KeyErr) → IfOk r AreShort → IfOk q AllShort → IfOk (both r q) AllShort
+      by (Ok a) (Ok ks) s t = (s, t)
+      by (Ok a) (Err e) s t = tt
+      by (Err e) q s t = tt
+
+  pub item-short : (vs : List Value) (i : ℕ) (P : Type 0) → i < length vs → (IfOk (keys_by key (drop i vs)) AllShort → P) → IfOk (key (get_or vs i value.None)) AreShort → IfOk (keys_by key (drop (i + 1) vs)) AllShort → P
+  item-short vs i P l whole s t =
+      let more = at_drop_more (λ l. keys_by key l) vs i value.None l in
+      whole (subst (λ r. IfOk r AllShort) (sym more) (first-short (get_or vs i value.None) (drop (i + 1) vs) s t))
+
+  pub items-short : (vs : List Value) (i : ℕ) (P : Type 0) → length vs ≤ i → (IfOk (keys_by key (drop i vs)) AllShort → P) → P
+  items-short vs i P l whole = whole (subst (λ r. IfOk r AllShort) (sym (at_drop_all (λ l. keys_by key l) vs i l)) tt)
+
+pub tuple-short : (h : List Object) (depth : ℕ) (vs : List Value) → 0 < depth → IfOk (keys_by (key_value h (depth - 1)) vs) AllShort → IfOk (tuple_key h depth vs) AreShort
+unfolding tuple_key
+tuple-short h zero vs l s = absurd (omega arith)
+tuple-short h (suc depth) vs l s =
+    let less : suc depth - 1 ≡ depth = omega arith in
+    by (keys_by (key_by (tuple_key h depth) h) vs) (subst (λ d. IfOk (keys_by (key_value h d) vs) AllShort) less s)
+  where
+    by : (r : Result KeyValues KeyErr) → IfOk r AllShort → IfOk (as_tuple r) AreShort
+    by (Ok keys) s = s
+    by (Err e) s = tt

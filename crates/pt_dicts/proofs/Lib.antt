@@ -1,3 +1,4 @@
 pub mod ChainLemmas
 pub mod KeyLemmas
 pub mod SameLemmas
+pub mod SetLemmas

@@ -70,6 +70,10 @@ tuple_key h (suc depth) vs = as_tuple (keys_by (key_by (tuple_key h depth) h) vs
 abbrev pub key_value : List Object → (depth : ℕ) → Value → Result KeyValue KeyErr
 key_value h depth v = key_by (tuple_key h depth) h v
 
+-- the key of what stands at a place, where so many tuples may stand inside one another
+abbrev pub key_at : List Object → (depth : ℕ) → ObjId → Result KeyValue KeyErr
+key_at h depth id = object_key (tuple_key h depth) h id (slice_get h id.0)
+
 -- how many tuples may stand inside one another in a key
 abbrev pub depth_limit : ℕ
 depth_limit = 1000

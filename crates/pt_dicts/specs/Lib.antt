@@ -1,3 +1,5 @@
+pub mod Adding
 pub mod Chain
 pub mod Codes
+pub mod Combine
 pub mod Keys

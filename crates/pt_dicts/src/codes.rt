@@ -1,6 +1,6 @@
 ghost use Rattle.std.specs.Prelude.{◌≡◌, ◌++◌, ◌∷◌, [], pos, IfOk, OnOk};
 ghost use Rattle.std.specs.Fmt.{signed_decimal};
-ghost use Rattle.pt_dicts.specs.Codes.{bytes_codes, codes_of, escaped};
+ghost use Rattle.pt_dicts.specs.Codes.{bytes_codes, codes_of, escaped, IsShort};
 ghost use Rattle.pt_dicts.specs.Keys.{name_codes};
 
 use pt_base::{Memory, Seq};
@@ -36,7 +36,8 @@ pub fn push_bytes(codes: &mut Seq<u8>, bytes: &[u8]) -> Result<(), Memory>
 
 /// Writes a number as its decimal digits.
 pub fn push_number(alloc: Global, codes: &mut Seq<u8>, number: i128) -> Result<(), Memory>
-    ensures { OnOk result (codes.new ≡ codes.old ++ bytes_codes (signed_decimal number)) }
+    ensures ok { OnOk result (codes.new ≡ codes.old ++ bytes_codes (signed_decimal number)) }
+    ensures short { IsShort number }
 {
     let digits = format!(in alloc; "{number}")?;
     push_bytes(codes, digits.as_bytes())

@@ -1,7 +1,6 @@
-ghost use Rattle.std.specs.Prelude.{◌≡◌, ◌++◌, ◌∷◌, pos, slice_get, OnOk};
-ghost use Rattle.std.specs.Fmt.{signed_decimal};
-ghost use Rattle.pt_dicts.specs.Codes.{bytes_codes};
-ghost use Rattle.pt_dicts.specs.Keys.{coded, depth_limit, instance_key, key_value, object_key, truth, tuple_key, Answers, Writes};
+ghost use Rattle.std.specs.Prelude.{◌≡◌, ◌++◌, ◌∷◌, IfOk, OnOk};
+ghost use Rattle.pt_dicts.specs.Codes.{bytes_codes, codes_of, object, number as number_key, AreShort};
+ghost use Rattle.pt_dicts.specs.Keys.{coded, depth_limit, instance_key, key_at, key_value, tuple_key, Answers, Writes};
 ghost use Rattle.pt_dicts.specs.declared.key.KeyErr.TheVariants.{Memory as out_of_memory};
 
 use crate::chain::{class_value, object_at};
@@ -36,7 +35,8 @@ impl From<Memory> for KeyErr {
 
 /// Writes an object by its place.
 fn push_place(alloc: Global, codes: &mut Seq<u8>, id: ObjId) -> Result<(), Memory>
-    ensures { OnOk result (codes.new ≡ codes.old ++ 6 ∷ bytes_codes (signed_decimal (pos id.0))) }
+    ensures ok { OnOk result (codes.new ≡ codes.old ++ codes_of (object id.0)) }
+    ensures short { OnOk result (AreShort (object id.0)) }
 {
     codes.push(6)?;
     push_number(alloc, codes, id.0 as i128)
@@ -44,7 +44,8 @@ fn push_place(alloc: Global, codes: &mut Seq<u8>, id: ObjId) -> Result<(), Memor
 
 /// Writes a number.
 fn push_int(alloc: Global, codes: &mut Seq<u8>, number: i128) -> Result<(), Memory>
-    ensures { OnOk result (codes.new ≡ codes.old ++ 3 ∷ bytes_codes (signed_decimal number)) }
+    ensures ok { OnOk result (codes.new ≡ codes.old ++ codes_of (number_key number)) }
+    ensures short { OnOk result (AreShort (number_key number)) }
 {
     codes.push(3)?;
     push_number(alloc, codes, number)
@@ -66,7 +67,8 @@ fn push_instance(
     class: ObjId,
     id: ObjId,
 ) -> Result<(), KeyErr>
-    ensures { Writes codes.old codes.new result (coded (instance_key heap.now class id)) }
+    ensures adds { Writes codes.old codes.new result (coded (instance_key heap.now class id)) }
+    ensures short { OnOk result (IfOk (instance_key heap.now class id) AreShort) }
 {
     let hash = name_key(alloc, "__hash__")?;
     if class_value(heap, &hash, class).is_some() {
@@ -88,7 +90,8 @@ fn push_tuple(
     items: &[Value],
     depth: u32,
 ) -> Result<(), KeyErr>
-    ensures { Writes codes.old codes.new result (coded (tuple_key heap.now depth items.now)) }
+    ensures adds { Writes codes.old codes.new result (coded (tuple_key heap.now depth items.now)) }
+    ensures short { OnOk result (IfOk (tuple_key heap.now depth items.now) AreShort) }
 {
     if depth == 0 {
         return Err(KeyErr::Deep);
@@ -109,7 +112,8 @@ fn push_object(
     id: ObjId,
     depth: u32,
 ) -> Result<(), KeyErr>
-    ensures { Writes codes.old codes.new result (coded (object_key (tuple_key heap.now depth) heap.now id (slice_get heap.now id.0))) }
+    ensures adds { Writes codes.old codes.new result (coded (key_at heap.now depth id)) }
+    ensures short { OnOk result (IfOk (key_at heap.now depth id) AreShort) }
 {
     match object_at(heap, id) {
         Some(Object::Str(text)) => Ok(push_text(codes, text.text().as_str())?),
@@ -132,7 +136,8 @@ fn push_key(
     value: Value,
     depth: u32,
 ) -> Result<(), KeyErr>
-    ensures { Writes codes.old codes.new result (coded (key_value heap.now depth value)) }
+    ensures adds { Writes codes.old codes.new result (coded (key_value heap.now depth value)) }
+    ensures short { OnOk result (IfOk (key_value heap.now depth value) AreShort) }
 {
     match value {
         Value::None => Ok(codes.push(0)?),
@@ -147,9 +152,11 @@ fn push_key(
 /// A value as a key, which is the same for values that are equal as keys: None, numbers, texts and
 /// tuples by value, all else by object (Language Reference 6.2.7). Refused are lists, sets,
 /// dictionaries, instances whose class has `__hash__` or `__eq__`, tuples of what is refused, and
-/// more than 1,000 tuples inside one another.
+/// more than 1,000 tuples inside one another. Its numbers have at most 64 digits, so that
+/// `a_key_is_of_one_value` speaks of it.
 pub fn key_of(alloc: Global, heap: &Heap, value: Value) -> Result<Key, KeyErr>
-    ensures { Answers result (coded (key_value heap.now depth_limit value)) }
+    ensures key { Answers result (coded (key_value heap.now depth_limit value)) }
+    ensures short { OnOk result (IfOk (key_value heap.now depth_limit value) AreShort) }
 {
     let mut codes = Seq::new(alloc);
     push_key(alloc, heap, &mut codes, value, DEPTH_LIMIT)?;

@@ -1,5 +1,5 @@
 -- Entries, and places of which some are holes.
-use Rattle.std.proofs.Common.{◌≡◌, ◌+◌, ◌-◌, ◌<◌, ◌≤◌, ℕ, zero, suc, Bool, true, false, not, cond, List, [], ◌∷◌, ◌++◌, length, take, drop, set, filter, Option, None, Some, slice_get, refl, sym, ap, ◌∙◌, subst, arith, add-one, if◌then◌else◌, length-append, ◌≢◌, get_or, lt-ltb, is_some, true≢false, rules}
+use Rattle.std.proofs.Common.{◌≡◌, ◌+◌, ◌-◌, ◌<◌, ◌≤◌, ℕ, zero, suc, Bool, true, false, not, cond, List, [], ◌∷◌, ◌++◌, length, take, drop, set, filter, map, Option, None, Some, slice_get, refl, sym, ap, ◌∙◌, subst, arith, add-one, length-append, ◌≢◌, get_or, lt-ltb, is_some, true≢false, rules}
 use Rattle.std.specs.Str.{bytes_eq}
 use Rattle.std.specs.Map.{lookup, set_value, keys_of}
 use Rattle.std.specs.List.{IsDistinct, AllByRecursion, position, position_or_len}
@@ -10,11 +10,12 @@ use Rattle.indexmap.proofs.MapLemmas.{swap_remove_entry-found, absent_before}
 use Rattle.std.specs.Cmp.{IsEquivalence}
 use Rattle.std.specs.Cmp.Rules.{comparing}
 use Rattle.std.proofs.lemmas.Map.Keys.{IsDistinct-tail, IsDistinct-head}
+use Rattle.std.proofs.lemmas.Map.Made.{IsDistinct-keys_filter}
 use Rattle.std.proofs.lemmas.Slice.Eq.{bytes_eq-Decides}
 use Rattle.pt_heap.specs.declared.items.Item.{Item}
 use Rattle.pt_heap.specs.declared.value.Value.{Value}
-use Rattle.pt_heap.specs.Entries.{Entry, found, put, without}
-use Rattle.pt_heap.specs.Holes.{entries_of, entry_of, entry_in, entry_at, joined, has_item, AreHoles}
+use Rattle.pt_heap.specs.Entries.{Entry, found, put, without, HaveDistinctKeys}
+use Rattle.pt_heap.specs.Holes.{entries_of, entry_of, entry_at, joined, has_item, AreHoles}
 
 -- the value of an item
 abbrev pub value_in : Option Item → Option Value
@@ -345,3 +346,19 @@ value-from k es item d h = found-items k es d ∙ ap value_in (sym h)
 
 pub none-from : (k : List ℕ) (es : List (List ℕ × Option Item)) → IsDistinct bytes_eq (keys_of es) → None ≡ joined (lookup (bytes_eq k) es) → found k (entries_of es) ≡ None
 none-from k es d h = found-items k es d ∙ ap value_in (sym h)
+
+-- the keys of the entries are those of the places with an item
+keys-entries : (es : List (List ℕ × Option Item)) → map (λ (e : Entry). e.key) (entries_of es) ≡ keys_of (filter has_item es)
+keys-entries [] = refl
+keys-entries ((k, None) ∷ es) = keys-entries es
+keys-entries ((k, Some item) ∷ es) = ap (λ l. k ∷ l) (keys-entries es)
+
+pub distinct-entries : (es : List (List ℕ × Option Item)) → IsDistinct bytes_eq (keys_of es) → HaveDistinctKeys (entries_of es)
+distinct-entries es d = subst (IsDistinct bytes_eq) (sym (keys-entries es)) (IsDistinct-keys_filter bytes_eq has_item es d)
+
+pub next-entry : (n : ℕ) (es : List (List ℕ × Option Item)) (e : Entry) → entry_at es n ≡ Some e → entries_of (drop n es) ≡ e ∷ entries_of (drop (n + 1) es)
+next-entry n es e h = next-suc n es e h ∙ ap (λ m. e ∷ entries_of (drop m es)) (sym (add-one n))
+
+pub no-first : {X : Type 0} (xs : List X) → slice_get xs 0 ≡ None → xs ≡ []
+no-first [] h = refl
+no-first (x ∷ xs) h = cc

@@ -1,7 +1,6 @@
 -- What a heap keeps as objects are added, replaced and taken off.
-use Rattle.std.proofs.Common.{◌≡◌, ◌+◌, ◌<◌, ◌≤◌, ◌⊎◌, inl, inr, ℕ, zero, suc, List, [], ◌∷◌, ◌++◌, length, take, set, Option, None, Some, slice_get, Contains, refl, sym, ap, ◌∙◌, subst, arith}
+use Rattle.std.proofs.Common.{◌≡◌, ◌<◌, ◌≤◌, ◌⊎◌, inl, inr, ℕ, zero, suc, List, [], ◌∷◌, ◌++◌, length, take, set, Option, None, Some, slice_get, Contains, refl, sym, ap, ◌∙◌, subst, arith}
 use Rattle.std.proofs.lemmas.List.{take-append-le, length-append, length-take, length-set}
-use Rattle.std.proofs.lemmas.Option.{slice_get_within}
 use Rattle.pt_heap.specs.declared.object.Object.{Object}
 use Rattle.pt_heap.specs.declared.object.Object.TheVariants.{Str, List as ListOf, Tuple, Dict, Set, Range, Slice, Cursor, View, Function, Method, Builtin, Class, Instance, Error, Generator, Frame, CodeRef, Module, Super}
 use Rattle.pt_heap.specs.declared.object.Class.{Class as ClassObject}
@@ -126,7 +125,7 @@ fits-set h i o stays j x f =
 pub sound-set : (h : List Object) (i : ℕ) (o : Object) → StaysSound h (set h i o) (λ builtins. MayReplace builtins h i o)
 sound-set h i o builtins s m =
     record {
-      begins = take-set h (length builtins) i o m.behind ∙ s.begins;
+      begins = take-set h (length builtins) i o m.keeps_builtins ∙ s.begins;
       fits = λ j x at. elim (get-set h i o j x at) [
         | inl p ↦ fits-set h i o m.class j x (s.fits j x p)
         | inr p ↦ subst (λ y. Fits (set h i o) j y) p.1 (subst (λ n. Fits (set h i o) n o) (sym p.0) (fits-set h i o m.class i o m.fits))
@@ -176,7 +175,7 @@ fits-take n h i x below f =
 pub sound-back : (h : List Object) (n : ℕ) → StaysSound h (take n h) (λ builtins. IsClosedBelow builtins h n)
 sound-back h n builtins s m =
     record {
-      begins = take-take (length builtins) n h m.behind ∙ s.begins;
+      begins = take-take (length builtins) n h m.keeps_builtins ∙ s.begins;
       fits = λ i x at.
           let q = get-take n h i x at in
           fits-take n h i x (m.closed i x q.0 q.1) (s.fits i x q.1);

@@ -1,6 +1,7 @@
 -- A dictionary as the list of its entries (Library Reference, "Mapping Types": insertion order, and a key that is there keeps
 -- its place).
-use Rattle.std.specs.Prelude.{ℕ, List, [], ◌∷◌, Option, None, Some, if◌then◌else◌}
+use Rattle.std.specs.Prelude.{◌≡◌, ℕ, length, List, [], ◌∷◌, Option, None, Some, map, if◌then◌else◌}
+use Rattle.std.specs.List.{IsDistinct}
 use Rattle.std.specs.Str.{bytes_eq}
 use Rattle.pt_heap.specs.declared.value.Value.{Value}
 
@@ -9,6 +10,9 @@ pub record Entry : Type 0 where
   pub key : List ℕ
   pub first : Value
   pub value : Value
+
+abbrev pub entry : List ℕ → (first value : Value) → Entry
+entry k first v = record { key = k; first = first; value = v }
 
 -- the value behind a key
 abbrev pub found : List ℕ → List Entry → Option Value
@@ -24,3 +28,11 @@ put k first v (e ∷ es) = if bytes_eq k e.key then record { key = e.key; first 
 abbrev pub without : List ℕ → List Entry → List Entry
 without k [] = []
 without k (e ∷ es) = if bytes_eq k e.key then es else e ∷ without k es
+
+-- a new key, for which there is no room
+abbrev pub HasNoRoomFor : List Entry → List ℕ → Type 0
+HasNoRoomFor es k = (found k es ≡ None) × (length es ≡ 4194304)
+
+-- no two entries have the same key
+abbrev pub HaveDistinctKeys : List Entry → Type 0
+HaveDistinctKeys es = IsDistinct bytes_eq (map (λ e. e.key) es)

@@ -1,3 +1,4 @@
 pub mod Entries
 pub mod Holes
+pub mod Seeds
 pub mod Sound

@@ -75,6 +75,14 @@ pub record Fits (h : List Object) (i : ℕ) (object : Object) : Type 0 where
   pub places : (p : ℕ) → Contains (places_of object) p → p < length h
   pub classes : HasClasses h i object
 
+abbrev pub FitsLast : List Object → Object → Type 0
+FitsLast h object = Fits h (length h) object
+
+-- what a value names lies in a heap
+abbrev pub IsWithin : List Object → Value → Type 0
+IsWithin h (Obj id) = id.0 < length h
+IsWithin h _ = Unit {0}
+
 pub record IsSound (builtins h : List Object) : Type 0 where
   pub begins : take (length builtins) h ≡ builtins
   pub fits : (i : ℕ) (object : Object) → slice_get h i ≡ Some object → Fits h i object
@@ -83,12 +91,12 @@ pub record IsSound (builtins h : List Object) : Type 0 where
 pub record MayReplace (builtins h : List Object) (i : ℕ) (object : Object) : Type 0 where
   pub fits : Fits h i object
   pub class : IsClassAt h i → (c : ClassObject) × (object ≡ Class c)
-  pub behind : length builtins ≤ i
+  pub keeps_builtins : length builtins ≤ i
 
 -- what stands below a place names nothing from there on, and the builtin objects stand below it
 pub record IsClosedBelow (builtins h : List Object) (n : ℕ) : Type 0 where
   pub closed : (i : ℕ) (object : Object) → i < n → slice_get h i ≡ Some object → (p : ℕ) → Contains (places_of object) p → p < n
-  pub behind : length builtins ≤ n
+  pub keeps_builtins : length builtins ≤ n
 
 -- a sound heap stays sound where something holds
 abbrev pub StaysSound : List Object → List Object → (List Object → Type 0) → Type 0

@@ -2,12 +2,12 @@ ghost use Rattle.std.specs.Prelude.{◌≡◌, ◌+◌, ◌≤◌, ◌↔◌, �
 ghost use Rattle.std.specs.Str.{bytes_eq};
 ghost use Rattle.std.specs.Option.{option_map, option_copied};
 ghost use Rattle.indexmap.specs.IndexMap.{get, IsUnique};
-ghost use Rattle.pt_heap.specs.Entries.{found, put, without};
+ghost use Rattle.pt_heap.specs.Entries.{found, put, without, HasNoRoomFor, HaveDistinctKeys};
 ghost use Rattle.pt_heap.specs.Holes.{entries_of, entry_of, AreHoles};
 ghost use Rattle.pt_heap.specs.declared.dict.DictErr.TheVariants.{Memory as out_of_memory};
 
 use crate::items::{self, Item, Items};
-use crate::{Key, Seed, Value};
+use crate::{Entries, Key, Seed, Value};
 use indexmap::IndexMap;
 use pt_base::{Dup, Memory};
 use std::alloc::Global;
@@ -45,17 +45,15 @@ pub struct Dict {
 }
 
 impl Model for Dict {
-    ghost use Rattle.std.specs.Prelude.{◌≡◌, ◌≤◌, List, length};
-    ghost use Rattle.std.specs.Str.{bytes_eq};
-    ghost use Rattle.indexmap.specs.IndexMap.{IsUnique};
+    ghost use Rattle.std.specs.Prelude.{List};
     ghost use Rattle.pt_heap.specs.Entries.{Entry};
-    ghost use Rattle.pt_heap.specs.Holes.{entries_of, AreHoles};
+    ghost use Rattle.pt_heap.specs.Holes.{entries_of, IsKept};
 
     ghost Value = { List Entry };
 
     ghost view = { λ d. entries_of d.items.entries };
 
-    ghost invariant = { λ d. (d.count ≡ length (entries_of d.items.entries)) × (d.count ≤ 4194304) × AreHoles d.start d.items.entries × IsUnique bytes_eq d.items };
+    ghost invariant = { λ d. IsKept d.count d.start d.items.entries };
 }
 
 impl Dict {
@@ -72,9 +70,11 @@ impl Dict {
         }
     }
 
-    /// The number of entries.
+    /// The number of entries, of which no two have the same key.
     pub fn len(&self) -> u32
-        ensures { result ≡ length self.now }
+        ensures count { result ≡ length self.now }
+        ensures limit { length self.now ≤ 4194304 }
+        ensures keys { HaveDistinctKeys self.now }
     {
         self.count as u32
     }
@@ -95,7 +95,7 @@ impl Dict {
         ensures old { IfOk result (λ old. old ≡ found key self.old) }
         ensures ok { OnOk result (self.new ≡ put key first value self.old) }
         ensures err { OnErr result (self.new ≡ self.old) }
-        ensures full { (result ≡ Err DictErr.Length) ↔ (found key self.old ≡ None) × (length self.old ≡ 4194304) }
+        ensures full { (result ≡ Err DictErr.Length) ↔ HasNoRoomFor self.old key }
     {
         match items::item_of(&self.items, &key) {
             Some(item) => {
@@ -158,9 +158,9 @@ impl Dict {
         ensures { result ≡ option_map (λ e. (e.first, e.value)) (slice_get self.now place) }
     {
         let at = items::place_of(&self.items, self.start, self.count, place as usize);
-        match self.items.get_index(at) {
-            Some((_, Some(item))) => Some((item.first, item.value)),
-            _ => None,
+        match items::entry(&self.items, at) {
+            Some((_, item)) => Some((item.first, item.value)),
+            None => None,
         }
     }
 
@@ -169,10 +169,24 @@ impl Dict {
         ensures { option_copied result ≡ option_map (λ e. e.key) (slice_get self.now place) }
     {
         let at = items::place_of(&self.items, self.start, self.count, place as usize);
-        match self.items.get_index(at) {
-            Some((key, Some(_))) => Some(key),
-            _ => None,
+        match items::entry(&self.items, at) {
+            Some((key, _)) => Some(key),
+            None => None,
         }
+    }
+
+    /// The entries in order, in time linear in the places that they and the holes have.
+    pub fn entries(&self) -> Entries<'_>
+        ensures rest { result ≡ self.now }
+        ensures keys { HaveDistinctKeys result }
+    {
+        Entries::new(&self.items)
+    }
+
+    /// The seed of the hashes of its keys. No clause speaks of it, since nothing that is answered
+    /// depends on it.
+    pub fn seed(&self) -> Seed {
+        *self.items.hasher()
     }
 
     /// Drops the holes that taking entries out has left, so that each entry is reached by its

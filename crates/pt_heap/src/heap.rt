@@ -1,4 +1,4 @@
-ghost use Rattle.pt_heap.specs.Sound.{Fits, MayReplace, IsClosedBelow, StaysSound};
+ghost use Rattle.pt_heap.specs.Sound.{FitsLast, MayReplace, IsClosedBelow, StaysSound};
 ghost use Rattle.pt_heap.specs.declared.heap.HeapErr.TheVariants.{Memory as out_of_memory};
 ghost use Rattle.std.specs.Prelude.{◌≡◌, [], ◌∷◌, ◌++◌, ◌<◌, ◌↔◌, Some, Err, length, take, slice_get, slice_set, OnOk, OnErr, IfOk};
 
@@ -69,7 +69,8 @@ impl Heap {
         }
     }
 
-    /// The seed of its dictionaries.
+    /// The seed of its dictionaries. No clause speaks of it, since nothing that is answered depends
+    /// on it.
     pub fn seed(&self) -> Seed {
         self.seed
     }
@@ -87,7 +88,7 @@ impl Heap {
         ensures place { IfOk result (λ id. id.0 ≡ length self.old) }
         ensures err { OnErr result (self.new ≡ self.old) }
         ensures full { (result ≡ Err HeapErr.HeapFull) ↔ (length self.old ≡ 16777216) }
-        ensures sound { OnOk result (StaysSound self.old self.new (λ _. Fits self.old (length self.old) object)) }
+        ensures sound { OnOk result (StaysSound self.old self.new (λ _. FitsLast self.old object)) }
     {
         let place = self.objects.len();
         if place >= OBJECT_LIMIT {
@@ -110,7 +111,7 @@ impl Heap {
         requires { id.0 < length self.old }
         ensures new { self.new ≡ slice_set self.old id.0 object }
         ensures old { slice_get self.old id.0 ≡ Some result }
-        ensures sound { StaysSound self.old self.new (λ builtins. MayReplace builtins self.old id.0 object) }
+        ensures sound { StaysSound self.old self.new (λ b. MayReplace b self.old id.0 object) }
     {
         mem::replace(&mut self.objects[id.0 as usize], object)
     }
@@ -125,7 +126,7 @@ impl Heap {
     /// Takes the objects behind a mark off.
     pub fn back(&mut self, mark: Mark)
         ensures new { self.new ≡ take mark.0 self.old }
-        ensures sound { StaysSound self.old self.new (λ builtins. IsClosedBelow builtins self.old mark.0) }
+        ensures sound { StaysSound self.old self.new (λ b. IsClosedBelow b self.old mark.0) }
     {
         self.objects.truncate(mark.0 as usize);
     }

@@ -1,13 +1,14 @@
 //! How a dictionary is kept. A key that is taken out leaves a hole at its place, so that the others
-//! keep theirs with nothing moved; holes are dropped all at once when they are more than the
-//! entries.
+//! keep theirs with nothing moved; holes are dropped all at once when they are more than three
+//! times the entries.
 
-ghost use Rattle.std.specs.Prelude.{◌≡◌, ◌+◌, ◌<◌, ◌≤◌, ◌++◌, ◌↔◌, [], ◌∷◌, Some, None, IsSome, IsTrue, OnOk, OnErr, filter, is_some, length, slice_get, take, IfOk};
+ghost use Rattle.std.specs.Prelude.{◌≡◌, ◌+◌, ◌<◌, ◌≤◌, ◌++◌, ◌↔◌, [], ◌∷◌, Some, None, IsSome, IsTrue, OnOk, OnErr, filter, is_some, length, slice_get, take, IfOk, ◌^◌};
+ghost use Rattle.std.specs.Option.{option_map};
 ghost use Rattle.std.specs.Str.{bytes_eq};
 ghost use Rattle.std.specs.Map.{set_value};
 ghost use Rattle.indexmap.specs.IndexMap.{get, IsUnique};
 ghost use Rattle.pt_heap.specs.Entries.{found};
-ghost use Rattle.pt_heap.specs.Holes.{entries_of, entry_of, entry_at, entry_in, joined, has_item, AreHoles};
+ghost use Rattle.pt_heap.specs.Holes.{entries_from, entries_of, entry_of, entry_at, entry_in, joined, first_from, has_item, one_more, AreHoles};
 
 use crate::{Key, Seed, Value};
 use indexmap::IndexMap;
@@ -57,6 +58,16 @@ pub fn drop_holes(items: &mut Items)
     );
 }
 
+/// The key and the item of a place that has one.
+pub fn entry(items: &Items, place: usize) -> Option<(&Key, Item)>
+    ensures { entry_at items.now.entries place ≡ option_map (λ e. entry_of e.0.now e.1) result }
+{
+    match items.get_index(place) {
+        Some((key, Some(item))) => Some((key, *item)),
+        _ => None,
+    }
+}
+
 /// Whether the place has no item.
 pub fn is_hole(items: &Items, at: usize) -> bool
     ensures { IsTrue result ↔ (entry_at items.now.entries at ≡ None) }
@@ -71,6 +82,20 @@ pub fn is_hole(items: &Items, at: usize) -> bool
 pub fn past_holes(items: &Items, from: usize) -> usize
     requires { AreHoles from items.now.entries }
     ensures { AreHoles result items.now.entries }
+{
+    for at in from..items.len() {
+        if !is_hole(items, at) {
+            return at;
+        }
+    }
+    items.len()
+}
+
+/// The first place from one on that is no hole, or one past the end.
+pub fn next_place(items: &Items, from: usize) -> usize
+    ensures same { entries_from result items.now.entries ≡ entries_from from items.now.entries }
+    ensures first { entry_at items.now.entries result ≡ first_from from items.now.entries }
+    ensures fits { result < 2 ^ 63 }
 {
     for at in from..items.len() {
         if !is_hole(items, at) {
@@ -149,15 +174,15 @@ pub fn make_new(
     vacate(items, key, filler)
 }
 
-/// Drops the holes where they are more than the entries. Else it passes those at the start over,
-/// and answers how many these are.
+/// Drops the holes where they are more than three times the entries. Else it passes those at the
+/// start over, and answers how many these are.
 pub fn settle(items: &mut Items, start: usize, count: usize) -> usize
     requires { AreHoles start items.old.entries }
     ensures entries { entries_of items.new.entries ≡ entries_of items.old.entries }
     ensures holes { AreHoles result items.new.entries }
     ensures unique { IsUnique bytes_eq items.old → IsUnique bytes_eq items.new }
 {
-    if items.len() / 2 > count {
+    if items.len() / 4 > count {
         drop_holes(items);
         return 0;
     }
@@ -219,7 +244,7 @@ pub fn push(
     requires new { found key (entries_of items.old.entries) ≡ None }
     requires holes { AreHoles start.old items.old.entries }
     requires unique { IsUnique bytes_eq items.old }
-    ensures ok { OnOk result (entries_of items.new.entries ≡ entries_of items.old.entries ++ entry_of key item ∷ []) }
+    ensures ok { OnOk result (entries_of items.new.entries ≡ one_more items.old.entries key item) }
     ensures err { OnErr result (entries_of items.new.entries ≡ entries_of items.old.entries) }
     ensures holes { AreHoles start.new items.new.entries }
     ensures unique { IsUnique bytes_eq items.new }

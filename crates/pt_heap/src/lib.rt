@@ -5,6 +5,7 @@
 mod completion;
 mod dict;
 mod dup;
+mod entries;
 mod heap;
 mod items;
 mod key;
@@ -16,6 +17,7 @@ mod view;
 
 pub use completion::Completion;
 pub use dict::{Dict, DictErr};
+pub use entries::{Entries, EntryRef};
 pub use heap::{Heap, HeapErr, Mark};
 pub use key::Key;
 pub use object::{

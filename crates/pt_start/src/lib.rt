@@ -1,7 +1,7 @@
 //! The objects that each run starts with: classes, functions, modules and the names of events.
 #![tactic(auto)]
 
-ghost use Rattle.std.specs.Prelude.{◌≡◌, ◌++◌, IfOk, OnOk, map};
+ghost use Rattle.std.specs.Prelude.{◌≡◌, ◌+◌, ◌++◌, ◌≤◌, IfErr, IfOk, OnOk, length, map};
 ghost use Rattle.pt_start.specs.Start.{object_of, objects_of, start_objects};
 ghost use Rattle.pt_heap.specs.Sound.{IsSound};
 
@@ -152,7 +152,9 @@ fn made(alloc: Global, seed: Seed, name: &str, kind: Kind) -> Result<Object, Mem
 
 /// Puts the objects of names behind those of a heap.
 fn add_all(alloc: Global, seed: Seed, rows: &[(&str, Kind)], heap: &mut Heap) -> Result<(), HeapErr>
-    ensures { OnOk result (heap.new ≡ heap.old ++ objects_of (map (λ r. (r.0.now, r.1)) rows.now)) }
+    requires { length heap.old + length rows.now ≤ 16777216 }
+    ensures ok { OnOk result (heap.new ≡ heap.old ++ objects_of (map (λ r. (r.0.now, r.1)) rows.now)) }
+    ensures err { IfErr result (λ error. error ≡ HeapErr.Memory) }
 {
     for row in rows {
         let object = made(alloc, seed, row.0, row.1)?;
@@ -161,10 +163,12 @@ fn add_all(alloc: Global, seed: Seed, rows: &[(&str, Kind)], heap: &mut Heap) ->
     Ok(())
 }
 
-/// A heap of the objects that each run starts with.
+/// A heap of the objects that each run starts with. It has room for them, so that only memory may
+/// lack.
 pub fn start(alloc: Global, seed: Seed) -> Result<Heap, HeapErr>
     ensures objects { IfOk result (λ heap. heap ≡ start_objects) }
     ensures sound { IfOk result (IsSound start_objects) }
+    ensures err { IfErr result (λ error. error ≡ HeapErr.Memory) }
 {
     let mut heap = Heap::new(alloc, seed);
     add_all(alloc, seed, &START, &mut heap)?;

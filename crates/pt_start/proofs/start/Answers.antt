@@ -5,9 +5,9 @@ use Rattle.pt_start.proofs.StartLemmas.{start-is-sound}
 use Rattle.pt_start.proofs.start.Goals as goal
 
 pub returns-clause-objects : goal.returns-clause-objects
-returns-clause-objects c = c.in_ok-add_all.ensures ∙ ap (λ h. h ++ start_objects) c.new-heap.ensures
+returns-clause-objects c = c.in_ok-add_all.ensures.ok ∙ ap (λ h. h ++ start_objects) c.new-heap.ensures
 
 pub returns-clause-sound : goal.returns-clause-sound
 returns-clause-sound c =
-    let objects : c.add_all.new.heap ≡ start_objects = c.in_ok-add_all.ensures ∙ ap (λ h. h ++ start_objects) c.new-heap.ensures in
+    let objects : c.add_all.new.heap ≡ start_objects = c.in_ok-add_all.ensures.ok ∙ ap (λ h. h ++ start_objects) c.new-heap.ensures in
     subst (IsSound start_objects) (sym objects) start-is-sound

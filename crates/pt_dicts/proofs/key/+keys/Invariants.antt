@@ -1,4 +1,5 @@
-use Rattle.std.proofs.Common.{◌≡◌, ◌++◌, ◌∷◌, ◌+◌, ◌-◌, ◌*◌, List, ℕ, drop}
+use Rattle.std.proofs.Common.{◌≡◌, ◌++◌, ◌∷◌, ◌+◌, ◌-◌, ◌*◌, List, ℕ, drop, IfOk}
+use Rattle.pt_dicts.specs.Codes.{AllShort}
 use Rattle.pt_dicts.specs.Keys.{key_value, keys_by, coded_list}
 use Rattle.pt_dicts.proofs.KeyLemmas.{ahead}
 use Rattle.pt_dicts.proofs.key.+keys.Given as goal
@@ -13,6 +14,8 @@ abbrev pub decreases-push_tuple : goal.decreases-push_tuple
 decreases-push_tuple l = 3 * l.depth
 
 abbrev pub invariant-push_tuple-loop-item : goal.invariant-push_tuple-loop-item
-invariant-push_tuple-loop-item l =
-    (done : List ℕ) × (l.codes ≡ l.fn.codes ++ 5 ∷ done)
-    × (coded_list (keys_by (key_value l.heap (l.depth - 1)) l.items) ≡ ahead done (coded_list (keys_by (key_value l.heap (l.depth - 1)) (drop l.item-index l.items))))
+invariant-push_tuple-loop-item l = record {
+  codes : (done : List ℕ) × (l.codes ≡ l.fn.codes ++ 5 ∷ done)
+      × (coded_list (keys_by (key_value l.heap (l.depth - 1)) l.items) ≡ ahead done (coded_list (keys_by (key_value l.heap (l.depth - 1)) (drop l.item-index l.items))));
+  short : IfOk (keys_by (key_value l.heap (l.depth - 1)) (drop l.item-index l.items)) AllShort → IfOk (keys_by (key_value l.heap (l.depth - 1)) l.items) AllShort;
+}

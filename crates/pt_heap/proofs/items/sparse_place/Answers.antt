@@ -1,4 +1,4 @@
-use Rattle.std.proofs.Common.{◌≡◌, ◌≤◌, ◌+◌, ap, sym, ◌∙◌, refl, true≢false, slice_get, drop, length, arith}
+use Rattle.std.proofs.Common.{◌≤◌, ◌+◌, ap, sym, ◌∙◌, refl, true≢false, slice_get, drop, length, arith}
 use Rattle.std.proofs.lemmas.List.{drop_all}
 use Rattle.std.proofs.lemmas.Option.{slice_get_past}
 use Rattle.pt_heap.specs.Holes.{entries_of, entry_in}

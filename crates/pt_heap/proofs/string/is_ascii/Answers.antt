@@ -1,5 +1,5 @@
-use Rattle.std.proofs.Common.{◌≡◌, Bool, true, false, refl}
-use Rattle.std.specs.Bool.{IsTrue, MatchBool}
+use Rattle.std.proofs.Common.{◌≡◌, Bool, true, false}
+use Rattle.std.specs.Bool.{MatchBool}
 use Rattle.std.specs.Str.{IsAscii, IsNotAscii}
 use Rattle.std.proofs.Common.{true≢false, sym}
 use Rattle.pt_heap.proofs.string.is_ascii.Goals as goal

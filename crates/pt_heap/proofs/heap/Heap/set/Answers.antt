@@ -1,4 +1,4 @@
-use Rattle.std.proofs.Common.{◌≡◌, ap, sym, subst, set}
+use Rattle.std.proofs.Common.{◌≡◌, sym, subst, set}
 use Rattle.pt_heap.specs.Sound.{StaysSound, MayReplace}
 use Rattle.pt_heap.proofs.SoundLemmas.{sound-set}
 use Rattle.pt_heap.proofs.heap.Heap.set.Goals as goal

@@ -1,0 +1,7 @@
+use Rattle.std.proofs.Common.{subst}
+use Rattle.pt_heap.specs.Entries.{HaveDistinctKeys}
+use Rattle.pt_heap.proofs.HoleLemmas.{distinct-entries}
+use Rattle.pt_heap.proofs.dict.Dict.len.Goals as goal
+
+pub returns-clause-keys : goal.returns-clause-keys
+returns-clause-keys c = subst HaveDistinctKeys c.self.view_is (distinct-entries c.self.inside.items.entries c.self.invariant.3)
