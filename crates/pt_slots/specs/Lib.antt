@@ -7,6 +7,7 @@ pub mod Instructions
 pub mod Machine
 pub mod Destinations
 pub mod Needs
+pub mod BlockObject
 pub mod Traces
 pub mod Samples
 pub mod Laws
