@@ -352,6 +352,34 @@ class Block:
         return None
 
 
+def jump(b, pc, line):
+    """Where a jump from a place of a block that fits leads, with how many slots, or 46, 48 or 47 where it is refused."""
+    gets = b.gets(b.size)
+    lists = dict(gets)
+    starts = [at for at, on in b.b["starts"] if on == line and at in lists]
+    if not starts:
+        return 46
+    to = min(starts)
+    goes = b.leaves(b.size, gets)[1]
+
+    def in_common(d):
+        seen, due = {pc}, [pc]
+        while due:
+            q = due.pop()
+            for r, s, k in goes:
+                for one, other in ((r, s), (s, r)):
+                    if d < k and one == q and other not in seen:
+                        seen.add(other)
+                        due.append(other)
+        return to in seen
+    held = [d for ks in (lists[pc], lists[to]) for d, k in enumerate(ks) if k == P]
+    if not all(map(in_common, held)):
+        return 48
+    if not all(in_common(d) for d in range(len(lists[to]))):
+        return 47
+    return to, len(lists[to])
+
+
 NAMES = {23: "Stack", 24: "Kind", 25: "Target", 26: "Table", 27: "SilentLoop", 28: "Depth"}
 
 

@@ -1,6 +1,6 @@
 """Rows of code that fits, and of code that is refused, with the answer that the rules give. They are tried by the plain checker."""
 import struct
-from checker import read, said, verify
+from checker import Block, jump, read, said, verify
 
 NAMES = """Nop Const Local SetLocal DelLocal Cell SetCell DelCell Global SetGlobal DelGlobal Name SetName DelName PushCell Pop Copy Copy2 Swap Rot3
 Attr SetAttr DelAttr Item SetItem DelItem Slice Unary Not Binary InPlace Compare Tuple List Set Dict ListAdd SetAdd DictAdd Format Join Unpack
@@ -125,6 +125,30 @@ ROWS = [
     ("the earlier block", file([block("Const 0; Return"), block("Jump 9"), block("Pop")]), "25 Target block 1 pc 0"),
 ]
 
+LOOP = one("Const 0; Iter; Next 18; Pop; Nop; Jump 6; Const 0; Return", marks=[6], starts=[(0, 1), (12, 2), (18, 3)])
+TWO_LOOPS = one("Const 0; Iter; Next 18; Pop; Nop; Jump 6; Const 0; Iter; Next 36; Pop; Nop; Jump 24; Const 0; Return", marks=[6, 24],
+                starts=[(0, 1), (12, 2), (18, 3), (30, 4), (36, 5)])
+FINALLY = one("Nop; Normal; Nop; EndFinally; Const 0; Return", starts=[(0, 1), (2, 2), (4, 3)])
+HELD_BREAK = one("Const 0; Iter; Next 24; Pop; Leave 24; Nop; EndFinally; Jump 6; Const 0; Return", marks=[6], handlers=[(12, 17, 17, 1, 1)],
+                 starts=[(12, 1), (17, 2)])
+
+# code, from, line, answer
+JUMPS = [
+    ("out of a loop", LOOP, 12, 3, (18, 0)),
+    ("within a loop", LOOP, 12, 2, (12, 1)),
+    ("into a loop", LOOP, 18, 2, 47),
+    ("from the loop's head into its body", LOOP, 6, 2, (12, 1)),
+    ("to no statement", LOOP, 12, 9, 46),
+    ("from a loop into its neighbour", TWO_LOOPS, 12, 4, 47),
+    ("from a loop behind its neighbour", TWO_LOOPS, 12, 5, (36, 0)),
+    ("into a finally part", FINALLY, 0, 2, 48),
+    ("out of a finally part", FINALLY, 2, 3, 48),
+    ("past a finally part", FINALLY, 0, 3, (4, 0)),
+    ("within a finally part", FINALLY, 2, 2, (2, 1)),
+    ("into the finally part of a loop", HELD_BREAK, 12, 2, 48),
+    ("out of it into the loop", HELD_BREAK, 17, 1, 48),
+]
+
 if __name__ == "__main__":
     bad = 0
     for name, data, want in ROWS:
@@ -132,5 +156,11 @@ if __name__ == "__main__":
         if got != want:
             bad += 1
             print("%s: %s, and not %s" % (name, got, want))
-    print("%d rows, %d of them otherwise" % (len(ROWS), bad))
+    for name, data, pc, line, want in JUMPS:
+        code = read(data)
+        got = said(verify(code)) if verify(code) else jump(Block(code, code["blocks"][0]), pc, line)
+        if got != want:
+            bad += 1
+            print("%s: %s, and not %s" % (name, got, want))
+    print("%d rows, %d of them otherwise" % (len(ROWS) + len(JUMPS), bad))
     raise SystemExit(bad > 0)
