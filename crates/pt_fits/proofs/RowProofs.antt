@@ -1,9 +1,10 @@
 -- The samples fit, or are refused, as is computed from their tables.
 use Rattle.std.proofs.Common.{ℕ, ◌<◌, true, false, List, [], ◌∷◌, None, refl, arith}
+use Rattle.pt_base.specs.declared.operators.BinOp.TheVariants.{Add}
 use Rattle.pt_ranges.specs.declared.handlers.Handler.{Handler}
 use Rattle.pt_instr.specs.declared.Instr.{Instr}
 use Rattle.pt_instr.specs.declared.Instr.TheVariants as instr
-use Rattle.pt_instr.specs.declared.kinds.Kind.TheVariants.{Value, Pending}
+use Rattle.pt_instr.specs.declared.kinds.Kind.TheVariants.{Value, Iter, Pending}
 use Rattle.pt_instr.specs.Effects.{effect_of}
 use Rattle.pt_instr.specs.Encoding.{code_of}
 use Rattle.pt_code.specs.File.{number, signature, names, tables, block, file}
@@ -15,8 +16,8 @@ use Rattle.pt_fits.specs.Leaves as L
 use Rattle.pt_fits.specs.Leaves.{Goes}
 use Rattle.pt_fits.specs.Agreement as A
 use Rattle.pt_fits.specs.Fits as F
-use Rattle.pt_fits.specs.Samples.{module_of, handler, returns_none, ends_value, jumps_to, held_leave}
-use Rattle.pt_fits.specs.Rows.{FirstIsFile, FirstIsSeen, FirstFits, ValueIsNoCompletion, LoopIsSilent, JumpGoesAstray, HeldLeaveLacks, HandlerIsNowhere, HandlerIsTooDeep}
+use Rattle.pt_fits.specs.Samples.{module_of, handler, returns_none, ends_value, jumps_to, held_leave, grows, drops_nothing, adds_iterator, drops_iterator}
+use Rattle.pt_fits.specs.Rows.{FirstIsFile, FirstIsSeen, FirstFits, ValueIsNoCompletion, LoopIsSilent, JumpGoesAstray, HeldLeaveLacks, HandlerIsNowhere, HandlerIsTooDeep, LengthsBeforeHandler, HandlerBeforeFew, FewBeforeKind, KindBeforeTarget}
 use Rattle.pt_fits.proofs.Certificates.{Entry, entry, Agreeing, agrees_up_to, no_disagreement, tables_hold, all_arrive, never_deep, fits_by, no_lengths_meet, no_handler_fails, never_too_few, no_kinds_clash}
 
 none_below : (P : ℕ → Type 0) (m : ℕ) → m < 0 → P m → ⊥
@@ -148,3 +149,89 @@ module _ where
   handler_is_too_deep = F.disagrees (tables_hold r refl) 0 (record { holds = F.handlers (handler 0 5 5 1 false) fails; least = none_below _ })
       (F.handlers (no_lengths_meet r 0 value_behind refl 0 (omega arith) refl) 0
       (record { holds = record { row = handler 0 5 5 1 false; number = record { among = 0; is = refl; counted = refl }; fails = fails }; least = none_below _ }))
+
+module _ where
+  abbrev g : Block
+  g = module_of (handler 5 10 0 2 false ∷ []) grows
+
+  grows_before : Agreeing g 4 value_behind
+  unfolding code_of effect_of
+  grows_before = record { whole = refl; lengths = refl; within = refl; alike = refl; enough = refl; one = refl; find = refl; stand = refl; inside = refl; leaves = refl }
+
+  two_lengths : A.LengthsMeet g 5
+  unfolding code_of effect_of
+  two_lengths = A.two (P.start _ refl) (P.onward {kept = 1} {ls = Value ∷ []} (P.onward {kept = 0} {ks = []} {ls = Value ∷ []} (P.start _ refl) (omega arith) (0, (omega arith), refl) _ refl)
+      (omega arith) (0, (omega arith), refl) _ refl) refl
+
+  pub lengths_before_handler : LengthsBeforeHandler
+  unfolding code_of effect_of
+  lengths_before_handler = F.disagrees (tables_hold g refl) 5
+      (record { holds = F.lengths two_lengths; least = λ m l x. no_disagreement (agrees_up_to g 4 value_behind grows_before m (omega (arith, l))) x }) (F.lengths two_lengths)
+
+module _ where
+  abbrev k : Block
+  k = module_of (handler 0 1 7 1 false ∷ []) drops_nothing
+
+  cuts_too_deep : A.HandlerFails k 0 (handler 0 1 7 1 false)
+  unfolding code_of effect_of
+  cuts_too_deep = A.too_deep (record { gets = P.start _ refl; low = omega arith; stands = refl }) (0, (omega arith), refl) refl
+
+  pub handler_before_few : HandlerBeforeFew
+  unfolding code_of effect_of
+  handler_before_few = F.disagrees (tables_hold k refl) 0 (record { holds = F.handlers (handler 0 1 7 1 false) cuts_too_deep; least = none_below _ })
+      (F.handlers (no_lengths_meet k 0 (entry 0 [] ∷ []) refl 0 (omega arith) refl) 0
+      (record { holds = record { row = handler 0 1 7 1 false; number = record { among = 0; is = refl; counted = refl }; fails = cuts_too_deep }; least = none_below _ }))
+
+abbrev iterator_behind : List Entry
+iterator_behind = entry 0 [] ∷ entry 5 (Value ∷ []) ∷ entry 6 (Iter ∷ []) ∷ []
+
+module _ where
+  abbrev f : Block
+  f = module_of [] adds_iterator
+
+  adds_before : Agreeing f 5 iterator_behind
+  unfolding code_of effect_of
+  adds_before = record { whole = refl; lengths = refl; within = refl; alike = refl; enough = refl; one = refl; find = refl; stand = refl; inside = refl; leaves = refl }
+
+  has_few : A.TooFew f 6
+  unfolding code_of effect_of
+  has_few = A.lacks {i = placed (instr.Binary Add) 11 []} {ks = Iter ∷ []} (record {
+    gets = P.onward {kept = 0} {ls = Iter ∷ []} (P.onward {kept = 0} {ks = []} {ls = Value ∷ []} (P.start _ refl) (omega arith)
+        (0, (omega arith), refl) _ refl) (omega arith) (0, (omega arith), refl) _ refl;
+    low = omega arith;
+    stands = refl;
+  }) refl
+
+  pub few_before_kind : FewBeforeKind
+  unfolding code_of effect_of
+  few_before_kind = F.disagrees (tables_hold f refl) 6
+      (record { holds = F.enough has_few; least = λ m l x. no_disagreement (agrees_up_to f 5 iterator_behind adds_before m (omega (arith, l))) x })
+      (F.enough (no_lengths_meet f 6 iterator_behind refl 6 (omega arith) refl) (no_handler_fails f 6 iterator_behind refl 6 (omega arith) refl refl) has_few)
+
+module _ where
+  abbrev t : Block
+  t = module_of [] drops_iterator
+
+  drops_before : Agreeing t 5 iterator_behind
+  unfolding code_of effect_of
+  drops_before = record { whole = refl; lengths = refl; within = refl; alike = refl; enough = refl; one = refl; find = refl; stand = refl; inside = refl; leaves = refl }
+
+  other_kind : A.KindsClash t 6
+  unfolding code_of effect_of
+  other_kind = A.lacks {i = placed instr.Pop 7 []} {ks = Iter ∷ []} (record {
+    gets = P.onward {kept = 0} {ls = Iter ∷ []} (P.onward {kept = 0} {ks = []} {ls = Value ∷ []} (P.start _ refl) (omega arith)
+        (0, (omega arith), refl) _ refl) (omega arith) (0, (omega arith), refl) _ refl;
+    low = omega arith;
+    stands = refl;
+  }) refl
+
+  pub kind_before_target : KindBeforeTarget
+  unfolding code_of effect_of
+  kind_before_target = F.disagrees (tables_hold t refl) 6
+      (record { holds = F.kinds other_kind; least = λ m l x. no_disagreement (agrees_up_to t 5 iterator_behind drops_before m (omega (arith, l))) x })
+      (F.kinds (no_lengths_meet t 6 iterator_behind refl 6 (omega arith) refl) (no_handler_fails t 6 iterator_behind refl 6 (omega arith) refl refl)
+      (never_too_few t 6 iterator_behind refl 6 (omega arith) refl refl) other_kind)
+
+pub ruleset samples = (first_is_file, first_is_seen, first_fits, value_is_no_completion, loop_is_silent, jump_goes_astray, held_leave_lacks, handler_is_nowhere, handler_is_too_deep)
+
+pub ruleset orders = (lengths_before_handler, handler_before_few, few_before_kind, kind_before_target)

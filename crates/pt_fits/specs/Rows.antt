@@ -4,7 +4,7 @@ use Rattle.pt_code.specs.declared.BlockKind.TheVariants.{Module}
 use Rattle.pt_code.specs.File.{file}
 use Rattle.pt_code.specs.View.{IsView, laid_from}
 use Rattle.pt_fits.specs.Fits.{Fits, Refused, stack, kind, target, table, silent_loop}
-use Rattle.pt_fits.specs.Samples.{plain, alone, module_of, handler, returns_none, ends_value, jumps_to, held_leave}
+use Rattle.pt_fits.specs.Samples.{plain, alone, module_of, handler, returns_none, ends_value, jumps_to, held_leave, grows, drops_nothing, adds_iterator, drops_iterator}
 
 -- the file of the first sample
 abbrev pub bytes_of_first : List ℕ
@@ -44,3 +44,18 @@ HandlerIsNowhere = Refused (module_of (handler 0 5 1 0 false ∷ []) returns_non
 -- a handler is to leave a slot where none lies
 abbrev pub HandlerIsTooDeep : Type 0
 HandlerIsTooDeep = Refused (module_of (handler 0 5 5 1 false ∷ []) returns_none) (table 0)
+
+-- Of two refusals at one place: two lengths before a handler, a handler before too few slots, too few slots before another kind, another kind before
+-- a target.
+
+abbrev pub LengthsBeforeHandler : Type 0
+LengthsBeforeHandler = Refused (module_of (handler 5 10 0 2 false ∷ []) grows) (stack 5)
+
+abbrev pub HandlerBeforeFew : Type 0
+HandlerBeforeFew = Refused (module_of (handler 0 1 7 1 false ∷ []) drops_nothing) (table 0)
+
+abbrev pub FewBeforeKind : Type 0
+FewBeforeKind = Refused (module_of [] adds_iterator) (stack 6)
+
+abbrev pub KindBeforeTarget : Type 0
+KindBeforeTarget = Refused (module_of [] drops_iterator) (kind 6)

@@ -1,6 +1,7 @@
 -- Code that fits, and code that doesn't, as rows.
 use Rattle.std.specs.Prelude.{ℕ, List, [], ◌∷◌, Bool, false}
 use Rattle.std.specs.List.{flat_map}
+use Rattle.pt_base.specs.declared.operators.BinOp.TheVariants.{Add}
 use Rattle.pt_ranges.specs.declared.handlers.Handler.{Handler}
 use Rattle.pt_instr.specs.declared.Instr.{Instr}
 use Rattle.pt_instr.specs.declared.Instr.TheVariants as instr
@@ -62,3 +63,19 @@ held_leave =
     load_none ∷ load_none ∷ instr.JumpIf (record { 0 = 20 }) ∷ instr.Leave (record { 0 = 20 }) ∷ instr.Return ∷ instr.EndFinally ∷
     load_none ∷ instr.Return ∷
     []
+
+-- each time round one more value lies at the beginning
+abbrev pub grows : List Instr
+grows = load_none ∷ instr.Jump (record { 0 = 0 }) ∷ []
+
+-- nothing lies there to be dropped; a handler stands behind
+abbrev pub drops_nothing : List Instr
+drops_nothing = instr.Pop ∷ load_none ∷ instr.Return ∷ instr.EndHandler ∷ load_none ∷ instr.Return ∷ []
+
+-- an iterator alone, where two values are taken
+abbrev pub adds_iterator : List Instr
+adds_iterator = load_none ∷ instr.Iter ∷ instr.Binary Add ∷ load_none ∷ instr.Return ∷ []
+
+-- an iterator is dropped, and nothing stands behind
+abbrev pub drops_iterator : List Instr
+drops_iterator = load_none ∷ instr.Iter ∷ instr.Pop ∷ []

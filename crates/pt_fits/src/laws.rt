@@ -3,7 +3,7 @@
 ghost use Rattle.pt_slots.specs.CodeObject.{CodeObject};
 ghost use Rattle.pt_fits.specs.Block.{Block};
 ghost use Rattle.pt_fits.specs.Laws.{FitsUnrefused, JumpsLand, NeverStuck, OneRefusal, SlotsFit, ViewIsLaid};
-ghost use Rattle.pt_fits.specs.Rows.{FirstFits, FirstIsFile, FirstIsSeen, HandlerIsNowhere, HandlerIsTooDeep, HeldLeaveLacks, JumpGoesAstray, LoopIsSilent, ValueIsNoCompletion};
+ghost use Rattle.pt_fits.specs.Rows.{FewBeforeKind, FirstFits, FirstIsFile, FirstIsSeen, HandlerBeforeFew, HandlerIsNowhere, HandlerIsTooDeep, HeldLeaveLacks, JumpGoesAstray, KindBeforeTarget, LengthsBeforeHandler, LoopIsSilent, ValueIsNoCompletion};
 
 /// From slots that have the kinds of a place, each turn finds all that it takes, and leaves slots
 /// that have the kinds of the place to which it goes.
@@ -28,7 +28,7 @@ pub fn code_that_fits_is_never_stuck<V>()
 
 /// What is answered to samples, which are computed from the kinds of their places: the first is a
 /// file, and its block fits; each other one is refused where it is said.
-#[tactic(auto, using(crate::proofs::RowProofs::first_is_file, crate::proofs::RowProofs::first_is_seen, crate::proofs::RowProofs::first_fits, crate::proofs::RowProofs::value_is_no_completion, crate::proofs::RowProofs::loop_is_silent, crate::proofs::RowProofs::jump_goes_astray, crate::proofs::RowProofs::held_leave_lacks, crate::proofs::RowProofs::handler_is_nowhere, crate::proofs::RowProofs::handler_is_too_deep))]
+#[tactic(auto, using(crate::proofs::RowProofs::samples))]
 pub fn samples_fit_or_are_refused()
     ensures file { FirstIsFile }
     ensures view { FirstIsSeen }
@@ -39,6 +39,15 @@ pub fn samples_fit_or_are_refused()
     ensures held { HeldLeaveLacks }
     ensures nowhere { HandlerIsNowhere }
     ensures deep { HandlerIsTooDeep }
+{}
+
+/// Of two refusals at one place the first in their order is told.
+#[tactic(auto, using(crate::proofs::RowProofs::orders))]
+pub fn refusals_are_told_in_order()
+    ensures lengths { LengthsBeforeHandler }
+    ensures handler { HandlerBeforeFew }
+    ensures few { FewBeforeKind }
+    ensures kind { KindBeforeTarget }
 {}
 
 /// Code that fits isn't refused, and what is refused is so for one reason at one place.
