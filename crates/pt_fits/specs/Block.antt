@@ -14,6 +14,7 @@ use Rattle.pt_code.specs.declared.Start.{Start}
 use Rattle.pt_code.specs.declared.CodeBlock.{CodeBlock}
 use Rattle.pt_code.specs.declared.Code.{Code}
 use Rattle.pt_code.specs.View.{Ins}
+use Rattle.pt_slots.specs.BlockObject.{free_in}
 
 -- what the numbers in operands name outside of the block: of another block its kind, how many cells it takes along, and its parameters that are
 -- plain or keyword-only; of a list its texts
@@ -50,10 +51,6 @@ effect links i = effect_of i (captured links i)
 
 -- what the blocks, lists and texts of a code are to each of its blocks
 
-abbrev pub captures_of : Option CodeBlock → ℕ
-captures_of (Some b) = length b.free
-captures_of None = 0
-
 -- the names of the parameters stand first among the locals, the plain ones before the keyword-only ones
 abbrev pub parameters_of : (texts : List Name) → Option CodeBlock → List Name
 parameters_of texts (Some b) = map (λ t. slice_index_or texts t.0 []) (take (b.parameters + b.keyword_only) b.locals)
@@ -62,7 +59,7 @@ parameters_of texts None = []
 abbrev pub links_of : Code → Links
 links_of c = record {
   kind = λ n. option_map (λ b. b.kind) (slice_get c.blocks n);
-  captures = λ n. captures_of (slice_get c.blocks n);
+  captures = λ n. free_in (slice_get c.blocks n);
   parameters = λ n. parameters_of c.texts (slice_get c.blocks n);
   texts = λ n. map (λ t. slice_index_or c.texts t []) (slice_index_or c.lists n []);
 }

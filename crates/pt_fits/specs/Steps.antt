@@ -8,6 +8,7 @@ use Rattle.pt_instr.specs.declared.kinds.Kind.TheVariants as kind
 use Rattle.pt_instr.specs.Effects.{Kinds}
 use Rattle.pt_ranges.specs.declared.handlers.Handler.{Handler}
 use Rattle.pt_code.specs.View.{Ins}
+pub use Rattle.pt_slots.specs.BlockObject.{target_of}
 use Rattle.pt_fits.specs.Block.{Links, Block, effect}
 
 abbrev pub is_kind : Kind → Kind → Bool
@@ -82,16 +83,6 @@ step to ks kept = record { to = to; kinds = ks; kept = kept }
 -- what is given lies above the slots that aren't taken
 abbrev pub gives : Effect → Kinds → (to : ℕ) → (given : Kinds) → Step
 gives e ks to given = step to (below e ks ++ given) (spared e ks + min e.keeps (length given))
-
--- the place that an instruction may go to other than the one behind it
-abbrev pub target_of : Instr → Option ℕ
-target_of (instr.Next t) = Some t.0
-target_of (instr.Jump t) = Some t.0
-target_of (instr.JumpIf t) = Some t.0
-target_of (instr.JumpUnless t) = Some t.0
-target_of (instr.JumpIfKeep t) = Some t.0
-target_of (instr.JumpUnlessKeep t) = Some t.0
-target_of i = None
 
 abbrev pub onward : Effect → Kinds → (next : ℕ) → Option Kinds → List Step
 onward e ks next (Some given) = gives e ks next (given_behind e ks given) ∷ []

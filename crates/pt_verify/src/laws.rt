@@ -3,6 +3,7 @@
 ghost use Rattle.std.specs.Prelude.{ℕ};
 ghost use Rattle.pt_ranges.specs.declared.handlers.Handler.{Handler};
 ghost use Rattle.pt_fits.specs.Block.{Block};
+ghost use Rattle.pt_verify.specs.Objects.{ObjectRuns};
 ghost use Rattle.pt_verify.specs.Laws.{AsDeep, AsFew, AsLengths, KindsHaveSizes, SizesHaveKinds};
 
 /// The sizes of places are the lengths of their kinds, whatever these are.
@@ -19,4 +20,10 @@ pub fn sizes_decide()
     ensures meet { (b : Block) (p : ℕ) → AsLengths b p }
     ensures deep { (b : Block) (p : ℕ) (row : Handler) → AsDeep b p row }
     ensures few { (b : Block) (p : ℕ) → AsFew b p }
+{}
+
+/// The code object of a block that fits runs it.
+#[tactic(auto, using(crate::proofs::ObjectRuns::object_runs))]
+pub fn a_code_object_runs_its_block<V>()
+    ensures { ObjectRuns V }
 {}

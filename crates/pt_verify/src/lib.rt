@@ -3,4 +3,4 @@
 
 mod laws;
 
-pub use laws::{sizes_are_lengths, sizes_decide};
+pub use laws::{a_code_object_runs_its_block, sizes_are_lengths, sizes_decide};
