@@ -1,9 +1,11 @@
 """How much stack the built program takes to read each of the deepest scripts, the most first.
 
-    python3 need.py [--pt PROGRAM] [WORD ..]      of the scripts whose names have one of these words, or of all
+    python3 need.py [--by-rattle] [--program FILE] [WORD ..]      of the scripts whose names have one of these words, or of all
 
-A script is read with less and less stack, down to a step of 32 KiB. The last line counts those that take more than half of
-a default stack, and the status is 1 where there are some, or where a script isn't taken or refused as it should be."""
+The program is pt as LLVM builds it, or as Rattle's own compiler does, which the gate leaves beside it, or another file that was
+built of it. A script is read with less and less stack, down to a step of 32 KiB. The last line counts those that take more than
+half of a default stack, and the status is 1 where there are some, or where a script isn't taken or refused as it should be."""
+import argparse
 import resource
 import subprocess
 import sys
@@ -21,36 +23,40 @@ MOST = 8 * DEFAULT
 REFUSED = 6
 
 
-def status(program, script, stack):
-    """How the program ends with so much stack; negative where a signal ends it."""
+def status(command, script, stack):
+    """How a command ends with so much stack; negative where a signal ends it."""
     room = lambda: resource.setrlimit(resource.RLIMIT_STACK, (stack, MOST))
-    return subprocess.run([program, "run", script], capture_output=True, preexec_fn=room).returncode
+    return subprocess.run([*command, script], capture_output=True, preexec_fn=room).returncode
 
 
-def need(program, script):
+def need(command, script):
     """The least stack by which a script is read, up to what the system takes of it at random, and how the program ends with more."""
     low, high = 0, MOST // STEP
     while high - low > 1:
         middle = (low + high) // 2
-        if status(program, script, middle * STEP) < 0:
+        if status(command, script, middle * STEP) < 0:
             low = middle
         else:
             high = middle
-    return high * STEP, status(program, script, (high + 2) * STEP)
+    return high * STEP, status(command, script, (high + 2) * STEP)
 
 
 def main():
-    words = sys.argv[1:]
-    program = Path(__file__).resolve().parent / "../../crates/pt/out/pt"
-    if words[:1] == ["--pt"]:
-        program, words = Path(words[1]).resolve(), words[2:]
+    parser = argparse.ArgumentParser()
+    parser.add_argument("--by-rattle", action="store_true")
+    parser.add_argument("--program", type=Path)
+    parser.add_argument("words", nargs="*")
+    asked = parser.parse_args()
+    words = asked.words
+    built = Path(__file__).resolve().parent / "../../crates/pt/out" / ("pt" + ".by-rattle" * asked.by_rattle)
+    command = [(asked.program or built).resolve(), "run"]
     needs, wrong = [], 0
     with tempfile.TemporaryDirectory() as folder:
         script = Path(folder, "script.py")
         for name, pieces, answer in shapes.rows():
             if not words or any(word in name for word in words):
                 script.write_text(shapes.written(pieces))
-                stack, ended = need(program, script)
+                stack, ended = need(command, script)
                 is_wrong = (ended == REFUSED) != (answer != "taken")
                 needs.append((stack, name + (" (another answer)" if is_wrong else "")))
                 wrong += is_wrong

@@ -21,7 +21,7 @@ use Rattle.pt_refine_expr.specs.declared.stars.Stars.TheVariants.{Never, Inside,
 use Rattle.pt_refine_expr.specs.declared.unnarrowed.Unnarrowed.{Unnarrowed}
 use Rattle.pt_refine_expr.specs.Blocks.{blocks_entry, blocks_exp, blocks_params, blocks_pieces}
 use Rattle.pt_refine_expr.specs.Narrow.{Pair, clause, comprehension, conditions, generator, narrow_bare, narrow_exp, narrow_pair, narrow_params, narrow_pieces, narrow_target}
-use Rattle.pt_refine_expr.specs.Narrowed.{Left, Made, Makes, MakesBare, MakesBareTarget, Put, Puts, formals_of, narrow_bare_target, put_clause}
+use Rattle.pt_refine_expr.specs.Narrowed.{Left, Made, Makes, MakesBare, MakesExp, MakesBareTarget, Put, Puts, formals_of, narrow_bare_target, put_clause}
 use Rattle.pt_refine_expr.specs.Targets.{alone, exp_line, is_inside_target}
 use Rattle.pt_refine_expr.specs.Ways.{both, three, four}
 use Rattle.pt_refine_expr.proofs.Others.{line-is}
@@ -183,6 +183,9 @@ same-narrow f r o p n k m is h = subst (λ q. Makes f r q n k m) (sym is) h
 
 pub at-node : (r : Result Expr Unnarrowed) (line n m : ℕ) (e d : W.Exp) → e ≡ d → MakesBare r line n d m → MakesBare r line n e m
 at-node r line n m e d is h = subst (λ x. MakesBare r line n x m) (sym is) h
+
+pub at-exp : (r : Result Expr Unnarrowed) (n m : ℕ) (e d : W.Exp) → e ≡ d → MakesExp r n d m → MakesExp r n e m
+at-exp r n m e d is h = subst (λ x. MakesExp r n x m) (sym is) h
 
 pub at-target : (r : Result Target Unnarrowed) (line n : ℕ) (s : Stars) (m : ℕ) (e d : W.Exp) → e ≡ d → MakesBareTarget r line n s d m → MakesBareTarget r line n s e m
 at-target r line n s m e d is h = subst (λ x. MakesBareTarget r line n s x m) (sym is) h

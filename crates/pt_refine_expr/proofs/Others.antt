@@ -25,8 +25,8 @@ use Rattle.pt_wide.specs.Fold.{WideNode-P, expression_plain, all_of, argument_of
 use Rattle.pt_wide.proofs.Folds.{exp_of-is, formal_of-parts, node_of-is}
 use Rattle.pt_refine_expr.specs.declared.stars.Stars.{Stars}
 use Rattle.pt_refine_expr.specs.Faults.{bad_target, excluded, faults_place, faults_slash, faults_target}
-use Rattle.pt_refine_expr.specs.Narrow.{narrow_bare, narrow_params}
-use Rattle.pt_refine_expr.specs.Narrowed.{narrow_bare_target, narrow_choice, narrow_comprehension, narrow_operation, wide_formals}
+use Rattle.pt_refine_expr.specs.Narrow.{narrow_bare, narrow_exp, narrow_params}
+use Rattle.pt_refine_expr.specs.Narrowed.{narrow_bare_target, narrow_choice, narrow_comprehension, narrow_atom, wide_formals}
 use Rattle.pt_refine_expr.specs.StatementFaults.{is_generator}
 use Rattle.pt_refine_expr.specs.Targets.{are_items, are_targets, behind_item, exp_line, is_inside_target, is_item, is_operand}
 
@@ -141,70 +141,70 @@ params-before n (p ∷ bs) l ps ks s d some = ap (λ (r : Formals). narrow_param
 -- what is none of the kinds that a function knows
 abbrev Not-bare : WideNode → Type 0
 Not-bare x =
+    ((a : WideExpr) → x ≡ node.Parenthesized a → ⊥) ×
+    ((a : WideExpr) (y : List ℕ) → x ≡ node.Attribute a y → ⊥) ×
+    ((a i : WideExpr) → x ≡ node.Item a i → ⊥) ×
+    ((o : UnOp) (a : WideExpr) → x ≡ node.Unary o a → ⊥) ×
+    ((a : WideExpr) → x ≡ node.Not a → ⊥) ×
+    ((a : WideExpr) (o : WideBinOp) (b : WideExpr) → x ≡ node.Binary a o b → ⊥) ×
+    ((c a b : WideExpr) → x ≡ node.Conditional c a b → ⊥) ×
+    ((f : WideExpr) (args : List WideArgument) → x ≡ node.Call f args → ⊥) ×
+    ((ps : WideParameters) (a : WideExpr) → x ≡ node.Lambda ps a → ⊥)
+
+bare-node : (l u : ℕ) (n : Node) (x : WideNode) (m : ℕ) → out-WideNode x ≡ n → Not-bare x → narrow_bare l u (plain-at n m) ≡ narrow_atom l u (plain-at n m)
+bare-node l u (open_node.Parenthesized a) x m is (not-Parenthesized, not-Attribute, not-Item, not-Unary, not-Not, not-Binary, not-Conditional, not-Call, not-Lambda) = absurd (not-Parenthesized a (rolled-node x _ (node.Parenthesized a) is (node.outs-Parenthesized a)))
+bare-node l u (open_node.Attribute a y) x m is (not-Parenthesized, not-Attribute, not-Item, not-Unary, not-Not, not-Binary, not-Conditional, not-Call, not-Lambda) = absurd (not-Attribute a y (rolled-node x _ (node.Attribute a y) is (node.outs-Attribute a y)))
+bare-node l u (open_node.Item a i) x m is (not-Parenthesized, not-Attribute, not-Item, not-Unary, not-Not, not-Binary, not-Conditional, not-Call, not-Lambda) = absurd (not-Item a i (rolled-node x _ (node.Item a i) is (node.outs-Item a i)))
+bare-node l u (open_node.Unary o a) x m is (not-Parenthesized, not-Attribute, not-Item, not-Unary, not-Not, not-Binary, not-Conditional, not-Call, not-Lambda) = absurd (not-Unary o a (rolled-node x _ (node.Unary o a) is (node.outs-Unary o a)))
+bare-node l u (open_node.Not a) x m is (not-Parenthesized, not-Attribute, not-Item, not-Unary, not-Not, not-Binary, not-Conditional, not-Call, not-Lambda) = absurd (not-Not a (rolled-node x _ (node.Not a) is (node.outs-Not a)))
+bare-node l u (open_node.Binary a o b) x m is (not-Parenthesized, not-Attribute, not-Item, not-Unary, not-Not, not-Binary, not-Conditional, not-Call, not-Lambda) = absurd (not-Binary a o b (rolled-node x _ (node.Binary a o b) is (node.outs-Binary a o b)))
+bare-node l u (open_node.Conditional c a b) x m is (not-Parenthesized, not-Attribute, not-Item, not-Unary, not-Not, not-Binary, not-Conditional, not-Call, not-Lambda) = absurd (not-Conditional c a b (rolled-node x _ (node.Conditional c a b) is (node.outs-Conditional c a b)))
+bare-node l u (open_node.Call f args) x m is (not-Parenthesized, not-Attribute, not-Item, not-Unary, not-Not, not-Binary, not-Conditional, not-Call, not-Lambda) = absurd (not-Call f args (rolled-node x _ (node.Call f args) is (node.outs-Call f args)))
+bare-node l u (open_node.Lambda ps a) x m is (not-Parenthesized, not-Attribute, not-Item, not-Unary, not-Not, not-Binary, not-Conditional, not-Call, not-Lambda) = absurd (not-Lambda ps a (rolled-node x _ (node.Lambda ps a) is (node.outs-Lambda ps a)))
+bare-node l u n x m is never = refl
+
+pub bare-other : (line before : ℕ) (e : WideExpr) → Not-bare e.node → narrow_bare line before (exp_of e) ≡ narrow_atom line before (exp_of e)
+bare-other l u e never = ap (narrow_bare l u) (exp-is e) ∙ bare-node l u (out-WideNode e.node) e.node e.line.0 refl never ∙ sym (ap (narrow_atom l u) (exp-is e))
+
+abbrev Not-atom : WideNode → Type 0
+Not-atom x =
     ((k : Constant) → x ≡ node.Constant k → ⊥) ×
     ((y : List ℕ) → x ≡ node.Name y → ⊥) ×
     ((ps : List WidePiece) → x ≡ node.Joined ps → ⊥) ×
-    ((a : WideExpr) → x ≡ node.Parenthesized a → ⊥) ×
     ((es : List WideExpr) → x ≡ node.Tuple es → ⊥) ×
     ((es : List WideExpr) → x ≡ node.List es → ⊥) ×
     ((es : List WideExpr) → x ≡ node.Set es → ⊥) ×
     ((es : List WideEntry) → x ≡ node.Dict es → ⊥)
 
-bare-node : (l u : ℕ) (n : Node) (x : WideNode) (m : ℕ) → out-WideNode x ≡ n → Not-bare x → narrow_bare l u (plain-at n m) ≡ narrow_operation l u (plain-at n m)
-bare-node l u (open_node.Constant k) x m is (not-Constant, not-Name, not-Joined, not-Parenthesized, not-Tuple, not-List, not-Set, not-Dict) = absurd (not-Constant k (rolled-node x _ (node.Constant k) is (node.outs-Constant k)))
-bare-node l u (open_node.Name y) x m is (not-Constant, not-Name, not-Joined, not-Parenthesized, not-Tuple, not-List, not-Set, not-Dict) = absurd (not-Name y (rolled-node x _ (node.Name y) is (node.outs-Name y)))
-bare-node l u (open_node.Joined ps) x m is (not-Constant, not-Name, not-Joined, not-Parenthesized, not-Tuple, not-List, not-Set, not-Dict) = absurd (not-Joined ps (rolled-node x _ (node.Joined ps) is (node.outs-Joined ps)))
-bare-node l u (open_node.Parenthesized a) x m is (not-Constant, not-Name, not-Joined, not-Parenthesized, not-Tuple, not-List, not-Set, not-Dict) = absurd (not-Parenthesized a (rolled-node x _ (node.Parenthesized a) is (node.outs-Parenthesized a)))
-bare-node l u (open_node.Tuple es) x m is (not-Constant, not-Name, not-Joined, not-Parenthesized, not-Tuple, not-List, not-Set, not-Dict) = absurd (not-Tuple es (rolled-node x _ (node.Tuple es) is (node.outs-Tuple es)))
-bare-node l u (open_node.List es) x m is (not-Constant, not-Name, not-Joined, not-Parenthesized, not-Tuple, not-List, not-Set, not-Dict) = absurd (not-List es (rolled-node x _ (node.List es) is (node.outs-List es)))
-bare-node l u (open_node.Set es) x m is (not-Constant, not-Name, not-Joined, not-Parenthesized, not-Tuple, not-List, not-Set, not-Dict) = absurd (not-Set es (rolled-node x _ (node.Set es) is (node.outs-Set es)))
-bare-node l u (open_node.Dict es) x m is (not-Constant, not-Name, not-Joined, not-Parenthesized, not-Tuple, not-List, not-Set, not-Dict) = absurd (not-Dict es (rolled-node x _ (node.Dict es) is (node.outs-Dict es)))
-bare-node l u n x m is never = refl
+atom-node : (l u : ℕ) (n : Node) (x : WideNode) (m : ℕ) → out-WideNode x ≡ n → Not-atom x → narrow_atom l u (plain-at n m) ≡ narrow_choice l u (plain-at n m)
+atom-node l u (open_node.Constant k) x m is (not-Constant, not-Name, not-Joined, not-Tuple, not-List, not-Set, not-Dict) = absurd (not-Constant k (rolled-node x _ (node.Constant k) is (node.outs-Constant k)))
+atom-node l u (open_node.Name y) x m is (not-Constant, not-Name, not-Joined, not-Tuple, not-List, not-Set, not-Dict) = absurd (not-Name y (rolled-node x _ (node.Name y) is (node.outs-Name y)))
+atom-node l u (open_node.Joined ps) x m is (not-Constant, not-Name, not-Joined, not-Tuple, not-List, not-Set, not-Dict) = absurd (not-Joined ps (rolled-node x _ (node.Joined ps) is (node.outs-Joined ps)))
+atom-node l u (open_node.Tuple es) x m is (not-Constant, not-Name, not-Joined, not-Tuple, not-List, not-Set, not-Dict) = absurd (not-Tuple es (rolled-node x _ (node.Tuple es) is (node.outs-Tuple es)))
+atom-node l u (open_node.List es) x m is (not-Constant, not-Name, not-Joined, not-Tuple, not-List, not-Set, not-Dict) = absurd (not-List es (rolled-node x _ (node.List es) is (node.outs-List es)))
+atom-node l u (open_node.Set es) x m is (not-Constant, not-Name, not-Joined, not-Tuple, not-List, not-Set, not-Dict) = absurd (not-Set es (rolled-node x _ (node.Set es) is (node.outs-Set es)))
+atom-node l u (open_node.Dict es) x m is (not-Constant, not-Name, not-Joined, not-Tuple, not-List, not-Set, not-Dict) = absurd (not-Dict es (rolled-node x _ (node.Dict es) is (node.outs-Dict es)))
+atom-node l u n x m is never = refl
 
-pub bare-other : (line before : ℕ) (e : WideExpr) → Not-bare e.node → narrow_bare line before (exp_of e) ≡ narrow_operation line before (exp_of e)
-bare-other l u e never = ap (narrow_bare l u) (exp-is e) ∙ bare-node l u (out-WideNode e.node) e.node e.line.0 refl never ∙ sym (ap (narrow_operation l u) (exp-is e))
-
-abbrev Not-operation : WideNode → Type 0
-Not-operation x =
-    ((a : WideExpr) (y : List ℕ) → x ≡ node.Attribute a y → ⊥) ×
-    ((a i : WideExpr) → x ≡ node.Item a i → ⊥) ×
-    ((a b c : Option WideExpr) → x ≡ node.Slice a b c → ⊥) ×
-    ((o : UnOp) (a : WideExpr) → x ≡ node.Unary o a → ⊥) ×
-    ((a : WideExpr) → x ≡ node.Not a → ⊥) ×
-    ((a : WideExpr) (o : WideBinOp) (b : WideExpr) → x ≡ node.Binary a o b → ⊥) ×
-    ((a : WideExpr) (o : CompareOp) (b : WideExpr) (r : List WideComparison) → x ≡ node.Compare a o b r → ⊥)
-
-operation-node : (l u : ℕ) (n : Node) (x : WideNode) (m : ℕ) → out-WideNode x ≡ n → Not-operation x → narrow_operation l u (plain-at n m) ≡ narrow_choice l u (plain-at n m)
-operation-node l u (open_node.Attribute a y) x m is (not-Attribute, not-Item, not-Slice, not-Unary, not-Not, not-Binary, not-Compare) = absurd (not-Attribute a y (rolled-node x _ (node.Attribute a y) is (node.outs-Attribute a y)))
-operation-node l u (open_node.Item a i) x m is (not-Attribute, not-Item, not-Slice, not-Unary, not-Not, not-Binary, not-Compare) = absurd (not-Item a i (rolled-node x _ (node.Item a i) is (node.outs-Item a i)))
-operation-node l u (open_node.Slice a b c) x m is (not-Attribute, not-Item, not-Slice, not-Unary, not-Not, not-Binary, not-Compare) = absurd (not-Slice a b c (rolled-node x _ (node.Slice a b c) is (node.outs-Slice a b c)))
-operation-node l u (open_node.Unary o a) x m is (not-Attribute, not-Item, not-Slice, not-Unary, not-Not, not-Binary, not-Compare) = absurd (not-Unary o a (rolled-node x _ (node.Unary o a) is (node.outs-Unary o a)))
-operation-node l u (open_node.Not a) x m is (not-Attribute, not-Item, not-Slice, not-Unary, not-Not, not-Binary, not-Compare) = absurd (not-Not a (rolled-node x _ (node.Not a) is (node.outs-Not a)))
-operation-node l u (open_node.Binary a o b) x m is (not-Attribute, not-Item, not-Slice, not-Unary, not-Not, not-Binary, not-Compare) = absurd (not-Binary a o b (rolled-node x _ (node.Binary a o b) is (node.outs-Binary a o b)))
-operation-node l u (open_node.Compare a o b r) x m is (not-Attribute, not-Item, not-Slice, not-Unary, not-Not, not-Binary, not-Compare) = absurd (not-Compare a o b r (rolled-node x _ (node.Compare a o b r) is (node.outs-Compare a o b r)))
-operation-node l u n x m is never = refl
-
-pub operation-other : (line before : ℕ) (e : WideExpr) → Not-operation e.node → narrow_operation line before (exp_of e) ≡ narrow_choice line before (exp_of e)
-operation-other l u e never = ap (narrow_operation l u) (exp-is e) ∙ operation-node l u (out-WideNode e.node) e.node e.line.0 refl never ∙ sym (ap (narrow_choice l u) (exp-is e))
+pub atom-other : (line before : ℕ) (e : WideExpr) → Not-atom e.node → narrow_atom line before (exp_of e) ≡ narrow_choice line before (exp_of e)
+atom-other l u e never = ap (narrow_atom l u) (exp-is e) ∙ atom-node l u (out-WideNode e.node) e.node e.line.0 refl never ∙ sym (ap (narrow_choice l u) (exp-is e))
 
 abbrev Not-choice : WideNode → Type 0
 Not-choice x =
     ((a : WideExpr) (es : List WideExpr) → x ≡ node.And a es → ⊥) ×
     ((a : WideExpr) (es : List WideExpr) → x ≡ node.Or a es → ⊥) ×
-    ((c a b : WideExpr) → x ≡ node.Conditional c a b → ⊥) ×
-    ((f : WideExpr) (args : List WideArgument) → x ≡ node.Call f args → ⊥) ×
-    ((ps : WideParameters) (a : WideExpr) → x ≡ node.Lambda ps a → ⊥) ×
+    ((a b c : Option WideExpr) → x ≡ node.Slice a b c → ⊥) ×
+    ((a : WideExpr) (o : CompareOp) (b : WideExpr) (r : List WideComparison) → x ≡ node.Compare a o b r → ⊥) ×
     ((v : Option WideExpr) → x ≡ node.Yield v → ⊥) ×
     ((a : WideExpr) → x ≡ node.YieldFrom a → ⊥)
 
 choice-node : (l u : ℕ) (n : Node) (x : WideNode) (m : ℕ) → out-WideNode x ≡ n → Not-choice x → narrow_choice l u (plain-at n m) ≡ narrow_comprehension l u (plain-at n m)
-choice-node l u (open_node.And a es) x m is (not-And, not-Or, not-Conditional, not-Call, not-Lambda, not-Yield, not-YieldFrom) = absurd (not-And a es (rolled-node x _ (node.And a es) is (node.outs-And a es)))
-choice-node l u (open_node.Or a es) x m is (not-And, not-Or, not-Conditional, not-Call, not-Lambda, not-Yield, not-YieldFrom) = absurd (not-Or a es (rolled-node x _ (node.Or a es) is (node.outs-Or a es)))
-choice-node l u (open_node.Conditional c a b) x m is (not-And, not-Or, not-Conditional, not-Call, not-Lambda, not-Yield, not-YieldFrom) = absurd (not-Conditional c a b (rolled-node x _ (node.Conditional c a b) is (node.outs-Conditional c a b)))
-choice-node l u (open_node.Call f args) x m is (not-And, not-Or, not-Conditional, not-Call, not-Lambda, not-Yield, not-YieldFrom) = absurd (not-Call f args (rolled-node x _ (node.Call f args) is (node.outs-Call f args)))
-choice-node l u (open_node.Lambda ps a) x m is (not-And, not-Or, not-Conditional, not-Call, not-Lambda, not-Yield, not-YieldFrom) = absurd (not-Lambda ps a (rolled-node x _ (node.Lambda ps a) is (node.outs-Lambda ps a)))
-choice-node l u (open_node.Yield v) x m is (not-And, not-Or, not-Conditional, not-Call, not-Lambda, not-Yield, not-YieldFrom) = absurd (not-Yield v (rolled-node x _ (node.Yield v) is (node.outs-Yield v)))
-choice-node l u (open_node.YieldFrom a) x m is (not-And, not-Or, not-Conditional, not-Call, not-Lambda, not-Yield, not-YieldFrom) = absurd (not-YieldFrom a (rolled-node x _ (node.YieldFrom a) is (node.outs-YieldFrom a)))
+choice-node l u (open_node.And a es) x m is (not-And, not-Or, not-Slice, not-Compare, not-Yield, not-YieldFrom) = absurd (not-And a es (rolled-node x _ (node.And a es) is (node.outs-And a es)))
+choice-node l u (open_node.Or a es) x m is (not-And, not-Or, not-Slice, not-Compare, not-Yield, not-YieldFrom) = absurd (not-Or a es (rolled-node x _ (node.Or a es) is (node.outs-Or a es)))
+choice-node l u (open_node.Slice a b c) x m is (not-And, not-Or, not-Slice, not-Compare, not-Yield, not-YieldFrom) = absurd (not-Slice a b c (rolled-node x _ (node.Slice a b c) is (node.outs-Slice a b c)))
+choice-node l u (open_node.Compare a o b r) x m is (not-And, not-Or, not-Slice, not-Compare, not-Yield, not-YieldFrom) = absurd (not-Compare a o b r (rolled-node x _ (node.Compare a o b r) is (node.outs-Compare a o b r)))
+choice-node l u (open_node.Yield v) x m is (not-And, not-Or, not-Slice, not-Compare, not-Yield, not-YieldFrom) = absurd (not-Yield v (rolled-node x _ (node.Yield v) is (node.outs-Yield v)))
+choice-node l u (open_node.YieldFrom a) x m is (not-And, not-Or, not-Slice, not-Compare, not-Yield, not-YieldFrom) = absurd (not-YieldFrom a (rolled-node x _ (node.YieldFrom a) is (node.outs-YieldFrom a)))
 choice-node l u n x m is never = refl
 
 pub choice-other : (line before : ℕ) (e : WideExpr) → Not-choice e.node → narrow_choice line before (exp_of e) ≡ narrow_comprehension line before (exp_of e)
@@ -222,6 +222,19 @@ comprehension-node l u n x m is never = refl
 
 pub comprehension-other : (line before : ℕ) (e : WideExpr) → Not-comprehension e.node → narrow_comprehension line before (exp_of e) ≡ None
 comprehension-other l u e never = ap (narrow_comprehension l u) (exp-is e) ∙ comprehension-node l u (out-WideNode e.node) e.node e.line.0 refl never
+
+abbrev Not-own : WideNode → Type 0
+Not-own x =
+    ((es : List WideExpr) → x ≡ node.Tuple es → ⊥) ×
+    ((form : Comprehension) (a : WideExpr) (c : WideClause) (cs : List WideClause) → x ≡ node.Comprehension form a c cs → ⊥)
+
+own-node : (l u : ℕ) (n : Node) (x : WideNode) (m : ℕ) → out-WideNode x ≡ n → Not-own x → narrow_bare l u (plain-at n m) ≡ narrow_exp u (plain-at n m)
+own-node l u (open_node.Tuple es) x m is (not-Tuple, not-Comprehension) = absurd (not-Tuple es (rolled-node x _ (node.Tuple es) is (node.outs-Tuple es)))
+own-node l u (open_node.Comprehension form a c cs) x m is (not-Tuple, not-Comprehension) = absurd (not-Comprehension form a c cs (rolled-node x _ (node.Comprehension form a c cs) is (node.outs-Comprehension form a c cs)))
+own-node l u n x m is never = refl
+
+pub own-other : (line before : ℕ) (e : WideExpr) → Not-own e.node → narrow_bare line before (exp_of e) ≡ narrow_exp before (exp_of e)
+own-other l u e never = ap (narrow_bare l u) (exp-is e) ∙ own-node l u (out-WideNode e.node) e.node e.line.0 refl never ∙ sym (ap (narrow_exp u) (exp-is e))
 
 generator-node : (n : Node) (x : WideNode) (l : ℕ) → out-WideNode x ≡ n → ((form : Comprehension) (a : WideExpr) (c : WideClause) (cs : List WideClause) → x ≡ node.Comprehension form a c cs → ⊥) → is_generator (plain-at n l) ≡ false
 generator-node (open_node.Comprehension form a c cs) x l is never = absurd (never form a c cs (rolled-node x _ (node.Comprehension form a c cs) is (node.outs-Comprehension form a c cs)))

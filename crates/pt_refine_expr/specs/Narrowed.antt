@@ -132,19 +132,18 @@ narrow_comprehension l n e = None
 abbrev pub narrow_choice : (line before : ℕ) → W.Exp → Option T.Exp
 narrow_choice l n (W.and m a es) = narrow_exp n (W.and m a es)
 narrow_choice l n (W.or m a es) = narrow_exp n (W.or m a es)
-narrow_choice l n (W.conditional m c a b) = narrow_exp n (W.conditional m c a b)
-narrow_choice l n (W.call m f args) = narrow_exp n (W.call m f args)
-narrow_choice l n (W.lambda m ps e) = narrow_exp n (W.lambda m ps e)
+narrow_choice l n (W.slice m a b c) = narrow_exp n (W.slice m a b c)
+narrow_choice l n (W.compare m a o b r) = narrow_exp n (W.compare m a o b r)
 narrow_choice l n (W.yield m v) = narrow_exp n (W.yield m v)
 narrow_choice l n (W.yield_from m e) = narrow_exp n (W.yield_from m e)
 narrow_choice l n e = narrow_comprehension l n e
 
-abbrev pub narrow_operation : (line before : ℕ) → W.Exp → Option T.Exp
-narrow_operation l n (W.attribute m a x) = narrow_exp n (W.attribute m a x)
-narrow_operation l n (W.item m a i) = narrow_exp n (W.item m a i)
-narrow_operation l n (W.slice m a b c) = narrow_exp n (W.slice m a b c)
-narrow_operation l n (W.unary m o a) = narrow_exp n (W.unary m o a)
-narrow_operation l n (W.not_of m a) = narrow_exp n (W.not_of m a)
-narrow_operation l n (W.binary m o a b) = narrow_exp n (W.binary m o a b)
-narrow_operation l n (W.compare m a o b r) = narrow_exp n (W.compare m a o b r)
-narrow_operation l n e = narrow_choice l n e
+abbrev pub narrow_atom : (line before : ℕ) → W.Exp → Option T.Exp
+narrow_atom l n (W.constant m k) = narrow_exp n (W.constant m k)
+narrow_atom l n (W.name m x) = narrow_exp n (W.name m x)
+narrow_atom l n (W.joined m ps) = narrow_exp n (W.joined m ps)
+narrow_atom l n (W.tuple m es) = narrow_bare l n (W.tuple m es)
+narrow_atom l n (W.list m es) = narrow_exp n (W.list m es)
+narrow_atom l n (W.set m es) = narrow_exp n (W.set m es)
+narrow_atom l n (W.dict m es) = narrow_exp n (W.dict m es)
+narrow_atom l n e = narrow_choice l n e

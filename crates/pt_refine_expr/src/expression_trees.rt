@@ -4,13 +4,16 @@
 ghost use Rattle.std.specs.Prelude.{◌≡◌, Some, None, IfErr, IfOk};
 ghost use Rattle.pt_refine_expr.specs.Blocks.{blocks_all, blocks_args, blocks_clauses, blocks_entries, blocks_entry, blocks_exp, blocks_formals, blocks_links, blocks_opt, blocks_params, blocks_pieces};
 ghost use Rattle.pt_refine_expr.specs.Narrow.{narrow_all, narrow_args, narrow_clauses, narrow_entries, narrow_formals, narrow_links, narrow_operator, narrow_opt, narrow_pair, narrow_params, narrow_pieces};
-ghost use Rattle.pt_refine_expr.specs.Narrowed.{Makes, MakesBare, MakesExp, MakesTarget, MakesBareTarget, MakesTargets, Puts, args_of, clauses_of, entries_of, exps_of, formals_of, links_of, narrow_choice, narrow_comprehension, narrow_operation, pair_of, pieces_of, put_clause, wide_args, wide_clauses, wide_entries, wide_exps, wide_formals, wide_links, wide_pieces};
+ghost use Rattle.pt_refine_expr.specs.Narrowed.{Makes, MakesBare, MakesExp, MakesTarget, MakesBareTarget, MakesTargets, Puts, args_of, clauses_of, entries_of, exps_of, formals_of, links_of, narrow_atom, narrow_choice, narrow_comprehension, pair_of, pieces_of, put_clause, wide_args, wide_clauses, wide_entries, wide_exps, wide_formals, wide_links, wide_pieces};
 ghost use Rattle.pt_tree.specs.Fold as T;
 ghost use Rattle.pt_wide.specs.Fold as W;
 
 use crate::copies::{copied_constant, copied_parameter};
 use crate::kept::{only_here, only_inside, only_targets, without_slash};
 use crate::narrower::Narrower;
+use crate::nodes::{
+    attribute_of, binary_of, call_of, conditional_of, item_of, lambda_of, not_of, unary_of,
+};
 use crate::stars::Stars;
 use crate::unnarrowed::Unnarrowed;
 use pt_base::{BinOp, Boxed, Dup, Line, Seq};
@@ -23,12 +26,73 @@ use pt_wide::{
     WideNode, WideParameter, WideParameters, WidePiece,
 };
 
-/// An expression (Language Reference 6).
+/// An expression (Language Reference 6); here the kinds that nest without brackets, deeper than
+/// brackets do. Each arm has room of its own in the frame, so that nodes are made elsewhere, and the
+/// other kinds have frames of their own.
 #[cycle(trees)]
 pub fn expression(n: &mut Narrower, e: &WideExpr) -> Result<Expr, Unnarrowed>
     ensures { MakesExp result n.old (W.exp_of e.now) n.new }
 {
-    bare(n, e.line, e)
+    let line = e.line;
+    match &e.node {
+        WideNode::Parenthesized(inside) => inner(n, line, inside.get()),
+        WideNode::Attribute { object, name } => {
+            let object = boxed(n, object.get())?;
+            let name = name.dup(n.alloc())?;
+            Ok(attribute_of(line, object, name))
+        }
+        WideNode::Item { object, index } => {
+            let object = boxed(n, object.get())?;
+            let index = boxed(n, index.get())?;
+            Ok(item_of(line, object, index))
+        }
+        WideNode::Unary { operator, operand } => {
+            let operand = boxed(n, operand.get())?;
+            Ok(unary_of(line, *operator, operand))
+        }
+        WideNode::Not(operand) => {
+            let operand = boxed(n, operand.get())?;
+            Ok(not_of(line, operand))
+        }
+        WideNode::Binary {
+            left,
+            operator,
+            right,
+        } => {
+            let operator = plain_operator(*operator)?;
+            let left = boxed(n, left.get())?;
+            let right = boxed(n, right.get())?;
+            Ok(binary_of(line, left, operator, right))
+        }
+        WideNode::Conditional {
+            test,
+            body,
+            otherwise,
+        } => {
+            let body = boxed(n, body.get())?;
+            let test = boxed(n, test.get())?;
+            let otherwise = boxed(n, otherwise.get())?;
+            Ok(conditional_of(line, test, body, otherwise))
+        }
+        WideNode::Call {
+            callee,
+            arguments: values,
+        } => {
+            let callee = boxed(n, callee.get())?;
+            let arguments = arguments(n, values.as_slice())?;
+            Ok(call_of(line, callee, arguments))
+        }
+        WideNode::Lambda {
+            parameters: names,
+            body,
+        } => {
+            let block = n.start()?;
+            let parameters = boxed_parameters(n, names)?;
+            let body = boxed(n, body.get())?;
+            Ok(lambda_of(line, block, parameters, body))
+        }
+        _ => atom(n, line, e),
+    }
 }
 
 #[cycle(trees)]
@@ -39,10 +103,24 @@ pub fn boxed(n: &mut Narrower, e: &WideExpr) -> Result<Boxed<Expr>, Unnarrowed>
     Ok(Boxed::new(n.alloc(), e)?)
 }
 
-/// An expression that starts on a line if it has no brackets of its own.
+/// What stands in parentheses that start on a line, where it starts if it has no brackets of its own
+/// (Language Reference 6.2.3).
 #[cycle(trees)]
-fn bare(n: &mut Narrower, start: Line, e: &WideExpr) -> Result<Expr, Unnarrowed>
+fn inner(n: &mut Narrower, start: Line, e: &WideExpr) -> Result<Expr, Unnarrowed>
     ensures { MakesBare result start.0 n.old (W.exp_of e.now) n.new }
+{
+    match &e.node {
+        WideNode::Parenthesized(inside) => inner(n, e.line, inside.get()),
+        WideNode::Tuple(_) => atom(n, start, e),
+        WideNode::Comprehension { .. } => comprehension(n, start, e),
+        _ => expression(n, e),
+    }
+}
+
+/// An atom (Language Reference 6.2), on a line if it is a tuple or a generator expression.
+#[cycle(trees)]
+fn atom(n: &mut Narrower, start: Line, e: &WideExpr) -> Result<Expr, Unnarrowed>
+    ensures { Makes T.exp_of result (narrow_atom start.0 n.old (W.exp_of e.now)) n.old (blocks_exp (W.exp_of e.now)) n.new }
 {
     let line = e.line;
     match &e.node {
@@ -67,7 +145,6 @@ fn bare(n: &mut Narrower, start: Line, e: &WideExpr) -> Result<Expr, Unnarrowed>
                 node: ExprNode::Joined(parts),
             })
         }
-        WideNode::Parenthesized(inside) => bare(n, line, inside.get()),
         WideNode::Tuple(items) => {
             let items = all(n, items.as_slice())?;
             Ok(Expr {
@@ -96,101 +173,12 @@ fn bare(n: &mut Narrower, start: Line, e: &WideExpr) -> Result<Expr, Unnarrowed>
                 node: ExprNode::Dict(items),
             })
         }
-        _ => operation(n, start, e),
-    }
-}
-
-/// A primary behind an atom, or an operation (Language Reference 6.3 to 6.10).
-#[cycle(trees)]
-fn operation(n: &mut Narrower, start: Line, e: &WideExpr) -> Result<Expr, Unnarrowed>
-    ensures { Makes T.exp_of result (narrow_operation start.0 n.old (W.exp_of e.now)) n.old (blocks_exp (W.exp_of e.now)) n.new }
-{
-    let line = e.line;
-    match &e.node {
-        WideNode::Attribute { object, name } => {
-            let object = boxed(n, object.get())?;
-            let name = name.dup(n.alloc())?;
-            Ok(Expr {
-                line,
-                node: ExprNode::Attribute { object, name },
-            })
-        }
-        WideNode::Item { object, index } => {
-            let object = boxed(n, object.get())?;
-            let index = boxed(n, index.get())?;
-            Ok(Expr {
-                line,
-                node: ExprNode::Item { object, index },
-            })
-        }
-        WideNode::Slice { start, stop, step } => {
-            let start = optional(n, start)?;
-            let stop = optional(n, stop)?;
-            let step = optional(n, step)?;
-            Ok(Expr {
-                line,
-                node: ExprNode::Slice { start, stop, step },
-            })
-        }
-        WideNode::Unary { operator, operand } => {
-            let operand = boxed(n, operand.get())?;
-            Ok(Expr {
-                line,
-                node: ExprNode::Unary {
-                    operator: *operator,
-                    operand,
-                },
-            })
-        }
-        WideNode::Not(operand) => {
-            let operand = boxed(n, operand.get())?;
-            Ok(Expr {
-                line,
-                node: ExprNode::Not(operand),
-            })
-        }
-        WideNode::Binary {
-            left,
-            operator,
-            right,
-        } => {
-            let operator = plain_operator(*operator)?;
-            let left = boxed(n, left.get())?;
-            let right = boxed(n, right.get())?;
-            Ok(Expr {
-                line,
-                node: ExprNode::Binary {
-                    left,
-                    operator,
-                    right,
-                },
-            })
-        }
-        WideNode::Compare {
-            left,
-            operator,
-            right,
-            rest,
-        } => {
-            let left = boxed(n, left.get())?;
-            let right = boxed(n, right.get())?;
-            let rest = links(n, rest.as_slice())?;
-            Ok(Expr {
-                line,
-                node: ExprNode::Compare {
-                    left,
-                    operator: *operator,
-                    right,
-                    rest,
-                },
-            })
-        }
         _ => choice(n, start, e),
     }
 }
 
-/// A call, a choice between operands, a lambda or a yield (Language Reference 6.2.9, 6.3.4, 6.11 to
-/// 6.14).
+/// A choice between operands, a slice, a comparison or a yield, which nest in brackets alone
+/// (Language Reference 6.2.9, 6.3.3, 6.10, 6.11).
 #[cycle(trees)]
 fn choice(n: &mut Narrower, start: Line, e: &WideExpr) -> Result<Expr, Unnarrowed>
     ensures { Makes T.exp_of result (narrow_choice start.0 n.old (W.exp_of e.now)) n.old (blocks_exp (W.exp_of e.now)) n.new }
@@ -213,47 +201,31 @@ fn choice(n: &mut Narrower, start: Line, e: &WideExpr) -> Result<Expr, Unnarrowe
                 node: ExprNode::Or { first, rest },
             })
         }
-        WideNode::Conditional {
-            test,
-            body,
-            otherwise,
-        } => {
-            let body = boxed(n, body.get())?;
-            let test = boxed(n, test.get())?;
-            let otherwise = boxed(n, otherwise.get())?;
+        WideNode::Slice { start, stop, step } => {
+            let start = optional(n, start)?;
+            let stop = optional(n, stop)?;
+            let step = optional(n, step)?;
             Ok(Expr {
                 line,
-                node: ExprNode::Conditional {
-                    test,
-                    body,
-                    otherwise,
-                },
+                node: ExprNode::Slice { start, stop, step },
             })
         }
-        WideNode::Call {
-            callee,
-            arguments: values,
+        WideNode::Compare {
+            left,
+            operator,
+            right,
+            rest,
         } => {
-            let callee = boxed(n, callee.get())?;
-            let arguments = arguments(n, values.as_slice())?;
+            let left = boxed(n, left.get())?;
+            let right = boxed(n, right.get())?;
+            let rest = links(n, rest.as_slice())?;
             Ok(Expr {
                 line,
-                node: ExprNode::Call { callee, arguments },
-            })
-        }
-        WideNode::Lambda {
-            parameters: names,
-            body,
-        } => {
-            let block = n.start()?;
-            let parameters = parameters(n, names)?;
-            let body = boxed(n, body.get())?;
-            Ok(Expr {
-                line,
-                node: ExprNode::Lambda {
-                    block,
-                    parameters,
-                    body,
+                node: ExprNode::Compare {
+                    left,
+                    operator: *operator,
+                    right,
+                    rest,
                 },
             })
         }
@@ -537,7 +509,7 @@ fn boxed_clause(n: &mut Narrower, one: &WideClause) -> Result<Boxed<Clause>, Unn
 
 /// Parameters without a `/` (Language Reference 8.7).
 #[cycle(trees)]
-pub fn parameters(n: &mut Narrower, names: &WideParameters) -> Result<Parameters, Unnarrowed>
+fn parameters(n: &mut Narrower, names: &WideParameters) -> Result<Parameters, Unnarrowed>
     ensures { Makes T.parameters_of result (narrow_params n.old (W.parameters_of names.now)) n.old (blocks_params (W.parameters_of names.now)) n.new }
 {
     without_slash(names)?;
@@ -551,6 +523,18 @@ pub fn parameters(n: &mut Narrower, names: &WideParameters) -> Result<Parameters
         keyword_only,
         double_star,
     })
+}
+
+/// Parameters in a box.
+#[cycle(trees)]
+pub fn boxed_parameters(
+    n: &mut Narrower,
+    names: &WideParameters,
+) -> Result<Boxed<Parameters>, Unnarrowed>
+    ensures { Makes T.parameters_of result (narrow_params n.old (W.parameters_of names.now)) n.old (blocks_params (W.parameters_of names.now)) n.new }
+{
+    let names = parameters(n, names)?;
+    Ok(Boxed::new(n.alloc(), names)?)
 }
 
 #[cycle(trees)]

@@ -13,12 +13,13 @@ mod language;
 pub mod laws;
 mod narrower;
 mod narrowing;
+mod nodes;
 mod stars;
 mod statement_faults;
 mod unnarrowed;
 
 pub use copies::{copied_aliases, copied_name};
-pub use expression_trees::{boxed, expression, parameters, target, targets};
+pub use expression_trees::{boxed, boxed_parameters, expression, target, targets};
 pub use fault::Fault;
 pub use faults::{first_fault, first_fault_of_expr};
 pub use language::{narrow_expr, told};

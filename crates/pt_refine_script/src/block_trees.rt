@@ -12,10 +12,12 @@ ghost use Rattle.pt_wide.specs.StatementFold as W;
 use crate::kept::without_star;
 use crate::statement_nodes::{def_of, for_of, while_of};
 use crate::statement_trees::{
-    assignment, base, boxed_parameters, boxed_returned, boxed_target, decorators, entered, value,
+    assignment, base, boxed_returned, boxed_target, decorators, entered, value,
 };
 use pt_base::{Dup, Seq};
-use pt_refine_expr::{Narrower, Stars, Unnarrowed, boxed, copied_name, expression};
+use pt_refine_expr::{
+    Narrower, Stars, Unnarrowed, boxed, boxed_parameters, copied_name, expression,
+};
 use pt_tree::{Branch, Handler, Stmt, StmtNode};
 use pt_wide::{WideBranch, WideHandler, WideStmt, WideStmtNode};
 

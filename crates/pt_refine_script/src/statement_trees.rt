@@ -2,8 +2,8 @@
 //! Reference 7, 8).
 
 ghost use Rattle.std.specs.Prelude.{◌≡◌, Some, IfErr, IfOk, option_map};
-ghost use Rattle.pt_refine_expr.specs.Blocks.{blocks_all, blocks_args, blocks_exp, blocks_opt, blocks_params};
-ghost use Rattle.pt_refine_expr.specs.Narrow.{narrow_exp, narrow_opt, narrow_params, narrow_place};
+ghost use Rattle.pt_refine_expr.specs.Blocks.{blocks_all, blocks_args, blocks_exp, blocks_opt};
+ghost use Rattle.pt_refine_expr.specs.Narrow.{narrow_exp, narrow_opt, narrow_place};
 ghost use Rattle.pt_refine_expr.specs.Narrowed.{Left, Makes, MakesExp, MakesTarget, tgts_of, wide_args, wide_exps};
 ghost use Rattle.pt_refine_expr.specs.StatementBlocks.{blocks_decorators, blocks_items};
 ghost use Rattle.pt_refine_expr.specs.StatementNarrow.{narrow_as, narrow_assigned, narrow_base, narrow_decorators, narrow_from, narrow_items};
@@ -17,15 +17,10 @@ ghost use Rattle.pt_wide.specs.StatementFold as WS;
 use crate::kept::{no_generator, only_one, without_comma};
 use pt_base::{Boxed, Dup, Seq};
 use pt_refine_expr::{
-    Narrower, Stars, Unnarrowed, boxed, copied_aliases, expression, parameters, target, targets,
+    Narrower, Stars, Unnarrowed, boxed, copied_aliases, expression, target, targets,
 };
-use pt_tree::{
-    Alias, Decorator, Expr, Parameters, Place, PlaceNode, Stmt, StmtNode, Target, WithItem,
-};
-use pt_wide::{
-    WideArgument, WideDecorator, WideExpr, WideItem, WideNode, WideParameters, WideStmt,
-    WideStmtNode,
-};
+use pt_tree::{Alias, Decorator, Expr, Place, PlaceNode, Stmt, StmtNode, Target, WithItem};
+use pt_wide::{WideArgument, WideDecorator, WideExpr, WideItem, WideNode, WideStmt, WideStmtNode};
 
 /// An expression that need not be there.
 pub fn value(n: &mut Narrower, e: &Option<WideExpr>) -> Result<Option<Expr>, Unnarrowed>
@@ -70,17 +65,6 @@ pub fn boxed_target(
 {
     let e = target(n, stars, e)?;
     Ok(Boxed::new(n.alloc(), e)?)
-}
-
-/// Parameters in a box.
-pub fn boxed_parameters(
-    n: &mut Narrower,
-    names: &WideParameters,
-) -> Result<Boxed<Parameters>, Unnarrowed>
-    ensures { Makes T.parameters_of result (narrow_params n.old (W.parameters_of names.now)) n.old (blocks_params (W.parameters_of names.now)) n.new }
-{
-    let names = parameters(n, names)?;
-    Ok(Boxed::new(n.alloc(), names)?)
 }
 
 /// The annotation of what a function returns, in a box.

@@ -79,7 +79,7 @@ module _ {V : Type 0} (c : Code) (b : CodeBlock) (object : CodeObject V) (is : I
 
     aside : (t : Option ℕ) → target_of i.instr ≡ t → (o : Option Kinds) → e.aside ≡ o → (s : SizeStep) → Contains (gives_aside e n t o) s → Comes s
     aside (Some t) f (Some given) g s k = subst Comes (single _ s k) (subst (λ f. length f.takes ≤ n → f.aside ≡ Some given → At t (n - length f.takes + length given)) (same_effect i.instr)
-        (λ m h. O.aside q n t i given here at m (same_target i.instr ∙ f) h) enough g)
+        (λ m h. O.aside q n t i given here at m f h) enough g)
     aside (Some t) f None g s k = absurd (nothing s k)
     aside None f (Some given) g s k = absurd (nothing s k)
     aside None f None g s k = absurd (nothing s k)

@@ -13,58 +13,70 @@ use Rattle.pt_wide.specs.Syntax as W
 use Rattle.pt_refine_expr.specs.Blocks.{blocks_all, blocks_args, blocks_clauses, blocks_entries, blocks_exp, blocks_formals, blocks_links, blocks_params, blocks_pieces}
 use Rattle.pt_refine_expr.specs.Narrow as N
 use Rattle.pt_refine_expr.specs.Narrow.{generator, narrow_all, narrow_args, narrow_bare, narrow_clauses, narrow_entries, narrow_exp, narrow_formals, narrow_links, narrow_opt, narrow_pair, narrow_params, narrow_pieces, narrow_target, narrow_targets}
-use Rattle.pt_refine_expr.specs.Narrowed.{clauses_of, formals_of, links_of, narrow_bare_target, narrow_choice, narrow_comprehension, narrow_operation, pair_of, wide_args, wide_clauses, wide_entries, wide_exps, wide_formals, wide_links, wide_pieces}
+use Rattle.pt_refine_expr.specs.Narrowed.{clauses_of, formals_of, links_of, narrow_bare_target, narrow_choice, narrow_comprehension, narrow_atom, pair_of, wide_args, wide_clauses, wide_entries, wide_exps, wide_formals, wide_links, wide_pieces}
 use Rattle.pt_refine_expr.specs.Targets.{alone, are_targets, behind_item, is_inside_target, opened}
 use Rattle.pt_refine_expr.specs.Ways.{both, three}
-use Rattle.pt_refine_expr.proofs.Bare.{parenthesized-bare}
-use Rattle.pt_refine_expr.proofs.Others.{bare-other, choice-other, comprehension-other, operation-other, target-left}
-use Rattle.pt_refine_expr.proofs.Building.{both-second, leaves, left-out, walk-left, at-made, at-made-entry, at-made-params, at-node, at-target, bare-is, bare-target-is, both-is, clause-made, clauses-chained, exps-chained, formal-made, left-at, left-none, made-back, made-behind, made-comprehension, made-generator, made-is, made-none, made-one, made-start, made-three, made-two, no-form, one-form, option-same-at, parameters-made, parenthesized-target, put-beside, put-both, put-four, put-is, put-literal, put-three, same-narrow, targets-chained, walk-begin, walk-end, walk-step}
+use Rattle.pt_refine_expr.proofs.Bare.{comprehension-bare, parenthesized-bare, tuple-bare}
+use Rattle.pt_refine_expr.proofs.Others.{bare-other, choice-other, comprehension-other, atom-other, own-other, target-left}
+use Rattle.pt_refine_expr.proofs.Building.{both-second, leaves, left-out, walk-left, at-made, at-made-entry, at-made-params, at-exp, at-node, at-target, bare-is, bare-target-is, both-is, clause-made, clauses-chained, exps-chained, formal-made, left-at, left-none, made-back, made-behind, made-comprehension, made-generator, made-is, made-none, made-one, made-start, made-three, made-two, no-form, one-form, option-same-at, parameters-made, parenthesized-target, put-beside, put-both, put-four, put-is, put-literal, put-three, same-narrow, targets-chained, walk-begin, walk-end, walk-step}
 use Rattle.pt_refine_expr.proofs.expression_trees.+trees.Goals as goal
 
-pub bare-returns-in_ok-constant-in-Constant : goal.bare-returns-in_ok-constant-in-Constant
-bare-returns-in_ok-constant-in-Constant t c = at-made (narrow_bare c.args.start.0 c.args.n.now) (wide.exp_of-Constant c.args.e.now _ c.in-Constant.is) (made-is refl (tree.exp_of-Constant _ _ refl ∙ ap (λ k. P.constant c.args.e.now.line.0 k) c.in_ok-constant-in-Constant.ensures) refl (made-none refl))
+pub atom-returns-in_ok-constant-in-Constant : goal.atom-returns-in_ok-constant-in-Constant
+atom-returns-in_ok-constant-in-Constant t c = at-made (narrow_atom c.args.start.0 c.args.n.now) (wide.exp_of-Constant c.args.e.now _ c.in-Constant.is) (made-is refl (tree.exp_of-Constant _ _ refl ∙ ap (λ k. P.constant c.args.e.now.line.0 k) c.in_ok-constant-in-Constant.ensures) refl (made-none refl))
 
-pub bare-returns-in_ok-name-in-Name : goal.bare-returns-in_ok-name-in-Name
-bare-returns-in_ok-name-in-Name t c = at-made (narrow_bare c.args.start.0 c.args.n.now) (wide.exp_of-Name c.args.e.now _ c.in-Name.is) (made-is refl (tree.exp_of-Name _ _ refl ∙ ap (λ x. P.name c.args.e.now.line.0 x) c.in_ok-name-in-Name.ensures) refl (made-none refl))
+pub atom-returns-in_ok-name-in-Name : goal.atom-returns-in_ok-name-in-Name
+atom-returns-in_ok-name-in-Name t c = at-made (narrow_atom c.args.start.0 c.args.n.now) (wide.exp_of-Name c.args.e.now _ c.in-Name.is) (made-is refl (tree.exp_of-Name _ _ refl ∙ ap (λ x. P.name c.args.e.now.line.0 x) c.in_ok-name-in-Name.ensures) refl (made-none refl))
 
-pub bare-returns-in_ok-parts-in-Joined : goal.bare-returns-in_ok-parts-in-Joined
-bare-returns-in_ok-parts-in-Joined t c = at-made (narrow_bare c.args.start.0 c.args.n.now) (wide.exp_of-Joined c.args.e.now _ (c.in-Joined.is ∙ rw c.as_slice.ensures)) (made-is refl (tree.exp_of-Joined _ _ refl) refl (made-one (P.joined c.args.e.now.line.0) c.in_ok-parts-in-Joined.ensures))
+pub atom-returns-in_ok-parts-in-Joined : goal.atom-returns-in_ok-parts-in-Joined
+atom-returns-in_ok-parts-in-Joined t c = at-made (narrow_atom c.args.start.0 c.args.n.now) (wide.exp_of-Joined c.args.e.now _ (c.in-Joined.is ∙ rw c.as_slice.ensures)) (made-is refl (tree.exp_of-Joined _ _ refl) refl (made-one (P.joined c.args.e.now.line.0) c.in_ok-parts-in-Joined.ensures))
 
-pub bare-returns-in-Parenthesized : goal.bare-returns-in-Parenthesized
-bare-returns-in-Parenthesized t c = at-node c.bare.result c.args.start.0 c.args.n.now c.bare.new.n _ _ (wide.exp_of-Parenthesized c.args.e.now _ (c.in-Parenthesized.is ∙ rw c.get.ensures)) (same-narrow T.exp_of c.bare.result (narrow_bare c.args.e.now.line.0 c.args.n.now (V.exp_of c.get.result.now)) _ c.args.n.now (blocks_exp (V.exp_of c.get.result.now)) c.bare.new.n (parenthesized-bare c.args.n.now c.args.e.now.line.0 (V.exp_of c.get.result.now)) c.bare.ensures)
+pub inner-returns-in-Parenthesized : goal.inner-returns-in-Parenthesized
+inner-returns-in-Parenthesized t c = at-node c.inner.result c.args.start.0 c.args.n.now c.inner.new.n _ _ (wide.exp_of-Parenthesized c.args.e.now _ (c.in-Parenthesized.is ∙ rw c.get.ensures)) (same-narrow T.exp_of c.inner.result (narrow_bare c.args.e.now.line.0 c.args.n.now (V.exp_of c.get.result.now)) _ c.args.n.now (blocks_exp (V.exp_of c.get.result.now)) c.inner.new.n (parenthesized-bare c.args.n.now c.args.e.now.line.0 (V.exp_of c.get.result.now)) c.inner.ensures)
 
-pub bare-returns-in_ok-items-in-Tuple : goal.bare-returns-in_ok-items-in-Tuple
-bare-returns-in_ok-items-in-Tuple t c = at-made (narrow_bare c.args.start.0 c.args.n.now) (wide.exp_of-Tuple c.args.e.now _ (c.in-Tuple.is ∙ rw c.as_slice-in-Tuple.ensures)) (made-is refl (tree.exp_of-Tuple _ _ refl) refl (made-one (P.tuple c.args.start.0) c.in_ok-items-in-Tuple.ensures))
+pub expression-returns-in-Parenthesized : goal.expression-returns-in-Parenthesized
+expression-returns-in-Parenthesized t c = at-exp c.inner.result c.args.n.now c.inner.new.n _ _ (wide.exp_of-Parenthesized c.args.e.now _ (c.in-Parenthesized.is ∙ rw c.get.ensures)) (same-narrow T.exp_of c.inner.result (narrow_bare c.args.e.now.line.0 c.args.n.now (V.exp_of c.get.result.now)) _ c.args.n.now (blocks_exp (V.exp_of c.get.result.now)) c.inner.new.n (parenthesized-bare c.args.n.now c.args.e.now.line.0 (V.exp_of c.get.result.now)) c.inner.ensures)
 
-pub bare-returns-in_ok-items-in-List : goal.bare-returns-in_ok-items-in-List
-bare-returns-in_ok-items-in-List t c = at-made (narrow_bare c.args.start.0 c.args.n.now) (wide.exp_of-List c.args.e.now _ (c.in-List.is ∙ rw c.as_slice-in-List.ensures)) (made-is refl (tree.exp_of-List _ _ refl) refl (made-one (P.list c.args.e.now.line.0) c.in_ok-items-in-List.ensures))
+pub inner-returns-in-Tuple : goal.inner-returns-in-Tuple
+inner-returns-in-Tuple t c = same-narrow T.exp_of c.atom.result (narrow_atom c.args.start.0 c.args.n.now (V.exp_of c.args.e.now)) (narrow_bare c.args.start.0 c.args.n.now (V.exp_of c.args.e.now)) c.args.n.now (blocks_exp (V.exp_of c.args.e.now)) c.atom.new.n (tuple-bare c.args.start.0 c.args.n.now _ (wide.exp_of-Tuple c.args.e.now _ c.in-Tuple.is)) c.atom.ensures
 
-pub bare-returns-in_ok-items-in-Set : goal.bare-returns-in_ok-items-in-Set
-bare-returns-in_ok-items-in-Set t c = at-made (narrow_bare c.args.start.0 c.args.n.now) (wide.exp_of-Set c.args.e.now _ (c.in-Set.is ∙ rw c.as_slice-in-Set.ensures)) (made-is refl (tree.exp_of-Set _ _ refl) refl (made-one (P.set c.args.e.now.line.0) c.in_ok-items-in-Set.ensures))
+pub inner-returns-in-Comprehension : goal.inner-returns-in-Comprehension
+inner-returns-in-Comprehension t c = same-narrow T.exp_of c.comprehension.result (narrow_comprehension c.args.start.0 c.args.n.now (V.exp_of c.args.e.now)) (narrow_bare c.args.start.0 c.args.n.now (V.exp_of c.args.e.now)) c.args.n.now (blocks_exp (V.exp_of c.args.e.now)) c.comprehension.new.n (comprehension-bare c.args.start.0 c.args.n.now _ (wide.exp_of-Comprehension c.args.e.now _ _ _ _ c.in-Comprehension.is)) c.comprehension.ensures
 
-pub bare-returns-in_ok-items-in-Dict : goal.bare-returns-in_ok-items-in-Dict
-bare-returns-in_ok-items-in-Dict t c = at-made (narrow_bare c.args.start.0 c.args.n.now) (wide.exp_of-Dict c.args.e.now _ (c.in-Dict.is ∙ rw c.as_slice-in-Dict.ensures)) (made-is refl (tree.exp_of-Dict _ _ refl) refl (made-one (P.dict c.args.e.now.line.0) c.in_ok-items-in-Dict.ensures))
+pub inner-returns-in_default : goal.inner-returns-in_default
+inner-returns-in_default t c = same-narrow T.exp_of c.expression.result (narrow_exp c.args.n.now (V.exp_of c.args.e.now)) (narrow_bare c.args.start.0 c.args.n.now (V.exp_of c.args.e.now)) c.args.n.now (blocks_exp (V.exp_of c.args.e.now)) c.expression.new.n (own-other c.args.start.0 c.args.n.now c.args.e.now (c.in_default.not-Tuple, c.in_default.not-Comprehension)) c.expression.ensures
 
-pub operation-returns-in_ok-name-in-Attribute : goal.operation-returns-in_ok-name-in-Attribute
-operation-returns-in_ok-name-in-Attribute t c = at-made (narrow_operation c.args.start.0 c.args.n.now) (wide.exp_of-Attribute c.args.e.now _ _ (c.in-Attribute.is ∙ rw c.get.ensures)) (made-is refl (tree.exp_of-Attribute _ _ _ refl ∙ ap (λ x. P.attribute c.args.e.now.line.0 (T.exp_of c.in_ok-object-in-Attribute.object) x) c.in_ok-name-in-Attribute.ensures) refl (made-one (λ o. P.attribute c.args.e.now.line.0 o c.in-Attribute.name) c.in_ok-object-in-Attribute.ensures))
+pub atom-returns-in_ok-items-in-Tuple : goal.atom-returns-in_ok-items-in-Tuple
+atom-returns-in_ok-items-in-Tuple t c = at-made (narrow_atom c.args.start.0 c.args.n.now) (wide.exp_of-Tuple c.args.e.now _ (c.in-Tuple.is ∙ rw c.as_slice-in-Tuple.ensures)) (made-is refl (tree.exp_of-Tuple _ _ refl) refl (made-one (P.tuple c.args.start.0) c.in_ok-items-in-Tuple.ensures))
 
-pub operation-returns-in_ok-index-in-Item : goal.operation-returns-in_ok-index-in-Item
-operation-returns-in_ok-index-in-Item t c = at-made (narrow_operation c.args.start.0 c.args.n.now) (wide.exp_of-Item c.args.e.now _ _ (c.in-Item.is ∙ rw (c.get-in-Item.ensures, c.get-in-Item-2.ensures))) (made-is refl (tree.exp_of-Item _ _ _ refl) refl (made-two (P.item c.args.e.now.line.0) (λ m. narrow_exp m (V.exp_of c.get-in-Item-2.result.now)) c.in_ok-object-in-Item.ensures c.in_ok-index-in-Item.ensures))
+pub atom-returns-in_ok-items-in-List : goal.atom-returns-in_ok-items-in-List
+atom-returns-in_ok-items-in-List t c = at-made (narrow_atom c.args.start.0 c.args.n.now) (wide.exp_of-List c.args.e.now _ (c.in-List.is ∙ rw c.as_slice-in-List.ensures)) (made-is refl (tree.exp_of-List _ _ refl) refl (made-one (P.list c.args.e.now.line.0) c.in_ok-items-in-List.ensures))
 
-pub operation-returns-in_ok-step-in-Slice : goal.operation-returns-in_ok-step-in-Slice
-operation-returns-in_ok-step-in-Slice t c = at-made (narrow_operation c.args.start.0 c.args.n.now) (wide.exp_of-Slice c.args.e.now _ _ _ c.in-Slice.is) (made-is refl (tree.exp_of-Slice _ _ _ _ refl) refl (made-three (P.slice c.args.e.now.line.0) (λ m. narrow_opt m (V.opt_exp c.in-Slice.stop)) (λ m. narrow_opt m (V.opt_exp c.in-Slice.step)) c.in_ok-start-in-Slice.ensures c.in_ok-stop-in-Slice.ensures c.in_ok-step-in-Slice.ensures))
+pub atom-returns-in_ok-items-in-Set : goal.atom-returns-in_ok-items-in-Set
+atom-returns-in_ok-items-in-Set t c = at-made (narrow_atom c.args.start.0 c.args.n.now) (wide.exp_of-Set c.args.e.now _ (c.in-Set.is ∙ rw c.as_slice-in-Set.ensures)) (made-is refl (tree.exp_of-Set _ _ refl) refl (made-one (P.set c.args.e.now.line.0) c.in_ok-items-in-Set.ensures))
 
-pub operation-returns-in_ok-operand-in-Unary : goal.operation-returns-in_ok-operand-in-Unary
-operation-returns-in_ok-operand-in-Unary t c = at-made (narrow_operation c.args.start.0 c.args.n.now) (wide.exp_of-Unary c.args.e.now _ _ (c.in-Unary.is ∙ rw c.get-in-Unary.ensures)) (made-is refl (tree.exp_of-Unary _ _ _ refl) refl (made-one (P.unary c.args.e.now.line.0 c.in-Unary.operator) c.in_ok-operand-in-Unary.ensures))
+pub atom-returns-in_ok-items-in-Dict : goal.atom-returns-in_ok-items-in-Dict
+atom-returns-in_ok-items-in-Dict t c = at-made (narrow_atom c.args.start.0 c.args.n.now) (wide.exp_of-Dict c.args.e.now _ (c.in-Dict.is ∙ rw c.as_slice-in-Dict.ensures)) (made-is refl (tree.exp_of-Dict _ _ refl) refl (made-one (P.dict c.args.e.now.line.0) c.in_ok-items-in-Dict.ensures))
 
-pub operation-returns-in_ok-operand-in-Not : goal.operation-returns-in_ok-operand-in-Not
-operation-returns-in_ok-operand-in-Not t c = at-made (narrow_operation c.args.start.0 c.args.n.now) (wide.exp_of-Not c.args.e.now _ (c.in-Not.is ∙ rw c.get-in-Not.ensures)) (made-is refl (tree.exp_of-Not _ _ refl) refl (made-one (P.not_of c.args.e.now.line.0) c.in_ok-operand-in-Not.ensures))
+pub expression-returns-in_ok-name-in-Attribute : goal.expression-returns-in_ok-name-in-Attribute
+expression-returns-in_ok-name-in-Attribute t c = at-made (narrow_exp c.args.n.now) (wide.exp_of-Attribute c.args.e.now _ _ (c.in-Attribute.is ∙ rw c.get-in-Attribute.ensures)) (made-is refl (c.attribute_of.ensures ∙ ap (λ x. P.attribute c.args.e.now.line.0 (T.exp_of c.in_ok-object-in-Attribute.object) x) c.in_ok-name-in-Attribute.ensures) refl (made-one (λ o. P.attribute c.args.e.now.line.0 o c.in-Attribute.name) c.in_ok-object-in-Attribute.ensures))
 
-pub operation-returns-in_ok-right-in-Binary : goal.operation-returns-in_ok-right-in-Binary
-operation-returns-in_ok-right-in-Binary t c = at-made (narrow_operation c.args.start.0 c.args.n.now) (wide.exp_of-Binary c.args.e.now _ _ _ (c.in-Binary.is ∙ rw (c.get-in-Binary.ensures, c.get-in-Binary-2.ensures))) (made-is (ap (λ o. three (P.binary c.args.e.now.line.0) o (narrow_exp c.args.n.now (V.exp_of c.get-in-Binary.result.now)) (narrow_exp (c.args.n.now + blocks_exp (V.exp_of c.get-in-Binary.result.now)) (V.exp_of c.get-in-Binary-2.result.now))) c.in_ok-operator-in-Binary.ensures.ok) (tree.exp_of-Binary _ _ _ _ refl) refl (made-two (P.binary c.args.e.now.line.0 c.in_ok-operator-in-Binary.operator) (λ m. narrow_exp m (V.exp_of c.get-in-Binary-2.result.now)) c.in_ok-left-in-Binary.ensures c.in_ok-right-in-Binary.ensures))
+pub expression-returns-in_ok-index-in-Item : goal.expression-returns-in_ok-index-in-Item
+expression-returns-in_ok-index-in-Item t c = at-made (narrow_exp c.args.n.now) (wide.exp_of-Item c.args.e.now _ _ (c.in-Item.is ∙ rw (c.get-in-Item.ensures, c.get-in-Item-2.ensures))) (made-is refl c.item_of.ensures refl (made-two (P.item c.args.e.now.line.0) (λ m. narrow_exp m (V.exp_of c.get-in-Item-2.result.now)) c.in_ok-object-in-Item.ensures c.in_ok-index-in-Item.ensures))
 
-pub operation-returns-in_ok-rest-in-Compare : goal.operation-returns-in_ok-rest-in-Compare
-operation-returns-in_ok-rest-in-Compare t c = at-made (narrow_operation c.args.start.0 c.args.n.now) (wide.exp_of-Compare c.args.e.now _ _ _ _ (c.in-Compare.is ∙ rw (c.get-in-Compare.ensures, c.get-in-Compare-2.ensures, c.as_slice.ensures))) (made-is refl (tree.exp_of-Compare _ _ _ _ _ refl) refl (made-three (λ x y. P.compare c.args.e.now.line.0 x c.in-Compare.operator y) (λ m. narrow_exp m (V.exp_of c.get-in-Compare-2.result.now)) (λ m. narrow_links m (wide_links c.as_slice.result.now)) c.in_ok-left-in-Compare.ensures c.in_ok-right-in-Compare.ensures c.in_ok-rest-in-Compare.ensures))
+pub choice-returns-in_ok-step-in-Slice : goal.choice-returns-in_ok-step-in-Slice
+choice-returns-in_ok-step-in-Slice t c = at-made (narrow_choice c.args.start.0 c.args.n.now) (wide.exp_of-Slice c.args.e.now _ _ _ c.in-Slice.is) (made-is refl (tree.exp_of-Slice _ _ _ _ refl) refl (made-three (P.slice c.args.e.now.line.0) (λ m. narrow_opt m (V.opt_exp c.in-Slice.stop)) (λ m. narrow_opt m (V.opt_exp c.in-Slice.step)) c.in_ok-start-in-Slice.ensures c.in_ok-stop-in-Slice.ensures c.in_ok-step-in-Slice.ensures))
+
+pub expression-returns-in_ok-operand-in-Unary : goal.expression-returns-in_ok-operand-in-Unary
+expression-returns-in_ok-operand-in-Unary t c = at-made (narrow_exp c.args.n.now) (wide.exp_of-Unary c.args.e.now _ _ (c.in-Unary.is ∙ rw c.get-in-Unary.ensures)) (made-is refl c.unary_of.ensures refl (made-one (P.unary c.args.e.now.line.0 c.in-Unary.operator) c.in_ok-operand-in-Unary.ensures))
+
+pub expression-returns-in_ok-operand-in-Not : goal.expression-returns-in_ok-operand-in-Not
+expression-returns-in_ok-operand-in-Not t c = at-made (narrow_exp c.args.n.now) (wide.exp_of-Not c.args.e.now _ (c.in-Not.is ∙ rw c.get-in-Not.ensures)) (made-is refl c.not_of.ensures refl (made-one (P.not_of c.args.e.now.line.0) c.in_ok-operand-in-Not.ensures))
+
+pub expression-returns-in_ok-right-in-Binary : goal.expression-returns-in_ok-right-in-Binary
+expression-returns-in_ok-right-in-Binary t c = at-made (narrow_exp c.args.n.now) (wide.exp_of-Binary c.args.e.now _ _ _ (c.in-Binary.is ∙ rw (c.get-in-Binary.ensures, c.get-in-Binary-2.ensures))) (made-is (ap (λ o. three (P.binary c.args.e.now.line.0) o (narrow_exp c.args.n.now (V.exp_of c.get-in-Binary.result.now)) (narrow_exp (c.args.n.now + blocks_exp (V.exp_of c.get-in-Binary.result.now)) (V.exp_of c.get-in-Binary-2.result.now))) c.in_ok-operator-in-Binary.ensures.ok) c.binary_of.ensures refl (made-two (P.binary c.args.e.now.line.0 c.in_ok-operator-in-Binary.operator) (λ m. narrow_exp m (V.exp_of c.get-in-Binary-2.result.now)) c.in_ok-left-in-Binary.ensures c.in_ok-right-in-Binary.ensures))
+
+pub choice-returns-in_ok-rest-in-Compare : goal.choice-returns-in_ok-rest-in-Compare
+choice-returns-in_ok-rest-in-Compare t c = at-made (narrow_choice c.args.start.0 c.args.n.now) (wide.exp_of-Compare c.args.e.now _ _ _ _ (c.in-Compare.is ∙ rw (c.get-in-Compare.ensures, c.get-in-Compare-2.ensures, c.as_slice-in-Compare.ensures))) (made-is refl (tree.exp_of-Compare _ _ _ _ _ refl) refl (made-three (λ x y. P.compare c.args.e.now.line.0 x c.in-Compare.operator y) (λ m. narrow_exp m (V.exp_of c.get-in-Compare-2.result.now)) (λ m. narrow_links m (wide_links c.as_slice-in-Compare.result.now)) c.in_ok-left-in-Compare.ensures c.in_ok-right-in-Compare.ensures c.in_ok-rest-in-Compare.ensures))
 
 pub choice-returns-in_ok-rest-in-And : goal.choice-returns-in_ok-rest-in-And
 choice-returns-in_ok-rest-in-And t c = at-made (narrow_choice c.args.start.0 c.args.n.now) (wide.exp_of-And c.args.e.now _ _ (c.in-And.is ∙ rw (c.get.ensures, c.as_slice.ensures))) (made-is refl (tree.exp_of-And _ _ _ refl) refl (made-two (P.and c.args.e.now.line.0) (λ m. narrow_all m (wide_exps c.as_slice.result.now)) c.in_ok-first-in-And.ensures c.in_ok-rest-in-And.ensures))
@@ -72,23 +84,20 @@ choice-returns-in_ok-rest-in-And t c = at-made (narrow_choice c.args.start.0 c.a
 pub choice-returns-in_ok-rest-in-Or : goal.choice-returns-in_ok-rest-in-Or
 choice-returns-in_ok-rest-in-Or t c = at-made (narrow_choice c.args.start.0 c.args.n.now) (wide.exp_of-Or c.args.e.now _ _ (c.in-Or.is ∙ rw (c.get-in-Or.ensures, c.as_slice-in-Or.ensures))) (made-is refl (tree.exp_of-Or _ _ _ refl) refl (made-two (P.or c.args.e.now.line.0) (λ m. narrow_all m (wide_exps c.as_slice-in-Or.result.now)) c.in_ok-first-in-Or.ensures c.in_ok-rest-in-Or.ensures))
 
-pub choice-returns-in_ok-otherwise-in-Conditional : goal.choice-returns-in_ok-otherwise-in-Conditional
-choice-returns-in_ok-otherwise-in-Conditional t c = at-made (narrow_choice c.args.start.0 c.args.n.now) (wide.exp_of-Conditional c.args.e.now _ _ _ (c.in-Conditional.is ∙ rw (c.get-in-Conditional.ensures, c.get-in-Conditional-2.ensures, c.get-in-Conditional-3.ensures))) (made-is refl (tree.exp_of-Conditional _ _ _ _ refl) refl (made-three (λ x y. P.conditional c.args.e.now.line.0 y x) (λ m. narrow_exp m (V.exp_of c.get-in-Conditional-2.result.now)) (λ m. narrow_exp m (V.exp_of c.get-in-Conditional-3.result.now)) c.in_ok-body-in-Conditional.ensures c.in_ok-test-in-Conditional.ensures c.in_ok-otherwise-in-Conditional.ensures))
+pub expression-returns-in_ok-otherwise-in-Conditional : goal.expression-returns-in_ok-otherwise-in-Conditional
+expression-returns-in_ok-otherwise-in-Conditional t c = at-made (narrow_exp c.args.n.now) (wide.exp_of-Conditional c.args.e.now _ _ _ (c.in-Conditional.is ∙ rw (c.get-in-Conditional.ensures, c.get-in-Conditional-2.ensures, c.get-in-Conditional-3.ensures))) (made-is refl c.conditional_of.ensures refl (made-three (λ x y. P.conditional c.args.e.now.line.0 y x) (λ m. narrow_exp m (V.exp_of c.get-in-Conditional-2.result.now)) (λ m. narrow_exp m (V.exp_of c.get-in-Conditional-3.result.now)) c.in_ok-body-in-Conditional.ensures c.in_ok-test-in-Conditional.ensures c.in_ok-otherwise-in-Conditional.ensures))
 
-pub choice-returns-in_ok-arguments-in-Call : goal.choice-returns-in_ok-arguments-in-Call
-choice-returns-in_ok-arguments-in-Call t c = at-made (narrow_choice c.args.start.0 c.args.n.now) (wide.exp_of-Call c.args.e.now _ _ (c.in-Call.is ∙ rw (c.get-in-Call.ensures, c.as_slice-in-Call.ensures))) (made-is refl (tree.exp_of-Call _ _ _ refl) refl (made-two (P.call c.args.e.now.line.0) (λ m. narrow_args m (wide_args c.as_slice-in-Call.result.now)) c.in_ok-callee-in-Call.ensures c.in_ok-arguments-in-Call.ensures))
+pub expression-returns-in_ok-arguments-in-Call : goal.expression-returns-in_ok-arguments-in-Call
+expression-returns-in_ok-arguments-in-Call t c = at-made (narrow_exp c.args.n.now) (wide.exp_of-Call c.args.e.now _ _ (c.in-Call.is ∙ rw (c.get-in-Call.ensures, c.as_slice.ensures))) (made-is refl c.call_of.ensures refl (made-two (P.call c.args.e.now.line.0) (λ m. narrow_args m (wide_args c.as_slice.result.now)) c.in_ok-callee-in-Call.ensures c.in_ok-arguments-in-Call.ensures))
 
-pub choice-returns-in_ok-body-in-Lambda : goal.choice-returns-in_ok-body-in-Lambda
-choice-returns-in_ok-body-in-Lambda t c = at-made (narrow_choice c.args.start.0 c.args.n.now) (wide.exp_of-Lambda c.args.e.now _ _ (c.in-Lambda.is ∙ rw c.get-in-Lambda.ensures)) (made-is refl (tree.exp_of-Lambda _ _ _ _ refl ∙ ap (λ b. P.lambda c.args.e.now.line.0 b (T.parameters_of c.in_ok-parameters-in-Lambda.parameters) (T.exp_of c.in_ok-body-in-Lambda.body)) c.in_ok-block-in-Lambda.ensures.number) (one-form (blocks_params (V.parameters_of c.in-Lambda.names)) (blocks_exp (V.exp_of c.get-in-Lambda.result.now))) (made-start (λ i. both (P.lambda c.args.e.now.line.0 c.args.n.now) (narrow_params i (V.parameters_of c.in-Lambda.names)) (narrow_exp (i + blocks_params (V.parameters_of c.in-Lambda.names)) (V.exp_of c.get-in-Lambda.result.now))) c.in_ok-block-in-Lambda.ensures.started (made-two (P.lambda c.args.e.now.line.0 c.args.n.now) (λ m. narrow_exp m (V.exp_of c.get-in-Lambda.result.now)) c.in_ok-parameters-in-Lambda.ensures c.in_ok-body-in-Lambda.ensures)))
+pub expression-returns-in_ok-body-in-Lambda : goal.expression-returns-in_ok-body-in-Lambda
+expression-returns-in_ok-body-in-Lambda t c = at-made (narrow_exp c.args.n.now) (wide.exp_of-Lambda c.args.e.now _ _ (c.in-Lambda.is ∙ rw c.get-in-Lambda.ensures)) (made-is refl (c.lambda_of.ensures ∙ ap (λ b. P.lambda c.args.e.now.line.0 b (T.parameters_of c.in_ok-parameters-in-Lambda.parameters) (T.exp_of c.in_ok-body-in-Lambda.body)) c.in_ok-block-in-Lambda.ensures.number) (one-form (blocks_params (V.parameters_of c.in-Lambda.names)) (blocks_exp (V.exp_of c.get-in-Lambda.result.now))) (made-start (λ i. both (P.lambda c.args.e.now.line.0 c.args.n.now) (narrow_params i (V.parameters_of c.in-Lambda.names)) (narrow_exp (i + blocks_params (V.parameters_of c.in-Lambda.names)) (V.exp_of c.get-in-Lambda.result.now))) c.in_ok-block-in-Lambda.ensures.started (made-two (P.lambda c.args.e.now.line.0 c.args.n.now) (λ m. narrow_exp m (V.exp_of c.get-in-Lambda.result.now)) c.in_ok-parameters-in-Lambda.ensures c.in_ok-body-in-Lambda.ensures)))
 
 pub choice-returns-in_ok-value-in-Yield : goal.choice-returns-in_ok-value-in-Yield
 choice-returns-in_ok-value-in-Yield t c = at-made (narrow_choice c.args.start.0 c.args.n.now) (wide.exp_of-Yield c.args.e.now _ c.in-Yield.is) (made-is refl (tree.exp_of-Yield _ _ refl) refl (made-one (P.yield c.args.e.now.line.0) c.in_ok-value-in-Yield.ensures))
 
 pub choice-returns-in_ok-iterable-in-YieldFrom : goal.choice-returns-in_ok-iterable-in-YieldFrom
 choice-returns-in_ok-iterable-in-YieldFrom t c = at-made (narrow_choice c.args.start.0 c.args.n.now) (wide.exp_of-YieldFrom c.args.e.now _ (c.in-YieldFrom.is ∙ rw c.get-in-YieldFrom.ensures)) (made-is refl (tree.exp_of-YieldFrom _ _ refl) refl (made-one (P.yield_from c.args.e.now.line.0) c.in_ok-iterable-in-YieldFrom.ensures))
-
-pub expression-returns : goal.expression-returns
-expression-returns t c = same-narrow T.exp_of c.bare.result (narrow_bare c.args.e.now.line.0 c.args.n.now (V.exp_of c.args.e.now)) (narrow_exp c.args.n.now (V.exp_of c.args.e.now)) c.args.n.now (blocks_exp (V.exp_of c.args.e.now)) c.bare.new.n (sym (bare-is c.args.n.now c.args.e.now)) c.bare.ensures
 
 pub target-returns : goal.target-returns
 target-returns t c = same-narrow T.target_of c.bare_target.result (narrow_bare_target c.args.e.now.line.0 c.args.n.now c.args.stars (V.exp_of c.args.e.now)) (narrow_target c.args.n.now c.args.stars (V.exp_of c.args.e.now)) c.args.n.now (blocks_exp (V.exp_of c.args.e.now)) c.bare_target.new.n (sym (bare-target-is c.args.n.now c.args.stars c.args.e.now)) c.bare_target.ensures
@@ -293,20 +302,20 @@ argument-returns-in_err-value-in-Spread t c = grind (arith, leaves, λ (r : W.Ar
 pub argument-returns-in_err-value-in-SpreadNamed : goal.argument-returns-in_err-value-in-SpreadNamed
 argument-returns-in_err-value-in-SpreadNamed t c = grind (arith, leaves, λ (r : W.Args). wide.argument_of-SpreadNamed c.args.value.now r _ _ c.in-SpreadNamed.is)
 
-pub bare-returns-in_err-parts-in-Joined : goal.bare-returns-in_err-parts-in-Joined
-bare-returns-in_err-parts-in-Joined t c = grind (arith, leaves, wide.exp_of-Joined c.args.e.now _ c.in-Joined.is)
+pub atom-returns-in_err-parts-in-Joined : goal.atom-returns-in_err-parts-in-Joined
+atom-returns-in_err-parts-in-Joined t c = grind (arith, leaves, wide.exp_of-Joined c.args.e.now _ c.in-Joined.is)
 
-pub bare-returns-in_err-items-in-Tuple : goal.bare-returns-in_err-items-in-Tuple
-bare-returns-in_err-items-in-Tuple t c = grind (arith, leaves, wide.exp_of-Tuple c.args.e.now _ c.in-Tuple.is)
+pub atom-returns-in_err-items-in-Tuple : goal.atom-returns-in_err-items-in-Tuple
+atom-returns-in_err-items-in-Tuple t c = grind (arith, leaves, wide.exp_of-Tuple c.args.e.now _ c.in-Tuple.is)
 
-pub bare-returns-in_err-items-in-List : goal.bare-returns-in_err-items-in-List
-bare-returns-in_err-items-in-List t c = grind (arith, leaves, wide.exp_of-List c.args.e.now _ c.in-List.is)
+pub atom-returns-in_err-items-in-List : goal.atom-returns-in_err-items-in-List
+atom-returns-in_err-items-in-List t c = grind (arith, leaves, wide.exp_of-List c.args.e.now _ c.in-List.is)
 
-pub bare-returns-in_err-items-in-Set : goal.bare-returns-in_err-items-in-Set
-bare-returns-in_err-items-in-Set t c = grind (arith, leaves, wide.exp_of-Set c.args.e.now _ c.in-Set.is)
+pub atom-returns-in_err-items-in-Set : goal.atom-returns-in_err-items-in-Set
+atom-returns-in_err-items-in-Set t c = grind (arith, leaves, wide.exp_of-Set c.args.e.now _ c.in-Set.is)
 
-pub bare-returns-in_err-items-in-Dict : goal.bare-returns-in_err-items-in-Dict
-bare-returns-in_err-items-in-Dict t c = grind (arith, leaves, wide.exp_of-Dict c.args.e.now _ c.in-Dict.is)
+pub atom-returns-in_err-items-in-Dict : goal.atom-returns-in_err-items-in-Dict
+atom-returns-in_err-items-in-Dict t c = grind (arith, leaves, wide.exp_of-Dict c.args.e.now _ c.in-Dict.is)
 
 pub bare_target-returns-in_err-object-in-Attribute : goal.bare_target-returns-in_err-object-in-Attribute
 bare_target-returns-in_err-object-in-Attribute t c = grind (arith, leaves, wide.exp_of-Attribute c.args.e.now _ _ c.in-Attribute.is)
@@ -350,26 +359,26 @@ choice-returns-in_err-first-in-Or t c = grind (arith, leaves, wide.exp_of-Or c.a
 pub choice-returns-in_err-rest-in-Or : goal.choice-returns-in_err-rest-in-Or
 choice-returns-in_err-rest-in-Or t c = grind (arith, leaves, wide.exp_of-Or c.args.e.now _ _ c.in-Or.is)
 
-pub choice-returns-in_err-body-in-Conditional : goal.choice-returns-in_err-body-in-Conditional
-choice-returns-in_err-body-in-Conditional t c = grind (arith, leaves, wide.exp_of-Conditional c.args.e.now _ _ _ c.in-Conditional.is)
+pub expression-returns-in_err-body-in-Conditional : goal.expression-returns-in_err-body-in-Conditional
+expression-returns-in_err-body-in-Conditional t c = grind (arith, leaves, wide.exp_of-Conditional c.args.e.now _ _ _ c.in-Conditional.is)
 
-pub choice-returns-in_err-test-in-Conditional : goal.choice-returns-in_err-test-in-Conditional
-choice-returns-in_err-test-in-Conditional t c = grind (arith, leaves, wide.exp_of-Conditional c.args.e.now _ _ _ c.in-Conditional.is)
+pub expression-returns-in_err-test-in-Conditional : goal.expression-returns-in_err-test-in-Conditional
+expression-returns-in_err-test-in-Conditional t c = grind (arith, leaves, wide.exp_of-Conditional c.args.e.now _ _ _ c.in-Conditional.is)
 
-pub choice-returns-in_err-otherwise-in-Conditional : goal.choice-returns-in_err-otherwise-in-Conditional
-choice-returns-in_err-otherwise-in-Conditional t c = grind (arith, leaves, wide.exp_of-Conditional c.args.e.now _ _ _ c.in-Conditional.is)
+pub expression-returns-in_err-otherwise-in-Conditional : goal.expression-returns-in_err-otherwise-in-Conditional
+expression-returns-in_err-otherwise-in-Conditional t c = grind (arith, leaves, wide.exp_of-Conditional c.args.e.now _ _ _ c.in-Conditional.is)
 
-pub choice-returns-in_err-callee-in-Call : goal.choice-returns-in_err-callee-in-Call
-choice-returns-in_err-callee-in-Call t c = grind (arith, leaves, wide.exp_of-Call c.args.e.now _ _ c.in-Call.is)
+pub expression-returns-in_err-callee-in-Call : goal.expression-returns-in_err-callee-in-Call
+expression-returns-in_err-callee-in-Call t c = grind (arith, leaves, wide.exp_of-Call c.args.e.now _ _ c.in-Call.is)
 
-pub choice-returns-in_err-arguments-in-Call : goal.choice-returns-in_err-arguments-in-Call
-choice-returns-in_err-arguments-in-Call t c = grind (arith, leaves, wide.exp_of-Call c.args.e.now _ _ c.in-Call.is)
+pub expression-returns-in_err-arguments-in-Call : goal.expression-returns-in_err-arguments-in-Call
+expression-returns-in_err-arguments-in-Call t c = grind (arith, leaves, wide.exp_of-Call c.args.e.now _ _ c.in-Call.is)
 
-pub choice-returns-in_err-parameters-in-Lambda : goal.choice-returns-in_err-parameters-in-Lambda
-choice-returns-in_err-parameters-in-Lambda t c = grind (arith, leaves, wide.exp_of-Lambda c.args.e.now _ _ c.in-Lambda.is)
+pub expression-returns-in_err-parameters-in-Lambda : goal.expression-returns-in_err-parameters-in-Lambda
+expression-returns-in_err-parameters-in-Lambda t c = grind (arith, leaves, wide.exp_of-Lambda c.args.e.now _ _ c.in-Lambda.is)
 
-pub choice-returns-in_err-body-in-Lambda : goal.choice-returns-in_err-body-in-Lambda
-choice-returns-in_err-body-in-Lambda t c = grind (arith, leaves, wide.exp_of-Lambda c.args.e.now _ _ c.in-Lambda.is)
+pub expression-returns-in_err-body-in-Lambda : goal.expression-returns-in_err-body-in-Lambda
+expression-returns-in_err-body-in-Lambda t c = grind (arith, leaves, wide.exp_of-Lambda c.args.e.now _ _ c.in-Lambda.is)
 
 pub choice-returns-in_err-value-in-Yield : goal.choice-returns-in_err-value-in-Yield
 choice-returns-in_err-value-in-Yield t c = grind (arith, leaves, wide.exp_of-Yield c.args.e.now _ c.in-Yield.is)
@@ -435,47 +444,47 @@ links-returns-in_err-right t c =
     left-out links_of c.from_residual.result _ _ (narrow_links c.args.n.now (wide_links c.args.rest.now)) c.args.n.now (blocks_links (wide_links c.args.rest.now)) _ c.from_residual.ensures.1 c.in_err-right.ensures
     (λ none. walk-left c.loop-link.invariant (ap (λ es. narrow_links c.loop-link.n (wide_links es)) left ∙ ap (narrow_links c.loop-link.n) (wide.link_of-parts c.link-item.result behind) ∙ ap (λ o. both (P.link c.link-item.result.operator) o (narrow_links (c.loop-link.n + blocks_exp (V.exp_of c.link-item.result.right)) behind)) none))
 
-pub operation-returns-in_err-object-in-Attribute : goal.operation-returns-in_err-object-in-Attribute
-operation-returns-in_err-object-in-Attribute t c = grind (arith, leaves, wide.exp_of-Attribute c.args.e.now _ _ c.in-Attribute.is)
+pub expression-returns-in_err-object-in-Attribute : goal.expression-returns-in_err-object-in-Attribute
+expression-returns-in_err-object-in-Attribute t c = grind (arith, leaves, wide.exp_of-Attribute c.args.e.now _ _ c.in-Attribute.is)
 
-pub operation-returns-in_err-object-in-Item : goal.operation-returns-in_err-object-in-Item
-operation-returns-in_err-object-in-Item t c = grind (arith, leaves, wide.exp_of-Item c.args.e.now _ _ c.in-Item.is)
+pub expression-returns-in_err-object-in-Item : goal.expression-returns-in_err-object-in-Item
+expression-returns-in_err-object-in-Item t c = grind (arith, leaves, wide.exp_of-Item c.args.e.now _ _ c.in-Item.is)
 
-pub operation-returns-in_err-index-in-Item : goal.operation-returns-in_err-index-in-Item
-operation-returns-in_err-index-in-Item t c = grind (arith, leaves, wide.exp_of-Item c.args.e.now _ _ c.in-Item.is)
+pub expression-returns-in_err-index-in-Item : goal.expression-returns-in_err-index-in-Item
+expression-returns-in_err-index-in-Item t c = grind (arith, leaves, wide.exp_of-Item c.args.e.now _ _ c.in-Item.is)
 
-pub operation-returns-in_err-start-in-Slice : goal.operation-returns-in_err-start-in-Slice
-operation-returns-in_err-start-in-Slice t c = grind (arith, leaves, wide.exp_of-Slice c.args.e.now _ _ _ c.in-Slice.is)
+pub choice-returns-in_err-start-in-Slice : goal.choice-returns-in_err-start-in-Slice
+choice-returns-in_err-start-in-Slice t c = grind (arith, leaves, wide.exp_of-Slice c.args.e.now _ _ _ c.in-Slice.is)
 
-pub operation-returns-in_err-stop-in-Slice : goal.operation-returns-in_err-stop-in-Slice
-operation-returns-in_err-stop-in-Slice t c = grind (arith, leaves, wide.exp_of-Slice c.args.e.now _ _ _ c.in-Slice.is)
+pub choice-returns-in_err-stop-in-Slice : goal.choice-returns-in_err-stop-in-Slice
+choice-returns-in_err-stop-in-Slice t c = grind (arith, leaves, wide.exp_of-Slice c.args.e.now _ _ _ c.in-Slice.is)
 
-pub operation-returns-in_err-step-in-Slice : goal.operation-returns-in_err-step-in-Slice
-operation-returns-in_err-step-in-Slice t c = grind (arith, leaves, wide.exp_of-Slice c.args.e.now _ _ _ c.in-Slice.is)
+pub choice-returns-in_err-step-in-Slice : goal.choice-returns-in_err-step-in-Slice
+choice-returns-in_err-step-in-Slice t c = grind (arith, leaves, wide.exp_of-Slice c.args.e.now _ _ _ c.in-Slice.is)
 
-pub operation-returns-in_err-operand-in-Unary : goal.operation-returns-in_err-operand-in-Unary
-operation-returns-in_err-operand-in-Unary t c = grind (arith, leaves, wide.exp_of-Unary c.args.e.now _ _ c.in-Unary.is)
+pub expression-returns-in_err-operand-in-Unary : goal.expression-returns-in_err-operand-in-Unary
+expression-returns-in_err-operand-in-Unary t c = grind (arith, leaves, wide.exp_of-Unary c.args.e.now _ _ c.in-Unary.is)
 
-pub operation-returns-in_err-operand-in-Not : goal.operation-returns-in_err-operand-in-Not
-operation-returns-in_err-operand-in-Not t c = grind (arith, leaves, wide.exp_of-Not c.args.e.now _ c.in-Not.is)
+pub expression-returns-in_err-operand-in-Not : goal.expression-returns-in_err-operand-in-Not
+expression-returns-in_err-operand-in-Not t c = grind (arith, leaves, wide.exp_of-Not c.args.e.now _ c.in-Not.is)
 
-pub operation-returns-in_err-operator-in-Binary : goal.operation-returns-in_err-operator-in-Binary
-operation-returns-in_err-operator-in-Binary t c = grind (arith, leaves, wide.exp_of-Binary c.args.e.now _ _ _ c.in-Binary.is)
+pub expression-returns-in_err-operator-in-Binary : goal.expression-returns-in_err-operator-in-Binary
+expression-returns-in_err-operator-in-Binary t c = grind (arith, leaves, wide.exp_of-Binary c.args.e.now _ _ _ c.in-Binary.is)
 
-pub operation-returns-in_err-left-in-Binary : goal.operation-returns-in_err-left-in-Binary
-operation-returns-in_err-left-in-Binary t c = grind (arith, leaves, wide.exp_of-Binary c.args.e.now _ _ _ c.in-Binary.is)
+pub expression-returns-in_err-left-in-Binary : goal.expression-returns-in_err-left-in-Binary
+expression-returns-in_err-left-in-Binary t c = grind (arith, leaves, wide.exp_of-Binary c.args.e.now _ _ _ c.in-Binary.is)
 
-pub operation-returns-in_err-right-in-Binary : goal.operation-returns-in_err-right-in-Binary
-operation-returns-in_err-right-in-Binary t c = grind (arith, leaves, wide.exp_of-Binary c.args.e.now _ _ _ c.in-Binary.is)
+pub expression-returns-in_err-right-in-Binary : goal.expression-returns-in_err-right-in-Binary
+expression-returns-in_err-right-in-Binary t c = grind (arith, leaves, wide.exp_of-Binary c.args.e.now _ _ _ c.in-Binary.is)
 
-pub operation-returns-in_err-left-in-Compare : goal.operation-returns-in_err-left-in-Compare
-operation-returns-in_err-left-in-Compare t c = grind (arith, leaves, wide.exp_of-Compare c.args.e.now _ _ _ _ c.in-Compare.is)
+pub choice-returns-in_err-left-in-Compare : goal.choice-returns-in_err-left-in-Compare
+choice-returns-in_err-left-in-Compare t c = grind (arith, leaves, wide.exp_of-Compare c.args.e.now _ _ _ _ c.in-Compare.is)
 
-pub operation-returns-in_err-right-in-Compare : goal.operation-returns-in_err-right-in-Compare
-operation-returns-in_err-right-in-Compare t c = grind (arith, leaves, wide.exp_of-Compare c.args.e.now _ _ _ _ c.in-Compare.is)
+pub choice-returns-in_err-right-in-Compare : goal.choice-returns-in_err-right-in-Compare
+choice-returns-in_err-right-in-Compare t c = grind (arith, leaves, wide.exp_of-Compare c.args.e.now _ _ _ _ c.in-Compare.is)
 
-pub operation-returns-in_err-rest-in-Compare : goal.operation-returns-in_err-rest-in-Compare
-operation-returns-in_err-rest-in-Compare t c = grind (arith, leaves, wide.exp_of-Compare c.args.e.now _ _ _ _ c.in-Compare.is)
+pub choice-returns-in_err-rest-in-Compare : goal.choice-returns-in_err-rest-in-Compare
+choice-returns-in_err-rest-in-Compare t c = grind (arith, leaves, wide.exp_of-Compare c.args.e.now _ _ _ _ c.in-Compare.is)
 
 pub pair-returns-in_err-key-in-Pair : goal.pair-returns-in_err-key-in-Pair
 pair-returns-in_err-key-in-Pair t c = grind (arith, leaves, wide.entry_of-Pair c.args.entry.now _ _ c.in-Pair.is)
@@ -516,11 +525,11 @@ bare_target-returns-in_default t c = λ out. target-left c.args.start.0 c.args.n
 pub comprehension-returns-in_default : goal.comprehension-returns-in_default
 comprehension-returns-in_default t c = λ out. comprehension-other c.args.start.0 c.args.n.now c.args.e.now (c.in_default.not-Comprehension, c.in_default.not-DictComprehension)
 
-pub bare-returns-in_default : goal.bare-returns-in_default
-bare-returns-in_default t c = same-narrow T.exp_of c.operation.result (narrow_operation c.args.start.0 c.args.n.now (V.exp_of c.args.e.now)) (narrow_bare c.args.start.0 c.args.n.now (V.exp_of c.args.e.now)) c.args.n.now (blocks_exp (V.exp_of c.args.e.now)) c.operation.new.n (bare-other c.args.start.0 c.args.n.now c.args.e.now (c.in_default.not-Constant, c.in_default.not-Name, c.in_default.not-Joined, c.in_default.not-Parenthesized, c.in_default.not-Tuple, c.in_default.not-List, c.in_default.not-Set, c.in_default.not-Dict)) c.operation.ensures
+pub expression-returns-in_default : goal.expression-returns-in_default
+expression-returns-in_default t c = same-narrow T.exp_of c.atom.result (narrow_atom c.args.e.now.line.0 c.args.n.now (V.exp_of c.args.e.now)) (narrow_exp c.args.n.now (V.exp_of c.args.e.now)) c.args.n.now (blocks_exp (V.exp_of c.args.e.now)) c.atom.new.n (sym (bare-is c.args.n.now c.args.e.now) ∙ bare-other c.args.e.now.line.0 c.args.n.now c.args.e.now (c.in_default.not-Parenthesized, c.in_default.not-Attribute, c.in_default.not-Item, c.in_default.not-Unary, c.in_default.not-Not, c.in_default.not-Binary, c.in_default.not-Conditional, c.in_default.not-Call, c.in_default.not-Lambda)) c.atom.ensures
 
-pub operation-returns-in_default : goal.operation-returns-in_default
-operation-returns-in_default t c = same-narrow T.exp_of c.choice.result (narrow_choice c.args.start.0 c.args.n.now (V.exp_of c.args.e.now)) (narrow_operation c.args.start.0 c.args.n.now (V.exp_of c.args.e.now)) c.args.n.now (blocks_exp (V.exp_of c.args.e.now)) c.choice.new.n (operation-other c.args.start.0 c.args.n.now c.args.e.now (c.in_default.not-Attribute, c.in_default.not-Item, c.in_default.not-Slice, c.in_default.not-Unary, c.in_default.not-Not, c.in_default.not-Binary, c.in_default.not-Compare)) c.choice.ensures
+pub atom-returns-in_default : goal.atom-returns-in_default
+atom-returns-in_default t c = same-narrow T.exp_of c.choice.result (narrow_choice c.args.start.0 c.args.n.now (V.exp_of c.args.e.now)) (narrow_atom c.args.start.0 c.args.n.now (V.exp_of c.args.e.now)) c.args.n.now (blocks_exp (V.exp_of c.args.e.now)) c.choice.new.n (atom-other c.args.start.0 c.args.n.now c.args.e.now (c.in_default.not-Constant, c.in_default.not-Name, c.in_default.not-Joined, c.in_default.not-Tuple, c.in_default.not-List, c.in_default.not-Set, c.in_default.not-Dict)) c.choice.ensures
 
 pub choice-returns-in_default : goal.choice-returns-in_default
-choice-returns-in_default t c = same-narrow T.exp_of c.comprehension.result (narrow_comprehension c.args.start.0 c.args.n.now (V.exp_of c.args.e.now)) (narrow_choice c.args.start.0 c.args.n.now (V.exp_of c.args.e.now)) c.args.n.now (blocks_exp (V.exp_of c.args.e.now)) c.comprehension.new.n (choice-other c.args.start.0 c.args.n.now c.args.e.now (c.in_default.not-And, c.in_default.not-Or, c.in_default.not-Conditional, c.in_default.not-Call, c.in_default.not-Lambda, c.in_default.not-Yield, c.in_default.not-YieldFrom)) c.comprehension.ensures
+choice-returns-in_default t c = same-narrow T.exp_of c.comprehension.result (narrow_comprehension c.args.start.0 c.args.n.now (V.exp_of c.args.e.now)) (narrow_choice c.args.start.0 c.args.n.now (V.exp_of c.args.e.now)) c.args.n.now (blocks_exp (V.exp_of c.args.e.now)) c.comprehension.new.n (choice-other c.args.start.0 c.args.n.now c.args.e.now (c.in_default.not-And, c.in_default.not-Or, c.in_default.not-Slice, c.in_default.not-Compare, c.in_default.not-Yield, c.in_default.not-YieldFrom)) c.comprehension.ensures
