@@ -15,7 +15,7 @@ use Rattle.pt_prims.specs.declared.operand.Operand.TheVariants.{Number, Text, In
 abbrev pub instance_operand : List Object → (class : ObjId) → (otherwise : Operand) → Operand
 instance_operand h id k = if is_scripted (class_in (slice_get h id.0)) then Instance else k
 
--- texts; what holds other values, of which no operation is supported; and what only is itself
+-- texts; what holds other values, of which only identity and unary operators are supported; and what only is itself
 abbrev pub object_operand : List Object → Option Object → Operand
 object_operand h (Some (object.Str t)) = Text
 object_operand h (Some (object.List vs)) = Compound

@@ -16,7 +16,7 @@ pub enum Operand {
     Text,
     /// An instance of a script's class, whose methods are asked.
     Instance,
-    /// What holds other values. No operation on these is supported.
+    /// What holds other values. Of these only identity and unary operators are supported.
     Compound,
     /// What only is itself.
     Plain,
