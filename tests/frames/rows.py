@@ -116,7 +116,7 @@ GENERATORS = [
     ("+ n0 n0 s0:1 s0:None t0 c0 ?0", "0 10 Running Running Running Running Running Running"),
     ("+ s0:1 ?0 s0:None ?0", "0 SendEarly Fresh 10 Running"),
     ("+ s0:1 s0:2 n0", "0 SendEarly SendEarly 10"),
-    ("+ t0 ?0 f0 ?0 t0 c0 s0:1 n0", "0 10 Running . Finished Done Done Done Done"),
+    ("+ t0 ?0 f0 ?0 t0 c0 s0:1 s0:None n0", "0 10 Running . Finished Done Done Done Done Done"),
     ("+ c0 f0 ?0", "0 10 . Finished"),
     ("+ n0 y0 s0:1 ?0", "0 10 . 10 Running"),
     ("+ n0 y0 s0:None y0 t0 y0 c0 f0 ?0", "0 10 . 10 . 10 . 10 . Finished"),
@@ -129,6 +129,24 @@ OPENS = [
     ("o999 o1 o1", "999 1 0 TooDeep"),
     ("o1001", "1000 TooDeep"),
     ("o1000 c1 o2 c1001 o3", "1000 1 1 TooDeep 1000 3"),
+]
+
+# what is done to activations, cells and names, and what is answered
+ACTIVATIONS = [
+    ("o", "0"), ("o o f", "0 1 2"), ("o z o", "0 . 1"),
+    ("o p5 p6 s0 s1 s2 q q", "0 . . 6 5 - 6 5"),
+    ("o p1 p2 p3 k1 s0 s1", "0 . . . . 1 -"), ("o k5 p1 k1 s0 k0 s0", "0 . . . 1 . -"),
+    ("e o e p5 x6 e q e", "- 0 - . . 6 x6 -"), ("o x1 o e r2 e q e", "0 . 1 1 . 2 r2 1"), ("o x1 p2 r3 p4 e", "0 . . . . 3"),
+    ("o l0 l1 l2 l0=7 l0 l1= l1 l2=3 l2", "0 - 1 - . 7 . - . -"),
+    ("o c0 c0=4 c0 c1=2 c1 o c0", "0 - . 4 . - 1 -"),
+    ("o n:a n:b=1 n:a=2 n:b n:a N n:b= n:b N n:b=5 N", "0 - . . 1 2 {b:1;a:2;} . - {a:2;} . {b:5;a:2;}"),
+    ("o n:a=1 o n:a n:a=2 z n:a", "0 . 1 - . . 1"),
+    ("g:a g:b=1 g:a=2 G g:b= G g:b=3 G", "- . . {b:1;a:2;} . {a:2;} . {b:3;a:2;}"),
+    ("@:a @0 g:a @:b g:a=5 @0 @0=6 g:a @:a @1 @1=7 G @2 @2=1 G", "0 - - 1 . 5 . 6 0 - . {a:6;b:7;} - . {a:6;b:7;}"),
+    ("g:x=1 @:y @:x G @1= @1 @0= G", ". 1 0 {x:1;} . - . {}"),
+    ("o p5 l0=2 v s0 l0 o v z s0", "0 . . . 5 2 1 . . 5"), ("f p1 x2 v e k0 e", "0 . . . 2 . -"),
+    ("o p1 n:a=1 g:b=2 c0=3 d p2 s0 s1 n:a g:b c0 @0 e", "0 . . . . . . 2 1 1 2 3 2 -"),
+    ("o g:a=1 z G o", "0 . . {a:1;} 1"),
 ]
 
 # handler rows, a place and a completion, and where that goes on
@@ -153,7 +171,7 @@ LANDINGS = [
 def main():
     source = random.Random(12)
     rows = [(f"bind {row}", bind_answer(row)) for row in BIND + [random_row(source) for _ in range(120)]]
-    for kind, table in ("gen", GENERATORS), ("open", OPENS), ("land", LANDINGS):
+    for kind, table in ("gen", GENERATORS), ("open", OPENS), ("act", ACTIVATIONS), ("land", LANDINGS):
         rows += [(f"{kind} {row}", answer) for row, answer in table]
     (CRATE / "data" / "rows.txt").write_text("".join(f"{row}\n" for row, _ in rows))
     (CRATE / "stdout").write_text("".join(f"{answer}\n" for _, answer in rows))

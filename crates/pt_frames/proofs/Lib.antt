@@ -1,3 +1,2 @@
-pub mod NameLemmas
+pub mod SlotLemmas
 pub mod NewestLemmas
-pub mod BindingLemmas

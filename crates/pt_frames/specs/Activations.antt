@@ -1,5 +1,5 @@
 -- The open activations of a run, the newest first (Language Reference 4.1 "Structure of a program"; 3.2.13.2 "Frame objects").
-use Rattle.std.specs.Prelude.{ℕ, ◌+◌, Bool, List, [], ◌∷◌, ◌++◌, Option, None, Some, slice_get, slice_set}
+use Rattle.std.specs.Prelude.{ℕ, ◌+◌, ◌-◌, Bool, List, [], ◌∷◌, ◌++◌, Option, None, Some, drop, length, slice_get, slice_set}
 use Rattle.std.specs.Str.{bytes_eq}
 use Rattle.indexmap.specs.IndexMap.{insert_entry}
 use Rattle.pt_base.specs.declared.numbers.FrameNo.{FrameNo}
@@ -9,10 +9,11 @@ use Rattle.pt_frames.specs.declared.activation.Activation.{Activation}
 use Rattle.pt_frames.specs.declared.activation.Place.{Place}
 use Rattle.pt_frames.specs.declared.activation.Place.TheVariants.{Local, Cell}
 use Rattle.pt_frames.specs.declared.activations.OpenActivation.{OpenActivation}
-use Rattle.pt_frames.specs.declared.arguments.Locals.{Locals}
+use Rattle.pt_bind.specs.declared.arguments.Locals.{Locals}
 use Rattle.pt_frames.specs.declared.frames.Frames.{Frames}
 use Rattle.pt_frames.specs.declared.purpose.Purpose.{Purpose}
 use Rattle.pt_frames.specs.declared.slot.Slot.{Slot}
+use Rattle.pt_frames.specs.Slots.{active_in, first_given}
 use Rattle.std.specs.Option.{option_flatten}
 
 -- a run of a block before its first act
@@ -56,6 +57,14 @@ with_next_number frames = record frames { frame_count = frames.frame_count + 1 }
 -- one more slot is on top
 abbrev pub with_slot : Slot → Frames → Frames
 with_slot slot frames = on_newest (λ a. record a { slots = slot ∷ a.slots }) frames
+
+-- so many slots are left, the lowest
+abbrev pub with_depth : (depth : ℕ) → Frames → Frames
+with_depth depth frames = on_newest (λ a. record a { slots = drop (length a.slots - depth) a.slots }) frames
+
+-- the exception of the newest activation that is busy with one
+abbrev pub active_exception : List OpenActivation → Option Value
+active_exception os = first_given (λ o. active_in o.activation.slots) os
 
 -- another cell for a cell or free name of the newest activation
 abbrev pub with_cell_at : (i : ℕ) → (cell : ℕ) → Frames → Frames

@@ -1,5 +1,3 @@
-pub mod Names
-pub mod NameSets
+pub mod Slots
 pub mod Activations
 pub mod Lending
-pub mod Binding

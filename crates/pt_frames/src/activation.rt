@@ -1,10 +1,11 @@
 ghost use Rattle.std.specs.Prelude.{◌≡◌, slice_get, slice_set};
 ghost use Rattle.std.specs.Option.{option_flatten};
 
-use crate::names::Names;
-use crate::{Locals, Slots};
+use crate::Slots;
 use pt_base::{BlockId, Dup, FrameNo, Line, Memory, Pc, Seq};
+use pt_bind::Locals;
 use pt_heap::{Seed, Value};
+use pt_names::Names;
 use std::alloc::Global;
 
 /// A place of a block at which a value may stand, by the number of its name in the block.

@@ -1,9 +1,11 @@
-ghost use Rattle.std.specs.Prelude.{◌≡◌, ◌∷◌, [], ◌<◌, ◌≤◌, Some, length, OnOk, OnErr, slice_get};
+ghost use Rattle.std.specs.Prelude.{◌≡◌, ◌∷◌, [], ◌<◌, ◌≤◌, Some, length, slice_get, OnOk, OnErr};
 ghost use Rattle.std.specs.Borrow.{sem};
+ghost use Rattle.pt_frames.specs.Activations.{active_exception};
 ghost use Rattle.pt_frames.specs.Lending.{LendsNewest};
 
 use crate::{Activation, Purpose};
 use pt_base::{Dup, Memory};
+use pt_heap::Value;
 use std::alloc::Global;
 use std::marker::Model;
 
@@ -72,6 +74,26 @@ impl Activations {
         ensures { slice_get self.now 0 ≡ Some result.now }
     {
         &self.items[self.items.len() - 1]
+    }
+
+    /// The one that so many are newer than.
+    pub fn at(&self, newer: usize) -> &OpenActivation
+        requires { newer < length self.now }
+        ensures { slice_get self.now newer ≡ Some result.now }
+    {
+        &self.items[self.items.len() - 1 - newer]
+    }
+
+    /// The exception of the newest that is busy with one.
+    pub fn active(&self) -> Option<Value>
+        ensures { result ≡ active_exception self.now }
+    {
+        for newer in 0..self.len() {
+            if let Some(exception) = self.at(newer).activation.slots.active() {
+                return Some(exception);
+            }
+        }
+        None
     }
 
     pub fn newest_mut(&mut self) -> &mut OpenActivation

@@ -1,12 +1,22 @@
-ghost use Rattle.std.specs.Prelude.{◌≡◌, ◌+◌, ◌<◌, ◌≤◌, ◌↔◌, ◌∷◌, [], ◌++◌, None, Some, Err, false, length, slice_get, slice_set, IsTrue, OnOk, OnErr, IfOk, IfSome};
-ghost use Rattle.pt_frames.specs.Names.{name_value};
-ghost use Rattle.pt_frames.specs.Activations.{next_activation, on_newest, put_at, value_at, with_activation, with_cell, with_cell_at, with_global, with_name, with_new_cell, with_next_number, with_slot, OnNewest};
+ghost use Rattle.std.specs.Prelude.{◌≡◌, ◌+◌, ◌-◌, ◌<◌, ◌≤◌, ◌↔◌, ◌∷◌, [], ◌++◌, None, Some, Err};
+ghost use Rattle.std.specs.Prelude.{false};
+ghost use Rattle.std.specs.Prelude.{drop, length, slice_get, slice_set, IsTrue, OnOk, OnErr, IfOk};
+ghost use Rattle.std.specs.Prelude.{IfSome};
+ghost use Rattle.std.specs.Option.{option_map};
+ghost use Rattle.indexmap.specs.IndexMap.{set_value_at};
+ghost use Rattle.pt_names.specs.Names.{bindings_of, name_value, place_of, value_in_place};
+ghost use Rattle.pt_names.specs.Names.{with_place};
+ghost use Rattle.pt_frames.specs.Activations.{active_exception, next_activation, on_newest, put_at};
+ghost use Rattle.pt_frames.specs.Activations.{value_at, with_activation, with_cell, with_cell_at};
+ghost use Rattle.pt_frames.specs.Activations.{with_depth, with_global, with_name, with_new_cell};
+ghost use Rattle.pt_frames.specs.Activations.{with_next_number, with_slot, OnNewest};
 
 use crate::activations::{Activations, OpenActivation};
-use crate::names::Names;
-use crate::{Activation, Locals, Place, Purpose, Slot};
+use crate::{Activation, Place, Purpose, Slot};
 use pt_base::{BlockId, Dup, FrameNo, Line, Memory, Pc, Seq, Text};
-use pt_heap::{Seed, Value};
+use pt_bind::Locals;
+use pt_heap::{Binding, Seed, Value};
+use pt_names::Names;
 use std::alloc::Global;
 
 /// The most activations that may be open.
@@ -88,7 +98,8 @@ impl Frames {
         hidden: bool,
         locals: Locals,
     ) -> Result<Activation, Memory>
-        ensures activation { IfOk result (λ a. a ≡ next_activation self.old block hidden locals) }
+        ensures activation { IfOk result
+            (λ a. a ≡ next_activation self.old block hidden locals) }
         ensures ok { OnOk result (self.new ≡ with_next_number self.old) }
         ensures err { OnErr result (self.new ≡ self.old) }
     {
@@ -110,7 +121,9 @@ impl Frames {
     ) -> Result<FrameNo, OpenErr>
         ensures number { IfOk result (λ n. n.0 ≡ self.old.frame_count) }
         ensures ok { OnOk result
-            (self.new ≡ with_activation (next_activation self.old block hidden locals) why (with_next_number self.old)) }
+            (self.new
+            ≡ with_activation (next_activation self.old block hidden locals) why
+            (with_next_number self.old)) }
         ensures err { OnErr result (self.new ≡ self.old) }
         ensures full { (result ≡ Err OpenErr.TooDeep) ↔ (length self.old.activations ≡ 1000) }
     {
@@ -148,7 +161,8 @@ impl Frames {
     /// Closes the newest activation, and answers what becomes of its value.
     pub fn close(&mut self) -> Purpose
         requires { 0 < length self.old.activations }
-        ensures { OnNewest (λ a. self.old ≡ with_activation a result self.new) self.old.activations }
+        ensures { OnNewest
+            (λ a. self.old ≡ with_activation a result self.new) self.old.activations }
     {
         let (_, why) = self.leave();
         why
@@ -177,9 +191,43 @@ impl Frames {
     /// How many slots the newest activation has.
     pub fn slot_count(&self) -> usize
         requires { 0 < length self.now.activations }
-        ensures { OnNewest (λ a. result ≡ length a.slots) self.now.activations }
+        ensures value { OnNewest (λ a. result ≡ length a.slots) self.now.activations }
+        ensures some { 0 < result → OnNewest (λ a. 0 < length a.slots) self.now.activations }
     {
         self.activations.newest().activation.slots.len()
+    }
+
+    /// The slot of the newest activation that so many others are above, if it is there.
+    pub fn slot(&self, above: usize) -> Option<Slot>
+        requires { 0 < length self.now.activations }
+        ensures { OnNewest (λ a. result ≡ slice_get a.slots above) self.now.activations }
+    {
+        self.activations.newest().activation.slots.get(above)
+    }
+
+    /// Takes slots of the newest activation off the top until so many are left, if there are more.
+    pub fn cut(&mut self, depth: usize)
+        requires { 0 < length self.old.activations }
+        ensures { self.new ≡ with_depth depth self.old }
+    {
+        self.activations.newest_mut().activation.slots.cut(depth);
+    }
+
+    /// The active exception: that of the uppermost slot with an exception, or with a raise that is
+    /// held, in the newest activation that has one (Language Reference 7.8, 8.4).
+    pub fn active_exception(&self) -> Option<Value>
+        ensures { result ≡ active_exception self.now.activations }
+    {
+        self.activations.active()
+    }
+
+    /// The activation that so many open ones are newer than.
+    pub fn at(&self, newer: usize) -> &Activation
+        requires { newer < length self.now.activations }
+        ensures { option_map (λ o. o.activation) (slice_get self.now.activations newer)
+            ≡ Some result.now }
+    {
+        &self.activations.at(newer).activation
     }
 
     /// The number of the newest activation.
@@ -303,6 +351,13 @@ impl Frames {
         Ok(number as u32)
     }
 
+    /// Puts a value, or none, into a cell, where there is one of this number.
+    pub fn put_cell(&mut self, cell: u32, value: Option<Value>)
+        ensures { self.new ≡ record self.old { cells = slice_set self.old.cells cell value } }
+    {
+        self.set_cell_value(Some(cell), value);
+    }
+
     /// The value of a name of the newest activation's class block.
     pub fn name(&self, name: &str) -> Option<Value>
         requires { 0 < length self.now.activations }
@@ -325,7 +380,57 @@ impl Frames {
             .set(alloc, name.as_str(), value)
     }
 
-    /// The value of a name of the module. It is found in constant time, and no text is made.
+    /// The names of the newest activation's class block that are bound, with their values, in the
+    /// order in which each was first bound.
+    pub fn name_bindings(&self) -> Result<Seq<Binding>, Memory>
+        requires { 0 < length self.now.activations }
+        ensures { IfOk result
+            (λ bs. OnNewest (λ a. bs ≡ bindings_of a.names) self.now.activations) }
+    {
+        self.activations
+            .newest()
+            .activation
+            .names
+            .bindings(self.alloc)
+    }
+
+    /// The place of a name of the module, which it keeps. Where it has none it is put behind the
+    /// others, without a value.
+    pub fn global_place(&mut self, name: &Text) -> Result<usize, Memory>
+        ensures place { IfOk result (λ place. place_of name.now self.new.globals ≡ Some place) }
+        ensures ok { OnOk result
+            (self.new ≡ record self.old { globals = with_place name.now self.old.globals }) }
+        ensures err { OnErr result (self.new ≡ self.old) }
+    {
+        self.globals.place(self.alloc, name.as_str())
+    }
+
+    /// The value of the module's name at a place, if the place and a value are there. It is found
+    /// in constant time, whatever the names are, and no text is made.
+    pub fn global_at(&self, place: usize) -> Option<Value>
+        ensures { result ≡ value_in_place place self.now.globals }
+    {
+        self.globals.value_at(place)
+    }
+
+    /// Binds the module's name at a place, or unbinds it. Where the place isn't there, nothing
+    /// changes.
+    pub fn set_global_at(&mut self, place: usize, value: Option<Value>)
+        ensures { self.new
+            ≡ record self.old { globals = set_value_at self.old.globals place value } }
+    {
+        self.globals.set_at(place, value);
+    }
+
+    /// The names of the module that are bound, with their values, in the order in which each was
+    /// first bound or given a place.
+    pub fn global_bindings(&self) -> Result<Seq<Binding>, Memory>
+        ensures { IfOk result (λ bs. bs ≡ bindings_of self.now.globals) }
+    {
+        self.globals.bindings(self.alloc)
+    }
+
+    /// The value of a name of the module. It is found by its hash, and no text is made.
     pub fn global(&self, name: &str) -> Option<Value>
         ensures { result ≡ name_value name.now self.now.globals }
     {

@@ -1,4 +1,6 @@
-ghost use Rattle.std.specs.Prelude.{◌≡◌, ◌∷◌, [], length, OnOk, OnErr, MatchOption};
+ghost use Rattle.std.specs.Prelude.{◌≡◌, ◌-◌, ◌<◌, ◌∷◌, [], Some, drop, length, slice_get};
+ghost use Rattle.std.specs.Prelude.{OnOk, OnErr, MatchOption};
+ghost use Rattle.pt_frames.specs.Slots.{active_in, busy_with};
 
 use pt_base::{Dup, Memory};
 use pt_heap::{Completion, Value};
@@ -19,6 +21,16 @@ pub enum Slot {
     Pending(Completion),
     /// `__exit__` of the object of a `with`.
     With(Value),
+}
+
+/// The exception that a slot is busy with (Language Reference 8.4).
+fn busy_with(slot: Slot) -> Option<Value>
+    ensures { result ≡ busy_with slot }
+{
+    match slot {
+        Slot::Exc(exception) | Slot::Pending(Completion::Raise(exception)) => Some(exception),
+        _ => None,
+    }
 }
 
 /// The slots of an activation. Contracts see their list, the top first.
@@ -67,6 +79,43 @@ impl Slots {
             ((self.old ≡ []) × (self.new ≡ [])) (λ top. self.old ≡ top ∷ self.new) }
     {
         self.items.pop()
+    }
+
+    /// The slot that so many others are above.
+    fn at(&self, above: usize) -> Slot
+        requires { above < length self.now }
+        ensures { slice_get self.now above ≡ Some result }
+    {
+        self.items[self.items.len() - 1 - above]
+    }
+
+    /// The slot that so many others are above, if it is there.
+    pub fn get(&self, above: usize) -> Option<Slot>
+        ensures { result ≡ slice_get self.now above }
+    {
+        if above >= self.len() {
+            return None;
+        }
+        Some(self.at(above))
+    }
+
+    /// Takes slots off the top until so many are left, if there are more.
+    pub fn cut(&mut self, depth: usize)
+        ensures { self.new ≡ drop (length self.old - depth) self.old }
+    {
+        self.items.truncate(depth);
+    }
+
+    /// The exception of the uppermost slot that is busy with one.
+    pub fn active(&self) -> Option<Value>
+        ensures { result ≡ active_in self.now }
+    {
+        for above in 0..self.len() {
+            if let Some(exception) = busy_with(self.at(above)) {
+                return Some(exception);
+            }
+        }
+        None
     }
 }
 

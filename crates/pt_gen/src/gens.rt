@@ -1,6 +1,8 @@
-ghost use Rattle.std.specs.Prelude.{◌≡◌, ◌++◌, [], ◌∷◌, ◌<◌, Some, length, slice_get, slice_set, OnOk, OnErr, IfOk};
+ghost use Rattle.std.specs.Prelude.{◌≡◌, ◌++◌, [], ◌∷◌, ◌<◌, Some, length, slice_get, slice_set};
+ghost use Rattle.std.specs.Prelude.{OnOk, OnErr, IfOk};
 ghost use Rattle.std.specs.Option.{option_map};
-ghost use Rattle.pt_gen.specs.declared.generator.Generator.TheVariants.{Fresh, Suspended, Running, Finished};
+ghost use Rattle.pt_gen.specs.declared.generator.Generator.TheVariants.{Fresh, Suspended, Running};
+ghost use Rattle.pt_gen.specs.declared.generator.Generator.TheVariants.{Finished};
 ghost use Rattle.pt_gen.specs.States.{resumption, state_of};
 
 use crate::{GenErr, GenState, Generator, How};

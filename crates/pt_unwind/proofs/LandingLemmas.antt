@@ -56,3 +56,13 @@ landing_of-innermost (r ∷ rows) from how row h t = by (λ s. landing_of-innerm
         ap (λ x. cond (takes x how) (entry_of x) (landing_among (around rows from) from how)) same
         ∙ ap (λ b. cond b (entry_of row) (landing_among (around rows from) from how)) t
     by rest false s = rest s
+
+-- of rows that cover the place the first that takes the completion
+pub landing_among-found : (rows : List Handler) (from : Pc) (how : Completion) → landing_among rows from how ≡ landing_at (find (λ row. takes row how) rows) from how
+landing_among-found [] from how = refl
+landing_among-found (row ∷ rows) from how = by (landing_among-found rows from how) (takes row how)
+  where
+    by : landing_among rows from how ≡ landing_at (find (λ row. takes row how) rows) from how
+        → (b : Bool) → cond b (entry_of row) (landing_among rows from how) ≡ landing_at (cond b (Some row) (find (λ row. takes row how) rows)) from how
+    by rest true = refl
+    by rest false = rest

@@ -2,10 +2,13 @@
 //! are taken off, inner rows first, until one takes the completion.
 #![tactic(auto)]
 
+mod laws;
+
 ghost use Rattle.std.specs.Prelude.{◌≡◌, ◌&&◌, Some, find};
 ghost use Rattle.pt_ranges.specs.Rows.{covers, first_over};
-ghost use Rattle.pt_unwind.specs.Landings.{entry_of, landing_of, takes, way_out};
+ghost use Rattle.pt_unwind.specs.Landings.{entry_of, landing_among, landing_of, takes, way_out};
 
+pub use laws::a_landing_is_a_step_of_the_machine;
 use pt_base::Pc;
 use pt_code::CodeBlock;
 use pt_heap::Completion;
@@ -96,6 +99,23 @@ pub fn land(block: &CodeBlock, table: &HandlerTable, pc: Pc, how: Completion) ->
 {
     match table.handler_at(pc) {
         Some(innermost) => land_from(innermost, block.handlers.as_slice(), pc, how),
+        None => pass(pc, how),
+    }
+}
+
+/// The first of the rows that takes the completion.
+fn first_to_take(rows: &[Handler], how: Completion) -> Option<Handler>
+    ensures { result ≡ find (λ row. takes row how) rows.now }
+{
+    rows.iter().copied().find(|row| takes(*row, how))
+}
+
+/// The same of a place whose covering rows are known, inner rows first.
+pub fn land_among(rows: &[Handler], pc: Pc, how: Completion) -> Landing
+    ensures { result ≡ landing_among rows.now pc how }
+{
+    match first_to_take(rows, how) {
+        Some(row) => enter(row),
         None => pass(pc, how),
     }
 }

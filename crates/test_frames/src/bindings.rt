@@ -1,12 +1,12 @@
 //! A row of a binding is the parameters, `|`, and the arguments: `a` and `b=1` are parameters, `.c`
 //! and `.d=2` such that a name alone fills, `*` and `**` the starred ones; `5` is an argument, and
-//! `c:6` one with a name. The answer is `ok` with the values, what `*` takes and what `**` takes, or
-//! a refusal.
+//! `c:6` one with a name. The answer is `ok` with the values, what `*` takes and what `**` takes,
+//! or a refusal.
 
 use crate::no_row::NoRow;
 use pt_base::{Memory, Seq, Text};
-use pt_frames::{Args, BindErr, Locals, Params, bind};
-use pt_heap::{Binding, Seed, Value};
+use pt_bind::{Args, BindErr, Locals, Params, bind};
+use pt_heap::{Binding, Value};
 use std::alloc::Global;
 
 fn number(word: &str) -> Result<Value, NoRow> {
@@ -140,7 +140,7 @@ pub fn answers(line: &mut String, alloc: Global, row: &str) -> Result<(), NoRow>
     };
     let params = params(alloc, left)?;
     let args = args(alloc, right)?;
-    match bind(alloc, Seed::of(row.as_bytes()), &params, &args) {
+    match bind(alloc, &params, &args) {
         Ok(locals) => show_locals(line, alloc, &locals),
         Err(error) => show_error(line, alloc, &error),
     }

@@ -1,6 +1,6 @@
-//! A row of generators is words: `+` makes one, whose activation is 10 and its number; `n0`, `s0:5`,
-//! `s0:None`, `t0` and `c0` resume generator 0 by next, send, throw and close; `y0` suspends it, `f0`
-//! finishes it, and `?0` asks for its state.
+//! A row of generators is words: `+` makes one, whose activation is 10 and its number; `n0`,
+//! `s0:5`, `s0:None`, `t0` and `c0` resume generator 0 by next, send, throw and close; `y0` suspends
+//! it, `f0` finishes it, and `?0` asks for its state.
 
 ghost use Rattle.std.specs.Prelude.{◌<◌, length, IfOk};
 

@@ -1,5 +1,6 @@
-//! A row of landings is handler rows, each as `FROM-TO:TARGET:DEPTH` with `!` in front where it takes
-//! each completion, then `|`, a place, and `raise`, `return`, `normal` or the place that is left for.
+//! A row of landings is handler rows, each as `FROM-TO:TARGET:DEPTH` with `!` in front where it
+//! takes each completion, then `|`, a place, and `raise`, `return`, `normal` or the place that is
+//! left for.
 
 ghost use Rattle.std.specs.Prelude.{◌≡◌};
 

@@ -1,6 +1,7 @@
 //! What frames, generators and landings answer to rows of a table, beside what CPython answered.
 #![tactic(auto)]
 
+mod activations;
 mod bindings;
 mod generators;
 mod landings;
@@ -18,6 +19,7 @@ fn answer(line: &mut String, alloc: Global, row: &str) -> Result<(), NoRow> {
         Some(("bind", rest)) => bindings::answers(line, alloc, rest),
         Some(("gen", rest)) => generators::answers(line, alloc, rest),
         Some(("land", rest)) => landings::answers(line, alloc, rest),
+        Some(("act", rest)) => activations::answers(line, alloc, rest),
         Some(("open", rest)) => opens::answers(line, alloc, rest),
         _ => Err(NoRow),
     }

@@ -3,7 +3,8 @@
 
 use crate::no_row::NoRow;
 use pt_base::{BlockId, Seq};
-use pt_frames::{Frames, Locals, OpenErr, Purpose};
+use pt_bind::Locals;
+use pt_frames::{Frames, OpenErr, Purpose};
 use pt_heap::Seed;
 use std::alloc::Global;
 

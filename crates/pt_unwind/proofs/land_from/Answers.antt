@@ -1,4 +1,4 @@
-use Rattle.std.proofs.Common.{◌≡◌, ◌∙◌, Option, ap, sym}
+use Rattle.std.proofs.Common.{◌∙◌, Option, ap, sym}
 use Rattle.pt_ranges.specs.declared.handlers.Handler.{Handler}
 use Rattle.pt_unwind.proofs.LandingLemmas.{landing_at, landing_of-found, landing_of-innermost}
 use Rattle.pt_unwind.proofs.land_from.Goals as goal

@@ -1,6 +1,0 @@
-use Rattle.std.proofs.Common.{◌≡◌, drop}
-use Rattle.pt_frames.specs.Binding.{value_of}
-use Rattle.pt_frames.proofs.binding.value_of.Given as goal
-
-abbrev pub invariant-loop-binding : goal.invariant-loop-binding
-invariant-loop-binding l = value_of l.name l.bindings ≡ value_of l.name (drop l.binding-index l.bindings)
