@@ -6,11 +6,13 @@ mod braces;
 mod calls;
 mod clauses;
 mod displays;
+mod expressions;
 mod front;
 mod parameters;
 mod reader;
 mod sequels;
 mod strings;
 
-pub use front::{ParseErr, one_answer, wide};
+pub use expressions::Expressions;
+pub use front::{one_answer, wide};
 pub use reader::Reader;

@@ -11,10 +11,11 @@ ghost use Rattle.pt_parser.specs.Views.{handler_in};
 use crate::signs::{ELSE, EXCEPT, FINALLY};
 use crate::{Statements, nodes};
 use pt_base::{Line, Seq};
+use pt_expr_reader::ExpressionReader;
 use pt_readers::Halt;
 use pt_wide::{WideHandler, WideStmt};
 
-impl<'a> Statements<'a> {
+impl<'a, E: ExpressionReader> Statements<'a, E> {
     /// `finally`, if it is there, behind all else.
     #[cycle(statements)]
     fn finishing(

@@ -13,10 +13,11 @@ use crate::heads::Bases;
 use crate::signs::{CLASS, DEF, OPEN};
 use crate::{Statements, nodes};
 use pt_base::{Line, Seq, Text};
+use pt_expr_reader::ExpressionReader;
 use pt_readers::Halt;
 use pt_wide::{WideDecorator, WideStmt};
 
-impl<'a> Statements<'a> {
+impl<'a, E: ExpressionReader> Statements<'a, E> {
     /// Behind `def`, which stands on that line; the statement starts on this one.
     #[cycle(statements)]
     pub(crate) fn function(
