@@ -1,7 +1,10 @@
-ghost use Rattle.std.specs.Prelude.{◌≡◌, ◌++◌, ◌-◌, ◌+◌, [], IfOk, OnOk, length, replicate, if◌then◌else◌};
+ghost use Rattle.std.specs.Prelude.{◌≡◌, ◌++◌, ◌-◌, ◌+◌, [], length, replicate, if◌then◌else◌};
+ghost use Rattle.std.specs.Prelude.{IfOk, OnOk};
 ghost use Rattle.std.specs.Str.{chars};
 ghost use Rattle.pt_strs.specs.Answer.{within, Answers};
-ghost use Rattle.pt_formats.specs.Layout.{align_or, base_of, fill_char, filled, formatted, formatted_int, formatted_text, is_for_text, is_text, laid, margins_of, not_inside, sign_text};
+ghost use Rattle.pt_formats.specs.Layout.{align_or, base_of, fill_char, filled, formatted};
+ghost use Rattle.pt_formats.specs.Layout.{formatted_int, formatted_text, is_for_text, is_text};
+ghost use Rattle.pt_formats.specs.Layout.{laid, margins_of, not_inside, sign_text};
 ghost use Rattle.pt_formats.specs.Spec.{spec_of};
 
 use crate::FormatValue;
@@ -74,7 +77,8 @@ fn filled(
     sign: Option<char>,
     body: &str,
 ) -> Result<Text, Memory>
-    ensures { IfOk result (λ t. chars t ≡ filled margins fill (sign_text sign) (chars body.now)) }
+    ensures { IfOk result
+        (λ t. chars t ≡ filled margins fill (sign_text sign) (chars body.now)) }
 {
     let mut draft = Draft::new(alloc);
     push_times(&mut draft, fill, margins.left)?;

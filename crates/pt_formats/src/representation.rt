@@ -2,7 +2,8 @@ ghost use Rattle.std.specs.Prelude.{◌≡◌, ◌++◌, ◌∷◌, [], ◌==◌
 ghost use Rattle.std.specs.List.{list_any};
 ghost use Rattle.std.specs.Str.{chars};
 ghost use Rattle.pt_strs.specs.Answer.{counted, within, Answers};
-ghost use Rattle.pt_formats.specs.Repr.{digit_of, escape, escapes, is_hidden, letter_of, quote_of, quoted, represented};
+ghost use Rattle.pt_formats.specs.Repr.{digit_of, escape, escapes, is_hidden, letter_of, quote_of};
+ghost use Rattle.pt_formats.specs.Repr.{quoted, represented};
 
 use crate::number::digit;
 use pt_base::{Memory, Text};

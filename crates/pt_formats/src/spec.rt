@@ -1,7 +1,8 @@
 ghost use Rattle.std.specs.Prelude.{◌≡◌};
 ghost use Rattle.std.specs.Str.{chars};
 ghost use Rattle.pt_strs.specs.Answer.{counted};
-ghost use Rattle.pt_formats.specs.Spec.{align_of, fill_of, kind_of, read_sign, read_width, read_zero, sign_of, spec_of};
+ghost use Rattle.pt_formats.specs.Spec.{align_of, fill_of, kind_of, read_sign, read_width};
+ghost use Rattle.pt_formats.specs.Spec.{read_zero, sign_of, spec_of};
 
 use pt_strs::Scan;
 

@@ -32,7 +32,9 @@ impl Class {
 
     /// The characters that a strip takes off: those of a text, or blanks where none is given.
     pub fn of_strip(alloc: Global, set: Option<&Text>) -> Result<Class, Memory>
-        ensures { IfOk result (λ class. (c : ℕ) → has class c ≡ goes (option_map (λ s. chars s.now) set.entry) c) }
+        ensures { IfOk result
+            (λ class. (c : ℕ)
+            → has class c ≡ goes (option_map (λ s. chars s.now) set.entry) c) }
     {
         match set {
             Some(set) => Class::of_text(alloc, set.as_str()),
@@ -42,7 +44,8 @@ impl Class {
 
     /// The characters of a text.
     fn of_text(alloc: Global, text: &str) -> Result<Class, Memory>
-        ensures { IfOk result (λ class. (c : ℕ) → has class c ≡ goes (Some (chars text.now)) c) }
+        ensures { IfOk result
+            (λ class. (c : ℕ) → has class c ≡ goes (Some (chars text.now)) c) }
     {
         let mut set = BTreeSet::new(alloc);
         let mut scan = Scan::new(text);

@@ -23,7 +23,8 @@ fn followed_len(count: usize, sep: &str, parts: &[Text]) -> usize
 
 /// Writes parts, each behind a separator.
 fn push_followed(draft: &mut Draft, sep: &str, parts: &[Text]) -> Result<(), Memory>
-    ensures { OnOk result (draft.new ≡ draft.old ++ followed (chars sep.now) (map chars parts.now)) }
+    ensures { OnOk result
+        (draft.new ≡ draft.old ++ followed (chars sep.now) (map chars parts.now)) }
 {
     for part in parts {
         draft.push_str(sep)?;

@@ -19,7 +19,9 @@ pub fn strip(
     left: bool,
     right: bool,
 ) -> Result<Text, StrErr>
-    ensures { Answers result (within (stripped (option_map (λ s. chars s.now) set.entry) left right (chars text.now))) }
+    ensures { Answers result
+        (within
+        (stripped (option_map (λ s. chars s.now) set.entry) left right (chars text.now))) }
 {
     let class = Class::of_strip(alloc, set)?;
     let mut rest = Scan::new(text.as_str());

@@ -46,7 +46,8 @@ fn words(alloc: Global, text: &str) -> Result<Seq<Text>, StrErr>
 /// (Library Reference, `str.split`). Empty for an empty separator, Length where a part has more
 /// than 16,777,216 characters.
 pub fn split(alloc: Global, text: &Text, sep: Option<&Text>) -> Result<Seq<Text>, StrErr>
-    ensures { AnswersAll result (split_by (option_map (λ s. chars s.now) sep.entry) (chars text.now)) }
+    ensures { AnswersAll result
+        (split_by (option_map (λ s. chars s.now) sep.entry) (chars text.now)) }
 {
     match sep {
         None => words(alloc, text.as_str()),

@@ -13,7 +13,9 @@ use std::alloc::Global;
 /// The length of a text with each place of a part replaced.
 fn replaced_len(text: &str, old: &str, new: &str) -> usize
     requires { 0 < length (chars old.now) }
-    ensures { result ≡ counted (length (joined (chars new.now) (all_pieces (chars old.now) (chars text.now)))) }
+    ensures { result
+        ≡ counted
+        (length (joined (chars new.now) (all_pieces (chars old.now) (chars text.now)))) }
 {
     let size = char_count(new);
     let mut sum = 0usize;
@@ -28,7 +30,8 @@ fn replaced_len(text: &str, old: &str, new: &str) -> usize
 /// A text with each place of a part replaced.
 fn with_replaced(alloc: Global, text: &str, old: &str, new: &str) -> Result<Text, Memory>
     requires { 0 < length (chars old.now) }
-    ensures { IfOk result (λ t. chars t ≡ joined (chars new.now) (all_pieces (chars old.now) (chars text.now))) }
+    ensures { IfOk result
+        (λ t. chars t ≡ joined (chars new.now) (all_pieces (chars old.now) (chars text.now))) }
 {
     let mut draft = Draft::new(alloc);
     let mut scan = Scan::new(text);

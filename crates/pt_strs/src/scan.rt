@@ -1,4 +1,5 @@
-ghost use Rattle.std.specs.Prelude.{◌≡◌, [], ◌∷◌, ◌++◌, None, Some, MatchOption, IsTrue, ◌↔◌, length, take, drop, ◌-◌};
+ghost use Rattle.std.specs.Prelude.{◌≡◌, ◌↔◌, ◌-◌, [], ◌∷◌, ◌++◌, None, Some, MatchOption, IsTrue};
+ghost use Rattle.std.specs.Prelude.{length, take, drop};
 ghost use Rattle.std.specs.Str.{chars};
 ghost use Rattle.pt_strs.specs.Cut.{cut};
 ghost use Rattle.pt_strs.specs.Class.{has};
@@ -40,7 +41,8 @@ impl<'a> Scan<'a> {
 
     /// Takes the first character.
     pub fn next(&mut self) -> Option<char>
-        ensures { MatchOption result ((self.old ≡ []) × (self.new ≡ [])) (λ c. self.old ≡ c ∷ self.new) }
+        ensures { MatchOption result
+            ((self.old ≡ []) × (self.new ≡ [])) (λ c. self.old ≡ c ∷ self.new) }
     {
         let mut chars = self.rest.chars();
         let next = chars.next();
@@ -50,7 +52,8 @@ impl<'a> Scan<'a> {
 
     /// Takes the last character.
     pub fn next_back(&mut self) -> Option<char>
-        ensures { MatchOption result ((self.old ≡ []) × (self.new ≡ [])) (λ c. self.old ≡ self.new ++ c ∷ []) }
+        ensures { MatchOption result
+            ((self.old ≡ []) × (self.new ≡ [])) (λ c. self.old ≡ self.new ++ c ∷ []) }
     {
         let mut chars = self.rest.chars();
         let last = chars.next_back();
@@ -60,7 +63,9 @@ impl<'a> Scan<'a> {
 
     /// Takes what stands before the first place of a part, and goes on behind that place.
     pub fn before(&mut self, part: &str) -> Option<&'a str>
-        ensures { MatchOption result ((cut (chars part.now) self.old ≡ None) × (self.new ≡ self.old)) (λ front. cut (chars part.now) self.old ≡ Some (chars front.now, self.new)) }
+        ensures { MatchOption result
+            ((cut (chars part.now) self.old ≡ None) × (self.new ≡ self.old))
+            (λ front. cut (chars part.now) self.old ≡ Some (chars front.now, self.new)) }
     {
         let text = self.rest;
         let at = text.find(part)?;

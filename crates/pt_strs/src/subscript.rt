@@ -1,7 +1,9 @@
-ghost use Rattle.std.specs.Prelude.{◌≡◌, ◌≢◌, ◌++◌, ◌+◌, ◌/◌, ◌^◌, ◌≤◌, ◌<◌, Some, pos, length, reverse, OnOk};
+ghost use Rattle.std.specs.Prelude.{◌≡◌, ◌≢◌, ◌++◌, ◌+◌, ◌/◌, ◌^◌, ◌≤◌, ◌<◌, Some, pos};
+ghost use Rattle.std.specs.Prelude.{length, reverse, OnOk};
 ghost use Rattle.std.specs.Str.{chars};
 ghost use Rattle.pt_strs.specs.Answer.{within, Answers};
-ghost use Rattle.pt_strs.specs.Slice.{behind, between, bound, every, place, sliced, stride_of, IsShort};
+ghost use Rattle.pt_strs.specs.Slice.{behind, between, bound, every, place, sliced, stride_of};
+ghost use Rattle.pt_strs.specs.Slice.{IsShort};
 
 use crate::length::{LENGTH_LIMIT, char_count};
 use crate::{Draft, Scan, StrErr};
