@@ -1,2 +1,3 @@
 pub mod StatementBuilding
 pub mod OtherStatements
+pub mod OwnStatements

@@ -89,9 +89,27 @@ fn handler(n: &mut Narrower, one: &WideHandler) -> Result<Handler, Unnarrowed>
     })
 }
 
-/// A statement (Language Reference 7, 8); here `if`.
+/// A statement (Language Reference 7, 8). Each kind that has a block has a frame of its own, so that
+/// blocks inside blocks take room for their own kinds alone.
 #[cycle(blocks)]
 fn statement(n: &mut Narrower, s: &WideStmt) -> Result<Stmt, Unnarrowed>
+    ensures { MakesStm result n.old (W.stm_of s.now) n.new }
+{
+    match &s.node {
+        WideStmtNode::If { .. } => conditional(n, s),
+        WideStmtNode::While { .. } => repeated(n, s),
+        WideStmtNode::For { .. } => iterated(n, s),
+        WideStmtNode::Try { .. } => tried(n, s),
+        WideStmtNode::With { .. } => guarded(n, s),
+        WideStmtNode::Def { .. } => defined(n, s),
+        WideStmtNode::Class { .. } => classed(n, s),
+        _ => conditional(n, s),
+    }
+}
+
+/// `if` (Language Reference 8.1), or what comes behind.
+#[cycle(blocks)]
+fn conditional(n: &mut Narrower, s: &WideStmt) -> Result<Stmt, Unnarrowed>
     ensures { MakesStm result n.old (W.stm_of s.now) n.new }
 {
     let line = s.line;

@@ -15,12 +15,37 @@ use Rattle.pt_refine_expr.specs.StatementBlocks.{blocks_branches, blocks_decorat
 use Rattle.pt_refine_expr.specs.StatementNarrow.{narrow_base, narrow_branches, narrow_handlers, narrow_stm, narrow_stms}
 use Rattle.pt_refine_script.specs.StatementsNarrowed.{narrow_assignment, narrow_classed, narrow_defined, narrow_guarded, narrow_iterated, narrow_repeated, narrow_tried, wide_branches, wide_handlers}
 use Rattle.pt_refine_expr.proofs.Building.{leaves, same-narrow, both-is, left-at, left-none, made-four, made-is, made-three, made-two, put-is, put-three, walk-end, walk-step}
+use Rattle.pt_refine_script.proofs.OwnStatements.{class-own, def-own, for-own, try-own, while-own, with-own}
 use Rattle.pt_refine_script.proofs.OtherStatements.{classed-other, defined-other, guarded-other, iterated-other, repeated-other, statement-other, tried-other}
 use Rattle.pt_refine_script.proofs.StatementBuilding.{at-made-stm, branch-made, handler-made, made-class, made-def, stms-chained}
 use Rattle.pt_refine_script.proofs.block_trees.+blocks.Goals as goal
 
-pub statement-returns-in_ok-otherwise-in-If : goal.statement-returns-in_ok-otherwise-in-If
-statement-returns-in_ok-otherwise-in-If t c = at-made-stm (narrow_stm c.args.n.now) (wide.stm_of-If c.args.s.now _ _ (c.in-If.is ∙ rw (c.as_slice.ensures, c.as_slice-in-If.ensures))) (made-is refl (tree.stm_of-If _ _ _ refl) refl (made-two (P.choice c.args.s.now.line.0) (λ m. narrow_stms m (stms_of c.as_slice-in-If.result.now)) c.in_ok-branches-in-If.ensures c.in_ok-otherwise-in-If.ensures))
+pub statement-returns-in-If : goal.statement-returns-in-If
+statement-returns-in-If t c = c.conditional.ensures
+
+pub statement-returns-in-While : goal.statement-returns-in-While
+statement-returns-in-While t c = same-narrow T.stm_of c.repeated.result (narrow_repeated c.args.n.now (stm_of c.args.s.now)) (narrow_stm c.args.n.now (stm_of c.args.s.now)) c.args.n.now (blocks_stm (stm_of c.args.s.now)) c.repeated.new.n (while-own c.args.n.now _ (wide.stm_of-While c.args.s.now _ _ _ c.in-While.is)) c.repeated.ensures
+
+pub statement-returns-in-For : goal.statement-returns-in-For
+statement-returns-in-For t c = same-narrow T.stm_of c.iterated.result (narrow_iterated c.args.n.now (stm_of c.args.s.now)) (narrow_stm c.args.n.now (stm_of c.args.s.now)) c.args.n.now (blocks_stm (stm_of c.args.s.now)) c.iterated.new.n (for-own c.args.n.now _ (wide.stm_of-For c.args.s.now _ _ _ _ c.in-For.is)) c.iterated.ensures
+
+pub statement-returns-in-Try : goal.statement-returns-in-Try
+statement-returns-in-Try t c = same-narrow T.stm_of c.tried.result (narrow_tried c.args.n.now (stm_of c.args.s.now)) (narrow_stm c.args.n.now (stm_of c.args.s.now)) c.args.n.now (blocks_stm (stm_of c.args.s.now)) c.tried.new.n (try-own c.args.n.now _ (wide.stm_of-Try c.args.s.now _ _ _ _ c.in-Try.is)) c.tried.ensures
+
+pub statement-returns-in-With : goal.statement-returns-in-With
+statement-returns-in-With t c = same-narrow T.stm_of c.guarded.result (narrow_guarded c.args.n.now (stm_of c.args.s.now)) (narrow_stm c.args.n.now (stm_of c.args.s.now)) c.args.n.now (blocks_stm (stm_of c.args.s.now)) c.guarded.new.n (with-own c.args.n.now _ (wide.stm_of-With c.args.s.now _ _ c.in-With.is)) c.guarded.ensures
+
+pub statement-returns-in-Def : goal.statement-returns-in-Def
+statement-returns-in-Def t c = same-narrow T.stm_of c.defined.result (narrow_defined c.args.n.now (stm_of c.args.s.now)) (narrow_stm c.args.n.now (stm_of c.args.s.now)) c.args.n.now (blocks_stm (stm_of c.args.s.now)) c.defined.new.n (def-own c.args.n.now _ (wide.stm_of-Def c.args.s.now _ _ _ _ _ _ c.in-Def.is)) c.defined.ensures
+
+pub statement-returns-in-Class : goal.statement-returns-in-Class
+statement-returns-in-Class t c = same-narrow T.stm_of c.classed.result (narrow_classed c.args.n.now (stm_of c.args.s.now)) (narrow_stm c.args.n.now (stm_of c.args.s.now)) c.args.n.now (blocks_stm (stm_of c.args.s.now)) c.classed.new.n (class-own c.args.n.now _ (wide.stm_of-Class c.args.s.now _ _ _ _ _ _ c.in-Class.is)) c.classed.ensures
+
+pub statement-returns-in_default : goal.statement-returns-in_default
+statement-returns-in_default t c = c.conditional-in_default.ensures
+
+pub conditional-returns-in_ok-otherwise-in-If : goal.conditional-returns-in_ok-otherwise-in-If
+conditional-returns-in_ok-otherwise-in-If t c = at-made-stm (narrow_stm c.args.n.now) (wide.stm_of-If c.args.s.now _ _ (c.in-If.is ∙ rw (c.as_slice.ensures, c.as_slice-in-If.ensures))) (made-is refl (tree.stm_of-If _ _ _ refl) refl (made-two (P.choice c.args.s.now.line.0) (λ m. narrow_stms m (stms_of c.as_slice-in-If.result.now)) c.in_ok-branches-in-If.ensures c.in_ok-otherwise-in-If.ensures))
 
 pub repeated-returns-in_ok-otherwise-in-While : goal.repeated-returns-in_ok-otherwise-in-While
 repeated-returns-in_ok-otherwise-in-While t c = at-made-stm (narrow_repeated c.args.n.now) (wide.stm_of-While c.args.s.now _ _ _ (c.in-While.is ∙ rw (c.as_slice.ensures, c.as_slice-in-While.ensures))) (made-is refl c.while_of.ensures refl (made-three (P.while c.args.s.now.line.0) (λ m. narrow_stms m (stms_of c.as_slice.result.now)) (λ m. narrow_stms m (stms_of c.as_slice-in-While.result.now)) c.in_ok-test-in-While.ensures c.in_ok-body-in-While.ensures c.in_ok-otherwise-in-While.ensures))
@@ -101,14 +126,14 @@ handler-returns t c =
     let parts : (r : W.Handlers) → handler_of c.args.one.now r ≡ W.handler one.line.0 false class one.name body r = λ r. wide.handler_of-parts c.args.one.now r ∙ ap (λ b. W.handler one.line.0 b class one.name (stms_of one.body) r) c.in_ok-without_star.ensures ∙ ap (λ ss. W.handler one.line.0 false class one.name (stms_of ss) r) (sym c.as_slice.ensures) in
     put-is (λ r. ap (narrow_handlers c.args.n.now) (parts r)) (λ r. handler-made one.line c.in_ok-class.class c.in_ok-name.name c.in_ok-body.body r ∙ ap (λ x. P.handler one.line.0 (E.opt_exp c.in_ok-class.class) x (T.stms_of c.in_ok-body.body) r) c.in_ok-name.ensures) (λ r. ap blocks_handlers (parts r)) (put-three (λ d ss r. P.handler one.line.0 d one.name ss r) (λ m. narrow_stms m body) narrow_handlers blocks_handlers c.in_ok-class.ensures c.in_ok-body.ensures)
 
-pub statement-returns-in_err-branches-in-If : goal.statement-returns-in_err-branches-in-If
-statement-returns-in_err-branches-in-If t c = grind (arith, leaves, wide.stm_of-If c.args.s.now _ _ c.in-If.is)
+pub conditional-returns-in_err-branches-in-If : goal.conditional-returns-in_err-branches-in-If
+conditional-returns-in_err-branches-in-If t c = grind (arith, leaves, wide.stm_of-If c.args.s.now _ _ c.in-If.is)
 
-pub statement-returns-in_err-otherwise-in-If : goal.statement-returns-in_err-otherwise-in-If
-statement-returns-in_err-otherwise-in-If t c = grind (arith, leaves, wide.stm_of-If c.args.s.now _ _ c.in-If.is)
+pub conditional-returns-in_err-otherwise-in-If : goal.conditional-returns-in_err-otherwise-in-If
+conditional-returns-in_err-otherwise-in-If t c = grind (arith, leaves, wide.stm_of-If c.args.s.now _ _ c.in-If.is)
 
-pub statement-returns-in_default : goal.statement-returns-in_default
-statement-returns-in_default t c = same-narrow T.stm_of c.repeated.result (narrow_repeated c.args.n.now (stm_of c.args.s.now)) (narrow_stm c.args.n.now (stm_of c.args.s.now)) c.args.n.now (blocks_stm (stm_of c.args.s.now)) c.repeated.new.n (statement-other c.args.n.now c.args.s.now (c.in_default.not-If)) c.repeated.ensures
+pub conditional-returns-in_default : goal.conditional-returns-in_default
+conditional-returns-in_default t c = same-narrow T.stm_of c.repeated.result (narrow_repeated c.args.n.now (stm_of c.args.s.now)) (narrow_stm c.args.n.now (stm_of c.args.s.now)) c.args.n.now (blocks_stm (stm_of c.args.s.now)) c.repeated.new.n (statement-other c.args.n.now c.args.s.now (c.in_default.not-If)) c.repeated.ensures
 
 pub repeated-returns-in_err-test-in-While : goal.repeated-returns-in_err-test-in-While
 repeated-returns-in_err-test-in-While t c = grind (arith, leaves, wide.stm_of-While c.args.s.now _ _ _ c.in-While.is)
