@@ -2,8 +2,9 @@
 //! dictionary, and objects of a heap.
 #![tactic(auto)]
 
-use pt_base::{Memory, Seq, Text};
-use pt_heap::{Dict, Heap, Key, Object, Seed, Value};
+use pt_base::{BinOp, Dup, Memory, Seq, Text};
+use pt_dicts::combine;
+use pt_heap::{Dict, DictErr, Heap, Key, Object, Seed, Value};
 use pt_strs::{find, repeat, replace};
 use std::alloc::Global;
 use std::env;
@@ -92,6 +93,27 @@ fn remove(alloc: Global, count: u32) -> Result<bool, Memory> {
     Ok(dict.len() == 0)
 }
 
+/// Fills a dictionary up, and answers whether it refuses one entry more and no other, also as a set
+/// of which another has one item that it lacks.
+fn limit(alloc: Global) -> Result<bool, Memory> {
+    let mut dict = filled(alloc, 4_194_304)?;
+    let there = dict.insert(key(alloc, 0)?, Value::None, Value::None);
+    let new = key(alloc, 4_194_304)?;
+    let refused = dict.insert(new.dup(alloc)?, Value::None, Value::None);
+    let mut one = Dict::new(alloc, dict.seed());
+    if one.insert(new, Value::None, Value::None).is_err() {
+        return Err(Memory);
+    }
+    let union = combine(alloc, BinOp::BitOr, &dict, &one);
+    let common = combine(alloc, BinOp::BitAnd, &dict, &one);
+    Ok(
+        there.is_ok()
+            && matches!(refused, Err(DictErr::Length))
+            && matches!(union, Err(DictErr::Length))
+            && common.is_ok(),
+    )
+}
+
 /// Puts so many objects into a heap.
 fn add(alloc: Global, count: u32) -> Result<bool, Memory> {
     let mut heap = Heap::new(alloc, Seed::of(b"objects"));
@@ -110,7 +132,8 @@ fn number(word: Option<String>) -> u32 {
     }
 }
 
-/// The words are what is timed and its size: `find`, `replace`, `insert`, `get`, `remove` or `add`.
+/// The words are what is timed and its size: `find`, `replace`, `insert`, `get`, `remove` or `add`;
+/// `limit` is tried at the one size that it has.
 fn main(rt: HostRuntime) -> ExitCode {
     let Ok(mut args) = env::args(&rt) else {
         return ExitCode::from(1);
@@ -126,6 +149,7 @@ fn main(rt: HostRuntime) -> ExitCode {
         "insert" => insert(rt.alloc(), size),
         "get" => get(rt.alloc(), size),
         "remove" => remove(rt.alloc(), size),
+        "limit" => limit(rt.alloc()),
         _ => add(rt.alloc(), size),
     };
     match done {
