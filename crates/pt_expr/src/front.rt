@@ -9,11 +9,10 @@ ghost use Rattle.pt_readers.specs.declared.halt.Halt.{Halt as Cause};
 ghost use Rattle.pt_readers.specs.declared.halt.Halt.TheVariants as cause;
 ghost use Rattle.pt_grammar.specs.declared.part.Part.{Part as WhichPart};
 ghost use Rattle.pt_grammar.specs.Lexemes.{Lexeme, lexemes};
-ghost use Rattle.pt_expr.specs.Answers.{part_of, Answers};
+ghost use Rattle.pt_expr.specs.Answers.{part_of, Answers, place_at};
 
 use crate::reader::Reader;
-use pt_base::Failure;
-use pt_expr_reader::{ParseErr, place};
+use pt_base::{Failure, Line};
 use pt_grammar::Part;
 use pt_grammar::deep::Deep;
 use pt_lexer::Token;
@@ -21,8 +20,32 @@ use pt_readers::Halt;
 use pt_wide::WideExpr;
 use std::alloc::Global;
 
+/// Why tokens are no expression.
+#[derive(Clone, Copy, Debug, PartialEq, Eq)]
+pub enum ParseErr {
+    /// With the token at this byte place nothing goes on.
+    Unexpected { at: u32 },
+    /// With a token on this line something goes on beyond the limits alone.
+    Limit { line: Line },
+}
+
 /// How many nodes of an expression may stand inside one another.
 const ROOM: u32 = 500;
+
+/// Where a reader stands that so many tokens are left to: the place of the next token, or of the
+/// last one where there is none.
+fn place(tokens: &[Token], left: usize) -> u32
+    requires { left ≤ length tokens.now }
+    ensures { result ≡ place_at tokens.now left }
+{
+    match tokens.get(tokens.len() - left) {
+        Some(token) => token.at,
+        None => match tokens.last() {
+            Some(token) => token.at,
+            None => 0,
+        },
+    }
+}
 
 /// The tokens from a place on.
 fn from(tokens: &[Token], at: usize) -> &[Token]

@@ -6,13 +6,11 @@ mod braces;
 mod calls;
 mod clauses;
 mod displays;
-mod expressions;
 mod front;
 mod parameters;
 mod reader;
 mod sequels;
 mod strings;
 
-pub use expressions::Expressions;
-pub use front::{one_answer, wide};
+pub use front::{ParseErr, one_answer, wide};
 pub use reader::Reader;

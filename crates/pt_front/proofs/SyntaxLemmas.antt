@@ -6,8 +6,8 @@ use Rattle.pt_base.specs.Failures.{IfRefused, IsSameFailure}
 use Rattle.pt_literals.specs.declared.token.Token.{Token}
 use Rattle.pt_grammar.specs.declared.part.Part.TheVariants.{Whole}
 use Rattle.pt_expr.specs.Answers.{Refuses}
-use Rattle.pt_expr_reader.specs.declared.parse_err.ParseErr.{ParseErr}
-use Rattle.pt_expr_reader.specs.declared.parse_err.ParseErr.TheVariants as parse
+use Rattle.pt_expr.specs.declared.front.ParseErr.{ParseErr}
+use Rattle.pt_expr.specs.declared.front.ParseErr.TheVariants as parse
 use Rattle.pt_parser.specs.Script.{ScriptRefuses}
 use Rattle.pt_refine_expr.specs.declared.narrowing.Narrowing.{Narrowing}
 use Rattle.pt_refine_expr.specs.declared.narrowing.Narrowing.TheVariants as narrowing

@@ -14,8 +14,7 @@ use Rattle.pt_readers.specs.declared.halt.Halt.TheVariants as cause
 use Rattle.pt_readers.proofs.Wholes.{one_answer}
 use Rattle.pt_grammar.specs.Lexemes.{Lexeme, lexemes, line_at}
 use Rattle.pt_grammar.specs.declared.part.Part.TheVariants.{Whole}
-use Rattle.pt_expr_reader.specs.Places.{place_at}
-use Rattle.pt_expr.specs.Answers.{part_of}
+use Rattle.pt_expr.specs.Answers.{part_of, place_at}
 use Rattle.pt_parser.specs.Script.{a_script, IsNone}
 use Rattle.pt_refine_expr.specs.Faults.{Fault, bad_target, excluded, faults_exp, is_clean}
 use Rattle.pt_refine_expr.specs.StatementFaults.{faults_stms}

@@ -10,8 +10,8 @@ use Rattle.pt_readers.specs.Whole.{Tells}
 use Rattle.pt_grammar.specs.Lexemes.{Lexeme, lexemes}
 use Rattle.pt_grammar.specs.declared.part.Part.TheVariants.{Whole}
 use Rattle.pt_expr.specs.Answers.{part_of, Refuses}
-use Rattle.pt_expr_reader.specs.declared.parse_err.ParseErr.{ParseErr}
-use Rattle.pt_expr_reader.specs.declared.parse_err.ParseErr.TheVariants as parse
+use Rattle.pt_expr.specs.declared.front.ParseErr.{ParseErr}
+use Rattle.pt_expr.specs.declared.front.ParseErr.TheVariants as parse
 use Rattle.pt_parser.specs.Script.{a_script, ScriptRefuses}
 use Rattle.pt_refine_expr.specs.Faults.{faults_exp}
 use Rattle.pt_refine_expr.specs.StatementFaults.{faults_stms}

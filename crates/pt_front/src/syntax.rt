@@ -7,8 +7,7 @@ ghost use Rattle.pt_tree.specs.StatementFold.{script_of};
 ghost use Rattle.pt_front.specs.Syntax.{of_parse, of_narrowing, AreScript, AreNoScript, IsExpr, IsNoExpr};
 
 use pt_base::{Failure, Line};
-use pt_expr::{Expressions, wide};
-use pt_expr_reader::ParseErr;
+use pt_expr::{ParseErr, wide};
 use pt_grammar::Part;
 use pt_lexer::Token;
 use pt_parser::wide_script;
@@ -57,7 +56,7 @@ fn left_out(told: Narrowing) -> Failure<SyntaxErr>
 pub fn parse_script(alloc: Global, tokens: &[Token]) -> Result<Script, Failure<SyntaxErr>>
     ensures { MatchResult result (λ s. AreScript tokens.now (script_of s)) (IfRefused (AreNoScript tokens.now)) }
 {
-    let wide = match wide_script(alloc, Expressions::new(alloc), tokens) {
+    let wide = match wide_script(alloc, tokens) {
         Ok(wide) => wide,
         Err(failure) => return Err(failure.map_refused(SyntaxErr::from)),
     };

@@ -9,12 +9,12 @@ use Rattle.pt_wide.specs.StatementFold.{stm_of}
 use Rattle.pt_readers.specs.Reading.{next_of, Part}
 use Rattle.pt_readers.specs.Whole.{Tells}
 use Rattle.pt_readers.specs.declared.halt.Halt.TheVariants as cause
-use Rattle.pt_expr_reader.specs.declared.parse_err.ParseErr.{ParseErr}
-use Rattle.pt_expr_reader.specs.declared.parse_err.ParseErr.TheVariants.{Unexpected, Limit}
+use Rattle.pt_expr.specs.declared.front.ParseErr.{ParseErr}
+use Rattle.pt_expr.specs.declared.front.ParseErr.TheVariants.{Unexpected, Limit}
 use Rattle.pt_grammar.specs.declared.sign.Sign.TheVariants.{Layout as layout}
 use Rattle.pt_grammar.specs.declared.sign.Layout.TheVariants.{End}
 use Rattle.pt_grammar.specs.Lexemes.{Lexeme, lexemes, line_at}
-use Rattle.pt_expr_reader.specs.Places.{place_at}
+use Rattle.pt_expr.specs.Answers.{place_at}
 use Rattle.pt_parser.specs.Parts.{some_stmts}
 
 -- script = { stmt } END

@@ -17,12 +17,11 @@ use crate::signs::{ASSIGN, COLON};
 use crate::targets::{is_place, is_target};
 use crate::{Statements, nodes};
 use pt_base::{BinOp, Boxed, Line, Seq};
-use pt_expr_reader::ExpressionReader;
 use pt_grammar::Sign;
 use pt_readers::Halt;
 use pt_wide::{WideExpr, WideStmt};
 
-impl<'a, E: ExpressionReader> Statements<'a, E> {
+impl<'a> Statements<'a> {
     /// The operator of an augmented assignment, if its sign is next.
     fn operator(&self) -> Option<BinOp>
         ensures { result ≡ operator_in (sign_at (next_of self.now)) }

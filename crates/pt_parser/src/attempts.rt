@@ -11,11 +11,10 @@ ghost use Rattle.pt_parser.specs.Views.{handler_in};
 use crate::signs::{ELSE, EXCEPT, FINALLY};
 use crate::{Statements, nodes};
 use pt_base::{Line, Seq};
-use pt_expr_reader::ExpressionReader;
 use pt_readers::Halt;
 use pt_wide::{WideHandler, WideStmt};
 
-impl<'a, E: ExpressionReader> Statements<'a, E> {
+impl<'a> Statements<'a> {
     /// `finally`, if it is there, behind all else.
     #[cycle(statements)]
     fn finishing(

@@ -16,12 +16,11 @@ use crate::signs::{
 };
 use crate::{Statements, nodes};
 use pt_base::{Line, Seq};
-use pt_expr_reader::ExpressionReader;
 use pt_grammar::Sign;
 use pt_readers::Halt;
 use pt_wide::WideStmt;
 
-impl<'a, E: ExpressionReader> Statements<'a, E> {
+impl<'a> Statements<'a> {
     /// Whether the next token goes on with a compound statement before it.
     fn is_clause(&self) -> bool
         ensures { IsTrue result ↔ IsClause (next_of self.now) }

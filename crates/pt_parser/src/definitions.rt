@@ -13,11 +13,10 @@ use crate::heads::Bases;
 use crate::signs::{CLASS, DEF, OPEN};
 use crate::{Statements, nodes};
 use pt_base::{Line, Seq, Text};
-use pt_expr_reader::ExpressionReader;
 use pt_readers::Halt;
 use pt_wide::{WideDecorator, WideStmt};
 
-impl<'a, E: ExpressionReader> Statements<'a, E> {
+impl<'a> Statements<'a> {
     /// Behind `def`, which stands on that line; the statement starts on this one.
     #[cycle(statements)]
     pub(crate) fn function(

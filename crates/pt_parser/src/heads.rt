@@ -15,7 +15,6 @@ ghost use Rattle.pt_parser.specs.Views.{decorator_in, signature_in, bases_in, ca
 use crate::signs::{ARROW, AS, AT, CLOSE, COLON, COMMA, NEWLINE, OPEN, STAR};
 use crate::{Statements, nodes};
 use pt_base::{Boxed, Line, Seq, Text};
-use pt_expr_reader::ExpressionReader;
 use pt_grammar::Lexemes;
 use pt_grammar::deep::Parameters;
 use pt_lexer::Token;
@@ -65,7 +64,7 @@ fn comma_before_last(tokens: &[Token]) -> bool
     Lexemes::new(&tokens[at..]).is(COMMA)
 }
 
-impl<'a, E: ExpressionReader> Statements<'a, E> {
+impl<'a> Statements<'a> {
     /// Decorators, behind the `@` of the first (Language Reference 8.7).
     pub(crate) fn decorators(&mut self, line: Line) -> Result<Seq<WideDecorator>, Halt>
         ensures { Settled (some_decorators line.0) (λ ds. map decorator_in ds) self.old self.new result }

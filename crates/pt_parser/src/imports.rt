@@ -13,13 +13,12 @@ ghost use Rattle.pt_parser.specs.Parts.{IsEnd, an_end, an_alias, a_list, an_encl
 use crate::signs::{AS, CLOSE, COMMA, IMPORT, NEWLINE, OPEN, SEMICOLON, STAR};
 use crate::{Statements, nodes};
 use pt_base::{Line, Seq, Text};
-use pt_expr_reader::ExpressionReader;
 use pt_grammar::{Mark, Sign, Singleton};
 use pt_readers::Halt;
 use pt_tree::Alias;
 use pt_wide::WideStmt;
 
-impl<'a, E: ExpressionReader> Statements<'a, E> {
+impl<'a> Statements<'a> {
     /// Whether the next token ends a simple statement.
     pub(crate) fn is_at_end(&self) -> bool
         ensures { IsTrue result ↔ IsEnd (next_of self.now) }

@@ -22,17 +22,16 @@ ghost use Rattle.pt_parser.specs.Simple.{an_expression};
 use crate::Statements;
 use crate::reader::{LEVEL_OF_PLACES, MAX_DEPTH};
 use pt_base::Line;
-use pt_expr_reader::ExpressionReader;
 use pt_grammar::Part;
 use pt_grammar::deep::{Deep, Listed, Several};
 use pt_readers::Halt;
 
-impl<'a, E: ExpressionReader> Statements<'a, E> {
+impl<'a> Statements<'a> {
     /// An expression, with its depth.
     pub(crate) fn deep_expression(&mut self) -> Result<Deep, Halt>
         ensures { Settled an_expression (λ e. exp_of e.tree) self.old self.new result }
     {
-        self.expressions.expr(&mut self.lexemes, MAX_DEPTH)
+        self.expressions.expr(MAX_DEPTH)
     }
 
     /// What is left of an expression behind the atom with which it begins.
@@ -41,15 +40,14 @@ impl<'a, E: ExpressionReader> Statements<'a, E> {
         requires closed { ends_in_text (exp_of atom.tree) ≡ false }
         ensures { Settled (left an_expression (OfExpr (exp_of atom.tree))) (λ e. exp_of e.tree) self.old self.new result }
     {
-        self.expressions
-            .behind_atom(&mut self.lexemes, atom, MAX_DEPTH)
+        self.expressions.behind_atom(atom, MAX_DEPTH)
     }
 
     /// What stands behind a parenthesis on this line, with the closing one.
     pub(crate) fn inside(&mut self, line: Line) -> Result<Deep, Halt>
         ensures { Settled (left (an_atom 500) (Inside line.0)) (λ e. exp_of e.tree) self.old self.new result }
     {
-        self.expressions.inside(&mut self.lexemes, line, MAX_DEPTH)
+        self.expressions.inside(line, MAX_DEPTH)
     }
 
     /// The clauses behind the first item in parentheses, and the closing one.
@@ -59,16 +57,14 @@ impl<'a, E: ExpressionReader> Statements<'a, E> {
         requires fits { FitsExp (exp_of item.tree) }
         ensures { Settled (left (an_atom 500) (InParentheses line.0 (exp_of item.tree))) (λ e. exp_of e.tree) self.old self.new result }
     {
-        self.expressions
-            .generator(&mut self.lexemes, line, item, MAX_DEPTH)
+        self.expressions.generator(line, item, MAX_DEPTH)
     }
 
     /// What stands behind a star in a tuple.
     pub(crate) fn operand(&mut self) -> Result<Deep, Halt>
         ensures { Settled (a_bor 499) (λ e. exp_of e.tree) self.old self.new result }
     {
-        self.expressions
-            .binary(&mut self.lexemes, LEVEL_OF_PLACES, MAX_DEPTH - 1)
+        self.expressions.binary(LEVEL_OF_PLACES, MAX_DEPTH - 1)
     }
 
     /// More items of a tuple behind these, and perhaps one comma behind the last.
@@ -78,6 +74,6 @@ impl<'a, E: ExpressionReader> Statements<'a, E> {
         ensures { Settled (left (some_exprs whole_part 499) (MoreItems whole_part (map exp_of items.items))) listed_read self.old self.new result }
     {
         self.expressions
-            .more_items(&mut self.lexemes, Part::Whole, items, MAX_DEPTH - 1)
+            .more_items(Part::Whole, items, MAX_DEPTH - 1)
     }
 }

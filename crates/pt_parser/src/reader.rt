@@ -9,9 +9,9 @@ ghost use Rattle.pt_parser.specs.Headings.{argument_list, parameter_list};
 ghost use Rattle.pt_parser.specs.Forms.{a_sign, an_identifier, an_optional};
 
 use pt_base::{Boxed, Dup, Line, Text};
-use pt_expr_reader::ExpressionReader;
+use pt_expr::Reader;
 use pt_grammar::deep::{Arguments, Listed, Parameters};
-use pt_grammar::{Lexemes, Part, Sign};
+use pt_grammar::{Part, Sign};
 use pt_lexer::{Token, TokenKind};
 use pt_readers::Halt;
 use pt_wide::WideExpr;
@@ -24,31 +24,29 @@ pub(crate) const MAX_DEPTH: u32 = 500;
 /// The level of the operators that may stand in a target's place: those of numbers.
 pub(crate) const LEVEL_OF_PLACES: u8 = 6;
 
-/// A reader of statements, over any reader of expressions. Contracts see the tokens that are left.
+/// A reader of statements. Contracts see the tokens that are left.
 #[derive(Drop)]
-pub struct Statements<'a, E: ExpressionReader> {
+pub struct Statements<'a> {
     pub(crate) alloc: Global,
-    pub(crate) expressions: E,
-    pub(crate) lexemes: Lexemes<'a>,
+    pub(crate) expressions: Reader<'a>,
 }
 
-impl<'a, E: ExpressionReader> Model for Statements<'a, E> {
+impl<'a> Model for Statements<'a> {
     ghost use Rattle.std.specs.Prelude.{List};
     ghost use Rattle.pt_grammar.specs.Lexemes.{Lexeme};
 
     ghost Value = { List Lexeme };
 
-    ghost view = { λ s. s.lexemes };
+    ghost view = { λ s. s.expressions.lexemes };
 }
 
-impl<'a, E: ExpressionReader> Statements<'a, E> {
-    pub fn new(alloc: Global, expressions: E, tokens: &'a [Token]) -> Statements<'a, E>
+impl<'a> Statements<'a> {
+    pub fn new(alloc: Global, tokens: &'a [Token]) -> Statements<'a>
         ensures { result ≡ lexemes_of tokens.now }
     {
         Statements {
             alloc,
-            expressions,
-            lexemes: Lexemes::new(tokens),
+            expressions: Reader::new(alloc, tokens),
         }
     }
 
@@ -56,21 +54,21 @@ impl<'a, E: ExpressionReader> Statements<'a, E> {
     fn peek(&self) -> Option<&'a Token>
         ensures { option_map lexeme_of (option_copied result) ≡ next_of self.now }
     {
-        self.lexemes.peek()
+        self.expressions.lexemes.peek()
     }
 
     /// The tokens that are left.
     pub(crate) fn as_slice(&self) -> &'a [Token]
         ensures { lexemes_of result.now ≡ self.now }
     {
-        self.lexemes.as_slice()
+        self.expressions.lexemes.as_slice()
     }
 
     /// How many tokens are left.
     pub(crate) fn len(&self) -> usize
         ensures { result ≡ length self.now }
     {
-        self.lexemes.len()
+        self.expressions.lexemes.len()
     }
 
     /// Whether no token is left.
@@ -87,28 +85,28 @@ impl<'a, E: ExpressionReader> Statements<'a, E> {
     pub(crate) fn sign(&self) -> Option<Sign>
         ensures { result ≡ sign_at (next_of self.now) }
     {
-        self.lexemes.sign()
+        self.expressions.lexemes.sign()
     }
 
     /// Whether the next token is this sign.
     pub(crate) fn is(&self, sign: Sign) -> bool
         ensures { IsTrue result ↔ (sign_at (next_of self.now) ≡ Some sign) }
     {
-        self.lexemes.is(sign)
+        self.expressions.lexemes.is(sign)
     }
 
     /// The line of the next token; 0 behind the last.
     pub(crate) fn line(&self) -> Line
         ensures { result.0 ≡ line_at (next_of self.now) }
     {
-        self.lexemes.line()
+        self.expressions.lexemes.line()
     }
 
     /// Goes on behind the next token, where there is one.
     pub(crate) fn skip(&mut self)
         ensures { self.new ≡ behind self.old }
     {
-        self.lexemes.skip();
+        self.expressions.lexemes.skip();
     }
 
     /// Goes on behind this sign, where it is next.
@@ -116,7 +114,7 @@ impl<'a, E: ExpressionReader> Statements<'a, E> {
         ensures found { IsTrue result → (sign_at (next_of self.old) ≡ Some sign) × (self.new ≡ behind self.old) }
         ensures none { result ≡ false → (sign_at (next_of self.old) ≢ Some sign) × (self.new ≡ self.old) }
     {
-        self.lexemes.take(sign)
+        self.expressions.lexemes.take(sign)
     }
 
     /// Goes on behind this sign, which has to be next.
@@ -151,7 +149,7 @@ impl<'a, E: ExpressionReader> Statements<'a, E> {
     pub(crate) fn expression(&mut self) -> Result<Boxed<WideExpr>, Halt>
         ensures { Settled an_expression exp_of self.old self.new result }
     {
-        let read = self.expressions.expr(&mut self.lexemes, MAX_DEPTH)?;
+        let read = self.expressions.expr(MAX_DEPTH)?;
         Ok(read.tree)
     }
 
@@ -159,9 +157,7 @@ impl<'a, E: ExpressionReader> Statements<'a, E> {
     pub(crate) fn bor(&mut self) -> Result<Boxed<WideExpr>, Halt>
         ensures { Settled a_place exp_of self.old self.new result }
     {
-        let read = self
-            .expressions
-            .binary(&mut self.lexemes, LEVEL_OF_PLACES, MAX_DEPTH)?;
+        let read = self.expressions.binary(LEVEL_OF_PLACES, MAX_DEPTH)?;
         Ok(read.tree)
     }
 
@@ -169,9 +165,7 @@ impl<'a, E: ExpressionReader> Statements<'a, E> {
     pub(crate) fn exprs(&mut self) -> Result<Boxed<WideExpr>, Halt>
         ensures { Settled expression_list exp_of self.old self.new result }
     {
-        let read = self
-            .expressions
-            .exprs(&mut self.lexemes, Part::Whole, MAX_DEPTH)?;
+        let read = self.expressions.exprs(Part::Whole, MAX_DEPTH)?;
         Ok(read.tree)
     }
 
@@ -179,7 +173,7 @@ impl<'a, E: ExpressionReader> Statements<'a, E> {
     pub(crate) fn value(&mut self) -> Result<Boxed<WideExpr>, Halt>
         ensures { Settled some_values exp_of self.old self.new result }
     {
-        let read = self.expressions.value(&mut self.lexemes, MAX_DEPTH)?;
+        let read = self.expressions.value(MAX_DEPTH)?;
         Ok(read.tree)
     }
 
@@ -187,9 +181,7 @@ impl<'a, E: ExpressionReader> Statements<'a, E> {
     pub(crate) fn targets(&mut self) -> Result<Boxed<WideExpr>, Halt>
         ensures { Settled target_list exp_of self.old self.new result }
     {
-        let read = self
-            .expressions
-            .exprs(&mut self.lexemes, Part::Target, MAX_DEPTH)?;
+        let read = self.expressions.exprs(Part::Target, MAX_DEPTH)?;
         Ok(read.tree)
     }
 
@@ -197,23 +189,21 @@ impl<'a, E: ExpressionReader> Statements<'a, E> {
     pub(crate) fn several_targets(&mut self) -> Result<Listed, Halt>
         ensures { Settled several_places listed_read self.old self.new result }
     {
-        self.expressions
-            .several(&mut self.lexemes, Part::Target, MAX_DEPTH)
+        self.expressions.several(Part::Target, MAX_DEPTH)
     }
 
     /// Parameters of a function up to `)`, which stays (Language Reference 8.7).
     pub(crate) fn parameters(&mut self) -> Result<Parameters, Halt>
         ensures { Settled parameter_list gathered_read self.old self.new result }
     {
-        self.expressions
-            .parameters(&mut self.lexemes, true, MAX_DEPTH)
+        self.expressions.parameters(true, MAX_DEPTH)
     }
 
     /// Arguments behind `(`, and the `)` behind them (Language Reference 6.3.4, 8.8).
     pub(crate) fn arguments(&mut self) -> Result<Arguments, Halt>
         ensures { Settled argument_list arguments_read self.old self.new result }
     {
-        self.expressions.arguments(&mut self.lexemes, MAX_DEPTH)
+        self.expressions.arguments(MAX_DEPTH)
     }
 
     /// An expression behind this sign, where the sign is next.

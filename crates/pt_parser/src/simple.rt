@@ -16,12 +16,11 @@ ghost use Rattle.pt_parser.specs.Parts.{keyword_in, a_simple};
 use crate::signs::{COMMA, FROM};
 use crate::{Statements, nodes};
 use pt_base::Line;
-use pt_expr_reader::ExpressionReader;
 use pt_grammar::{Keyword, Sign};
 use pt_readers::Halt;
 use pt_wide::WideStmt;
 
-impl<'a, E: ExpressionReader> Statements<'a, E> {
+impl<'a> Statements<'a> {
     /// A statement that is read, before its end.
     pub(crate) fn ended(&mut self, statement: WideStmt) -> Result<WideStmt, Halt>
         requires { FitsStm (stm_of statement) }

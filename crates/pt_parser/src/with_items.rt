@@ -25,7 +25,6 @@ use crate::reader::MAX_DEPTH;
 use crate::signs::{AS, CLOSE, COLON, COMMA, FOR, OPEN, STAR, YIELD};
 use crate::{Statements, item_nodes};
 use pt_base::{Boxed, Line, Seq};
-use pt_expr_reader::ExpressionReader;
 use pt_grammar::deep::{Deep, Listed, Several};
 use pt_grammar::{Keyword, Mark, Sign, Word, display_nodes, nodes};
 use pt_readers::Halt;
@@ -73,7 +72,7 @@ pub enum Held {
     Only(Deep),
 }
 
-impl<'a, E: ExpressionReader> Statements<'a, E> {
+impl<'a> Statements<'a> {
     /// `as` and a target, if they are there.
     fn target(&mut self) -> Result<Option<Boxed<WideExpr>>, Halt>
         ensures { Settled (an_optional (keyword_sign as_keyword) a_place) opt_exp self.old self.new result }

@@ -1,6 +1,5 @@
 use pt_base::Failure;
-use pt_expr::{Expressions, wide};
-use pt_expr_reader::ParseErr;
+use pt_expr::{ParseErr, wide};
 use pt_grammar::Part;
 use pt_lexer::Token;
 use pt_parser::wide_script;
@@ -39,7 +38,7 @@ pub fn part(out: &mut String, alloc: Global, words: &[Token], part: Part) -> Pri
 
 /// Whether tokens are a script.
 pub fn script(out: &mut String, alloc: Global, words: &[Token]) -> Printed {
-    match wide_script(alloc, Expressions::new(alloc), words) {
+    match wide_script(alloc, words) {
         Ok(_) => word(out, "script"),
         Err(failure) => refusal(out, failure),
     }

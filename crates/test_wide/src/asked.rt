@@ -1,6 +1,5 @@
 use crate::answers::{part, script};
 use pt_base::Seq;
-use pt_expr::Expressions;
 use pt_grammar::Part;
 use pt_lexer::{Token, tokens};
 use pt_parser::wide_script;
@@ -57,7 +56,7 @@ impl Kind for Asked {
 
     fn is_taken(self, alloc: Global, text: &[u8]) -> bool {
         match tokens_of(alloc, text) {
-            Some(words) => wide_script(alloc, Expressions::new(alloc), words.as_slice()).is_ok(),
+            Some(words) => wide_script(alloc, words.as_slice()).is_ok(),
             None => false,
         }
     }

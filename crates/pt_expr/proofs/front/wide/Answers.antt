@@ -1,7 +1,7 @@
 use Rattle.std.proofs.Common.{Err, ◌∙◌, ap, drop, length, ◌-◌, ◌+◌}
 use Rattle.pt_wide.specs.Fold.{exp_of}
 use Rattle.pt_grammar.specs.Lexemes.{lexemes}
-use Rattle.pt_expr_reader.specs.Places.{place_at}
+use Rattle.pt_expr.specs.Answers.{place_at}
 use Rattle.pt_readers.specs.declared.halt.Halt.TheVariants.{Unexpected, Limit}
 use Rattle.pt_expr.proofs.Told.{ok_told, err_told}
 use Rattle.pt_expr.proofs.front.wide.Goals as goal

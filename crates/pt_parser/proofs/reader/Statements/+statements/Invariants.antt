@@ -8,84 +8,84 @@ use Rattle.pt_parser.specs.Views.{branch_in, handler_in}
 use Rattle.pt_parser.proofs.reader.Statements.+statements.Given as goal
 
 abbrev pub decreases-block : goal.decreases-block
-decreases-block g l = 6 * length l.self.now + 1
+decreases-block l = 6 * length l.self.now + 1
 
 abbrev pub decreases-afterwards : goal.decreases-afterwards
-decreases-afterwards g l = 6 * length l.self.now + 1
+decreases-afterwards l = 6 * length l.self.now + 1
 
 abbrev pub decreases-last : goal.decreases-last
-decreases-last g l = 6 * length l.self.now + 1
+decreases-last l = 6 * length l.self.now + 1
 
 abbrev pub decreases-suite : goal.decreases-suite
-decreases-suite g l = 6 * length l.self.now
+decreases-suite l = 6 * length l.self.now
 
 abbrev pub decreases-statement : goal.decreases-statement
-decreases-statement g l = 6 * length l.self.now + 4
+decreases-statement l = 6 * length l.self.now + 4
 
 abbrev pub decreases-up_to : goal.decreases-up_to
-decreases-up_to g l = 6 * length l.self.now + 5
+decreases-up_to l = 6 * length l.self.now + 5
 
 abbrev pub decreases-compound : goal.decreases-compound
-decreases-compound g l = 6 * length l.self.now + 3
+decreases-compound l = 6 * length l.self.now + 3
 
 abbrev pub decreases-choice : goal.decreases-choice
-decreases-choice g l = 6 * length l.self.now + 2
+decreases-choice l = 6 * length l.self.now + 2
 
 abbrev pub decreases-while_statement : goal.decreases-while_statement
-decreases-while_statement g l = 6 * length l.self.now + 2
+decreases-while_statement l = 6 * length l.self.now + 2
 
 abbrev pub decreases-iteration : goal.decreases-iteration
-decreases-iteration g l = 6 * length l.self.now + 2
+decreases-iteration l = 6 * length l.self.now + 2
 
 abbrev pub invariant-up_to-more : goal.invariant-up_to-more
-invariant-up_to-more g l = record {
+invariant-up_to-more l = record {
   shorter : length l.self ≤ length l.fn.self;
   fits : FitsBlock (map stm_of l.all);
   carries : Carries (some_stmts l.close (map stm_of l.fn.all)) l.fn.self (some_stmts l.close (map stm_of l.all)) l.self;
 }
 
 abbrev pub decreases-up_to-more : goal.decreases-up_to-more
-decreases-up_to-more g l = length l.self
+decreases-up_to-more l = length l.self
 
 abbrev pub invariant-choice-more : goal.invariant-choice-more
-invariant-choice-more g l = record {
+invariant-choice-more l = record {
   shorter : length l.self ≤ length l.fn.self;
   each : Each FitsBranch (map branch_in l.branches);
   carries : Carries (left a_compound (Chosen l.line.0 l.line.0 [])) l.fn.self (left a_compound (Chosen l.line.0 l.at.0 (map branch_in l.branches))) l.self;
 }
 
 abbrev pub decreases-choice-more : goal.decreases-choice-more
-decreases-choice-more g l = length l.self
+decreases-choice-more l = length l.self
 
 abbrev pub decreases-with_statement : goal.decreases-with_statement
-decreases-with_statement g l = 6 * length l.self.now + 2
+decreases-with_statement l = 6 * length l.self.now + 2
 
 abbrev pub decreases-function : goal.decreases-function
-decreases-function g l = 6 * length l.self.now + 2
+decreases-function l = 6 * length l.self.now + 2
 
 abbrev pub decreases-class_body : goal.decreases-class_body
-decreases-class_body g l = 6 * length l.self.now + 2
+decreases-class_body l = 6 * length l.self.now + 2
 
 abbrev pub decreases-class : goal.decreases-class
-decreases-class g l = 6 * length l.self.now + 3
+decreases-class l = 6 * length l.self.now + 3
 
 abbrev pub decreases-decorated : goal.decreases-decorated
-decreases-decorated g l = 6 * length l.self.now + 3
+decreases-decorated l = 6 * length l.self.now + 3
 
 abbrev pub decreases-finishing : goal.decreases-finishing
-decreases-finishing g l = 6 * length l.self.now + 2
+decreases-finishing l = 6 * length l.self.now + 2
 
 abbrev pub decreases-closing : goal.decreases-closing
-decreases-closing g l = 6 * length l.self.now + 3
+decreases-closing l = 6 * length l.self.now + 3
 
 abbrev pub decreases-handlers : goal.decreases-handlers
-decreases-handlers g l = 6 * length l.self.now + 4
+decreases-handlers l = 6 * length l.self.now + 4
 
 abbrev pub decreases-attempt : goal.decreases-attempt
-decreases-attempt g l = 6 * length l.self.now + 2
+decreases-attempt l = 6 * length l.self.now + 2
 
 abbrev pub invariant-handlers-more : goal.invariant-handlers-more
-invariant-handlers-more g l = record {
+invariant-handlers-more l = record {
   shorter : length l.self ≤ length l.fn.self;
   same : l.body ≡ l.fn.body;
   each : Each FitsHandler (map handler_in l.handlers);
@@ -93,4 +93,4 @@ invariant-handlers-more g l = record {
 }
 
 abbrev pub decreases-handlers-more : goal.decreases-handlers-more
-decreases-handlers-more g l = length l.self
+decreases-handlers-more l = length l.self

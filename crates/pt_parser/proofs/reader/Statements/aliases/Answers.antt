@@ -11,29 +11,29 @@ use Rattle.pt_parser.proofs.ImportLemmas.{aliases_listable}
 use Rattle.pt_parser.proofs.reader.Statements.aliases.Goals as goal
 
 pub returns-in_err-first : goal.returns-in_err-first
-returns-in_err-first g c = fails_at _ _ _ _ _ _ c.from_residual.ensures.1 carries_all (list_first an_alias aliases_listable) c.in_err-first.ensures
+returns-in_err-first c = fails_at _ _ _ _ _ _ c.from_residual.ensures.1 carries_all (list_first an_alias aliases_listable) c.in_err-first.ensures
 
 pub more-init : goal.more-init
-more-init g c = record { carries = rw (c.in_ok-push.ensures.ok, c.new-all.ensures) (goes_on carries_all (list_first an_alias aliases_listable) c.in_ok-first.ensures) }
+more-init c = record { carries = rw (c.in_ok-push.ensures.ok, c.new-all.ensures) (goes_on carries_all (list_first an_alias aliases_listable) c.in_ok-first.ensures) }
 
 pub returns-in_err-next : goal.returns-in_err-next
-returns-in_err-next g c = let n = c.take.ensures.found c.more-test.true in
+returns-in_err-next c = let n = c.take.ensures.found c.more-test.true in
     fails_at _ _ _ _ _ _ c.from_residual-in_err-next.ensures.1
     (shift_on c.more.invariant.carries (list_shifts an_alias aliases_listable _ _) (sign_next _ n.0) n.1) (list_binds an_alias aliases_listable _ _) c.in_err-next.ensures
 
 pub more-smaller : goal.more-smaller
-more-smaller g c = let n = c.take.ensures.found c.more-test.true in
+more-smaller c = let n = c.take.ensures.found c.more-test.true in
     omega (arith, found_shorter c.in_ok-next.ensures, ap length n.1, some_more _ (sign_next _ n.0))
 
 pub more-preserved : goal.more-preserved
-more-preserved g c = let n = c.take.ensures.found c.more-test.true in record {
+more-preserved c = let n = c.take.ensures.found c.more-test.true in record {
   carries = rw c.in_ok-push-2.ensures.ok
       (goes_on (shift_on c.more.invariant.carries (list_shifts an_alias aliases_listable _ _) (sign_next _ n.0) n.1) (list_binds an_alias aliases_listable _ _) c.in_ok-next.ensures);
 }
 
 pub returns-in_err-end : goal.returns-in_err-end
-returns-in_err-end g c = fails_at _ _ _ _ _ _ c.from_residual-in_err-end.ensures.1 (list_done an_alias aliases_listable _ c.more.invariant.carries (c.take.ensures.none c.more-test.false))
+returns-in_err-end c = fails_at _ _ _ _ _ _ c.from_residual-in_err-end.ensures.1 (list_done an_alias aliases_listable _ c.more.invariant.carries (c.take.ensures.none c.more-test.false))
     (end_binds (λ xs. Unit {0}) _ tt) c.in_err-end.ensures
 
 pub returns : goal.returns
-returns g c = end_is (λ xs. Unit {0}) (list_done an_alias aliases_listable _ c.more.invariant.carries (c.take.ensures.none c.more-test.false)) tt c.in_ok-end.ensures
+returns c = end_is (λ xs. Unit {0}) (list_done an_alias aliases_listable _ c.more.invariant.carries (c.take.ensures.none c.more-test.false)) tt c.in_ok-end.ensures

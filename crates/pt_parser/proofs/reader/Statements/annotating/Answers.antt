@@ -6,14 +6,14 @@ use Rattle.pt_parser.proofs.StatedLemmas.{annotation_binds, annotation_value}
 use Rattle.pt_parser.proofs.reader.Statements.annotating.Goals as goal
 
 pub returns-in_err-annotation : goal.returns-in_err-annotation
-returns-in_err-annotation g c = fails_at _ _ _ _ _ _ c.from_residual.ensures.1 carries_all (annotation_binds (exp_of c.args.target) c.requires.fits) c.in_err-annotation.ensures
+returns-in_err-annotation c = fails_at _ _ _ _ _ _ c.from_residual.ensures.1 carries_all (annotation_binds (exp_of c.args.target) c.requires.fits) c.in_err-annotation.ensures
 
 pub returns-in_err-value : goal.returns-in_err-value
-returns-in_err-value g c = fails_at _ _ _ _ _ _ c.from_residual-in_err-value.ensures.1 (goes_on carries_all (annotation_binds (exp_of c.args.target) c.requires.fits) c.in_ok-annotation.ensures)
+returns-in_err-value c = fails_at _ _ _ _ _ _ c.from_residual-in_err-value.ensures.1 (goes_on carries_all (annotation_binds (exp_of c.args.target) c.requires.fits) c.in_ok-annotation.ensures)
     (annotation_value (exp_of c.args.target) (exp_of c.in_ok-annotation.annotation) c.requires.fits c.in_ok-annotation.ensures.fits) c.in_err-value.ensures
 
 pub returns : goal.returns
-returns g c = carried_all stm_of _ _
+returns c = carried_all stm_of _ _
     (goes_on (goes_on carries_all (annotation_binds (exp_of c.args.target) c.requires.fits) c.in_ok-annotation.ensures) (annotation_value (exp_of c.args.target) (exp_of c.in_ok-annotation.annotation) c.requires.fits c.in_ok-annotation.ensures.fits)
     c.in_ok-value.ensures)
     (rw c.requires.begins at (rw c.annotated.ensures at c.ended.ensures))

@@ -13,18 +13,18 @@ use Rattle.pt_parser.proofs.StatedLemmas.{fits_all, assigned_binds, assign_shift
 use Rattle.pt_parser.proofs.reader.Statements.assigning.Goals as goal
 
 pub returns-then-not-is_target : goal.returns-then-not-is_target
-returns-then-not-is_target g c = c.targets.invariant.carries.refused false _
+returns-then-not-is_target c = c.targets.invariant.carries.refused false _
     (assign_bad c.args.line.0 (map exp_of c.targets.targets) (exp_of c.targets.last) _ (is_so c.is.ensures c.targets-test.true)
     (sym (ap (λ u. is_target (exp_of u)) c.get.ensures) ∙ sym c.is_target.ensures ∙ c.if-not-is_target.true) c.targets.invariant.each c.targets.invariant.last)
 
 pub returns-in_err-last : goal.returns-in_err-last
-returns-in_err-last g c = fails_at _ _ _ _ _ _ c.from_residual-in_err-last.ensures.1
+returns-in_err-last c = fails_at _ _ _ _ _ _ c.from_residual-in_err-last.ensures.1
     (shift_on c.targets.invariant.carries (assign_shifts c.args.line.0 _ (map exp_of c.targets.targets) (exp_of c.targets.last) (sym (ap (λ u. is_target (exp_of u)) c.get.ensures) ∙ sym c.is_target.ensures ∙ c.if-not-is_target.false))
     (sign_next _ (is_so c.is.ensures c.targets-test.true)) c.skip.ensures)
     (assigned_binds c.args.line.0 ((map exp_of c.targets.targets) ++ ((exp_of c.targets.last) ∷ [])) (each_snoc FitsExp (map exp_of c.targets.targets) (exp_of c.targets.last) c.targets.invariant.each c.targets.invariant.last)) c.in_err-last.ensures
 
 pub targets-preserved : goal.targets-preserved
-targets-preserved g c = rw (c.in_ok-push.ensures.ok, map-append, c.into_inner.ensures) record {
+targets-preserved c = rw (c.in_ok-push.ensures.ok, map-append, c.into_inner.ensures) record {
   each = each_snoc FitsExp (map exp_of c.targets.targets) (exp_of c.targets.last) c.targets.invariant.each c.targets.invariant.last;
   last = c.in_ok-last.ensures.fits;
   carries = goes_on
@@ -34,8 +34,8 @@ targets-preserved g c = rw (c.in_ok-push.ensures.ok, map-append, c.into_inner.en
 }
 
 pub ended-requires : goal.ended-requires
-ended-requires g c = rw c.assigned.ensures (fits_all (map exp_of c.targets.targets) c.targets.invariant.each, c.targets.invariant.last)
+ended-requires c = rw c.assigned.ensures (fits_all (map exp_of c.targets.targets) c.targets.invariant.each, c.targets.invariant.last)
 
 pub returns : goal.returns
-returns g c = carried_all stm_of _ _ (then_on c.targets.invariant.carries (narrow_carries (assign_ends c.args.line.0 (map exp_of c.targets.targets) (exp_of c.targets.last) _ (is_not c.is.ensures c.targets-test.false))))
+returns c = carried_all stm_of _ _ (then_on c.targets.invariant.carries (narrow_carries (assign_ends c.args.line.0 (map exp_of c.targets.targets) (exp_of c.targets.last) _ (is_not c.is.ensures c.targets-test.false))))
     (rw c.assigned.ensures at c.ended.ensures)

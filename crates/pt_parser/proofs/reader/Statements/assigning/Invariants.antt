@@ -9,11 +9,11 @@ use Rattle.std.proofs.Common.{[]}
 use Rattle.pt_parser.proofs.reader.Statements.assigning.Given as goal
 
 abbrev pub invariant-targets : goal.invariant-targets
-invariant-targets g l = record {
+invariant-targets l = record {
   each : Each FitsExp (map exp_of l.targets);
   last : FitsExp (exp_of l.last);
   carries : Carries (left a_simple (After l.line.0 [] (exp_of l.fn.first))) l.fn.self (left a_simple (After l.line.0 (map exp_of l.targets) (exp_of l.last))) l.self;
 }
 
 abbrev pub decreases-targets : goal.decreases-targets
-decreases-targets g l = length l.self
+decreases-targets l = length l.self

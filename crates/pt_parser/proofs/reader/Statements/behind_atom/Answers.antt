@@ -1,4 +1,4 @@
 use Rattle.pt_parser.proofs.reader.Statements.behind_atom.Goals as goal
 
 pub returns : goal.returns
-returns g c = rw (← c.self.view_is) c.behind_atom.ensures
+returns c = rw (← c.self.view_is) c.behind_atom.ensures

@@ -7,4 +7,4 @@ use Rattle.pt_parser.specs.Views.{item_in, held_in}
 use Rattle.pt_parser.proofs.reader.Statements.behind_held.Goals as goal
 
 pub returns-in-Only : goal.returns-in-Only
-returns-in-Only g c = rw c.in-Only.is c.behind_parentheses.ensures
+returns-in-Only c = rw c.in-Only.is c.behind_parentheses.ensures

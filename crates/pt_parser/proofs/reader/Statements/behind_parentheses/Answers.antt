@@ -7,13 +7,13 @@ use Rattle.pt_parser.proofs.WithLemmas.{atom_binds, atom_apart}
 use Rattle.pt_parser.proofs.reader.Statements.behind_parentheses.Goals as goal
 
 pub returns-in_err-read : goal.returns-in_err-read
-returns-in_err-read g c = fails_at _ _ _ _ _ _ c.from_residual.ensures.1 carries_all (atom_binds (exp_of c.args.atom.tree)) c.in_err-read.ensures
+returns-in_err-read c = fails_at _ _ _ _ _ _ c.from_residual.ensures.1 carries_all (atom_binds (exp_of c.args.atom.tree)) c.in_err-read.ensures
 
 pub entered-requires-clause-fits : goal.entered-requires-clause-fits
-entered-requires-clause-fits g c = c.in_ok-read.ensures.fits
+entered-requires-clause-fits c = c.in_ok-read.ensures.fits
 
 pub entered-requires-clause-apart : goal.entered-requires-clause-apart
-entered-requires-clause-apart g c = atom_apart (exp_of c.args.atom.tree) (exp_of c.in_ok-read.read.tree) c.requires.apart c.in_ok-read.ensures
+entered-requires-clause-apart c = atom_apart (exp_of c.args.atom.tree) (exp_of c.in_ok-read.read.tree) c.requires.apart c.in_ok-read.ensures
 
 pub returns : goal.returns
-returns g c = carried_all (λ is. map item_in is) _ _ (goes_on carries_all (atom_binds (exp_of c.args.atom.tree)) c.in_ok-read.ensures) c.entered.ensures
+returns c = carried_all (λ is. map item_in is) _ _ (goes_on carries_all (atom_binds (exp_of c.args.atom.tree)) c.in_ok-read.ensures) c.entered.ensures

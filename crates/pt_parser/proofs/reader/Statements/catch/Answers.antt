@@ -7,7 +7,7 @@ use Rattle.pt_parser.proofs.HeadLemmas.{star_shifts, no_star_narrows}
 use Rattle.pt_parser.proofs.reader.Statements.catch.Goals as goal
 
 pub returns-then-take : goal.returns-then-take
-returns-then-take g c = let n = c.take.ensures.found c.if-take.true in carried_all catch_in _ _ (shift_on carries_all (star_shifts _) (sign_next _ n.0) n.1) c.caught.ensures
+returns-then-take c = let n = c.take.ensures.found c.if-take.true in carried_all catch_in _ _ (shift_on carries_all (star_shifts _) (sign_next _ n.0) n.1) c.caught.ensures
 
 pub returns : goal.returns
-returns g c = let n = c.take.ensures.none c.if-take.false in carried_all catch_in _ _ (narrow_carries (no_star_narrows _ n.0)) (rw n.1 at c.caught-2.ensures)
+returns c = let n = c.take.ensures.none c.if-take.false in carried_all catch_in _ _ (narrow_carries (no_star_narrows _ n.0)) (rw n.1 at c.caught-2.ensures)

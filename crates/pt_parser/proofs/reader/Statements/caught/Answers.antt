@@ -13,24 +13,24 @@ use Rattle.pt_parser.proofs.HeadLemmas.{catches_all, class_narrows, class_binds,
 use Rattle.pt_parser.proofs.reader.Statements.caught.Goals as goal
 
 pub returns-then-is : goal.returns-then-is
-returns-then-is g c = catches_all c.args.star _ (is_so c.is.ensures c.if-is.true)
+returns-then-is c = catches_all c.args.star _ (is_so c.is.ensures c.if-is.true)
 
 pub returns-in_err-class : goal.returns-in_err-class
-returns-in_err-class g c = fails_at _ _ _ _ _ _ c.from_residual.ensures.1 (narrow_carries (class_narrows c.args.star _ (is_not c.is.ensures c.if-is.false))) (class_binds c.args.star) c.in_err-class.ensures
+returns-in_err-class c = fails_at _ _ _ _ _ _ c.from_residual.ensures.1 (narrow_carries (class_narrows c.args.star _ (is_not c.is.ensures c.if-is.false))) (class_binds c.args.star) c.in_err-class.ensures
 
 pub returns-in_err-name : goal.returns-in_err-name
-returns-in_err-name g c = fails_at _ _ _ _ _ _ c.from_residual-in_err-name.ensures.1
+returns-in_err-name c = fails_at _ _ _ _ _ _ c.from_residual-in_err-name.ensures.1
     (goes_on (narrow_carries (class_narrows c.args.star _ (is_not c.is.ensures c.if-is.false))) (class_binds c.args.star) c.in_ok-class.ensures)
     (name_binds c.args.star (exp_of c.in_ok-class.class) c.in_ok-class.ensures.fits) c.in_err-name.ensures
 
 pub returns-in_err-colon : goal.returns-in_err-colon
-returns-in_err-colon g c = fails_at _ _ _ _ _ _ c.from_residual-in_err-colon.ensures.1
+returns-in_err-colon c = fails_at _ _ _ _ _ _ c.from_residual-in_err-colon.ensures.1
     (goes_on (goes_on (narrow_carries (class_narrows c.args.star _ (is_not c.is.ensures c.if-is.false))) (class_binds c.args.star) c.in_ok-class.ensures)
     (name_binds c.args.star (exp_of c.in_ok-class.class) c.in_ok-class.ensures.fits) c.in_ok-name.ensures)
     (before_binds (λ o. sign_at o ≡ Some (mark Colon)) a_catch.fits (catch_of c.args.star (given (exp_of c.in_ok-class.class)) c.in_ok-name.name) c.in_ok-class.ensures.fits) c.in_err-colon.ensures
 
 pub returns : goal.returns
-returns g c = before_is (λ o. sign_at o ≡ Some (mark Colon)) a_catch.fits
+returns c = before_is (λ o. sign_at o ≡ Some (mark Colon)) a_catch.fits
     (goes_on (goes_on (narrow_carries (class_narrows c.args.star _ (is_not c.is.ensures c.if-is.false))) (class_binds c.args.star) c.in_ok-class.ensures)
     (name_binds c.args.star (exp_of c.in_ok-class.class) c.in_ok-class.ensures.fits) c.in_ok-name.ensures)
     c.in_ok-class.ensures.fits c.in_ok-colon.ensures

@@ -7,7 +7,7 @@ use Rattle.pt_parser.proofs.Ends.{nothing_bad, nothing_found_at}
 use Rattle.pt_parser.proofs.reader.Statements.colon.Goals as goal
 
 pub returns-then-not-is : goal.returns-then-not-is
-returns-then-not-is g c = nothing_bad (λ o. sign_at o ≡ Some (mark Colon)) _ (λ h. cc) (is_not c.is.ensures c.if-not-is.true)
+returns-then-not-is c = nothing_bad (λ o. sign_at o ≡ Some (mark Colon)) _ (λ h. cc) (is_not c.is.ensures c.if-not-is.true)
 
 pub returns : goal.returns
-returns g c = nothing_found_at (λ o. sign_at o ≡ Some (mark Colon)) _ (is_so c.is.ensures c.if-not-is.false)
+returns c = nothing_found_at (λ o. sign_at o ≡ Some (mark Colon)) _ (is_so c.is.ensures c.if-not-is.false)

@@ -12,21 +12,21 @@ use Rattle.pt_parser.proofs.HeadLemmas.{decorator_opens, decorator_value, decora
 use Rattle.pt_parser.proofs.reader.Statements.decorators.Goals as goal
 
 pub more-init : goal.more-init
-more-init g c = rw c.new-all.ensures record { each = tt; carries = carries_all }
+more-init c = rw c.new-all.ensures record { each = tt; carries = carries_all }
 
 pub returns-in_err-value : goal.returns-in_err-value
-returns-in_err-value g c = fails_at _ _ _ _ _ _ c.from_residual.ensures.1
+returns-in_err-value c = fails_at _ _ _ _ _ _ c.from_residual.ensures.1
     (then_on c.more.invariant.carries (narrow_carries (decorator_opens c.args.line.0 c.more.at.0 (map decorator_in c.more.all) _)))
     (decorator_value c.args.line.0 c.more.at.0 (map decorator_in c.more.all) c.more.invariant.each) c.in_err-value.ensures
 
 pub returns-in_err-expect : goal.returns-in_err-expect
-returns-in_err-expect g c = fails_at _ _ _ _ _ _ c.from_residual-in_err-expect.ensures.1
+returns-in_err-expect c = fails_at _ _ _ _ _ _ c.from_residual-in_err-expect.ensures.1
     (goes_on (then_on c.more.invariant.carries (narrow_carries (decorator_opens c.args.line.0 c.more.at.0 (map decorator_in c.more.all) _)))
     (decorator_value c.args.line.0 c.more.at.0 (map decorator_in c.more.all) c.more.invariant.each) c.in_ok-value.ensures)
     (decorator_end c.args.line.0 c.more.at.0 (map decorator_in c.more.all) (exp_of c.in_ok-value.value) c.more.invariant.each c.in_ok-value.ensures.fits) c.in_err-expect.ensures
 
 pub returns-then-not-take : goal.returns-then-not-take
-returns-then-not-take g c = let n = c.take.ensures.none (grind arith) in rw (c.in_ok-push.ensures.ok, map-append, c.decorator.ensures, n.1)
+returns-then-not-take c = let n = c.take.ensures.none (grind arith) in rw (c.in_ok-push.ensures.ok, map-append, c.decorator.ensures, n.1)
     ((goes_on (goes_on (then_on c.more.invariant.carries (narrow_carries (decorator_opens c.args.line.0 c.more.at.0 (map decorator_in c.more.all) _)))
     (decorator_value c.args.line.0 c.more.at.0 (map decorator_in c.more.all) c.more.invariant.each) c.in_ok-value.ensures)
     (decorator_end c.args.line.0 c.more.at.0 (map decorator_in c.more.all) (exp_of c.in_ok-value.value) c.more.invariant.each c.in_ok-value.ensures.fits) c.in_ok-expect.ensures).found _ _
@@ -34,7 +34,7 @@ returns-then-not-take g c = let n = c.take.ensures.none (grind arith) in rw (c.i
     (each_snoc FitsDecorator (map decorator_in c.more.all) (a_decorator c.more.at.0 (exp_of c.in_ok-value.value)) c.more.invariant.each c.in_ok-value.ensures.fits)))
 
 pub more-preserved : goal.more-preserved
-more-preserved g c = let n = c.take.ensures.found (grind arith) in rw (c.in_ok-push.ensures.ok, map-append, c.decorator.ensures) record {
+more-preserved c = let n = c.take.ensures.found (grind arith) in rw (c.in_ok-push.ensures.ok, map-append, c.decorator.ensures) record {
   each = each_snoc FitsDecorator (map decorator_in c.more.all) (a_decorator c.more.at.0 (exp_of c.in_ok-value.value)) c.more.invariant.each c.in_ok-value.ensures.fits;
   carries = rw c.line-at.ensures (shift_on
       (goes_on (goes_on (then_on c.more.invariant.carries (narrow_carries (decorator_opens c.args.line.0 c.more.at.0 (map decorator_in c.more.all) _)))
@@ -44,5 +44,5 @@ more-preserved g c = let n = c.take.ensures.found (grind arith) in rw (c.in_ok-p
 }
 
 pub more-smaller : goal.more-smaller
-more-smaller g c = let n = c.take.ensures.found (grind arith) in
+more-smaller c = let n = c.take.ensures.found (grind arith) in
     omega (arith, found_shorter c.in_ok-value.ensures, found_shorter c.in_ok-expect.ensures, ap length n.1, some_more _ (sign_next _ n.0))

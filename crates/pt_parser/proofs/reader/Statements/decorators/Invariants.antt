@@ -7,10 +7,10 @@ use Rattle.pt_parser.specs.Views.{decorator_in}
 use Rattle.pt_parser.proofs.reader.Statements.decorators.Given as goal
 
 abbrev pub invariant-more : goal.invariant-more
-invariant-more g l = record {
+invariant-more l = record {
   each : Each FitsDecorator (map decorator_in l.all);
   carries : Carries (some_decorators l.fn.line.0) l.fn.self (left (some_decorators l.fn.line.0) (Decorated l.at.0 (map decorator_in l.all))) l.self;
 }
 
 abbrev pub decreases-more : goal.decreases-more
-decreases-more g l = length l.self
+decreases-more l = length l.self

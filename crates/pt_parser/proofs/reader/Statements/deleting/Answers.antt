@@ -5,7 +5,7 @@ use Rattle.pt_parser.proofs.SimpleLemmas.{del_binds}
 use Rattle.pt_parser.proofs.reader.Statements.deleting.Goals as goal
 
 pub returns-in_err-targets : goal.returns-in_err-targets
-returns-in_err-targets g c = fails_at _ _ _ _ _ _ c.from_residual.ensures.1 carries_all (del_binds _) c.in_err-targets.ensures
+returns-in_err-targets c = fails_at _ _ _ _ _ _ c.from_residual.ensures.1 carries_all (del_binds _) c.in_err-targets.ensures
 
 pub returns : goal.returns
-returns g c = carried_all stm_of _ _ (goes_on carries_all (del_binds _) c.in_ok-targets.ensures) (rw c.deleted.ensures at c.ended.ensures)
+returns c = carried_all stm_of _ _ (goes_on carries_all (del_binds _) c.in_ok-targets.ensures) (rw c.deleted.ensures at c.ended.ensures)

@@ -18,19 +18,19 @@ more_of zero n = absurd (n refl)
 more_of (suc k) n = (k, refl)
 
 pub more-init : goal.more-init
-more-init g c = record { carries = carries_all }
+more-init c = record { carries = carries_all }
 
 pub returns-then-more-eq0 : goal.returns-then-more-eq0
-returns-then-more-eq0 g c = c.more.invariant.carries.found _ _ (dots_end _ _ (sym c.dots_here-more.ensures ∙ c.if-more-eq0.true))
+returns-then-more-eq0 c = c.more.invariant.carries.found _ _ (dots_end _ _ (sym c.dots_here-more.ensures ∙ c.if-more-eq0.true))
 
 pub more-smaller : goal.more-smaller
-more-smaller g c =
+more-smaller c =
     let k = more_of c.dots_here-more.result c.if-more-eq0.false in
     let t = there c.more.self (sym c.dots_here-more.ensures ∙ k.1) in
     omega (arith, ap length c.skip.ensures, some_more c.more.self t.1)
 
 pub more-preserved : goal.more-preserved
-more-preserved g c = record {
+more-preserved c = record {
   carries =
       let k = more_of c.dots_here-more.result c.if-more-eq0.false in
       let t = there c.more.self (sym c.dots_here-more.ensures ∙ k.1) in

@@ -6,7 +6,7 @@ use Rattle.pt_parser.specs.Parts.{some_dots}
 use Rattle.pt_parser.proofs.reader.Statements.dots.Given as goal
 
 abbrev pub invariant-more : goal.invariant-more
-invariant-more g l = record { carries : Carries (some_dots 0) l.fn.self (left (some_dots 0) (Dotted l.count)) l.self }
+invariant-more l = record { carries : Carries (some_dots 0) l.fn.self (left (some_dots 0) (Dotted l.count)) l.self }
 
 abbrev pub decreases-more : goal.decreases-more
-decreases-more g l = length l.self
+decreases-more l = length l.self

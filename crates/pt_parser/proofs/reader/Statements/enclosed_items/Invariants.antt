@@ -10,10 +10,10 @@ use Rattle.pt_parser.specs.Views.{item_in}
 use Rattle.pt_parser.proofs.reader.Statements.enclosed_items.Given as goal
 
 abbrev pub invariant-more : goal.invariant-more
-invariant-more g l = record {
+invariant-more l = record {
   fits : Each FitsItem (map item_in l.all);
   carries : Carries (closing a_with_item (UpTo comma (mark Close) WithItem (map item_in l.fn.items))) l.fn.self (closing a_with_item (UpTo comma (mark Close) WithItem (map item_in l.all))) l.self;
 }
 
 abbrev pub decreases-more : goal.decreases-more
-decreases-more g l = length l.self
+decreases-more l = length l.self

@@ -11,35 +11,35 @@ use Rattle.pt_parser.proofs.ImportLemmas.{aliases_closable}
 use Rattle.pt_parser.proofs.reader.Statements.enclosure.Goals as goal
 
 pub returns-in_err-first : goal.returns-in_err-first
-returns-in_err-first g c = fails_at _ _ _ _ _ _ c.from_residual.ensures.1 carries_all (item_binds comma (mark Close) an_alias aliases_closable [] tt) c.in_err-first.ensures
+returns-in_err-first c = fails_at _ _ _ _ _ _ c.from_residual.ensures.1 carries_all (item_binds comma (mark Close) an_alias aliases_closable [] tt) c.in_err-first.ensures
 
 pub more-init : goal.more-init
-more-init g c = record {
+more-init c = record {
   fits = rw (c.in_ok-push.ensures.ok, c.new-all.ensures) (tt, tt);
   carries = rw (c.in_ok-push.ensures.ok, c.new-all.ensures) (goes_on carries_all (item_binds comma (mark Close) an_alias aliases_closable [] tt) c.in_ok-first.ensures);
 }
 
 pub returns-then-take : goal.returns-then-take
-returns-then-take g c = closed_found comma (mark Close) an_alias aliases_closable _ c.more.invariant.carries c.more.invariant.fits (c.take.ensures.found c.if-take.true)
+returns-then-take c = closed_found comma (mark Close) an_alias aliases_closable _ c.more.invariant.carries c.more.invariant.fits (c.take.ensures.found c.if-take.true)
 
 -- behind a comma
 pub returns-then-not-take : goal.returns-then-not-take
-returns-then-not-take g c = let m = c.take.ensures.none c.if-take.false in let n = c.take-in-more.ensures.none c.if-not-take.true in
+returns-then-not-take c = let m = c.take.ensures.none c.if-take.false in let n = c.take-in-more.ensures.none c.if-not-take.true in
     rw (n.1, m.1) (c.more.invariant.carries.refused false _ (upto_bad comma (mark Close) an_alias aliases_closable _ _ c.more.invariant.fits m.0 (rw m.1 at n.0)))
 
 pub returns-then-take-2 : goal.returns-then-take-2
-returns-then-take-2 g c = let m = c.take.ensures.none c.if-take.false in
+returns-then-take-2 c = let m = c.take.ensures.none c.if-take.false in
     behind_found comma (mark Close) an_alias aliases_closable _ (sign_carries comma (mark Close) an_alias aliases_closable _ c.more.invariant.carries (rw m.1 at (c.take-in-more.ensures.found c.if-not-take.false))) c.more.invariant.fits
     (c.take-in-more-2.ensures.found c.if-take-2.true)
 
 pub returns-in_err-next : goal.returns-in_err-next
-returns-in_err-next g c = let m = c.take.ensures.none c.if-take.false in
+returns-in_err-next c = let m = c.take.ensures.none c.if-take.false in
     fails_at _ _ _ _ _ _ c.from_residual-in_err-next.ensures.1
     (item_carries comma (mark Close) an_alias aliases_closable _ (sign_carries comma (mark Close) an_alias aliases_closable _ c.more.invariant.carries (rw m.1 at (c.take-in-more.ensures.found c.if-not-take.false))) (c.take-in-more-2.ensures.none c.if-take-2.false))
     (item_binds comma (mark Close) an_alias aliases_closable _ c.more.invariant.fits) c.in_err-next.ensures
 
 pub more-preserved : goal.more-preserved
-more-preserved g c = let m = c.take.ensures.none c.if-take.false in rw c.in_ok-push-2.ensures.ok record {
+more-preserved c = let m = c.take.ensures.none c.if-take.false in rw c.in_ok-push-2.ensures.ok record {
   fits = each_snoc an_alias.fits _ _ c.more.invariant.fits c.in_ok-next.ensures.fits;
   carries = goes_on
       (item_carries comma (mark Close) an_alias aliases_closable _ (sign_carries comma (mark Close) an_alias aliases_closable _ c.more.invariant.carries (rw m.1 at (c.take-in-more.ensures.found c.if-not-take.false))) (c.take-in-more-2.ensures.none c.if-take-2.false))

@@ -8,10 +8,10 @@ use Rattle.pt_parser.specs.Parts.{Each, closing, an_alias, an_enclosure}
 use Rattle.pt_parser.proofs.reader.Statements.enclosure.Given as goal
 
 abbrev pub invariant-more : goal.invariant-more
-invariant-more g l = record {
+invariant-more l = record {
   fits : Each an_alias.fits l.all;
   carries : Carries an_enclosure l.fn.self (closing an_alias (UpTo comma (mark Close) an_alias.reads l.all)) l.self;
 }
 
 abbrev pub decreases-more : goal.decreases-more
-decreases-more g l = length l.self
+decreases-more l = length l.self

@@ -3,7 +3,7 @@ use Rattle.pt_parser.proofs.Ends.{end_bad, end_found}
 use Rattle.pt_parser.proofs.reader.Statements.end.Goals as goal
 
 pub returns-then-not-is_at_end : goal.returns-then-not-is_at_end
-returns-then-not-is_at_end g c = end_bad _ (is_not c.is_at_end.ensures c.if-not-is_at_end.true)
+returns-then-not-is_at_end c = end_bad _ (is_not c.is_at_end.ensures c.if-not-is_at_end.true)
 
 pub returns : goal.returns
-returns g c = end_found _ (is_so c.is_at_end.ensures c.if-not-is_at_end.false)
+returns c = end_found _ (is_so c.is_at_end.ensures c.if-not-is_at_end.false)

@@ -6,7 +6,7 @@ use Rattle.pt_parser.proofs.Ends.{end_binds, end_is}
 use Rattle.pt_parser.proofs.reader.Statements.ended.Goals as goal
 
 pub returns-in_err-end : goal.returns-in_err-end
-returns-in_err-end g c = fails_at _ _ _ _ _ _ c.from_residual.ensures.1 carries_all (end_binds FitsStm _ c.requires) c.in_err-end.ensures
+returns-in_err-end c = fails_at _ _ _ _ _ _ c.from_residual.ensures.1 carries_all (end_binds FitsStm _ c.requires) c.in_err-end.ensures
 
 pub returns : goal.returns
-returns g c = end_is FitsStm carries_all c.requires c.in_ok-end.ensures
+returns c = end_is FitsStm carries_all c.requires c.in_ok-end.ensures

@@ -12,14 +12,14 @@ use Rattle.pt_parser.proofs.WithLemmas.{entered_binds, first_apart}
 use Rattle.pt_parser.proofs.reader.Statements.entered.Goals as goal
 
 pub returns-in_err-target : goal.returns-in_err-target
-returns-in_err-target g c = fails_at _ _ _ _ _ _ c.from_residual.ensures.1 carries_all (entered_binds (exp_of c.args.context) c.requires.fits) c.in_err-target.ensures
+returns-in_err-target c = fails_at _ _ _ _ _ _ c.from_residual.ensures.1 carries_all (entered_binds (exp_of c.args.context) c.requires.fits) c.in_err-target.ensures
 
 pub more_items-requires-clause-fits : goal.more_items-requires-clause-fits
-more_items-requires-clause-fits g c = subst FitsItem (sym c.item.ensures) (c.requires.fits, c.in_ok-target.ensures.fits)
+more_items-requires-clause-fits c = subst FitsItem (sym c.item.ensures) (c.requires.fits, c.in_ok-target.ensures.fits)
 
 pub more_items-requires-clause-apart : goal.more_items-requires-clause-apart
-more_items-requires-clause-apart g c = subst (λ i. is_enclosed (i ∷ []) ≡ true → sign_at (next_of c.target.new.self) ≢ Some (mark Colon)) (sym c.item.ensures)
+more_items-requires-clause-apart c = subst (λ i. is_enclosed (i ∷ []) ≡ true → sign_at (next_of c.target.new.self) ≢ Some (mark Colon)) (sym c.item.ensures)
     (first_apart (exp_of c.args.context) (opt_exp c.in_ok-target.target) c.requires.apart c.in_ok-target.ensures)
 
 pub returns : goal.returns
-returns g c = carried_all (λ is. map item_in is) _ _ (goes_on carries_all (entered_binds (exp_of c.args.context) c.requires.fits) c.in_ok-target.ensures) (rw c.item.ensures at c.more_items.ensures)
+returns c = carried_all (λ is. map item_in is) _ _ (goes_on carries_all (entered_binds (exp_of c.args.context) c.requires.fits) c.in_ok-target.ensures) (rw c.item.ensures at c.more_items.ensures)

@@ -7,7 +7,7 @@ use Rattle.pt_parser.proofs.SimpleLemmas.{listed_binds}
 use Rattle.pt_parser.proofs.reader.Statements.globals.Goals as goal
 
 pub returns-in_err-names : goal.returns-in_err-names
-returns-in_err-names g c = fails_at _ _ _ _ _ _ c.from_residual.ensures.1 carries_all (listed_binds an_identifier (λ xs. S.global c.args.line.0 xs) (λ xs. tt)) c.in_err-names.ensures
+returns-in_err-names c = fails_at _ _ _ _ _ _ c.from_residual.ensures.1 carries_all (listed_binds an_identifier (λ xs. S.global c.args.line.0 xs) (λ xs. tt)) c.in_err-names.ensures
 
 pub returns : goal.returns
-returns g c = carried_all stm_of _ _ (goes_on carries_all (listed_binds an_identifier (λ xs. S.global c.args.line.0 xs) (λ xs. tt)) c.in_ok-names.ensures) (rw c.global.ensures at c.ended.ensures)
+returns c = carried_all stm_of _ _ (goes_on carries_all (listed_binds an_identifier (λ xs. S.global c.args.line.0 xs) (λ xs. tt)) c.in_ok-names.ensures) (rw c.global.ensures at c.ended.ensures)

@@ -15,31 +15,31 @@ use Rattle.pt_parser.proofs.HeldReaders.{only_carries, only_narrows, only_binds,
 use Rattle.pt_parser.proofs.reader.Statements.held.Goals as goal
 
 pub returns-in_err-atom : goal.returns-in_err-atom
-returns-in_err-atom g c = let n = is_so c.begins_only.ensures c.if-begins_only.true in
+returns-in_err-atom c = let n = is_so c.begins_only.ensures c.if-begins_only.true in
     fails_at _ _ _ _ _ _ c.from_residual.ensures.1 (narrow_carries (only_narrows c.args.line.0 _ n)) (only_binds c.args.line.0 BeginsOnly (Inside c.args.line.0)) (carried _ _ (only_carries c.args.line.0 _ n) c.in_err-atom.ensures)
 
 pub returns-then-begins_only : goal.returns-then-begins_only
-returns-then-begins_only g c = let n = is_so c.begins_only.ensures c.if-begins_only.true in
+returns-then-begins_only c = let n = is_so c.begins_only.ensures c.if-begins_only.true in
     made_found (what_is_held c.args.line.0) (narrow_carries (only_narrows c.args.line.0 _ n)) (only_binds c.args.line.0 BeginsOnly (Inside c.args.line.0)) ((only_carries c.args.line.0 _ n).found _ _ c.in_ok-atom.ensures) tt c.in_ok-atom.ensures.fits
 
 pub returns-in_err-first : goal.returns-in_err-first
-returns-in_err-first g c = fails_at _ _ _ _ _ _ c.from_residual-in_err-first.ensures.1 (narrow_carries (exp_narrows c.args.line.0 _ (is_not c.begins_only.ensures c.if-begins_only.false))) (exp_binds c.args.line.0) c.in_err-first.ensures
+returns-in_err-first c = fails_at _ _ _ _ _ _ c.from_residual-in_err-first.ensures.1 (narrow_carries (exp_narrows c.args.line.0 _ (is_not c.begins_only.ensures c.if-begins_only.false))) (exp_binds c.args.line.0) c.in_err-first.ensures
 
 pub returns-then-not-is : goal.returns-then-not-is
-returns-then-not-is g c = carried_all held_in _ _ (then_on (goes_on (narrow_carries (exp_narrows c.args.line.0 _ (is_not c.begins_only.ensures c.if-begins_only.false))) (exp_binds c.args.line.0) c.in_ok-first.ensures)
+returns-then-not-is c = carried_all held_in _ _ (then_on (goes_on (narrow_carries (exp_narrows c.args.line.0 _ (is_not c.begins_only.ensures c.if-begins_only.false))) (exp_binds c.args.line.0) c.in_ok-first.ensures)
     (narrow_carries (listed_narrows c.args.line.0 (exp_of c.in_ok-first.first.tree) _ (is_not c.is.ensures c.if-not-is.true)))) c.listed.ensures
 
 pub returns-then-first-ge-MAX_DEPTH : goal.returns-then-first-ge-MAX_DEPTH
-returns-then-first-ge-MAX_DEPTH g c = (goes_on (narrow_carries (exp_narrows c.args.line.0 _ (is_not c.begins_only.ensures c.if-begins_only.false))) (exp_binds c.args.line.0) c.in_ok-first.ensures).refused true _
+returns-then-first-ge-MAX_DEPTH c = (goes_on (narrow_carries (exp_narrows c.args.line.0 _ (is_not c.begins_only.ensures c.if-begins_only.false))) (exp_binds c.args.line.0) c.in_ok-first.ensures).refused true _
     (first_over c.args.line.0 (exp_of c.in_ok-first.first.tree) _ (is_so c.is.ensures c.if-not-is.false) (found_plain c.in_ok-first.ensures) c.in_ok-first.ensures.fits (omega (arith, c.if-first-ge-MAX_DEPTH.true, c.in_ok-first.first.exact)))
 
 pub generator-requires-clause-unstarred : goal.generator-requires-clause-unstarred
-generator-requires-clause-unstarred g c = found_plain c.in_ok-first.ensures
+generator-requires-clause-unstarred c = found_plain c.in_ok-first.ensures
 
 pub returns-in_err-atom-2 : goal.returns-in_err-atom-2
-returns-in_err-atom-2 g c = fails_at _ _ _ _ _ _ c.from_residual-in_err-atom-2.ensures.1 (then_on (goes_on (narrow_carries (exp_narrows c.args.line.0 _ (is_not c.begins_only.ensures c.if-begins_only.false))) (exp_binds c.args.line.0) c.in_ok-first.ensures) (narrow_carries (for_narrows c.args.line.0 (exp_of c.in_ok-first.first.tree) _ (is_so c.is.ensures c.if-not-is.false))))
+returns-in_err-atom-2 c = fails_at _ _ _ _ _ _ c.from_residual-in_err-atom-2.ensures.1 (then_on (goes_on (narrow_carries (exp_narrows c.args.line.0 _ (is_not c.begins_only.ensures c.if-begins_only.false))) (exp_binds c.args.line.0) c.in_ok-first.ensures) (narrow_carries (for_narrows c.args.line.0 (exp_of c.in_ok-first.first.tree) _ (is_so c.is.ensures c.if-not-is.false))))
     (only_binds c.args.line.0 (IsSign (word For)) (InParentheses c.args.line.0 (exp_of c.in_ok-first.first.tree))) (carried _ _ (for_carries c.args.line.0 (exp_of c.in_ok-first.first.tree) _ (is_so c.is.ensures c.if-not-is.false) (found_plain c.in_ok-first.ensures) c.in_ok-first.ensures.fits (omega (arith, c.if-first-ge-MAX_DEPTH.false, c.in_ok-first.first.exact))) c.in_err-atom-2.ensures)
 
 pub returns : goal.returns
-returns g c = made_found (what_is_held c.args.line.0) (then_on (goes_on (narrow_carries (exp_narrows c.args.line.0 _ (is_not c.begins_only.ensures c.if-begins_only.false))) (exp_binds c.args.line.0) c.in_ok-first.ensures) (narrow_carries (for_narrows c.args.line.0 (exp_of c.in_ok-first.first.tree) _ (is_so c.is.ensures c.if-not-is.false))))
+returns c = made_found (what_is_held c.args.line.0) (then_on (goes_on (narrow_carries (exp_narrows c.args.line.0 _ (is_not c.begins_only.ensures c.if-begins_only.false))) (exp_binds c.args.line.0) c.in_ok-first.ensures) (narrow_carries (for_narrows c.args.line.0 (exp_of c.in_ok-first.first.tree) _ (is_so c.is.ensures c.if-not-is.false))))
     (only_binds c.args.line.0 (IsSign (word For)) (InParentheses c.args.line.0 (exp_of c.in_ok-first.first.tree))) ((for_carries c.args.line.0 (exp_of c.in_ok-first.first.tree) _ (is_so c.is.ensures c.if-not-is.false) (found_plain c.in_ok-first.ensures) c.in_ok-first.ensures.fits (omega (arith, c.if-first-ge-MAX_DEPTH.false, c.in_ok-first.first.exact))).found _ _ c.in_ok-atom-2.ensures) tt c.in_ok-atom-2.ensures.fits

@@ -18,12 +18,12 @@ is_name l (kind.Sign y) n h = no_name l (spelled y) h
 is_name l _ n h = cc
 
 pub returns-in_default : goal.returns-in_default
-returns-in_default g c = identifier_bad _ (λ l x h. let e : None ≡ Some (name l x) = c.in_default.ensures ∙ h in cc)
+returns-in_default c = identifier_bad _ (λ l x h. let e : None ≡ Some (name l x) = c.in_default.ensures ∙ h in cc)
 
 pub returns-in_ok-name-in-Name : goal.returns-in_ok-name-in-Name
-returns-in_ok-name-in-Name g c = rw c.in_ok-name-in-Name.ensures (identifier_found {l = c.in-Some.token.now.line.0} _ (sym c.in-Some.ensures ∙ ap (λ k. Some (lexeme_at c.in-Some.token.now.line.0 k)) c.in-Name.is) c.skip.ensures)
+returns-in_ok-name-in-Name c = rw c.in_ok-name-in-Name.ensures (identifier_found {l = c.in-Some.token.now.line.0} _ (sym c.in-Some.ensures ∙ ap (λ k. Some (lexeme_at c.in-Some.token.now.line.0 k)) c.in-Name.is) c.skip.ensures)
 
 pub returns-in_default-kind : goal.returns-in_default-kind
-returns-in_default-kind g c = identifier_bad _ (λ l x h.
+returns-in_default-kind c = identifier_bad _ (λ l x h.
     let e : Some (lexeme_at c.in-Some.token.now.line.0 c.in-Some.token.now.kind) ≡ Some (name l x) = c.in-Some.ensures ∙ h in
     is_name {m = l} {x = x} c.in-Some.token.now.line.0 c.in-Some.token.now.kind c.in_default-kind.not-Name cc)

@@ -9,7 +9,7 @@ use Rattle.pt_parser.specs.WithLeft.{BehindExp, what_is_held}
 use Rattle.pt_parser.proofs.reader.Statements.listed.Given as goal
 
 abbrev pub invariant-more : goal.invariant-more
-invariant-more g l = record {
+invariant-more l = record {
   before : Each FitsExp (map exp_of l.before.items);
   last : FitsExp (exp_of l.last.tree);
   carries : Carries (left (what_is_held l.fn.line.0) (BehindExp l.fn.line.0 (line_of (exp_of l.fn.first.tree)) [] (exp_of l.fn.first.tree))) l.fn.self
@@ -17,4 +17,4 @@ invariant-more g l = record {
 }
 
 abbrev pub decreases-more : goal.decreases-more
-decreases-more g l = length l.self
+decreases-more l = length l.self

@@ -14,7 +14,7 @@ use Rattle.pt_parser.proofs.WithLemmas.{comma_shifts, next_binds, rest_found, re
 use Rattle.pt_parser.proofs.reader.Statements.more_items.Goals as goal
 
 pub more-init : goal.more-init
-more-init g c = rw (c.in_ok-push.ensures.ok, c.new-all.ensures) record {
+more-init c = rw (c.in_ok-push.ensures.ok, c.new-all.ensures) record {
   fits = (c.requires.fits, tt);
   some = λ h. cc;
   apart = c.requires.apart;
@@ -22,16 +22,16 @@ more-init g c = rw (c.in_ok-push.ensures.ok, c.new-all.ensures) record {
 }
 
 pub returns-in_err-next : goal.returns-in_err-next
-returns-in_err-next g c = let n = c.take.ensures.found c.more-test.true in
+returns-in_err-next c = let n = c.take.ensures.found c.more-test.true in
     fails_at _ _ _ _ _ _ c.from_residual-in_err-next.ensures.1
     (shift_on c.more.invariant.carries (comma_shifts (map item_in c.more.all) _) (sign_next _ n.0) n.1) (next_binds (map item_in c.more.all) c.more.invariant.fits c.more.invariant.some) c.in_err-next.ensures
 
 pub more-smaller : goal.more-smaller
-more-smaller g c = let n = c.take.ensures.found c.more-test.true in
+more-smaller c = let n = c.take.ensures.found c.more-test.true in
     omega (arith, found_shorter c.in_ok-next.ensures, ap length n.1, some_more _ (sign_next _ n.0))
 
 pub more-preserved : goal.more-preserved
-more-preserved g c = let n = c.take.ensures.found c.more-test.true in rw (c.in_ok-push-2.ensures.ok, map-append) record {
+more-preserved c = let n = c.take.ensures.found c.more-test.true in rw (c.in_ok-push-2.ensures.ok, map-append) record {
   fits = each_snoc FitsItem (map item_in c.more.all) (item_in c.in_ok-next.next) c.more.invariant.fits c.in_ok-next.ensures.fits;
   some = snoc_some (map item_in c.more.all) (item_in c.in_ok-next.next);
   apart = λ h. let k = sym h ∙ enclosed_two (map item_in c.more.all) (item_in c.in_ok-next.next) c.more.invariant.some in cc;
@@ -39,9 +39,9 @@ more-preserved g c = let n = c.take.ensures.found c.more-test.true in rw (c.in_o
 }
 
 pub returns-then-not-is : goal.returns-then-not-is
-returns-then-not-is g c = let n = c.take.ensures.none c.more-test.false in
+returns-then-not-is c = let n = c.take.ensures.none c.more-test.false in
     rw n.1 (c.more.invariant.carries.refused false _ (rest_bad (map item_in c.more.all) _ c.more.invariant.fits c.more.invariant.some n.0 (rw n.1 at (is_not c.is.ensures c.if-not-is.true))))
 
 pub returns : goal.returns
-returns g c = let n = c.take.ensures.none c.more-test.false in
+returns c = let n = c.take.ensures.none c.more-test.false in
     rw n.1 (c.more.invariant.carries.found _ _ (rest_found (map item_in c.more.all) _ c.more.invariant.fits c.more.invariant.apart (rw n.1 at (is_so c.is.ensures c.if-not-is.false))))

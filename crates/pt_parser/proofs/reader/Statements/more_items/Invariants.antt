@@ -11,7 +11,7 @@ use Rattle.pt_parser.specs.Views.{item_in}
 use Rattle.pt_parser.proofs.reader.Statements.more_items.Given as goal
 
 abbrev pub invariant-more : goal.invariant-more
-invariant-more g l = record {
+invariant-more l = record {
   fits : Each FitsItem (map item_in l.all);
   some : map item_in l.all ≢ [];
   apart : is_enclosed (map item_in l.all) ≡ true → sign_at (next_of l.self) ≢ Some (mark Colon);
@@ -19,4 +19,4 @@ invariant-more g l = record {
 }
 
 abbrev pub decreases-more : goal.decreases-more
-decreases-more g l = length l.self
+decreases-more l = length l.self

@@ -7,9 +7,9 @@ use Rattle.pt_parser.specs.Parts.{a_list}
 use Rattle.pt_parser.proofs.reader.Statements.names.Given as goal
 
 abbrev pub invariant-more : goal.invariant-more
-invariant-more g l = record {
+invariant-more l = record {
   carries : Carries (a_list an_identifier) l.fn.self (left (a_list an_identifier) (More comma an_identifier.reads l.all)) l.self;
 }
 
 abbrev pub decreases-more : goal.decreases-more
-decreases-more g l = length l.self
+decreases-more l = length l.self

@@ -8,13 +8,13 @@ use Rattle.pt_parser.proofs.HeldEnds.{held_sound}
 use Rattle.pt_parser.proofs.reader.Statements.opened.Goals as goal
 
 pub returns-in_err-held : goal.returns-in_err-held
-returns-in_err-held g c = fails_at _ _ _ _ _ _ c.from_residual.ensures.1 carries_all (held_binds c.args.line.0) c.in_err-held.ensures
+returns-in_err-held c = fails_at _ _ _ _ _ _ c.from_residual.ensures.1 carries_all (held_binds c.args.line.0) c.in_err-held.ensures
 
 pub behind_held-requires-clause-fits : goal.behind_held-requires-clause-fits
-behind_held-requires-clause-fits g c = c.in_ok-held.ensures.fits
+behind_held-requires-clause-fits c = c.in_ok-held.ensures.fits
 
 pub behind_held-requires-clause-sound : goal.behind_held-requires-clause-sound
-behind_held-requires-clause-sound g c = held_sound c.args.line.0 (c.in_ok-held.ensures.reads [])
+behind_held-requires-clause-sound c = held_sound c.args.line.0 (c.in_ok-held.ensures.reads [])
 
 pub returns : goal.returns
-returns g c = carried_all (λ is. map item_in is) _ _ (goes_on carries_all (held_binds c.args.line.0) c.in_ok-held.ensures) c.behind_held.ensures
+returns c = carried_all (λ is. map item_in is) _ _ (goes_on carries_all (held_binds c.args.line.0) c.in_ok-held.ensures) c.behind_held.ensures

@@ -11,13 +11,13 @@ use Rattle.pt_parser.proofs.Tokens.{sign_next, left_out_found, written_shifts, g
 use Rattle.pt_parser.proofs.reader.Statements.optional.Goals as goal
 
 pub returns-then-not-take : goal.returns-then-not-take
-returns-then-not-take g c = let n = c.take.ensures.none (grind arith) in rw n.1 (left_out_found _ an_expression _ n.0)
+returns-then-not-take c = let n = c.take.ensures.none (grind arith) in rw n.1 (left_out_found _ an_expression _ n.0)
 
 pub returns-in_err-read : goal.returns-in_err-read
-returns-in_err-read g c = let n = c.take.ensures.found (grind arith) in
+returns-in_err-read c = let n = c.take.ensures.found (grind arith) in
     fails_at _ _ _ _ _ _ c.from_residual.ensures.1 (shift_on carries_all (written_shifts _ an_expression _) (sign_next _ n.0) n.1) (given_binds _ an_expression) c.in_err-read.ensures
 
 pub returns : goal.returns
-returns g c = let n = c.take.ensures.found (grind arith) in
+returns c = let n = c.take.ensures.found (grind arith) in
     made_found (an_optional c.args.sign an_expression) (shift_on carries_all (written_shifts _ an_expression _) (sign_next _ n.0) n.1) (given_binds _ an_expression) c.in_ok-read.ensures
     c.in_ok-read.ensures.stops c.in_ok-read.ensures.fits

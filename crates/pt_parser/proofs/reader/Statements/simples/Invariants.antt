@@ -10,10 +10,10 @@ use Rattle.pt_parser.specs.Parts.{Each, closing, a_simple, some_simples}
 use Rattle.pt_parser.proofs.reader.Statements.simples.Given as goal
 
 abbrev pub invariant-more : goal.invariant-more
-invariant-more g l = record {
+invariant-more l = record {
   fits : Each FitsStm (map stm_of l.all);
   carries : Carries (some_simples (map stm_of l.fn.all)) l.fn.self (closing a_simple (UpTo (mark Semicolon) (layout Newline) a_simple.reads (map stm_of l.all))) l.self;
 }
 
 abbrev pub decreases-more : goal.decreases-more
-decreases-more g l = length l.self
+decreases-more l = length l.self

@@ -7,7 +7,7 @@ use Rattle.pt_parser.proofs.HeldEnds.{all_bad}
 use Rattle.pt_parser.proofs.reader.Statements.up_to_colon.Goals as goal
 
 pub returns-then-not-is : goal.returns-then-not-is
-returns-then-not-is g c = all_bad (map item_in c.args.items) _ c.requires (is_not c.is.ensures c.if-not-is.true)
+returns-then-not-is c = all_bad (map item_in c.args.items) _ c.requires (is_not c.is.ensures c.if-not-is.true)
 
 pub returns : goal.returns
-returns g c = is_found with_items (map item_in c.args.items) _ (is_so c.is.ensures c.if-not-is.false) c.requires
+returns c = is_found with_items (map item_in c.args.items) _ (is_so c.is.ensures c.if-not-is.false) c.requires
