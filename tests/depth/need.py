@@ -1,10 +1,11 @@
 """How much stack the built program takes to read each of the deepest scripts, the most first.
 
-    python3 need.py [--by-rattle] [--program FILE] [WORD ..]      of the scripts whose names have one of these words, or of all
+    python3 need.py [--front] [--by-rattle] [--program FILE] [WORD ..]      of the scripts whose names have one of these words, or of all
 
-The program is pt as LLVM builds it, or as Rattle's own compiler does, which the gate leaves beside it, or another file that was
-built of it. A script is read with less and less stack, down to a step of 32 KiB. The last line counts those that take more than
-half of a default stack, and the status is 1 where there are some, or where a script isn't taken or refused as it should be."""
+The program is pt, or with --front the front end alone as test_depth runs it; as LLVM builds it, or as Rattle's own compiler
+does, which the gate leaves beside it; or another file that was built of it. A script is read with less and less stack, down
+to a step of 32 KiB. The last line counts those that take more than half of a default stack, and the status is 1 where there
+are some, or where a script isn't taken or refused as it should be."""
 import argparse
 import resource
 import subprocess
@@ -19,8 +20,8 @@ STEP = 32 * KIB
 DEFAULT = 8192 * KIB
 MOST = 8 * DEFAULT
 
-# the status of a text that is no script
-REFUSED = 6
+# the words before the name of a text, and the status where it is no script
+WORDS = {"pt": (["run"], 6), "test_depth": (["time", "answers"], 1)}
 
 
 def status(command, script, stack):
@@ -43,13 +44,15 @@ def need(command, script):
 
 def main():
     parser = argparse.ArgumentParser()
+    parser.add_argument("--front", action="store_true")
     parser.add_argument("--by-rattle", action="store_true")
     parser.add_argument("--program", type=Path)
     parser.add_argument("words", nargs="*")
     asked = parser.parse_args()
-    words = asked.words
-    built = Path(__file__).resolve().parent / "../../crates/pt/out" / ("pt" + ".by-rattle" * asked.by_rattle)
-    command = [(asked.program or built).resolve(), "run"]
+    name, words = "test_depth" if asked.front else "pt", asked.words
+    built = Path(__file__).resolve().parent / "../../crates" / name / "out" / (name + ".by-rattle" * asked.by_rattle)
+    before, refused = WORDS[name]
+    command = [(asked.program or built).resolve(), *before]
     needs, wrong = [], 0
     with tempfile.TemporaryDirectory() as folder:
         script = Path(folder, "script.py")
@@ -57,7 +60,7 @@ def main():
             if not words or any(word in name for word in words):
                 script.write_text(shapes.written(pieces))
                 stack, ended = need(command, script)
-                is_wrong = (ended == REFUSED) != (answer != "taken")
+                is_wrong = (ended == refused) != (answer != "taken")
                 needs.append((stack, name + (" (another answer)" if is_wrong else "")))
                 wrong += is_wrong
     for stack, name in sorted(needs, reverse=True):
