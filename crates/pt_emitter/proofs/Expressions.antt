@@ -134,12 +134,12 @@ module _ {V : Type 0} (block : Around V) (code : CodeObject V) (starts : List St
       let within = star_within ts k s in
       let all : k + 1 + (statements.count ts - suc k) ≡ statements.count ts = omega arith in
       let q = instr.UnpackStar k (statements.count ts - suc k) in record {
-    instr = q;
-    stands = same_instr q j m from to i h;
-    does = λ v ss. ap (λ n. asks code (ins q m to x.rows) (T.unpack v n (Some k)) ss (λ vs. on to (giving n vs ss))) all;
-  }
+        instr = q;
+        stands = same_instr q j m from to i h;
+        does = λ v ss. ap (λ n. asks code (ins q m to x.rows) (T.unpack v n (Some k)) ss (λ vs. on to (giving n vs ss))) all;
+      }
 
-  args_count : Args → ℕ
+  abbrev args_count : Args → ℕ
   args_count r = length (roles block.spelled r)
 
   mutual
@@ -197,10 +197,15 @@ module _ {V : Type 0} (block : Around V) (code : CodeObject V) (starts : List St
       null_given block code x.rows L agree.null from m1 j1 i1 h1,
       (m2, exp q n g v [] m1 m2 a, part r l (n + size q) v L m2 to b),
     )
-    exp (S.slice l (S.given p) q r) n g v L from to (mid, a, b) = (
-      mid,
-      exp p n g v [] from mid a,
-      parts q r l (n + size p) v L mid to b,
+    exp (S.slice l (S.given p) S.absent r) n g v L from to (m1, a, (m2, (j, i, h), b)) = (
+      m1,
+      exp p n g v [] from m1 a,
+      (m2, null_given block code x.rows L agree.null m1 m2 j i h, part r l (n + size p) v L m2 to b),
+    )
+    exp (S.slice l (S.given p) (S.given q) r) n g v L from to (m1, a, (m2, b, c)) = (
+      m1,
+      exp p n g v [] from m1 a,
+      (m2, exp q (n + size p) false v [] m1 m2 b, part r l (n + size p + size q) v L m2 to c),
     )
     exp (S.unary l o p) n g v L from to (mid, a, b) = (mid, exp p n g v [] from mid a, op_stands (T.unary o) l (n + size p) false 1 1 L mid to refl b)
     exp (S.not_of l p) n g v L from to (mid, a, b) = (mid, exp p n g v [] from mid a, op_stands T.inverted l (n + size p) false 1 1 L mid to refl b)
@@ -229,34 +234,36 @@ module _ {V : Type 0} (block : Around V) (code : CodeObject V) (starts : List St
     exp (S.call l f ys) n g v L from to (mid, a, b) =
         (mid, exp f n g v [] from mid a, args ys (roles block.spelled ys) l (n + size f) 1 (omega arith) v L mid to b)
     exp (S.lambda l b (S.parameters ps s ks d) e) n g v L from to h =
-        first_of_both ps ks b (map block.spelled (defaulted ps ++ defaulted ks)) l n g v L from to h
+        let names = map block.spelled (defaulted ps ++ defaulted ks) in
+        first_of_both ps ks b names l n g v L from to (first ks b names l n g v L from to) (λ m q a c. formals ks b names l m q v L a c) h
     exp (S.comprehension l m k t it cs) n g v L from to
         (m1, a, (m2, (j, i, h), (m3, b, (m4, (j', i', h'), (head, r, (n1, (j'', i'', h''), (n2, c, d))))))) = (
-      head,
-      to,
-      (
-        m1,
-        exp it n g v [] from m1 a,
-        (
-          m2,
-          same_instr instr.Iter j (act_mark m1 (n + size it) k false) m1 m2 i h,
+          head,
+          to,
           (
-            m3,
-            made [] (built_as m) l (n + size it + 1) false 0 0 0 _ m2 m3 (built m) (no_cells m _) b,
-            (m4, same_instr instr.Swap j' None m3 m4 i' h', renewed _ _ m4 head r),
+            m1,
+            exp it n g v [] from m1 a,
+            (
+              m2,
+              same_instr instr.Iter j (act_mark m1 (n + size it) k false) m1 m2 i h,
+              (
+                m3,
+                made [] (built_as m) l (n + size it + 1) false 0 0 0 (target to x.depth ∷ L) m2 m3 (built m) (no_cells m (target to x.depth ∷ L)) b,
+                (m4, same_instr instr.Swap j' None m3 m4 i' h', renewed _ _ m4 head r),
+              ),
+            ),
           ),
-        ),
-      ),
-      (
-        n1,
-        same_instr _ j'' (act_mark head (n + size it + 1 + 1) k false) head n1 i'' h'',
-        (
-          n2,
-          tgt t (n + size it + 1 + 1 + 1) ((n + size it + 1 + 1) ∷ v) [] n1 n2 c,
-          clauses cs m l (n + size it + 1 + 1 + 1 + target_size t) 1 ((n + size it + 1 + 1) ∷ v) head x.depth (target to x.depth ∷ L) n2 to d,
-        ),
-      ),
-    )
+          (
+            n1,
+            same_instr _ j'' (act_mark head (n + size it + 1 + 1) k false) head n1 i'' h'',
+            (
+              n2,
+              tgt t (n + size it + 1 + 1 + 1) ((n + size it + 1 + 1) ∷ v) [] n1 n2 c,
+              clauses cs m l (n + size it + 1 + 1 + 1 + target_size t) 1 ((n + size it + 1 + 1) ∷ v) head x.depth (target to x.depth ∷ L) n2 to
+                  (λ m' q h k K a c p. made_item m l m' q ((n + size it + 1 + 1) ∷ v) h k K a c p) d,
+            ),
+          ),
+        )
     exp (S.generator l b e k t it cs) n g v L from to (m1, a, (m2, (j, i, h), c)) = (
       m1,
       exp it n g v [] from m1 a,
@@ -290,12 +297,6 @@ module _ {V : Type 0} (block : Around V) (code : CodeObject V) (starts : List St
     part S.absent l n v L from to (mid, (j, i, h), r) =
         (mid, null_given block code x.rows L agree.null from mid j i h, op_stands T.slice l n false 3 3 L mid to refl r)
     part (S.given e) l n v L from to (mid, a, r) = (mid, exp e n false v [] from mid a, op_stands T.slice l (n + size e) false 3 3 L mid to refl r)
-
-    parts : (o r : Opt) (l n : ℕ) (v : List ℕ) (L : List Target) (from to : ℕ)
-        → At (part_piece block o n v (λ m. part_piece block r m v (λ m. op_piece block T.slice l m false 3))) L from to
-        → Part_at block code x.rows o n v (λ m. Part_at block code x.rows r m v (λ m. Op_at block code x.rows T.slice l m false 3)) from to
-    parts S.absent r l n v L from to (mid, (j, i, h), b) = (mid, null_given block code x.rows L agree.null from mid j i h, part r l n v L mid to b)
-    parts (S.given e) r l n v L from to (mid, a, b) = (mid, exp e n false v [] from mid a, part r l (n + size e) v L mid to b)
 
     exps : (es : Exps) (op : Operation) → ((q : ℕ) → Takes op q q) → (l n k : ℕ) (v : List ℕ) (L : List Target) (from to : ℕ)
         → At (exps_piece block es op l n k v) L from to → Exps_at block code x.rows es op l n k v from to
@@ -413,30 +414,30 @@ module _ {V : Type 0} (block : Around V) (code : CodeObject V) (starts : List St
     links S.no_links o l n v L from to (j, i, h) = same_instr (instr.Compare o) j (act_mark from n l false) from to i h
     links (S.link p b r) o l n v L from to
         (other, (m1, (j1, i1, h1), (m2, (j2, i2, h2), (m3, (j3, i3, h3), (m4, (j4, i4, h4), (m5, a, (m6, c, (j5, i5, h5))))))), (m7, (j6, i6, h6), (j7, i7, h7))) = (
-      other,
-      (
-        m1,
-        same_instr instr.Copy j1 None from m1 i1 h1,
-        (
-          m2,
-          same_instr instr.Rot3 j2 None m1 m2 i2 h2,
+          other,
           (
-            m3,
-            same_instr (instr.Compare o) j3 (act_mark m2 n l false) m2 m3 i3 h3,
+            m1,
+            same_instr instr.Copy j1 None from m1 i1 h1,
             (
-              m4,
-              same_instr _ j4 (act_mark m3 (n + 1) l false) m3 m4 i4 h4,
+              m2,
+              same_instr instr.Rot3 j2 None m1 m2 i2 h2,
               (
-                m5,
-                exp b (n + 1 + 1) false v [] m4 m5 a,
-                (m6, links r p l (n + 1 + 1 + size b) v [] m5 m6 c, same_instr _ j5 None m6 other i5 h5),
+                m3,
+                same_instr (instr.Compare o) j3 (act_mark m2 n l false) m2 m3 i3 h3,
+                (
+                  m4,
+                  same_instr _ j4 (act_mark m3 (n + 1) l false) m3 m4 i4 h4,
+                  (
+                    m5,
+                    exp b (n + 1 + 1) false v [] m4 m5 a,
+                    (m6, links r p l (n + 1 + 1 + size b) v [] m5 m6 c, same_instr _ j5 None m6 other i5 h5),
+                  ),
+                ),
               ),
             ),
           ),
-        ),
-      ),
-      (m7, same_instr instr.Swap j6 None other m7 i6 h6, same_instr instr.Pop j7 None m7 to i7 h7),
-    )
+          (m7, same_instr instr.Swap j6 None other m7 i6 h6, same_instr instr.Pop j7 None m7 to i7 h7),
+        )
 
     ands : (es : Exps) (l n : ℕ) (v : List ℕ) (end depth : ℕ) (L : List Target) (from to : ℕ) → At (ands_piece block es l n v) (target end depth ∷ L) from to
         → Ands_at block code x.rows es l n v end from to
@@ -464,13 +465,16 @@ module _ {V : Type 0} (block : Around V) (code : CodeObject V) (starts : List St
     formals (S.formal a y t (S.given d) r) b ys l n k v L from to (mid, p, q) =
         (mid, exp d n false v [] from mid p, formals r b ys l (n + size d) (suc k) v L mid to q)
 
+    -- behind them stand those of the keyword-only parameters
     formals_of_both : (r ks : Formals) (b : ℕ) (ys : List Name) (l n k : ℕ) (v : List ℕ) (L : List Target) (from to : ℕ)
+        → ((m q a c : ℕ) → At (formals_piece block ks m q v (λ m k. op_piece block (T.function b ys) l m false k)) L a c
+        → Formals_at block code x.rows ks m q v (λ m k. Op_at block code x.rows (T.function b ys) l m false k) a c)
         → At (formals_piece block r n k v (λ m k. formals_piece block ks m k v (λ m k. op_piece block (T.function b ys) l m false k))) L from to
         → Formals_at block code x.rows r n k v (λ m k. Formals_at block code x.rows ks m k v (λ m k. Op_at block code x.rows (T.function b ys) l m false k)) from to
-    formals_of_both S.no_formals ks b ys l n k v L from to h = formals ks b ys l n k v L from to h
-    formals_of_both (S.formal a y t S.absent r) ks b ys l n k v L from to h = formals_of_both r ks b ys l n k v L from to h
-    formals_of_both (S.formal a y t (S.given d) r) ks b ys l n k v L from to (mid, p, q) =
-        (mid, exp d n false v [] from mid p, formals_of_both r ks b ys l (n + size d) (suc k) v L mid to q)
+    formals_of_both S.no_formals ks b ys l n k v L from to others h = others n k from to h
+    formals_of_both (S.formal a y t S.absent r) ks b ys l n k v L from to others h = formals_of_both r ks b ys l n k v L from to others h
+    formals_of_both (S.formal a y t (S.given d) r) ks b ys l n k v L from to others (mid, p, q) =
+        (mid, exp d n false v [] from mid p, formals_of_both r ks b ys l (n + size d) (suc k) v L mid to others q)
 
     first : (r : Formals) (b : ℕ) (ys : List Name) (l n : ℕ) (g : Bool) (v : List ℕ) (L : List Target) (from to : ℕ)
         → At (first_piece block r n g v (op_piece block (T.function b ys) l n g 0) (λ m k. op_piece block (T.function b ys) l m false k)) L from to
@@ -481,26 +485,32 @@ module _ {V : Type 0} (block : Around V) (code : CodeObject V) (starts : List St
         (mid, exp d n g v [] from mid p, formals r b ys l (n + size d) 1 v L mid to q)
 
     first_of_both : (r ks : Formals) (b : ℕ) (ys : List Name) (l n : ℕ) (g : Bool) (v : List ℕ) (L : List Target) (from to : ℕ)
+        → (At (first_piece block ks n g v (op_piece block (T.function b ys) l n g 0) (λ m k. op_piece block (T.function b ys) l m false k)) L from to
+        → First_at block code x.rows ks n g v (Op_at block code x.rows (T.function b ys) l n g 0) (λ m k. Op_at block code x.rows (T.function b ys) l m false k) from to)
+        → ((m q a c : ℕ) → At (formals_piece block ks m q v (λ m k. op_piece block (T.function b ys) l m false k)) L a c
+        → Formals_at block code x.rows ks m q v (λ m k. Op_at block code x.rows (T.function b ys) l m false k) a c)
         → At (first_piece block r n g v (first_piece block ks n g v (op_piece block (T.function b ys) l n g 0) (λ m k. op_piece block (T.function b ys) l m false k))
         (λ m k. formals_piece block ks m k v (λ m k. op_piece block (T.function b ys) l m false k))) L from to
         → First_at block code x.rows r n g v
         (First_at block code x.rows ks n g v (Op_at block code x.rows (T.function b ys) l n g 0) (λ m k. Op_at block code x.rows (T.function b ys) l m false k))
         (λ m k. Formals_at block code x.rows ks m k v (λ m k. Op_at block code x.rows (T.function b ys) l m false k)) from to
-    first_of_both S.no_formals ks b ys l n g v L from to h = first ks b ys l n g v L from to h
-    first_of_both (S.formal a y t S.absent r) ks b ys l n g v L from to h = first_of_both r ks b ys l n g v L from to h
-    first_of_both (S.formal a y t (S.given d) r) ks b ys l n g v L from to (mid, p, q) =
-        (mid, exp d n g v [] from mid p, formals_of_both r ks b ys l (n + size d) 1 v L mid to q)
+    first_of_both S.no_formals ks b ys l n g v L from to none others h = none h
+    first_of_both (S.formal a y t S.absent r) ks b ys l n g v L from to none others h = first_of_both r ks b ys l n g v L from to none others h
+    first_of_both (S.formal a y t (S.given d) r) ks b ys l n g v L from to none others (mid, p, q) =
+        (mid, exp d n g v [] from mid p, formals_of_both r ks b ys l (n + size d) 1 v L mid to others q)
 
+    -- behind them the item is added
     clauses : (cs : Clauses) (w : Made) (l n d : ℕ) (v : List ℕ) (head depth : ℕ) (L : List Target) (from to : ℕ)
+        → ((m q h k : ℕ) (K : List Target) (a c : ℕ) → At (item_piece block w l m q v) (target h k ∷ K) a c → Item_at block code x.rows w l m q h v a c)
         → At (clauses_piece block cs l n d v (λ j d. item_piece block w l j d v)) (target head depth ∷ L) from to
         → Clauses_at block code x.rows cs l n d head v (λ j d h. Item_at block code x.rows w l j d h v) from to
-    clauses S.no_clauses w l n d v head dp L from to h = made_item w l n d v head dp L from to h
-    clauses (S.only_if c cs) w l n d v head dp L from to (m1, a, (m2, (j, i, h), b)) = (
+    clauses S.no_clauses w l n d v head dp L from to item h = item n d head dp L from to h
+    clauses (S.only_if c cs) w l n d v head dp L from to item (m1, a, (m2, (j, i, h), b)) = (
       m1,
       exp c n false v [] from m1 a,
-      (m2, same_instr _ j (act_mark m1 (n + size c) l false) m1 m2 i h, clauses cs w l (n + size c + 1) d v head dp L m2 to b),
+      (m2, same_instr _ j (act_mark m1 (n + size c) l false) m1 m2 i h, clauses cs w l (n + size c + 1) d v head dp L m2 to item b),
     )
-    clauses (S.for_each k t it cs) w l n d v head dp L from to (m1, a, (m2, (j, i, h), (n1, (j', i', h'), (n2, c, b)))) = (
+    clauses (S.for_each k t it cs) w l n d v head dp L from to item (m1, a, (m2, (j, i, h), (n1, (j', i', h'), (n2, c, b)))) = (
       m2,
       (m1, exp it n false v [] from m1 a, same_instr instr.Iter j (act_mark m1 (n + size it) k false) m1 m2 i h),
       (
@@ -509,7 +519,7 @@ module _ {V : Type 0} (block : Around V) (code : CodeObject V) (starts : List St
         (
           n2,
           tgt t (n + size it + 1 + 1) v [] n1 n2 c,
-          clauses cs w l (n + size it + 1 + 1 + target_size t) (suc d) v m2 x.depth (target head dp ∷ L) n2 to b,
+          clauses cs w l (n + size it + 1 + 1 + target_size t) (suc d) v m2 x.depth (target head dp ∷ L) n2 to item b,
         ),
       ),
     )

@@ -187,7 +187,7 @@ module _ {V : Type 0} (block : Around V) (code : CodeObject V) (rows : List Hand
       (takes_both block code rows (T.function b xs) n (code.pool.captures b) (instr.MakeFunction (record { 0 = b }) n l) m from to
       (subst (λ (q : Instr). Stands code rows q m from to) i h)
       (λ ss. ap (λ ys. cells (code.pool.captures b) [] ss (λ cs below. values n cs below (λ vs under.
-          gives code (ins (instr.MakeFunction (record { 0 = b }) n l) m to rows) (T.operate (T.function b ys) vs) under))) p))
+      gives code (ins (instr.MakeFunction (record { 0 = b }) n l) m to rows) (T.operate (T.function b ys) vs) under))) p))
   operated (T.class b) n k c m from to j t e i h = absurd t
   operated (T.generator b) n k c m from to j t e i h = absurd t
   operated (T.import x) n k c m from to j t e (q, i, p) h =
