@@ -1,8 +1,11 @@
-//! What dictionaries and texts answer to rows of tables, beside what CPython answered.
+//! What dictionaries, sets, attributes and texts answer to rows of tables, beside what CPython
+//! answered.
 #![tactic(auto)]
 
+mod attributes;
 mod dicts;
 mod no_row;
+mod sets;
 mod texts;
 
 use no_row::NoRow;
@@ -10,10 +13,12 @@ use std::alloc::Global;
 use std::process::ExitCode;
 use std::{env, fs, io};
 
-/// Writes what is answered of a row, which begins with `dict` or `text`.
+/// Writes what is answered of a row, which begins with what it is of.
 fn answer(line: &mut String, alloc: Global, row: &str) -> Result<(), NoRow> {
     match row.split_once(" ") {
+        Some(("attr", rest)) => attributes::answers(line, alloc, rest),
         Some(("dict", rest)) => dicts::answers(line, alloc, rest),
+        Some(("set", rest)) => sets::answers(line, alloc, rest),
         Some(("text", rest)) => texts::answers(line, alloc, rest),
         _ => Err(NoRow),
     }

@@ -1,4 +1,5 @@
 use pt_base::Memory;
+use pt_heap::{DictErr, HeapErr};
 use std::alloc::{AllocError, AllocFailed};
 
 /// The line is no row, or memory ran out.
@@ -19,6 +20,18 @@ impl From<AllocError> for NoRow {
 
 impl<T: Drop> From<AllocFailed<T>> for NoRow {
     fn from(_: AllocFailed<T>) -> Self {
+        NoRow
+    }
+}
+
+impl From<HeapErr> for NoRow {
+    fn from(_: HeapErr) -> Self {
+        NoRow
+    }
+}
+
+impl From<DictErr> for NoRow {
+    fn from(_: DictErr) -> Self {
         NoRow
     }
 }
