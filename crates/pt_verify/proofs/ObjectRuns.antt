@@ -71,7 +71,6 @@ module _ {V : Type 0} (c : Code) (b : CodeBlock) (object : CodeObject V) (is : I
     abbrev Comes : SizeStep → Type 0
     Comes s = At s.to s.size
 
-
     behind : (o : Option Kinds) → e.gives ≡ o → (s : SizeStep) → Contains (gives_onward e n i.next o) s → Comes s
     behind None g s k = absurd (nothing s k)
     behind (Some given) g s k = subst Comes (single _ s k) (subst (λ f. length f.takes ≤ n → f.gives ≡ Some given → At i.next (n - length f.takes + length given)) (same_effect i.instr)
@@ -95,6 +94,7 @@ module _ {V : Type 0} (c : Code) (b : CodeBlock) (object : CodeObject V) (is : I
         by_rest : Contains (gives_aside e n (target_of i.instr) e.aside) s ⊎ Contains (gives_again e n q) s → Comes s
         by_rest (inl k) = aside (target_of i.instr) refl e.aside refl s k
         by_rest (inr k) = again e.again s k
+
         by_part : Contains (gives_onward e n i.next e.gives) s ⊎ Contains (gives_aside e n (target_of i.instr) e.aside ++ gives_again e n q) s → Comes s
         by_part (inl k) = behind e.gives refl s k
         by_part (inr k) = by_rest (Contains-append_cases (gives_aside e n (target_of i.instr) e.aside) (gives_again e n q) s k)

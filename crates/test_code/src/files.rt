@@ -46,7 +46,9 @@ impl Files {
 
     /// Writes the listing of the file's code.
     pub fn listing(&self, line: &mut String, alloc: Global) -> Result<(), NoRow> {
-        let code = read(alloc, self.last.as_slice()).map_err(|_| NoRow)?;
+        let Ok(code) = read(alloc, self.last.as_slice()) else {
+            return Err(NoRow);
+        };
         if all_rise(code.blocks.as_slice()) {
             let text = listing(alloc, &code)?;
             line.push_str(text.as_str())?;
