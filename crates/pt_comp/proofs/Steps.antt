@@ -37,7 +37,7 @@ use Rattle.pt_comp_expr.proofs.Steps as steps
 use Rattle.pt_comp_expr.proofs.Steps.{on_above}
 use Rattle.pt_comp.specs.Surroundings.{Loop, Surroundings, outermost, in_while, in_for, deeper, under, TakesAll, TakesRaises, end_place, next_place, Ends, Goes_on, as_code, held_as, May, May_hold}
 use Rattle.pt_comp.specs.Places.{Deletes, Splits, Starts, at_once, behind_nop, never_left, Act_in, Move_in, Null_in, Assigned_at, All_deleted_at, Left_at, Imported_at, Imported_from_at, Definition_at, Decorated_at, Augmented_at, While_at, For_at, Guarded_at, Ensured_at, Handled_at, Taken_at, behind_target, Items_at, Stm_at, All_at, Branches_at, Handlers_at}
-use Rattle.pt_comp.specs.Law.{Above, level, raised_by, Within, Looks, Active_as, addressed, decorators_above, lines_of, Back_at, Nest_on, at_end, at_rest, at_looping, at_iterating, at_unguarded, at_guarded, at_unensured, at_ensured, at_ending, at_handling, at_naming, at_withing, nest_behind_jump, Inside, inside, alone, in_tests, in_exit, Way_on, at_finished, at_stms, at_branches, at_lets_go, at_unbinds, at_tests, at_binding, at_assigns, at_deletes, at_imports, at_imports_from, at_within_items, at_failed, Waits_on, at_dropped, at_assigned, at_asked, at_asked_back, at_iterated, at_deleted_attribute, at_deleted_item, at_deleted_index, at_changed_attribute, at_changed_item, at_changed_index, at_changing, at_changed, at_given_back, at_returned, at_thrown, at_caused, at_message, at_imported, at_imported_origin, at_imported_name, at_matched, at_entered, at_decorated, at_defined, Waiting, Going, Beyond, Lands, lands, lands_by, Leads, is_there, by_jump, m_within, m_deed, m_leave, m_throw, m_truth, m_iter, m_next, m_entry, m_note, m_over, Comes, there, moves, Same, same_act, same_note, same_over, Follows, WaysGoOn, ActiveAlike, BlocksBegin, LambdasBegin, GeneratorsBegin}
+use Rattle.pt_comp.specs.Law.{Above, level, raised_by, Within, addressed, decorators_above, lines_of, Back_at, Nest_on, at_end, at_rest, at_looping, at_iterating, at_unguarded, at_guarded, at_unensured, at_ensured, at_ending, at_handling, at_naming, at_withing, nest_behind_jump, Inside, inside, alone, in_tests, in_exit, Way_on, at_finished, at_stms, at_branches, at_lets_go, at_unbinds, at_tests, at_binding, at_assigns, at_deletes, at_imports, at_imports_from, at_within_items, at_failed, Waits_on, at_dropped, at_assigned, at_asked, at_asked_back, at_iterated, at_deleted_attribute, at_deleted_item, at_deleted_index, at_changed_attribute, at_changed_item, at_changed_index, at_changing, at_changed, at_given_back, at_returned, at_thrown, at_caused, at_message, at_imported, at_imported_origin, at_imported_name, at_matched, at_entered, at_decorated, at_defined, Waiting, Going, Beyond, Lands, lands, lands_by, Leads, is_there, by_jump, m_within, m_deed, m_leave, m_throw, m_truth, m_iter, m_next, m_entry, m_note, m_over, Comes, there, moves, Same, same_act, same_note, same_over, Follows, WaysGoOn, ActiveAlike, BlocksBegin, LambdasBegin, GeneratorsBegin}
 use Rattle.pt_comp.proofs.Rows.{shorter, as_under, as_deeper, may_under, may_deeper, raise_in, left_true, left_false, may_swallowed, reaches, all_land, raise_lands, return_passes, jump_passes}
 
 module _ {V : Type 0} (block : Around V) (code : CodeObject V) where
@@ -122,7 +122,7 @@ module _ {V : Type 0} (block : Around V) (code : CodeObject V) where
   deed_comes : (m : Option Mark) (d : Deed V) (k : Way V) (s : Nest V) (x : Surroundings) (p : ℕ) (i : Ins) (σ τ : Slots V) (u : State V) (c : Control V)
       → code.at p ≡ Some i → perform code p i i.instr σ ≡ act m (T.deed d) (after code i τ (λ r. u))
       → control.turn block c ≡ act m (T.deed d) (control.after_deed block k s) → i.rows ≡ x.rows → Inside block code s x τ → Lands block code k u
-      → Active_as block code m s (on p σ) → control.nest_at c ≡ s → C c (on p σ)
+      → active σ ≡ control.context_at c → control.nest_at c ≡ s → C c (on p σ)
   deed_comes m d k s x p i σ τ u c h e ec er g hk a en = there c (on p σ) (m_deed m d k s x (on p σ) i τ u c (turned p i σ _ h e) ec er g hk a en)
 
   -- 7.2
@@ -418,7 +418,15 @@ module _ {V : Type 0} (block : Around V) (code : CodeObject V) where
       begin_all_comes (more st ss) n (F.ending tried held ∷ s) (deeper x) (pending (held_as held x) ∷ σ) p q (let_go block held s) hf
       (at_ending tried held s x σ q end' m he g) (goes_on held s x σ q end' m he g b)
 
-  -- the name of a handler is unbound
+  -- the name of a handler is unbound, where a raise that waits is active
+  held_active : (held : Completion V) (x : Surroundings) (σ : Slots V) (s : Nest V) → active σ ≡ bases.active s
+      → active (pending (held_as held x) ∷ σ) ≡ bases.or_else (raise_of held) (bases.active s)
+  held_active F.normal x σ s a = a
+  held_active (F.by (F.raise v)) x σ s a = refl
+  held_active (F.by (F.return v)) x σ s a = a
+  held_active (F.by F.break) x σ s a = a
+  held_active (F.by F.continue) x σ s a = a
+
   unbound : (held : Completion V) (y : Name) (s : Nest V) (x : Surroundings) (σ : Slots V) (p q : ℕ) → May_hold code held x
       → (Null_in block code x ⨾ Stores block code x.rows (block.variable [] y) None ⨾ Deletes block code x.rows (block.variable [] y) None
       ⨾ Move_in block code x instr.EndFinally) p q → N s x σ q
@@ -427,7 +435,7 @@ module _ {V : Type 0} (block : Around V) (code : CodeObject V) where
       null_moves _ x p m1 (pending (held_as held x) ∷ σ) hn
       (deed_comes None _ (F.unbinds y held s) s x m1 _ (value block.null ∷ pending (held_as held x) ∷ σ) (pending (held_as held x) ∷ σ) (on m2 (pending (held_as held x) ∷ σ)) _
       hs.stands (hs.does block.null (pending (held_as held x) ∷ σ)) refl refl (inside s x σ (pending (held_as held x) ∷ σ) q g (raised_by _ _ level))
-      (lands _ x (pending (held_as held x) ∷ σ) m2 (at_unbinds y held s x σ m2 q m h g)) tt refl)
+      (lands _ x (pending (held_as held x) ∷ σ) m2 (at_unbinds y held s x σ m2 q m h g)) (held_active held x σ s (busy_alike s x σ q g)) refl)
 
   -- the exit of a `with` is due
   exit_active : (held : Completion V) (n : ℕ) (w : V) (s : Nest V) (x : Surroundings) (σ : Slots V) → active σ ≡ bases.active s
@@ -649,7 +657,7 @@ module _ {V : Type 0} (block : Around V) (code : CodeObject V) where
   way_comes _ _ _ _ (at_unbinds y held s x σ p q m (m', hd, h) g) =
       deed_comes None _ (F.lets_go held s) s x p _ (pending (held_as held x) ∷ σ) (pending (held_as held x) ∷ σ) (on m' (pending (held_as held x) ∷ σ)) _
       hd.stands (hd.does (pending (held_as held x) ∷ σ)) refl refl (inside_push s x _ σ (from_here s x σ q g))
-      (lands _ x (pending (held_as held x) ∷ σ) m' (at_lets_go held s x σ m' q m h g)) tt refl
+      (lands _ x (pending (held_as held x) ∷ σ) m' (at_lets_go held s x σ m' q m h g)) (held_active held x σ s (busy_alike s x σ q g)) refl
   way_comes _ _ _ _ (at_tests k n hs e s x σ p end' h g) =
       tests_come hs k n e s x σ p end' _ h g (λ p q h. rethrown e s x σ p q (within_here s x σ end' g) h)
   way_comes _ _ _ _ (at_binding l n y e k s x z σ p q r hc h hk g) =
@@ -940,20 +948,15 @@ module _ {V : Type 0} (block : Around V) (code : CodeObject V) where
   beyond_active (wait w) rows σ p b = wait_active w b.surroundings σ p b.stands
   beyond_active (way k) rows σ p b = b.same_active
 
-  marked_active : (m : Option Mark) (s : Nest V) (c : Control V) (t : State V) (a : T.Ask V) (k : Reply V (T.Answer V a) → State V) → Active_as block code m s t
-      → control.nest_at c ≡ s → Looks block code (act m a k) → active_at t ≡ control.context_at c
-  marked_active None s c t a k h e n = elim n [ ]
-  marked_active (Some m) s c t a k h e n = h ∙ ap (λ s. bases.active s) (sym e)
-
   pub active_alike : ActiveAlike block code
-  active_alike _ _ (m_within outer rows σ p c t b m) n =
+  active_alike _ _ (m_within outer rows σ p c t b m) =
       let h = steps.all_active block code rows outer σ p c t m in h.1 ∙ beyond_active outer rows σ p b ∙ sym h.0
-  active_alike c _ (m_deed m d k s x t i τ u _ e ec er g h a en) n = marked_active m s c t (T.deed d) _ a en (subst (λ y. Looks block code y) e n)
-  active_alike _ _ (m_leave m a s x t i τ e er may g b) n = b
-  active_alike _ _ (m_throw m a s x t i τ e er g b) n = b
-  active_alike _ _ (m_truth m a k f s x t i τ next e er g ht hf b) n = b
-  active_alike _ _ (m_iter m v l n tg body els s x t i σ q first next other end' e er hn h g b) y = b ∙ busy_alike s x σ end' g
-  active_alike _ _ (m_next m it l n tg body els s x t i σ first next other end' e er hl h g b) y = b ∙ busy_alike s x σ end' g
-  active_alike _ _ (m_entry m v l n tg is body s x t i σ row q end' e er a h hx g b) y = b ∙ busy_alike s x σ end' g
-  active_alike _ _ (m_note v s x rows τ e g b) n = b
-  active_alike _ _ (m_over e) n = refl
+  active_alike _ _ (m_deed m d k s x t i τ u c e ec er g h a en) = a
+  active_alike _ _ (m_leave m a s x t i τ e er may g b) = b
+  active_alike _ _ (m_throw m a s x t i τ e er g b) = b
+  active_alike _ _ (m_truth m a k f s x t i τ next e er g ht hf b) = b
+  active_alike _ _ (m_iter m v l n tg body els s x t i σ q first next other end' e er hn h g b) = b ∙ busy_alike s x σ end' g
+  active_alike _ _ (m_next m it l n tg body els s x t i σ first next other end' e er hl h g b) = b ∙ busy_alike s x σ end' g
+  active_alike _ _ (m_entry m v l n tg is body s x t i σ row q end' e er a h hx g b) = b ∙ busy_alike s x σ end' g
+  active_alike _ _ (m_note v s x rows τ e g b) = b
+  active_alike _ _ (m_over e) = refl

@@ -238,18 +238,13 @@ module _ {V : Type 0} (block : Around V) (code : CodeObject V) where
     is_there : (p : ℕ) → Leads x p p
     by_jump : (p m q : ℕ) → Jump_in block code x q p m → Leads x p q
 
-  -- what is active at an act. An ask without a mark has none: while a name is unbound behind a raise, code has that raise already
-  abbrev pub Active_as : Option Mark → Nest V → State V → Type 0
-  Active_as (Some m) s t = active_at t ≡ bases.active s
-  Active_as None s t = Unit {0}
-
   -- a state of the code stands for one of control, at the beginning of an act or of an ask without a mark, at a note, or at the end
   pub data Match : Control V → State V → Type 0 where
     m_within : (outer : Outer V) (rows : List Handler) (σ : Slots V) (p : ℕ) (c : Control V) (t : State V)
         → Beyond outer rows σ p → expressions.Match block code rows outer σ p c t → Match c t
     m_deed : (m : Option Mark) (d : Deed V) (k : Way V) (s : Nest V) (x : Surroundings) (t : State V) (i : Ins) (τ : Slots V) (u : State V) (c : Control V)
         → machine.turn code t ≡ act m (T.deed d) (after code i τ (λ r. u)) → control.turn block c ≡ act m (T.deed d) (control.after_deed block k s)
-        → i.rows ≡ x.rows → Inside s x τ → Lands k u → Active_as m s t → control.nest_at c ≡ s → Match c t
+        → i.rows ≡ x.rows → Inside s x τ → Lands k u → active_at t ≡ control.context_at c → control.nest_at c ≡ s → Match c t
     m_leave : (m : Mark) (a : Abrupt V) (s : Nest V) (x : Surroundings) (t : State V) (i : Ins) (τ : Slots V)
         → machine.turn code t ≡ act (Some m) (T.leave (control.leave_by block a)) (after code i τ (λ r. land code x.rows (as_code a x) τ))
         → i.rows ≡ x.rows → May code a x → Inside s x τ → active_at t ≡ bases.active s → Match (for_leave m a s) t
@@ -302,14 +297,9 @@ module _ {V : Type 0} (block : Around V) (code : CodeObject V) where
   abbrev pub WaysGoOn : Type 0
   WaysGoOn = (k : Way V) (x : Surroundings) (σ : Slots V) (p : ℕ) → Way_on k x σ p → Comes (control.go block k) (on p σ)
 
-  -- a turn at which it may be asked which exception is active: an act, a note or the end
-  abbrev pub Looks : Turn (State V) V → Type 0
-  Looks (act None a k) = ⊥
-  Looks t = Unit {0}
-
   -- in matching states the same exception is active (8.4.1, 8.4.4)
   abbrev pub ActiveAlike : Type 0
-  ActiveAlike = (c : Control V) (t : State V) → Match c t → Looks (machine.turn code t) → active_at t ≡ control.context_at c
+  ActiveAlike = (c : Control V) (t : State V) → Match c t → active_at t ≡ control.context_at c
 
   -- and code comes from the beginning of its block to such states: a block of statements, a lambda's, and a generator expression's with its first iterator
   abbrev pub BlocksBegin : Type 0

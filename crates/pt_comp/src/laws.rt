@@ -21,8 +21,8 @@ ghost use Rattle.pt_comp.specs.Samples.{
 /// Where the code of a block stands, code and control come from its beginning to states that match.
 /// From all states that match, both have the same act, the same ask without a mark, the same note
 /// or the same end, and behind each reply they come to states that match again. They come to such
-/// states too from each place where code goes on as control does, as behind a jump. At an act, a
-/// note and the end, the same exception is active in both.
+/// states too from each place where code goes on as control does, as behind a jump. In states that
+/// match, the same exception is active.
 pub fn the_code_of_a_block_follows_it<V>()
     ensures blocks { (block : Around V) (code : CodeObject V) → BlocksBegin block code }
     ensures lambdas { (block : Around V) (code : CodeObject V) → LambdasBegin block code }

@@ -319,7 +319,7 @@ module _ {V : Type 0} (block : Around V) (code : CodeObject V) (rows : List Hand
       → Target_at block code rows t n (around_way k) p q → Way_on block code rows outer lowest end k ss q → N (begin_store block t v n k) (on p (value v ∷ ss))
   store_comes (S.single (S.name_at l x)) v n k ss p q h hk =
       there _ _ (m_deed (Some (mark n l false)) _ k (way_base k) _ (ins h.instr (act_mark p n l false) q rows) ss (on q ss) _
-      (turn_at p _ _ _ h.stands (h.does v ss)) refl refl (under refl refl) (inside_way k ss ss q hk same) (lands k ss q hk))
+      (turn_at p _ _ _ h.stands (h.does v ss)) refl refl refl (under refl refl) (inside_way k ss ss q hk same) (lands k ss q hk))
   store_comes (S.single (S.attribute_at l a x)) v n k ss p q (m, ha, h) hk =
       begin_exp_comes a n false _ (value v ∷ ss) p m ha (at_attribute l _ x v k ss m q h hk)
   store_comes (S.single (S.item_at l a i)) v n k ss p q (m, ha, h) hk =
@@ -351,7 +351,7 @@ module _ {V : Type 0} (block : Around V) (code : CodeObject V) (rows : List Hand
       subst (λ u. N (take_item l n i t cs r) (on u (iterator i ∷ ss))) (sym h) (item_comes l n i t cs r d ss head next end' hi hr)
   renewed_come (x ∷ xs) l n i t cs r d ss p head next end' (m, h, hs) hi hr =
       there _ _ (m_deed None (T.fresh x) (F.made_anew xs l n i t cs r) (rounds_base r) _ (ins h.instr None m rows) (iterator i ∷ ss) (on m (iterator i ∷ ss)) _
-      (turn_at p _ _ _ h.stands (h.does (iterator i ∷ ss))) refl refl (under refl refl) (inside_rounds r d ss (iterator i ∷ ss) next hr (push _ _ same refl))
+      (turn_at p _ _ _ h.stands (h.does (iterator i ∷ ss))) refl refl refl (under refl refl) (inside_rounds r d ss (iterator i ∷ ss) next hr (push _ _ same refl))
       (lands _ _ m (at_renewed xs l n d m head end' next i t cs r ss hs hi hr)))
 
   made_item_comes : (m : Made) (l n d head : ℕ) (v : V) (r : Rounds V) (ss : Slots V) (p q : ℕ)
@@ -430,33 +430,33 @@ module _ {V : Type 0} (block : Around V) (code : CodeObject V) (rows : List Hand
       near _ _ (moved _ p _ _ _ hs refl (renewed_come _ a n i t cs (F.collecting l n m v w) 0 (value v ∷ ss) p' head q end' hr hn (at_result l n m v w ss q k)))
   deliver_comes v _ _ _ (at_listed l n d head made r ss p q (m, h, hj) mk hr) =
       near _ _ (there _ _ (m_deed (Some (mark n l false)) (T.add_to_list made v) (F.round r) (rounds_base r) _ (ins (instr.ListAdd (suc d)) (act_mark p n l false) m rows) ss (on m ss) _
-      (turn_at p _ _ _ h (found r d ss head made _ hr mk)) refl refl (under refl refl) (inside_rounds r d ss ss head hr same)
+      (turn_at p _ _ _ h (found r d ss head made _ hr mk)) refl refl refl (under refl refl) (inside_rounds r d ss ss head hr same)
       (lands _ ss m (way_behind_jump _ ss m q head hj (at_round d r ss head hr)))))
   deliver_comes v _ _ _ (at_set l n d head made r ss p q (m, h, hj) mk hr) =
       near _ _ (there _ _ (m_deed (Some (mark n l false)) (T.add_to_set made v) (F.round r) (rounds_base r) _ (ins (instr.SetAdd (suc d)) (act_mark p n l false) m rows) ss (on m ss) _
-      (turn_at p _ _ _ h (found r d ss head made _ hr mk)) refl refl (under refl refl) (inside_rounds r d ss ss head hr same)
+      (turn_at p _ _ _ h (found r d ss head made _ hr mk)) refl refl refl (under refl refl) (inside_rounds r d ss ss head hr same)
       (lands _ ss m (way_behind_jump _ ss m q head hj (at_round d r ss head hr)))))
   deliver_comes v _ _ _ (at_keyed l n d head e made r ss p q (m, he, h) mk hr) =
       near _ _ (begin_exp_comes e n false _ (value v ∷ ss) p m he (at_entered l _ d head v made r ss m q h mk hr))
   deliver_comes v _ _ _ (at_entered l n d head key made r ss p q (m, h, hj) mk hr) =
       near _ _ (there _ _ (m_deed (Some (mark n l false)) (T.add_to_dict made key v) (F.round r) (rounds_base r) _ (ins (instr.DictAdd (suc d)) (act_mark p n l false) m rows) ss (on m ss) _
-      (turn_at p _ _ _ h (found r d ss head made _ hr mk)) refl refl (under refl refl) (inside_rounds r d ss ss head hr same)
+      (turn_at p _ _ _ h (found r d ss head made _ hr mk)) refl refl refl (under refl refl) (inside_rounds r d ss ss head hr same)
       (lands _ ss m (way_behind_jump _ ss m q head hj (at_round d r ss head hr)))))
   deliver_comes v _ _ _ (at_item_yielded l n head r d ss p q (m, h, hs) hr) = near _ _ (
       there _ _ (m_value _ (T.yielding v) _ _ (ins instr.Yield (act_mark p n l false) m rows) ss ss m (turn_at p _ _ _ h refl) (under refl refl) same
       (at_item_sent l _ head r d ss m q hs hr)))
   deliver_comes v _ _ _ (at_item_sent l n head r d ss p q (m, h, hj) hr) = near _ _ (
       there _ _ (m_deed (Some (mark n l false)) (T.discard v) (F.round r) (rounds_base r) _ (ins instr.Pop (act_mark p n l false) m rows) ss (on m ss) _
-      (turn_at p _ _ _ h refl) refl refl (under refl refl) (inside_rounds r d ss ss head hr same)
+      (turn_at p _ _ _ h refl) refl refl refl (under refl refl) (inside_rounds r d ss ss head hr same)
       (lands _ ss m (way_behind_jump _ ss m q head hj (at_round d r ss head hr)))))
   deliver_comes v _ _ _ (at_attribute l n x u k ss p q h hk) =
       near _ _ (there _ _ (m_deed (Some (mark n l false)) (T.set_attribute (block.spelled x) v u) k (way_base k) _ (ins h.instr (act_mark p n l false) q rows) ss (on q ss) _
-      (turn_at p _ _ _ h.stands (h.does u v ss)) refl refl (under refl refl) (inside_way k ss ss q hk same) (lands k ss q hk)))
+      (turn_at p _ _ _ h.stands (h.does u v ss)) refl refl refl (under refl refl) (inside_way k ss ss q hk same) (lands k ss q hk)))
   deliver_comes v _ _ _ (at_container l n i u k ss p q (m, hi, h) hk) =
       near _ _ (begin_exp_comes i n false _ (value v ∷ value u ∷ ss) p m hi (at_index l _ v u k ss m q h hk))
   deliver_comes v _ _ _ (at_index l n a u k ss p q h hk) =
       near _ _ (there _ _ (m_deed (Some (mark n l false)) (T.set_item a v u) k (way_base k) _ (ins instr.SetItem (act_mark p n l false) q rows) ss (on q ss) _
-      (turn_at p _ _ _ h refl) refl refl (under refl refl) (inside_way k ss ss q hk same) (lands k ss q hk)))
+      (turn_at p _ _ _ h refl) refl refl refl (under refl refl) (inside_way k ss ss q hk same) (lands k ss q hk)))
   deliver_comes v _ _ _ (behind_jump w ss p m q h k) = moved_on _ p _ _ _ h refl (deliver_comes v w ss q k)
   deliver_comes v _ _ _ (over_value u w ss p m q hs hp k) = moved_on _ p _ _ _ hs refl (moved_on _ m _ _ _ hp refl (deliver_comes v w ss q k))
 
@@ -566,7 +566,7 @@ module _ {V : Type 0} (block : Around V) (code : CodeObject V) (rows : List Hand
   follows _ _ (m_cell x l n g op lower cs vs before xs w t i ss ts p q e er o u h f k) =
       same_at _ t _ e (same_act _ _ _ _ (cell_replies l n g op lower cs vs before xs w i ss ts p q er.same_rows o u h f k))
   follows _ _ (m_truth m v t f s st i ts next e er h ht hf) = same_at _ st _ e (same_act _ _ _ _ (truth_replies t f s i ts next er.same_rows h ht hf))
-  follows c _ (m_deed m d k s t i ts u _ e ec en er h hk) =
+  follows c _ (m_deed m d k s t i ts u _ e ec en ea er h hk) =
       subst (λ y. Same block code rows outer lowest end y (machine.turn code t)) (sym ec) (same_at _ t _ e (same_act m (T.deed d) _ _ (deed_replies k s i ts u er.same_rows h hk)))
   follows _ _ (m_item m it n tg k f t i ss q q' to e er en ht hk hf h) = same_at _ t _ e (same_act _ _ _ _ (item_replies it n tg k f i ss q q' to er.same_rows en ht hk hf h))
   follows _ _ (m_unpack m v n ts k t i ss q q' e er hts hk h) = same_at _ t _ e (same_act _ _ _ _ (unpack_replies n ts k i ss q q' er.same_rows hts hk h))
@@ -641,21 +641,21 @@ module _ {V : Type 0} (block : Around V) (code : CodeObject V) (rows : List Hand
     over_rests _ _ _ (over_clause l n d t cs r ss p head end' h hr) = rounds_rest r d ss head hr
 
   -- what is active in control and in code
-  abbrev Alike : Nest V → State V → Type 0
-  Alike s t = (bases.active s ≡ bases.active (outer_base outer)) × (active_at t ≡ active lowest)
+  abbrev Alike : Option V → State V → Type 0
+  Alike o t = (o ≡ bases.active (outer_base outer)) × (active_at t ≡ active lowest)
 
-  alike : (s : Nest V) (t : State V) (ss ts : Slots V) → Rests s ss → On_top ss ts → active_at t ≡ active ts → Alike s t
+  alike : (s : Nest V) (t : State V) (ss ts : Slots V) → Rests s ss → On_top ss ts → active_at t ≡ active ts → Alike (bases.active s) t
   alike s t ss ts r o e = (ap (λ n. bases.active n) r.same_base, e ∙ top_active ss ts o ∙ top_active lowest ss r.on_lowest)
 
-  inside_alike : (s : Nest V) (t : State V) (ts : Slots V) → Inside block code rows outer lowest end s ts → active_at t ≡ active ts → Alike s t
+  inside_alike : (s : Nest V) (t : State V) (ts : Slots V) → Inside block code rows outer lowest end s ts → active_at t ≡ active ts → Alike (bases.active s) t
   inside_alike _ t _ (inside w ss ts q k o) e = alike (base w) t ss ts (wait_rests w ss q k) o e
   inside_alike _ t _ (inside_out k ts h o) e = alike (way_base k) t lowest ts (rests_out (way k) h) o e
 
-  pub active_alike : (c : Control V) (t : State V) → Match block code rows outer lowest end c t → Alike (control.nest_at c) t
+  pub active_alike : (c : Control V) (t : State V) → Match block code rows outer lowest end c t → Alike (control.context_at c) t
   active_alike _ _ (m_value m a w t i ss ts q e er o k) = alike (base w) t ss ts (wait_rests w ss q k) o er.same_active
   active_alike _ _ (m_cell x l n g op lower cs vs before xs w t i ss ts p q e er o u h f k) = alike (base w) t ss ts (wait_rests w ss q k) o er.same_active
   active_alike _ _ (m_truth m v t f s st i ts next e er h ht hf) = inside_alike s st ts h er.same_active
-  active_alike c _ (m_deed m d k s t i ts u _ e ec en er h hk) = subst (λ n. Alike n t) (sym en) (inside_alike s t ts h er.same_active)
+  active_alike c _ (m_deed m d k s t i ts u _ e ec en ea er h hk) = subst (λ o. Alike o t) (sym ea) (inside_alike s t ts h er.same_active)
   active_alike _ _ (m_item m it n tg k f t i ss q q' to e er en ht hk hf h) = inside_alike (way_base k) t ss h er.same_active
   active_alike _ _ (m_unpack m v n ts k t i ss q q' e er hts hk h) = inside_alike (way_base k) t ss h er.same_active
   active_alike _ _ (m_iter m v o t i ss q e er k) = alike (over_base o) t ss ss (over_rests o ss q k) same er.same_active

@@ -223,7 +223,7 @@ module _ {V : Type 0} (block : Around V) (code : CodeObject V) (rows : List Hand
         → Match (for_truth m (T.branch v) t f s) st
     m_deed : (m : Option Mark) (d : Deed V) (k : Way V) (s : Nest V) (t : State V) (i : Ins) (ts : Slots V) (u : State V) (c : Control V)
         → machine.turn code t ≡ act m (T.deed d) (after code i ts (λ x. u)) → control.turn block c ≡ act m (T.deed d) (control.after_deed block k s)
-        → control.nest_at c ≡ s
+        → control.nest_at c ≡ s → control.context_at c ≡ bases.active s
         → Leaves t i rows ts → Inside s ts → Lands k u → Match c t
     m_item : (m : Mark) (it : V) (n : ℕ) (tg : Tgt) (k f : Way V) (t : State V) (i : Ins) (ss : Slots V) (q q' to : ℕ)
         → machine.turn code t ≡ act (Some m) (T.next_of it) (after code i ss (with_item code i to it ss)) → Leaves t i rows ss → i.next ≡ q

@@ -7,10 +7,10 @@ use Rattle.pt_control.specs.Turn as T
 use Rattle.pt_control.specs.Turn.{Mark, Variable, Around, mark, operate, yielding, store, delete, discard, add_to_list, add_to_set, add_to_dict, fresh, Leave, returning, jumping, raising, failing, branch, matches, seek, deed, leave, throw, test, iter_of, next_of, enter, unpack, delegate, Answer, Row, Delegated, returned, resumed, Reply, got, raised, Turn, act, note, over}
 use Rattle.pt_control.specs.Frames as F
 use Rattle.pt_control.specs.Frames.{Abrupt, raise, return, Completion, normal, by, Nest, no_more, Way, Wait, Over, Rounds, Control, for_value, for_deed, for_leave, for_throw, for_truth, for_iter, for_item, for_entry, for_unpack, for_delegate, silent_value, silent_deed, noting, closed}
-use Rattle.pt_control.specs.Bases.{base, way_base, over_base, rounds_base, around, active}
+use Rattle.pt_control.specs.Bases.{base, way_base, over_base, rounds_base, around, or_else, active}
 use Rattle.pt_control.specs.Expressions.{begin_operation, begin_exp, next_operand, begin_spec, begin_clauses, take_item, target_names, clause_names, built_as}
 use Rattle.pt_control.specs.Statements.{at_place, begin_store, begin_stores, begin_deletes, begin_imports, begin_imports_from, begin_definition, begin_assign, begin_next, begin_all, begin_branches, begin_items, begin_tests, each_gets, count, star_of}
-use Rattle.pt_control.specs.Completions.{complete, let_go}
+use Rattle.pt_control.specs.Completions.{raise_of, complete, let_go}
 
 -- the nest in which control stands
 abbrev pub nest_at : {V : Type 0} → Control V → Nest V
@@ -29,8 +29,16 @@ nest_at (silent_deed a k s) = s
 nest_at (noting a k s) = s
 nest_at (closed e) = []
 
+-- a raise that waits while an `as` name is unbound: it is active then, as in a `finally` part (8.4.1: `except E as N` is read as a `try`
+-- whose `finally` deletes N)
+abbrev pub held_while : {V : Type 0} → Way V → Option V
+held_while (F.unbinds x c s) = raise_of c
+held_while (F.lets_go c s) = raise_of c
+held_while k = None
+
 -- the exception that is active in the block where control stands; one that arises there gets it as its context (8.4, 7.8)
 abbrev pub context_at : {V : Type 0} → Control V → Option V
+context_at (silent_deed a k s) = or_else (held_while k) (active s)
 context_at c = active (nest_at c)
 
 -- the names of a comprehension are made anew, and then its first item is taken

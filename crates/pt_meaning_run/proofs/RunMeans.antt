@@ -266,15 +266,15 @@ module _ (ss : Stms) (n : ℕ) where
     abbrev beginning : Point
     beginning = record { line = None; act = 0; control = start block ss; names = start_world.names; units = 0 }
 
-    from_start : Same (stand (telling (Told.starts ∷ []) starting) beginning) [] (meaning_of ss n)
+    from_start : Same (stand (telling (Told.starts ∷ []) (starting (Source.at (start block ss)))) beginning) [] (meaning_of ss n)
     from_start =
-        subst (λ s. Same (stand (telling (Told.starts ∷ []) starting) beginning) []
+        subst (λ s. Same (stand (telling (Told.starts ∷ []) (starting (Source.at (start block ss)))) beginning) []
         (on_settled (λ c v. meaning_from block host n (C.turn block c) v) (λ what v. (v, M.outside what 1)) s))
         (sym (settled_at_once (start block ss) start_world (act_or_end_at (start block ss) here)))
-        (same_by _ (stand turning beginning) [] _ (all_told ss n (Told.starts ∷ []) starting beginning) (runs_as n (start block ss) here beginning (omega arith) []))
+        (same_by _ (stand turning beginning) [] _ (all_told ss n (Told.starts ∷ []) (starting (Source.at (start block ss))) beginning) (runs_as n (start block ss) here beginning (omega arith) []))
 
-    has_run : Ends ss n (stand (telling (Told.starts ∷ []) starting) beginning) (meaning_of ss n).0.written (ending_of (meaning_of ss n).0.names (meaning_of ss n).1)
-    has_run = let s = from_start in subst (λ ps. Ends ss n (stand (telling (Told.starts ∷ []) starting) beginning) ps (ending_of (meaning_of ss n).0.names (meaning_of ss n).1)) (sym s.written) s.run
+    has_run : Ends ss n (stand (telling (Told.starts ∷ []) (starting (Source.at (start block ss)))) beginning) (meaning_of ss n).0.written (ending_of (meaning_of ss n).0.names (meaning_of ss n).1)
+    has_run = let s = from_start in subst (λ ps. Ends ss n (stand (telling (Told.starts ∷ []) (starting (Source.at (start block ss)))) beginning) ps (ending_of (meaning_of ss n).0.names (meaning_of ss n).1)) (sym s.written) s.run
 
 same_prints : (os : List (Output Value)) → prints_of (replies_apart os) ≡ prints_of os
 same_prints [] = refl

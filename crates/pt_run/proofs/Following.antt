@@ -122,7 +122,7 @@ module _ {S R N V W : Type 0} (first : Machine S V) (second : Machine R V) (host
   same_run_block p h x y o r r' k =
       if_states _ _ (same_full p x y) _ _ _ _ (same_fail p h x y r r' k (λ v. record { end = left_by v; names = o.names }) too_deep)
       (in_phase (behind_opener (record p { frames = p.frames + 1 }) h (for_block r) (for_block r') (same_for_block r r' k) (new_frame o p.frames false) (first.start o.block o.iterator) (second.start o.block o.iterator) 0 false)
-      (law.starts o.block o.iterator) _ _ (same_tells (starts ∷ []) _ _ same_starting))
+      (law.starts o.block o.iterator) _ _ (same_tells (starts ∷ []) _ _ (same_starting _ _ (law.begins o.block o.iterator))))
 
   same_make : (p : Both) → Stand p → (x : Phase S N V W) (y : Phase R N V W) (o : Opening N V) (r : Rest S N V W ℕ) (r' : Rest R N V W ℕ) →
       SameRest first second At p.frame.block r r' → Same (make_generator first host o r (one p x)) (make_generator second host o r' (two p y))
@@ -130,7 +130,7 @@ module _ {S R N V W : Type 0} (first : Machine S V) (second : Machine R V) (host
       let q = record p {
         generators = p.generators ++ fresh (act_of (new_frame o p.frames true) (first.start o.block o.iterator) 0 false) ∷ [];
         other_generators = p.other_generators ++ fresh (act_of (new_frame o p.frames true) (second.start o.block o.iterator) 0 false) ∷ [];
-        same_generators = same_append first second At Stands _ _ p.generators p.other_generators (same_fresh (new_frame o p.frames true) _ _ 0 false (law.starts o.block o.iterator)) p.same_generators;
+        same_generators = same_append first second At Stands _ _ p.generators p.other_generators (same_fresh (new_frame o p.frames true) _ _ 0 false (law.starts o.block o.iterator) (law.begins o.block o.iterator)) p.same_generators;
         frames = p.frames + 1;
       } in
       subst (λ n. Same (give first host r (length p.generators) (one q x)) (give second host r' n (two q y)))
@@ -151,11 +151,11 @@ module _ {S R N V W : Type 0} (first : Machine S V) (second : Machine R V) (host
       if_states _ _ (same_full p x y) _ _ _ _ (same_fail p h x y r r' k (λ v. ends_by (left_by v)) too_deep)
       (in_phase (behind_opener (with_rows p g running running same_running) h (for_generator g r) (for_generator g r') (same_for_generator g r r' k) f c t n j) i _ _ (same_tells (e ∷ []) w w' m))
 
-  same_early : (p : Both) → Stand p → (x : Phase S N V W) (y : Phase R N V W) (o : Option V) (g : ℕ) (f : Frame N V) (c : S) (t : R) (n : ℕ) (j : Bool) → Stands f.block c t →
+  same_early : (p : Both) → Stand p → (x : Phase S N V W) (y : Phase R N V W) (o : Option V) (g : ℕ) (f : Frame N V) (c : S) (t : R) (n : ℕ) (j : Bool) → Stands f.block c t → Near f.block c t →
       (r : Rest S N V W (GeneratorResult V)) (r' : Rest R N V W (GeneratorResult V)) → SameRest first second At p.frame.block r r' →
       Same (send_early first host o g (act_of f c n j) r (one p x)) (send_early second host o g (act_of f t n j) r' (two p y))
-  same_early p h x y None g f c t n j i r r' k = same_wake p h x y g f c t n j i starts starting starting same_starting r r' k
-  same_early p h x y (Some v) g f c t n j i r r' k = same_give p h x y r r' k (cannot is_fresh)
+  same_early p h x y None g f c t n j i m r r' k = same_wake p h x y g f c t n j i starts _ _ (same_starting c t m) r r' k
+  same_early p h x y (Some v) g f c t n j i m r r' k = same_give p h x y r r' k (cannot is_fresh)
 
   same_exit : (p : Both) → Stand p → (x : Phase S N V W) (y : Phase R N V W) (g : ℕ) (f : Frame N V) (c : S) (t : R) (n : ℕ) (j : Bool) → Stands f.block c t →
       (q : OpenYield S V) (q' : OpenYield R V) → SameYield first second At f.block q q' → (r : Rest S N V W (GeneratorResult V)) (r' : Rest R N V W (GeneratorResult V)) →
@@ -168,10 +168,10 @@ module _ {S R N V W : Type 0} (first : Machine S V) (second : Machine R V) (host
   same_resume : (p : Both) → Stand p → (x : Phase S N V W) (y : Phase R N V W) (o : Option (Generator S N V)) (o' : Option (Generator R N V)) → SameRow first second At Stands o o' →
       (z : How V) (g : ℕ) (r : Rest S N V W (GeneratorResult V)) (r' : Rest R N V W (GeneratorResult V)) → SameRest first second At p.frame.block r r' →
       Same (resume_by first host o z g r (one p x)) (resume_by second host o' z g r' (two p y))
-  same_resume p h x y _ _ (a_row _ _ (same_fresh f c t n j i)) by_next g r r' k = same_wake p h x y g f c t n j i starts starting starting same_starting r r' k
-  same_resume p h x y _ _ (a_row _ _ (same_fresh f c t n j i)) (by_send v) g r r' k = same_early p h x y (host.unless_null v) g f c t n j i r r' k
-  same_resume p h x y _ _ (a_row _ _ (same_fresh f c t n j i)) (by_throw v) g r r' k = same_give (with_rows p g finished finished same_finished) h x y r r' k (ends_by (left_by v))
-  same_resume p h x y _ _ (a_row _ _ (same_fresh f c t n j i)) by_close g r r' k = same_give (with_rows p g finished finished same_finished) h x y r r' k (cannot is_finished)
+  same_resume p h x y _ _ (a_row _ _ (same_fresh f c t n j i m)) by_next g r r' k = same_wake p h x y g f c t n j i starts _ _ (same_starting c t m) r r' k
+  same_resume p h x y _ _ (a_row _ _ (same_fresh f c t n j i m)) (by_send v) g r r' k = same_early p h x y (host.unless_null v) g f c t n j i m r r' k
+  same_resume p h x y _ _ (a_row _ _ (same_fresh f c t n j i m)) (by_throw v) g r r' k = same_give (with_rows p g finished finished same_finished) h x y r r' k (ends_by (left_by v))
+  same_resume p h x y _ _ (a_row _ _ (same_fresh f c t n j i m)) by_close g r r' k = same_give (with_rows p g finished finished same_finished) h x y r r' k (cannot is_finished)
   same_resume p h x y _ _ (a_row _ _ (same_suspended f c t n j q q' i m)) by_next g r r' k = same_wake p h x y g f c t n j i resumes _ _ (same_going_on q q' (got host.null) m) r r' k
   same_resume p h x y _ _ (a_row _ _ (same_suspended f c t n j q q' i m)) (by_send v) g r r' k = same_wake p h x y g f c t n j i resumes _ _ (same_going_on q q' (got v) m) r r' k
   same_resume p h x y _ _ (a_row _ _ (same_suspended f c t n j q q' i m)) (by_throw v) g r r' k = same_wake p h x y g f c t n j i (throws v) _ _ (same_going_on q q' (raised v) m) r r' k
@@ -195,8 +195,8 @@ module _ {S R N V W : Type 0} (first : Machine S V) (second : Machine R V) (host
   same_changed_generators : (k : ℕ) (z : Change N V) (gs : List (Generator S N V)) (hs : List (Generator R N V)) → SameGenerators first second At Stands gs hs →
       SameGenerators first second At Stands (map (change_generator k z) gs) (map (change_generator k z) hs)
   same_changed_generators k z _ _ no_generators = no_generators
-  same_changed_generators k z _ _ (more_generators _ _ gs hs (same_fresh f c t n j s) r) =
-      more_generators _ _ _ _ (same_fresh (change_one k z f) c t n j s) (same_changed_generators k z gs hs r)
+  same_changed_generators k z _ _ (more_generators _ _ gs hs (same_fresh f c t n j s m) r) =
+      more_generators _ _ _ _ (same_fresh (change_one k z f) c t n j s m) (same_changed_generators k z gs hs r)
   same_changed_generators k z _ _ (more_generators _ _ gs hs (same_suspended f c t n j y y' s i) r) =
       more_generators _ _ _ _ (same_suspended (change_one k z f) c t n j y y' s i) (same_changed_generators k z gs hs r)
   same_changed_generators k z _ _ (more_generators _ _ gs hs same_running r) = more_generators running running _ _ same_running (same_changed_generators k z gs hs r)
@@ -246,8 +246,8 @@ module _ {S R N V W : Type 0} (first : Machine S V) (second : Machine R V) (host
       (os : List (Opener S N V W)) (ps : List (Opener R N V W)) → SameOpeners first second At Stands os ps → (z : Jump S V) (z' : Jump R V) → SameJump first second At Stands f.block z z' →
       SameBelow (by_jump first host l (record { activation = act_of f c n j; purpose = u }) os z) (by_jump second host l (record { activation = act_of f t n j; purpose = u' }) ps z')
   same_by_jump l f c t n j u u' i os ps r _ _ (same_refusal e) = same_cannot e
-  same_by_jump l f c t n j u u' i os ps r _ _ (same_landing to to' g g' s m) =
-      same_changes _ _ (more_openers (record f { line = Some l }) to to' n true _ _ os ps s (same_land f.block to to' g g' (law.nears f.block to to' s) m u u' i) r)
+  same_by_jump l f c t n j u u' i os ps r _ _ (same_landing to d to' d' g g' s k m) =
+      same_changes _ _ (more_openers (record f { line = Some l }) to to' n true _ _ os ps s (same_land f.block d d' g g' k m u u' i) r)
 
   same_to_line : (o : Option ℕ) (f : Frame N V) (c : S) (t : R) (n : ℕ) (j : Bool) (u : Purpose S N V W) (u' : Purpose R N V W) → Stands f.block c t → SamePurpose first second At f.block u u' →
       (os : List (Opener S N V W)) (ps : List (Opener R N V W)) → SameOpeners first second At Stands os ps →
@@ -315,7 +315,7 @@ module _ {S R N V W : Type 0} (first : Machine S V) (second : Machine R V) (host
   -- hooks
   same_instead : (p : Both) → Stand p → (x : Phase S N V W) (y : Phase R N V W) (w : Pending S V) (w' : Pending R V) → SamePending first second At p.frame.block w w' → (v : V) →
       Same (instead_of first host w v (one p x)) (instead_of second host w' v (two p y))
-  same_instead p h x y _ _ same_starting v = in_phase p h _ _ (same_tells (unwinds v ∷ []) _ _ (same_ending (left_by v)))
+  same_instead p h x y _ _ (same_starting c t m) v = in_phase p h _ _ (same_tells (unwinds v ∷ []) _ _ (same_ending (left_by v)))
   same_instead p h x y _ _ (same_doing _ _ (same_ask a k k' i c n)) v = at_turn (record p { one = k (raised v); other = k' (raised v) }) (n (raised v))
   same_instead p h x y _ _ (same_going to to' f f' m n) v = at_turn (record p { one = f v; other = f' v }) (n v)
   same_instead p h x y _ _ (same_giving_on _ _ u (same_yield a k k' i c g n)) v = at_turn (record p { one = k (raised v); other = k' (raised v) }) (n (raised v))
@@ -353,9 +353,9 @@ module _ {S R N V W : Type 0} (first : Machine S V) (second : Machine R V) (host
   same_try : (p : Both) → Stand p → (x : Phase S N V W) (y : Phase R N V W) (l : ℕ) (z : Jump S V) (z' : Jump R V) → SameJump first second At Stands p.frame.block z z' →
       (t : Telling S V) (t' : Telling R V) → SameTelling first second At p.frame.block t t' → SameSteps (try_jump first host l z t (one p x)) (try_jump second host l z' t' (two p y))
   same_try p h x y l _ _ (same_refusal r) _ _ (same_telling e hs bs w w' m) = same_goes _ _ _ (in_phase p h _ _ (same_asking _ _ (same_telling e (refusal r ∷ hs) bs w w' m)))
-  same_try p h x y l _ _ (same_landing to to' f f' s n) _ _ (same_telling e hs bs w w' m) =
+  same_try p h x y l _ _ (same_landing to c to' c' f f' s k n) _ _ (same_telling e hs bs w w' m) =
       same_goes [] _ _ (in_phase (record p { frame = record p.frame { line = Some l }; one = to; other = to'; behind_jump = true }) s _ _
-      (same_asking _ _ (same_telling e (landing l ∷ []) [] _ _ (same_going to to' f f' (law.nears p.frame.block to to' s) n))))
+      (same_asking _ _ (same_telling e (landing l ∷ []) [] _ _ (same_going c c' f f' k n))))
 
   if_jump : (b : BlockId) (a : Bool) (z : Jump S V) (z' : Jump R V) (e : Reason) → SameJump first second At Stands b z z' →
       SameJump first second At Stands b (if a then z else refuses e) (if a then z' else refuses e)
@@ -556,7 +556,7 @@ module _ {S R N V W : Type 0} (first : Machine S V) (second : Machine R V) (host
 
   same_proceed : (p : Both) → Stand p → (x : Phase S N V W) (y : Phase R N V W) (w : Pending S V) (w' : Pending R V) → SamePending first second At p.frame.block w w' →
       Same (proceed first host w (one p x)) (proceed second host w' (two p y))
-  same_proceed p h x y _ _ same_starting = at_turn p (law.nears p.frame.block p.one p.other h)
+  same_proceed p h x y _ _ (same_starting c t m) = at_turn (record p { one = c; other = t }) m
   same_proceed p h x y _ _ (same_doing _ _ (same_ask a k k' i c n)) = same_do_ask p h x y a k k' i c n
   same_proceed p h x y _ _ (same_going to to' f f' m n) = at_turn (record p { one = to; other = to' }) m
   same_proceed p h x y _ _ (same_giving_on q q' v m) = same_give_on p h x y q q' m v p.openers p.other_openers p.same_openers

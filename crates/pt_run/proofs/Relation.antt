@@ -24,7 +24,7 @@ module _ {S R V : Type 0} (first : Machine S V) (second : Machine R V) (At : Blo
         SameYield (record { ask = record { ask = a; next = k; is_act = i; callee = c }; reply = g }) (record { ask = record { ask = a; next = k'; is_act = i; callee = c }; reply = g })
 
   pub data SamePending : Pending S V → Pending R V → Type 0 where
-    same_starting : SamePending starting starting
+    same_starting : (c : S) (t : R) → Nears first second At b c t → SamePending (starting c) (starting t)
     same_doing : (q : OpenAsk S V) (q' : OpenAsk R V) → SameAsk q q' → SamePending (doing q) (doing q')
     same_going : (to : S) (to' : R) (f : V → S) (f' : V → R) → Nears first second At b to to' → ((v : V) → Nears first second At b (f v) (f' v)) →
         SamePending (going to f) (going to' f')
@@ -72,7 +72,7 @@ module _ {S R N V W : Type 0} (first : Machine S V) (second : Machine R V) (At S
 
 module _ {S R N V : Type 0} (first : Machine S V) (second : Machine R V) (At Stands : BlockId → S → R → Type 0) where
   pub data SameGenerator : Generator S N V → Generator R N V → Type 0 where
-    same_fresh : (f : Frame N V) (c : S) (t : R) (n : ℕ) (j : Bool) → Stands f.block c t → SameGenerator (fresh (act_of f c n j)) (fresh (act_of f t n j))
+    same_fresh : (f : Frame N V) (c : S) (t : R) (n : ℕ) (j : Bool) → Stands f.block c t → Nears first second At f.block c t → SameGenerator (fresh (act_of f c n j)) (fresh (act_of f t n j))
     same_suspended : (f : Frame N V) (c : S) (t : R) (n : ℕ) (j : Bool) (y : OpenYield S V) (y' : OpenYield R V) → Stands f.block c t → SameYield first second At f.block y y' →
         SameGenerator (suspended (act_of f c n j) y) (suspended (act_of f t n j) y')
     same_running : SameGenerator running running
@@ -109,7 +109,7 @@ module _ {S R N V : Type 0} (first : Machine S V) (second : Machine R V) (At Sta
 
   pub same_frames_in : (gs : List (Generator S N V)) (hs : List (Generator R N V)) → SameGenerators gs hs → frames_in gs ≡ frames_in hs
   same_frames_in _ _ no_generators = refl
-  same_frames_in _ _ (more_generators _ _ gs hs (same_fresh f c t n j s) r) = ap (◌∷◌ f) (same_frames_in gs hs r)
+  same_frames_in _ _ (more_generators _ _ gs hs (same_fresh f c t n j s m) r) = ap (◌∷◌ f) (same_frames_in gs hs r)
   same_frames_in _ _ (more_generators _ _ gs hs (same_suspended f c t n j y y' s i) r) = ap (◌∷◌ f) (same_frames_in gs hs r)
   same_frames_in _ _ (more_generators _ _ gs hs same_running r) = same_frames_in gs hs r
   same_frames_in _ _ (more_generators _ _ gs hs same_finished r) = same_frames_in gs hs r

@@ -188,7 +188,7 @@ module _ {S N V W : Type 0} (machine : Machine S V) (host : Host N V W) (n : ℕ
   jump_advised : (l : ℕ) (j : Jump S V) (t : Telling S V) (s : State S N V W) → IsAdvised (try_jump machine host l j t s)
   unfolding IsAdvised
   jump_advised l (refuses r) t s = tt
-  jump_advised l (lands to f) t s = tt
+  jump_advised l (lands to c f) t s = tt
 
   all_advised : (a : Advice) (t : Telling S V) (s : State S N V W) → IsAdvised (take_advice machine host a t s)
   unfolding IsAdvised

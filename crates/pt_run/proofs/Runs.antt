@@ -139,7 +139,7 @@ module _ {D S R N V W : Type 0} (first : Machine S V) (second : Machine R V) (At
 
   same_start : (b : BlockId) (names : N) (w : W) → SameState first second At Stands (start first b names w) (start second b names w)
   unfolding start_pair
-  same_start b names w = in_phase (start_pair b names w) (law.starts b None) _ _ (same_tells (starts ∷ []) _ _ same_starting)
+  same_start b names w = in_phase (start_pair b names w) (law.starts b None) _ _ (same_tells (starts ∷ []) _ _ (same_starting _ _ (law.begins b None)))
 
   pub have_the_same_runs : (n : ℕ) (b : BlockId) (names : N) (w : W) (d : D) → HaveTheSameRuns first second host ask n b names w d
   have_the_same_runs n b names w d o =

@@ -57,11 +57,12 @@ module _ {P S R V : Type 0} (prelude : Machine P V) (first : Machine S V) (secon
 
   jump_prelude : (b : BlockId) (j : Jump P V) → SameJump one two SideAt SideStands b (jump_in of_prelude j) (jump_in of_prelude j)
   jump_prelude b (refuses r) = same_refusal r
-  jump_prelude b (lands to f) = same_landing _ _ _ _ (side_prelude to) (λ v. near_prelude b (f v))
+  jump_prelude b (lands to c f) = same_landing _ _ _ _ _ _ (side_prelude to) (near_prelude b c) (λ v. near_prelude b (f v))
 
   jump_script : (b : BlockId) (j : Jump S V) (j' : Jump R V) → SameJump first second At Stands b j j' → SameJump one two SideAt SideStands b (jump_in of_script j) (jump_in of_script j')
   jump_script b _ _ (same_refusal r) = same_refusal r
-  jump_script b _ _ (same_landing to to' f f' s n) = same_landing _ _ _ _ (side_script to to' s) (λ v. near_script b _ _ (n v))
+  jump_script b _ _ (same_landing to c to' c' f f' s m n) =
+      same_landing _ _ _ _ _ _ (side_script to to' s) (near_script b c c' m) (λ v. near_script b _ _ (n v))
 
   jumps : (b : BlockId) (c : Side P S) (t : Side P R) (l : ℕ) → SideStands b c t → SameJump one two SideAt SideStands b (side_jump prelude first b c l) (side_jump prelude second b t l)
   jumps b _ _ l (side_prelude c) = jump_prelude b (prelude.jump b c l)
@@ -71,13 +72,13 @@ module _ {P S R V : Type 0} (prelude : Machine P V) (first : Machine S V) (secon
   stands b _ _ (side_prelude c) = side_prelude c
   stands b _ _ (side_script c t h) = side_script c t (law.stands b c t h)
 
-  nears : (b : BlockId) (c : Side P S) (t : Side P R) → SideStands b c t → Near b c t
-  nears b _ _ (side_prelude c) = near_prelude b c
-  nears b _ _ (side_script c t h) = near_script b c t (law.nears b c t h)
-
   start : (b : BlockId) (h : Bool) (p : P) (c : S) (t : R) → Stands b c t → SideStands b (if h then of_prelude p else of_script c) (if h then of_prelude p else of_script t)
   start b true p c t s = side_prelude p
   start b false p c t s = side_script c t s
+
+  begin : (b : BlockId) (h : Bool) (p : P) (c : S) (t : R) → Nears first second At b c t → Near b (if h then of_prelude p else of_script c) (if h then of_prelude p else of_script t)
+  begin b true p c t n = near_prelude b p
+  begin b false p c t n = near_script b c t n
 
   active : (b : BlockId) (c : Side P S) (t : Side P R) → SideStands b c t → side_active prelude first c ≡ side_active prelude second t
   active b _ _ (side_prelude c) = refl
@@ -120,8 +121,8 @@ module _ {P S R V : Type 0} (prelude : Machine P V) (first : Machine S V) (secon
   follows = record {
     turns = turns;
     stands = stands;
-    nears = nears;
     starts = λ b i. start b b.hidden (prelude.start b i) (first.start b i) (second.start b i) (law.starts b i);
+    begins = λ b i. begin b b.hidden (prelude.start b i) (first.start b i) (second.start b i) (law.begins b i);
     active = active;
     jumps = jumps;
     destination = λ b c t k. destination b c t (is_near b c t k);

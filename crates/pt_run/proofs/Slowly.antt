@@ -37,13 +37,9 @@ module _ {S V : Type 0} (machine : Machine S V) (never : NeverMoves machine) whe
   stands : (b : BlockId) (c : S) (t : Slow S) → IsAt b c t → IsNear b c t
   stands b c _ is_at = near_at
 
-  nears : (b : BlockId) (c : S) (t : Slow S) → IsNear b c t → Near b c t
-  nears b c _ near_before = comes b c
-  nears b c _ near_at = there _ is_at
-
   jump : (b : BlockId) (j : Jump S V) → SameJump machine (slowly machine) IsAt IsNear b j (jump_in before j)
   jump b (refuses r) = same_refusal r
-  jump b (lands to f) = same_landing to (before to) f _ near_before (λ v. comes b (f v))
+  jump b (lands to c f) = same_landing to c (before to) (before c) f _ near_before (comes b c) (λ v. comes b (f v))
 
   jumps : (b : BlockId) (c : S) (t : Slow S) (l : ℕ) → IsNear b c t → SameJump machine (slowly machine) IsAt IsNear b (machine.jump b c l) (jump_in before (machine.jump b (state_of t) l))
   jumps b c _ l near_before = jump b (machine.jump b c l)
@@ -78,8 +74,8 @@ module _ {S V : Type 0} (machine : Machine S V) (never : NeverMoves machine) whe
   follows = record {
     turns = turns;
     stands = stands;
-    nears = nears;
     starts = λ b i. near_before;
+    begins = λ b i. comes b (machine.start b i);
     active = active;
     jumps = jumps;
     destination = λ b c t k. destination b c t (is_near b c t k);

@@ -29,19 +29,19 @@ module _ {S R V : Type 0} (first : Machine S V) (second : Machine R V) (At : Blo
         ((r : Reply V (Unit {0})) → Nears b (k r) (k' r)) → SameTurn b (T.note a k) (T.note a k')
     same_end : (e : End V) → SameTurn b (T.over e) (T.over e)
 
-  -- the same verdict, and where it lands states that hooks may look at
+  -- the same verdict, and where it lands states that hooks may look at, and from which the block goes on alike
   pub data SameJump (Stands : BlockId → S → R → Type 0) (b : BlockId) : Jump S V → Jump R V → Type 0 where
     same_refusal : (r : Reason) → SameJump Stands b (refuses r) (refuses r)
-    same_landing : (to : S) (to' : R) (f : V → S) (f' : V → R) → Stands b to to' → ((v : V) → Nears b (f v) (f' v)) →
-        SameJump Stands b (lands to f) (lands to' f')
+    same_landing : (to on : S) (to' on' : R) (f : V → S) (f' : V → R) → Stands b to to' → Nears b on on' →
+        ((v : V) → Nears b (f v) (f' v)) → SameJump Stands b (lands to on f) (lands to' on' f')
 
   -- At relates states whose turns are alike; Stands those that hooks may look at: the starts of blocks, the places of acts and
   -- notes, and where jumps land
   pub record Follows (Stands : BlockId → S → R → Type 0) : Type 0 where
     pub turns : (b : BlockId) (c : S) (t : R) → At b c t → SameTurn b (first.turn b c) (second.turn b t)
     pub stands : (b : BlockId) (c : S) (t : R) → At b c t → Stands b c t
-    pub nears : (b : BlockId) (c : S) (t : R) → Stands b c t → Nears b c t
     pub starts : (b : BlockId) (i : Option V) → Stands b (first.start b i) (second.start b i)
+    pub begins : (b : BlockId) (i : Option V) → Nears b (first.start b i) (second.start b i)
     pub active : (b : BlockId) (c : S) (t : R) → Stands b c t → first.active c ≡ second.active t
     pub jumps : (b : BlockId) (c : S) (t : R) (l : ℕ) → Stands b c t → SameJump Stands b (first.jump b c l) (second.jump b t l)
     pub destination : (b : BlockId) (c : S) (t : R) → Nears b c t → first.destination b c ≡ second.destination b t

@@ -74,7 +74,7 @@ module _ {S N V W : Type 0} (machine : Machine S V) (host : Host N V W) where
   -- a raise of a hook takes the place of what waits, and isn't told there; where the block was about to end by an exception
   -- nothing more is told
   abbrev pub instead_of : Pending S V → V → State S N V W → State S N V W
-  instead_of starting v s = at (telling (unwinds v ∷ []) (ending (left_by v))) s
+  instead_of (starting c) v s = at (telling (unwinds v ∷ []) (ending (left_by v))) s
   instead_of (doing q) v s = at turning (in_state (q.next (T.raised v)) s)
   instead_of (going to f) v s = at turning (in_state (f v) s)
   instead_of (giving_on y u) v s = at turning (in_state (y.ask.next (T.raised v)) s)
@@ -115,8 +115,8 @@ module _ {S N V W : Type 0} (machine : Machine S V) (host : Host N V W) where
   -- a debugger's jump: a permitted one drops the rest of the event, a refused one leaves all as it is; it is told of either
   abbrev pub try_jump : (line : ℕ) → Jump S V → Telling S V → State S N V W → Step S N V W
   try_jump l (M.refuses r) t s = goes (refuses l r ∷ []) (asks (refusal r ∷ t.hooks) t s)
-  try_jump l (M.lands to f) t s =
-      goes [] (asks (landing l ∷ []) (record t { behind = []; pending = going to f }) (land_here machine host to l s))
+  try_jump l (M.lands to c f) t s =
+      goes [] (asks (landing l ∷ []) (record t { behind = []; pending = going c f }) (land_here machine host to l s))
 
   abbrev pub take_advice : Advice → Telling S V → State S N V W → Step S N V W
   take_advice go t s = goes [] (at (asking t) s)

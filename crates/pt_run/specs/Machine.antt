@@ -21,10 +21,10 @@ pub data Reason : Type 0 where
   out_of_finally : Reason
   into_block : Reason
 
--- a jump lands in a state, and a raise that comes there before anything has begun leads to another
+-- a jump lands in a state in which nothing has begun, as hooks look at it; the block goes on in another, or by a raise in a third
 pub data Jump (S V : Type 0) : Type 0 where
   refuses : Reason → Jump S V
-  lands : (to : S) (instead : V → S) → Jump S V
+  lands : (to onward : S) (instead : V → S) → Jump S V
 
 -- turns and jumps of states that are parts of others
 abbrev pub turn_in : {S R V : Type 0} → (S → R) → Turn S V → Turn R V
@@ -36,7 +36,7 @@ turn_in f T.stuck = T.stuck
 
 abbrev pub jump_in : {S R V : Type 0} → (S → R) → Jump S V → Jump R V
 jump_in f (refuses r) = refuses r
-jump_in f (lands to g) = lands (f to) (λ v. f (g v))
+jump_in f (lands to c g) = lands (f to) (f c) (λ v. f (g v))
 
 pub record Machine (S V : Type 0) : Type 0 where
   -- a block begins; a generator expression has the iterator that it goes over

@@ -57,7 +57,7 @@ module _ {S N V W : Type 0} (machine : Machine S V) (host : Host N V W) where
   abbrev pub run_block : Opening N V → Rest S N V W (BlockResult N V) → State S N V W → State S N V W
   run_block o r s =
       if is_full s then fail_opening r (λ v. record { end = left_by v; names = o.names }) (host.makes too_deep (here_of machine s) s.world) s
-      else open_above (begin machine o s.frames false) (telling (starts ∷ []) starting) (for_block r) (record s { frames = s.frames + 1 })
+      else open_above (begin machine o s.frames false) (telling (starts ∷ []) (starting (machine.start o.block o.iterator))) (for_block r) (record s { frames = s.frames + 1 })
 
   abbrev pub make_generator : Opening N V → Rest S N V W ℕ → State S N V W → State S N V W
   make_generator o r s =
@@ -73,7 +73,7 @@ module _ {S N V W : Type 0} (machine : Machine S V) (host : Host N V W) where
   -- a fresh one starts with `next`, or where None is sent to it
   abbrev pub send_early : Option V → (generator : ℕ) → Activation S N V → Rest S N V W (GeneratorResult V) → State S N V W →
       State S N V W
-  send_early None g a r s = wake g a starts starting r s
+  send_early None g a r s = wake g a starts (starting a.state) r s
   send_early (Some v) g a r s = give r (cannot is_fresh) s
 
   abbrev pub throw_exit : (generator : ℕ) → Activation S N V → OpenYield S V → Rest S N V W (GeneratorResult V) → Made V W →
@@ -84,7 +84,7 @@ module _ {S N V W : Type 0} (machine : Machine S V) (host : Host N V W) where
   -- how a generator goes on by its state (6.2.9); only `throw` and `close` finish one that has not started
   abbrev pub resume_by : Option (Generator S N V) → How V → (generator : ℕ) → Rest S N V W (GeneratorResult V) → State S N V W →
       State S N V W
-  resume_by (Some (fresh a)) by_next g r s = wake g a starts starting r s
+  resume_by (Some (fresh a)) by_next g r s = wake g a starts (starting a.state) r s
   resume_by (Some (fresh a)) (by_send v) g r s = send_early (host.unless_null v) g a r s
   resume_by (Some (fresh a)) (by_throw v) g r s = give r (ends_by (left_by v)) (with_generator g finished s)
   resume_by (Some (fresh a)) by_close g r s = give r (cannot is_finished) (with_generator g finished s)
@@ -99,8 +99,8 @@ module _ {S N V W : Type 0} (machine : Machine S V) (host : Host N V W) where
 
   -- a trace function's jump: the frame at whose line event it was asked is in another state, what else was to be told there
   -- isn't, and the frame goes on from there
-  abbrev pub land_hearing : S → (instead : V → S) → Hearing S V → Hearing S V
-  land_hearing to f h = record h { telling = record h.telling { behind = []; pending = going to f } }
+  abbrev pub land_hearing : (onward : S) → (instead : V → S) → Hearing S V → Hearing S V
+  land_hearing c f h = record h { telling = record h.telling { behind = []; pending = going c f } }
 
   abbrev pub land_in : (to : S) → (line : ℕ) → Activation S N V → Activation S N V
   land_in to l a = record a { frame = record a.frame { line = Some l }; state = to; behind_jump = true }
@@ -108,13 +108,13 @@ module _ {S N V W : Type 0} (machine : Machine S V) (host : Host N V W) where
   abbrev pub land_here : (to : S) → (line : ℕ) → State S N V W → State S N V W
   land_here to l s = record s { here = land_in to l s.here }
 
-  abbrev pub land_rest : {G : Type 0} → (to : S) → (instead : V → S) → Rest S N V W G → Rest S N V W G
-  land_rest to f (of_ask q k) = of_ask q k
-  land_rest to f (of_hook h k) = of_hook (land_hearing to f h) k
+  abbrev pub land_rest : {G : Type 0} → (onward : S) → (instead : V → S) → Rest S N V W G → Rest S N V W G
+  land_rest c f (of_ask q k) = of_ask q k
+  land_rest c f (of_hook h k) = of_hook (land_hearing c f h) k
 
-  abbrev pub land_purpose : (to : S) → (instead : V → S) → Purpose S N V W → Purpose S N V W
-  land_purpose to f (for_block r) = for_block (land_rest to f r)
-  land_purpose to f (for_generator g r) = for_generator g (land_rest to f r)
+  abbrev pub land_purpose : (onward : S) → (instead : V → S) → Purpose S N V W → Purpose S N V W
+  land_purpose c f (for_block r) = for_block (land_rest c f r)
+  land_purpose c f (for_generator g r) = for_generator g (land_rest c f r)
 
   -- a hook that an activation waits for
   abbrev pub hook_of_rest : {G : Type 0} → Rest S N V W G → Option (Hearing S V)
@@ -131,8 +131,8 @@ module _ {S N V W : Type 0} (machine : Machine S V) (host : Host N V W) where
 
   abbrev pub by_jump : (line : ℕ) → Opener S N V W → List (Opener S N V W) → Jump S V → JumpBelow S N V W
   by_jump l o os (M.refuses r) = cannot_jump r
-  by_jump l o os (M.lands to f) =
-      changes (record { activation = land_in to l o.activation; purpose = land_purpose to f o.purpose } ∷ os)
+  by_jump l o os (M.lands to c f) =
+      changes (record { activation = land_in to l o.activation; purpose = land_purpose c f o.purpose } ∷ os)
 
   abbrev pub to_line : Option ℕ → Opener S N V W → List (Opener S N V W) → JumpBelow S N V W
   to_line (Some l) o os = by_jump l o os (machine.jump o.activation.frame.block o.activation.state l)

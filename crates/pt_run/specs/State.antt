@@ -29,8 +29,8 @@ pub record OpenYield (S V : Type 0) : Type 0 where
 
 -- what waits in an activation while events are told; a raise of a hook takes its place
 pub data Pending (S V : Type 0) : Type 0 where
-  -- the block begins
-  starting : Pending S V
+  -- the block begins in a state
+  starting : (first : S) → Pending S V
   -- an act, or an ask that isn't one, is to be done
   doing : OpenAsk S V → Pending S V
   -- it goes on in a state, or in another where an exception is raised instead
@@ -173,7 +173,7 @@ module _ {S N V W : Type 0} (machine : Machine S V) where
   abbrev pub start : (block : BlockId) → N → W → State S N V W
   start b n w = record {
     here = activation_of machine b None n 0 false;
-    phase = telling (starts ∷ []) starting;
+    phase = telling (starts ∷ []) (starting (machine.start b None));
     openers = [];
     generators = [];
     past = [];

@@ -234,7 +234,7 @@ module _ {S N V W : Type 0} (machine : Machine S V) (host : Host N V W) where
 
   -- what waited goes on
   abbrev pub proceed : Pending S V → State S N V W → State S N V W
-  proceed starting s = at turning s
+  proceed (starting c) s = at turning (in_state c s)
   proceed (doing q) s = do_ask q.ask q.next q.is_act q.callee s
   proceed (going to f) s = at turning (in_state to s)
   proceed (giving_on y v) s = give_on s.openers y v s

@@ -1,0 +1,2 @@
+pub mod CodeMachine
+pub mod Law
