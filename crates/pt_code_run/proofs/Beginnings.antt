@@ -115,15 +115,16 @@ module _ {V : Type 0} (block : Around V) where
     stm_context (S.try l body hs els fin) n s after h = refl
     stm_context (S.with l S.no_items body) n s after h = all_context body n s after h
     stm_context (S.with l (S.with_item k e t r) body) n s after h = exp_context e n false _
-    stm_context (S.def l S.no_decorators k b x ps a body) n s after h = definition_context k n x _ [] s
+    stm_context (S.def l S.no_decorators k b x ps a body) n s after h = definition_context k n x (a_function b ps) [] s
     stm_context (S.def l (S.decorator j e r) k b x ps a body) n s after h = exp_context e n false _
-    stm_context (S.class l S.no_decorators k b x base' body) n s after h = definition_context k n x _ [] s
+    stm_context (S.class l S.no_decorators k b x base' body) n s after h = definition_context k n x (a_class b base') [] s
     stm_context (S.class l (S.decorator j e r) k b x base' body) n s after h = exp_context e n false _
     stm_context (S.docstring l) n s after h = h
 
     all_context : (ss : Stms) (n : ℕ) (s : Nest V) (after : Control V) → context_at after ≡ active s → context_at (begin_all block ss n s after) ≡ active s
     all_context none n s after h = h
-    all_context (more st ss) n s after h = stm_context st n _ _ (all_context ss (n + stm_size st) s after h)
+    all_context (more st ss) n s after h =
+        stm_context st n (F.rest (n + stm_size st) ss ∷ s) (begin_all block ss (n + stm_size st) s after) (all_context ss (n + stm_size st) s after h)
 
   -- nothing is active where a block begins
   pub start_context : (c : Code) (i : V) → context_at (start_code block c i) ≡ None

@@ -14,7 +14,6 @@ ghost use Rattle.pt_code_run.specs.Law.{IsCodeOf, JumpAlike, LeadAlike};
 /// Where each block of a script has its code, jumps are refused and land alike in both, and the same
 /// act comes next in both, the code has the runs of the script: for each host, debugger and bound it
 /// prints the same, tells the same events and acts, and ends in the same way.
-#[tactic(auto, using(crate::proofs::Following::has_the_runs))]
 pub fn code_runs_as_its_script<D, N, V, W>()
     ensures { (source : Source V) (code : CodeSource V) → IsCodeOf source code
         → JumpAlike source code → LeadAlike source code
