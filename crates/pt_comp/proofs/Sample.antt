@@ -112,8 +112,8 @@ begins_at k l e = (k, l, e)
 
 pub stands : Block_at sample_block every_statement_code every_statement_starts every_statement
 stands = (
-  179,
-  181,
+  183,
+  185,
   (
     (begins_at 0 (omega arith) refl),
     (
@@ -505,11 +505,11 @@ stands = (
                                                                                           88,
                                                                                           (at_once 88),
                                                                                           (
-                                                                                            138,
+                                                                                            142,
                                                                                             (
                                                                                               91,
-                                                                                              135,
-                                                                                              137,
+                                                                                              139,
+                                                                                              141,
                                                                                               (
                                                                                                 89,
                                                                                                 (at_seek (instr.Local (record { 0 = 2 })) refl (λ ss. refl)),
@@ -527,7 +527,7 @@ stands = (
                                                                                                       92,
                                                                                                       (at_once 92),
                                                                                                       (
-                                                                                                        135,
+                                                                                                        139,
                                                                                                         (
                                                                                                           93,
                                                                                                           refl,
@@ -535,16 +535,16 @@ stands = (
                                                                                                             row_2,
                                                                                                             (record { depth = refl; always = refl; around = (refl, refl) }),
                                                                                                             (
-                                                                                                              131,
+                                                                                                              135,
                                                                                                               (
-                                                                                                                131,
+                                                                                                                135,
                                                                                                                 (
                                                                                                                   (begins_at 23 (omega arith) refl),
                                                                                                                   (
                                                                                                                     93,
                                                                                                                     (at_once 93),
                                                                                                                     (
-                                                                                                                      131,
+                                                                                                                      135,
                                                                                                                       (
                                                                                                                         94,
                                                                                                                         refl,
@@ -646,7 +646,7 @@ stands = (
                                                                                                                               ),
                                                                                                                             ),
                                                                                                                             (
-                                                                                                                              123,
+                                                                                                                              125,
                                                                                                                               (
                                                                                                                                 115,
                                                                                                                                 (at_seek (instr.Local (record { 0 = 4 })) refl (λ ss. refl)),
@@ -655,73 +655,89 @@ stands = (
                                                                                                                                   refl,
                                                                                                                                   (
                                                                                                                                     117,
-                                                                                                                                    (at_split (instr.JumpUnless (record { 0 = 123 })) refl (λ ss. refl) (λ ss. refl)),
+                                                                                                                                    (at_split (instr.JumpUnless (record { 0 = 125 })) refl (λ ss. refl) (λ ss. refl)),
                                                                                                                                     (
-                                                                                                                                      121,
+                                                                                                                                      118,
+                                                                                                                                      refl,
                                                                                                                                       (
-                                                                                                                                        (begins_at 27 (omega arith) refl),
+                                                                                                                                        119,
+                                                                                                                                        refl,
                                                                                                                                         (
-                                                                                                                                          119,
-                                                                                                                                          (never_left 117 118 119 true (at_truth (instr.Const (record { 0 = 2 })) refl (λ ss. refl)) (at_lead (instr.JumpUnless (record { 0 = 121 })) refl (λ ss. refl))),
+                                                                                                                                          123,
                                                                                                                                           (
-                                                                                                                                            121,
+                                                                                                                                            (begins_at 27 (omega arith) refl),
                                                                                                                                             (
-                                                                                                                                              120,
-                                                                                                                                              (at_seek (instr.Local (record { 0 = 1 })) refl (λ ss. refl)),
-                                                                                                                                              refl,
+                                                                                                                                              121,
+                                                                                                                                              (never_left 119 120 121 true (at_truth (instr.Const (record { 0 = 2 })) refl (λ ss. refl)) (at_lead (instr.JumpUnless (record { 0 = 123 })) refl (λ ss. refl))),
+                                                                                                                                              (
+                                                                                                                                                123,
+                                                                                                                                                (
+                                                                                                                                                  122,
+                                                                                                                                                  (at_seek (instr.Local (record { 0 = 1 })) refl (λ ss. refl)),
+                                                                                                                                                  refl,
+                                                                                                                                                ),
+                                                                                                                                                refl,
+                                                                                                                                              ),
                                                                                                                                             ),
+                                                                                                                                          ),
+                                                                                                                                          (
+                                                                                                                                            124,
+                                                                                                                                            refl,
                                                                                                                                             refl,
                                                                                                                                           ),
                                                                                                                                         ),
-                                                                                                                                      ),
-                                                                                                                                      (
-                                                                                                                                        122,
-                                                                                                                                        refl,
-                                                                                                                                        refl,
                                                                                                                                       ),
                                                                                                                                     ),
                                                                                                                                   ),
                                                                                                                                 ),
                                                                                                                               ),
                                                                                                                               (
-                                                                                                                                130,
+                                                                                                                                134,
                                                                                                                                 (
-                                                                                                                                  124,
+                                                                                                                                  126,
                                                                                                                                   (at_null (instr.Const (record { 0 = 3 })) refl (λ ss. refl)),
                                                                                                                                   (
-                                                                                                                                    125,
+                                                                                                                                    127,
                                                                                                                                     refl,
                                                                                                                                     (
-                                                                                                                                      126,
-                                                                                                                                      (at_split (instr.JumpUnless (record { 0 = 130 })) refl (λ ss. refl) (λ ss. refl)),
+                                                                                                                                      128,
+                                                                                                                                      (at_split (instr.JumpUnless (record { 0 = 134 })) refl (λ ss. refl) (λ ss. refl)),
                                                                                                                                       (
-                                                                                                                                        128,
+                                                                                                                                        129,
+                                                                                                                                        refl,
                                                                                                                                         (
-                                                                                                                                          (begins_at 28 (omega arith) refl),
+                                                                                                                                          130,
+                                                                                                                                          refl,
                                                                                                                                           (
-                                                                                                                                            126,
-                                                                                                                                            (at_once 126),
+                                                                                                                                            132,
                                                                                                                                             (
-                                                                                                                                              128,
+                                                                                                                                              (begins_at 28 (omega arith) refl),
                                                                                                                                               (
-                                                                                                                                                127,
-                                                                                                                                                (at_seek (instr.Local (record { 0 = 1 })) refl (λ ss. refl)),
-                                                                                                                                                refl,
+                                                                                                                                                130,
+                                                                                                                                                (at_once 130),
+                                                                                                                                                (
+                                                                                                                                                  132,
+                                                                                                                                                  (
+                                                                                                                                                    131,
+                                                                                                                                                    (at_seek (instr.Local (record { 0 = 1 })) refl (λ ss. refl)),
+                                                                                                                                                    refl,
+                                                                                                                                                  ),
+                                                                                                                                                  refl,
+                                                                                                                                                ),
                                                                                                                                               ),
+                                                                                                                                            ),
+                                                                                                                                            (
+                                                                                                                                              133,
+                                                                                                                                              refl,
                                                                                                                                               refl,
                                                                                                                                             ),
                                                                                                                                           ),
-                                                                                                                                        ),
-                                                                                                                                        (
-                                                                                                                                          129,
-                                                                                                                                          refl,
-                                                                                                                                          refl,
                                                                                                                                         ),
                                                                                                                                       ),
                                                                                                                                     ),
                                                                                                                                   ),
                                                                                                                                 ),
-                                                                                                                                (131, refl),
+                                                                                                                                (135, refl),
                                                                                                                               ),
                                                                                                                             ),
                                                                                                                           ),
@@ -736,16 +752,16 @@ stands = (
                                                                                                               refl,
                                                                                                             ),
                                                                                                             (
-                                                                                                              134,
+                                                                                                              138,
                                                                                                               (
                                                                                                                 (begins_at 29 (omega arith) refl),
                                                                                                                 (
-                                                                                                                  132,
-                                                                                                                  (at_once 132),
+                                                                                                                  136,
+                                                                                                                  (at_once 136),
                                                                                                                   (
-                                                                                                                    134,
+                                                                                                                    138,
                                                                                                                     (
-                                                                                                                      133,
+                                                                                                                      137,
                                                                                                                       (at_seek (instr.Local (record { 0 = 1 })) refl (λ ss. refl)),
                                                                                                                       refl,
                                                                                                                     ),
@@ -762,86 +778,86 @@ stands = (
                                                                                                     ),
                                                                                                   ),
                                                                                                 ),
-                                                                                                (136, refl, refl),
+                                                                                                (140, refl, refl),
                                                                                                 (
                                                                                                   (begins_at 30 (omega arith) refl),
-                                                                                                  (137, (at_once 137), (138, refl, refl)),
+                                                                                                  (141, (at_once 141), (142, refl, refl)),
                                                                                                 ),
                                                                                               ),
                                                                                             ),
                                                                                             (
                                                                                               (begins_at 31 (omega arith) refl),
                                                                                               (
-                                                                                                138,
-                                                                                                (at_once 138),
+                                                                                                142,
+                                                                                                (at_once 142),
                                                                                                 (
-                                                                                                  161,
+                                                                                                  165,
                                                                                                   (
                                                                                                     row_5,
                                                                                                     (record { depth = refl; always = refl; around = tt }),
                                                                                                     (
-                                                                                                      139,
+                                                                                                      143,
                                                                                                       (at_seek (instr.Local (record { 0 = 1 })) refl (λ ss. refl)),
                                                                                                       (
-                                                                                                        140,
+                                                                                                        144,
                                                                                                         refl,
                                                                                                         (
-                                                                                                          143,
+                                                                                                          147,
                                                                                                           (
-                                                                                                            141,
+                                                                                                            145,
                                                                                                             (at_unpack (instr.Unpack 2) refl (λ v ss. refl)),
                                                                                                             (
-                                                                                                              142,
+                                                                                                              146,
                                                                                                               (at_store (instr.SetLocal (record { 0 = 2 })) refl (λ v ss. refl)),
                                                                                                               (
-                                                                                                                143,
+                                                                                                                147,
                                                                                                                 (at_store (instr.SetLocal (record { 0 = 3 })) refl (λ v ss. refl)),
                                                                                                                 refl,
                                                                                                               ),
                                                                                                             ),
                                                                                                           ),
                                                                                                           (
-                                                                                                            158,
+                                                                                                            162,
                                                                                                             (
                                                                                                               row_4,
                                                                                                               (record { depth = refl; always = refl; around = tt }),
                                                                                                               (
-                                                                                                                144,
+                                                                                                                148,
                                                                                                                 (at_seek (instr.Local (record { 0 = 4 })) refl (λ ss. refl)),
                                                                                                                 (
-                                                                                                                  145,
+                                                                                                                  149,
                                                                                                                   refl,
                                                                                                                   (
-                                                                                                                    146,
+                                                                                                                    150,
                                                                                                                     refl,
                                                                                                                     (
-                                                                                                                      155,
+                                                                                                                      159,
                                                                                                                       (
                                                                                                                         (begins_at 32 (omega arith) refl),
                                                                                                                         (
-                                                                                                                          146,
-                                                                                                                          (at_once 146),
+                                                                                                                          150,
+                                                                                                                          (at_once 150),
                                                                                                                           (
-                                                                                                                            155,
+                                                                                                                            159,
                                                                                                                             (
-                                                                                                                              147,
+                                                                                                                              151,
                                                                                                                               refl,
                                                                                                                               (
                                                                                                                                 row_3,
                                                                                                                                 (record { depth = refl; always = refl; around = tt }),
                                                                                                                                 (
-                                                                                                                                  149,
+                                                                                                                                  153,
                                                                                                                                   (
-                                                                                                                                    149,
+                                                                                                                                    153,
                                                                                                                                     (
                                                                                                                                       (begins_at 33 (omega arith) refl),
                                                                                                                                       (
-                                                                                                                                        147,
-                                                                                                                                        (at_once 147),
+                                                                                                                                        151,
+                                                                                                                                        (at_once 151),
                                                                                                                                         (
-                                                                                                                                          149,
+                                                                                                                                          153,
                                                                                                                                           (
-                                                                                                                                            148,
+                                                                                                                                            152,
                                                                                                                                             (at_seek (instr.Local (record { 0 = 1 })) refl (λ ss. refl)),
                                                                                                                                             refl,
                                                                                                                                           ),
@@ -854,16 +870,16 @@ stands = (
                                                                                                                                   refl,
                                                                                                                                 ),
                                                                                                                                 (
-                                                                                                                                  154,
+                                                                                                                                  158,
                                                                                                                                   (
                                                                                                                                     (begins_at 34 (omega arith) refl),
                                                                                                                                     (
-                                                                                                                                      152,
-                                                                                                                                      (never_left 150 151 152 true (at_truth (instr.Const (record { 0 = 2 })) refl (λ ss. refl)) (at_lead (instr.JumpUnless (record { 0 = 154 })) refl (λ ss. refl))),
+                                                                                                                                      156,
+                                                                                                                                      (never_left 154 155 156 true (at_truth (instr.Const (record { 0 = 2 })) refl (λ ss. refl)) (at_lead (instr.JumpUnless (record { 0 = 158 })) refl (λ ss. refl))),
                                                                                                                                       (
-                                                                                                                                        154,
+                                                                                                                                        158,
                                                                                                                                         (
-                                                                                                                                          153,
+                                                                                                                                          157,
                                                                                                                                           (at_null (instr.Const (record { 0 = 3 })) refl (λ ss. refl)),
                                                                                                                                           refl,
                                                                                                                                         ),
@@ -884,44 +900,44 @@ stands = (
                                                                                                                   ),
                                                                                                                 ),
                                                                                                               ),
-                                                                                                              (157, refl, refl),
+                                                                                                              (161, refl, refl),
                                                                                                             ),
                                                                                                             refl,
                                                                                                           ),
                                                                                                         ),
                                                                                                       ),
                                                                                                     ),
-                                                                                                    (160, refl, refl),
+                                                                                                    (164, refl, refl),
                                                                                                   ),
                                                                                                   (
                                                                                                     (begins_at 35 (omega arith) refl),
                                                                                                     (
-                                                                                                      161,
-                                                                                                      (at_once 161),
+                                                                                                      165,
+                                                                                                      (at_once 165),
                                                                                                       (
-                                                                                                        169,
+                                                                                                        173,
                                                                                                         (
-                                                                                                          162,
+                                                                                                          166,
                                                                                                           (at_seek (instr.Local (record { 0 = 1 })) refl (λ ss. refl)),
                                                                                                           (
-                                                                                                            163,
+                                                                                                            167,
                                                                                                             (at_seek (instr.Local (record { 0 = 2 })) refl (λ ss. refl)),
                                                                                                             (
-                                                                                                              166,
+                                                                                                              170,
                                                                                                               (
-                                                                                                                164,
+                                                                                                                168,
                                                                                                                 (at_seek (instr.Local (record { 0 = 3 })) refl (λ ss. refl)),
                                                                                                                 (
-                                                                                                                  165,
+                                                                                                                  169,
                                                                                                                   (at_cell (instr.PushCell (record { 0 = 0 })) refl (λ ss. refl)),
                                                                                                                   (of_both (instr.MakeFunction (record { 0 = 1 }) 1 (record { 0 = 0 })) refl (λ ss. refl)),
                                                                                                                 ),
                                                                                                               ),
                                                                                                               (
-                                                                                                                167,
+                                                                                                                171,
                                                                                                                 (of_values (instr.Call 1) refl (λ ss. refl)),
                                                                                                                 (
-                                                                                                                  168,
+                                                                                                                  172,
                                                                                                                   (of_values (instr.Call 1) refl (λ ss. refl)),
                                                                                                                   (at_store (instr.SetLocal (record { 0 = 9 })) refl (λ v ss. refl)),
                                                                                                                 ),
@@ -932,17 +948,17 @@ stands = (
                                                                                                         (
                                                                                                           (begins_at 36 (omega arith) refl),
                                                                                                           (
-                                                                                                            169,
-                                                                                                            (at_once 169),
+                                                                                                            173,
+                                                                                                            (at_once 173),
                                                                                                             (
-                                                                                                              173,
+                                                                                                              177,
                                                                                                               (
-                                                                                                                170,
+                                                                                                                174,
                                                                                                                 (at_null (instr.Const (record { 0 = 3 })) refl (λ ss. refl)),
                                                                                                                 (
-                                                                                                                  172,
+                                                                                                                  176,
                                                                                                                   (
-                                                                                                                    171,
+                                                                                                                    175,
                                                                                                                     (at_cell (instr.PushCell (record { 0 = 0 })) refl (λ ss. refl)),
                                                                                                                     (of_class (instr.MakeClass (record { 0 = 2 })) refl (λ ss. refl)),
                                                                                                                   ),
@@ -952,25 +968,25 @@ stands = (
                                                                                                               (
                                                                                                                 (begins_at 37 (omega arith) refl),
                                                                                                                 (
-                                                                                                                  173,
-                                                                                                                  (at_once 173),
+                                                                                                                  177,
+                                                                                                                  (at_once 177),
                                                                                                                   (
-                                                                                                                    179,
+                                                                                                                    183,
                                                                                                                     (
-                                                                                                                      174,
+                                                                                                                      178,
                                                                                                                       (at_seek (instr.Local (record { 0 = 1 })) refl (λ ss. refl)),
                                                                                                                       (
-                                                                                                                        175,
+                                                                                                                        179,
                                                                                                                         (at_seek (instr.Local (record { 0 = 2 })) refl (λ ss. refl)),
                                                                                                                         (
-                                                                                                                          177,
+                                                                                                                          181,
                                                                                                                           (
-                                                                                                                            176,
+                                                                                                                            180,
                                                                                                                             (at_cell (instr.PushCell (record { 0 = 0 })) refl (λ ss. refl)),
                                                                                                                             (of_class (instr.MakeClass (record { 0 = 3 })) refl (λ ss. refl)),
                                                                                                                           ),
                                                                                                                           (
-                                                                                                                            178,
+                                                                                                                            182,
                                                                                                                             (of_values (instr.Call 1) refl (λ ss. refl)),
                                                                                                                             (at_store (instr.SetLocal (record { 0 = 11 })) refl (λ v ss. refl)),
                                                                                                                           ),
@@ -1035,5 +1051,5 @@ stands = (
       ),
     ),
   ),
-  (180, (at_null (instr.Const (record { 0 = 3 })) refl (λ ss. refl)), refl),
+  (184, (at_null (instr.Const (record { 0 = 3 })) refl (λ ss. refl)), refl),
 )

@@ -340,9 +340,11 @@ module _ {V : Type 0} (block : Around V) (code : CodeObject V) where
   -- 8.4.1: the body of a handler begins, and handlers are tried; where none is left control comes as it does behind them
   handled_lands : (l n : ℕ) (y : Option Name) (body : Stms) (e : V) (s : Nest V) (x : Surroundings) (σ : Slots V) (p q end' : ℕ)
       → Handled_at block code l n y (All_at block code body) end' x p q → N s x σ end' → Lands block code (handler_way block l n y body e s) (on p (exception e ∷ σ))
-  handled_lands l n None body e s x σ p q end' (m, hb, (m', hend, hj)) g =
-      lands _ (deeper x) (exception e ∷ σ) p (at_stms (n + 1) body _ (deeper x) (exception e ∷ σ) p m hb
-      (at_handling n e s x σ m m' hend (nest_behind_jump s x σ m' q end' hj g)))
+  handled_lands l n None body e s x σ p q end' (m, hc, (m1, hp, (m2, hb, (m3, hend, hj)))) g =
+      lands_by _ _ _ (turned p _ (exception e ∷ σ) _ hc refl)
+      (lands_by _ _ _ (turned m _ (value e ∷ exception e ∷ σ) _ hp refl)
+      (lands _ (deeper x) (exception e ∷ σ) m1 (at_stms (n + 1) body _ (deeper x) (exception e ∷ σ) m1 m2 hb
+      (at_handling n e s x σ m2 m3 hend (nest_behind_jump s x σ m3 q end' hj g)))))
   handled_lands l n (Some y) body e s x σ p q end' (row, b, (m, hc, (m1, hst, (m2, hb, hno))), (m3, hn, (m4, hs, (m5, hd, (m6, hf, (m7, hend, hj)))))) g =
       let k = at_handling n e s x σ m6 m7 hend (nest_behind_jump s x σ m7 q end' hj g) in
       lands _ (deeper x) (exception e ∷ σ) p

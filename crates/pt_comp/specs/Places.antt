@@ -211,9 +211,11 @@ module _ {V : Type 0} (block : Around V) (code : CodeObject V) where
       × (guarded (under row x) ⨾ Move_in (under row x) instr.Normal) from row.target.0
       × (part (deeper x) ⨾ Move_in x instr.EndFinally) row.target.0 to
 
-  -- 8.4.1: a handler behind its Match, whose number is n; a name that it binds is unbound however it ends. It goes on at the end
+  -- 8.4.1: a handler behind its Match, whose number is n; a name that it binds is unbound however it ends. It goes on at the end. Caught gives it a slot of
+  -- its own, so that it isn't entered by a jump from the tests
   abbrev pub Handled_at : (l n : ℕ) → Option Name → (body : (n : ℕ) → Surroundings → ℕ → ℕ → Type 0) → (end : ℕ) → Surroundings → ℕ → ℕ → Type 0
-  Handled_at l n None body end x = body (n + 1) (deeper x) ⨾ Move_in x instr.EndHandler ⨾ Jump_in x end
+  Handled_at l n None body end x =
+      Move_in x instr.Caught ⨾ Move_in x instr.Pop ⨾ body (n + 1) (deeper x) ⨾ Move_in x instr.EndHandler ⨾ Jump_in x end
   Handled_at l n (Some y) body end x = λ from to. (row : Handler) × TakesAll row (deeper x)
       × (Move_in x instr.Caught ⨾ Store_in x y (n + 1) l ⨾ body (n + 1 + 1) (under row (deeper x)) ⨾ Move_in (under row x) instr.Normal) from row.target.0
       × (Null_in x ⨾ Stores block code x.rows (block.variable [] y) None ⨾ Deletes block code x.rows (block.variable [] y) None

@@ -111,16 +111,16 @@ abbrev pub row_1 : Handler
 row_1 = record { from = record { 0 = 104 }; to = record { 0 = 108 }; target = record { 0 = 108 }; depth = 2; always = true }
 
 abbrev pub row_2 : Handler
-row_2 = record { from = record { 0 = 93 }; to = record { 0 = 132 }; target = record { 0 = 132 }; depth = 1; always = true }
+row_2 = record { from = record { 0 = 93 }; to = record { 0 = 136 }; target = record { 0 = 136 }; depth = 1; always = true }
 
 abbrev pub row_3 : Handler
-row_3 = record { from = record { 0 = 147 }; to = record { 0 = 150 }; target = record { 0 = 150 }; depth = 2; always = true }
+row_3 = record { from = record { 0 = 151 }; to = record { 0 = 154 }; target = record { 0 = 154 }; depth = 2; always = true }
 
 abbrev pub row_4 : Handler
-row_4 = record { from = record { 0 = 145 }; to = record { 0 = 156 }; target = record { 0 = 156 }; depth = 2; always = true }
+row_4 = record { from = record { 0 = 149 }; to = record { 0 = 160 }; target = record { 0 = 160 }; depth = 2; always = true }
 
 abbrev pub row_5 : Handler
-row_5 = record { from = record { 0 = 140 }; to = record { 0 = 159 }; target = record { 0 = 159 }; depth = 1; always = true }
+row_5 = record { from = record { 0 = 144 }; to = record { 0 = 163 }; target = record { 0 = 163 }; depth = 1; always = true }
 
 -- inner rows first
 abbrev rows : List Handler
@@ -157,24 +157,24 @@ placed =
     moves (instr.JumpUnless (record { 0 = 82 })) ∷ acts 63 22 (instr.Leave (record { 0 = 82 })) ∷ again 58 19 (instr.Local (record { 0 = 1 })) ∷
     acts 59 19 (instr.JumpIf (record { 0 = 73 })) ∷ moves (instr.Const (record { 0 = 2 })) ∷ moves (instr.JumpUnless (record { 0 = 88 })) ∷
     acts 64 24 (instr.Local (record { 0 = 1 })) ∷ acts 65 24 instr.Raise ∷ acts 66 25 (instr.Local (record { 0 = 2 })) ∷ acts 67 25 instr.Iter ∷
-    acts 68 25 (instr.Next (record { 0 = 137 })) ∷ acts 69 25 (instr.SetLocal (record { 0 = 1 })) ∷ acts 70 26 instr.Nop ∷ acts 71 27 instr.Nop ∷
-    moves (instr.Const (record { 0 = 2 })) ∷ moves (instr.JumpUnless (record { 0 = 97 })) ∷ acts 72 28 (instr.Leave (record { 0 = 138 })) ∷
-    acts 84 36 instr.Nop ∷ moves (instr.Jump (record { 0 = 131 })) ∷ acts 73 29 (instr.Local (record { 0 = 2 })) ∷ acts 74 29 instr.Match ∷
+    acts 68 25 (instr.Next (record { 0 = 141 })) ∷ acts 69 25 (instr.SetLocal (record { 0 = 1 })) ∷ acts 70 26 instr.Nop ∷ acts 71 27 instr.Nop ∷
+    moves (instr.Const (record { 0 = 2 })) ∷ moves (instr.JumpUnless (record { 0 = 97 })) ∷ acts 72 28 (instr.Leave (record { 0 = 142 })) ∷
+    acts 84 36 instr.Nop ∷ moves (instr.Jump (record { 0 = 135 })) ∷ acts 73 29 (instr.Local (record { 0 = 2 })) ∷ acts 74 29 instr.Match ∷
     moves (instr.JumpUnless (record { 0 = 114 })) ∷ moves instr.Caught ∷ acts 75 29 (instr.SetLocal (record { 0 = 3 })) ∷
-    moves (instr.Const (record { 0 = 2 })) ∷ moves (instr.JumpUnless (record { 0 = 107 })) ∷ acts 76 30 (instr.Leave (record { 0 = 135 })) ∷
+    moves (instr.Const (record { 0 = 2 })) ∷ moves (instr.JumpUnless (record { 0 = 107 })) ∷ acts 76 30 (instr.Leave (record { 0 = 139 })) ∷
     moves instr.Normal ∷ moves (instr.Const (record { 0 = 3 })) ∷ moves (instr.SetLocal (record { 0 = 3 })) ∷
-    moves (instr.DelLocal (record { 0 = 3 })) ∷ moves instr.EndFinally ∷ moves instr.EndHandler ∷ moves (instr.Jump (record { 0 = 131 })) ∷
-    acts 77 31 (instr.Local (record { 0 = 4 })) ∷ acts 78 31 instr.Match ∷ moves (instr.JumpUnless (record { 0 = 123 })) ∷
-    moves (instr.Const (record { 0 = 2 })) ∷ moves (instr.JumpUnless (record { 0 = 121 })) ∷ acts 79 32 (instr.Local (record { 0 = 1 })) ∷
-    acts 80 32 instr.Return ∷ moves instr.EndHandler ∷ moves (instr.Jump (record { 0 = 131 })) ∷ moves (instr.Const (record { 0 = 3 })) ∷
-    acts 81 33 instr.Match ∷ moves (instr.JumpUnless (record { 0 = 130 })) ∷ acts 82 34 (instr.Local (record { 0 = 1 })) ∷ acts 83 34 instr.Pop ∷
-    moves instr.EndHandler ∷ moves (instr.Jump (record { 0 = 131 })) ∷ moves instr.Rethrow ∷ moves instr.Normal ∷
-    acts 85 38 (instr.Local (record { 0 = 1 })) ∷ acts 86 38 instr.Pop ∷ moves instr.EndFinally ∷ again 68 25 (instr.Next (record { 0 = 137 })) ∷
+    moves (instr.DelLocal (record { 0 = 3 })) ∷ moves instr.EndFinally ∷ moves instr.EndHandler ∷ moves (instr.Jump (record { 0 = 135 })) ∷
+    acts 77 31 (instr.Local (record { 0 = 4 })) ∷ acts 78 31 instr.Match ∷ moves (instr.JumpUnless (record { 0 = 125 })) ∷ moves instr.Caught ∷ moves instr.Pop ∷
+    moves (instr.Const (record { 0 = 2 })) ∷ moves (instr.JumpUnless (record { 0 = 123 })) ∷ acts 79 32 (instr.Local (record { 0 = 1 })) ∷
+    acts 80 32 instr.Return ∷ moves instr.EndHandler ∷ moves (instr.Jump (record { 0 = 135 })) ∷ moves (instr.Const (record { 0 = 3 })) ∷
+    acts 81 33 instr.Match ∷ moves (instr.JumpUnless (record { 0 = 134 })) ∷ moves instr.Caught ∷ moves instr.Pop ∷ acts 82 34 (instr.Local (record { 0 = 1 })) ∷ acts 83 34 instr.Pop ∷
+    moves instr.EndHandler ∷ moves (instr.Jump (record { 0 = 135 })) ∷ moves instr.Rethrow ∷ moves instr.Normal ∷
+    acts 85 38 (instr.Local (record { 0 = 1 })) ∷ acts 86 38 instr.Pop ∷ moves instr.EndFinally ∷ again 68 25 (instr.Next (record { 0 = 141 })) ∷
     moves (instr.Jump (record { 0 = 91 })) ∷ acts 87 40 instr.Nop ∷ acts 88 41 (instr.Local (record { 0 = 1 })) ∷ acts 89 41 instr.Enter ∷
     acts 90 41 (instr.Unpack 2) ∷ acts 91 41 (instr.SetLocal (record { 0 = 2 })) ∷ acts 92 41 (instr.SetLocal (record { 0 = 3 })) ∷
     acts 93 41 (instr.Local (record { 0 = 4 })) ∷ acts 94 41 instr.Enter ∷ moves instr.Pop ∷ acts 95 42 instr.Nop ∷
     acts 96 43 (instr.Local (record { 0 = 1 })) ∷ acts 97 43 instr.Pop ∷ moves instr.Normal ∷ moves (instr.Const (record { 0 = 2 })) ∷
-    moves (instr.JumpUnless (record { 0 = 154 })) ∷ moves (instr.Const (record { 0 = 3 })) ∷ acts 98 45 instr.Return ∷ moves instr.EndFinally ∷
+    moves (instr.JumpUnless (record { 0 = 158 })) ∷ moves (instr.Const (record { 0 = 3 })) ∷ acts 98 45 instr.Return ∷ moves instr.EndFinally ∷
     moves instr.Normal ∷ acts 99 41 instr.Exit ∷ moves instr.EndFinally ∷ moves instr.Normal ∷ acts 100 41 instr.Exit ∷ moves instr.EndFinally ∷
     acts 101 46 (instr.Local (record { 0 = 1 })) ∷ acts 102 47 (instr.Local (record { 0 = 2 })) ∷ acts 103 48 (instr.Local (record { 0 = 3 })) ∷
     moves (instr.PushCell (record { 0 = 0 })) ∷ acts 104 48 (instr.MakeFunction (record { 0 = 1 }) 1 (record { 0 = 0 })) ∷
@@ -203,8 +203,8 @@ abbrev pub every_statement_starts : List Start
 every_statement_starts =
     start 0 1 ∷ start 11 2 ∷ start 15 3 ∷ start 22 4 ∷ start 30 5 ∷ start 31 6 ∷ start 33 7 ∷ start 36 8 ∷ start 40 9 ∷ start 46 10 ∷ start 50 11 ∷
     start 56 12 ∷ start 56 13 ∷ start 58 14 ∷ start 62 16 ∷ start 66 18 ∷ start 71 19 ∷ start 73 20 ∷ start 75 21 ∷ start 79 22 ∷ start 84 24 ∷
-    start 88 25 ∷ start 92 26 ∷ start 93 27 ∷ start 94 28 ∷ start 97 36 ∷ start 104 30 ∷ start 117 32 ∷ start 126 34 ∷ start 132 38 ∷ start 137 40 ∷
-    start 138 41 ∷ start 146 42 ∷ start 147 43 ∷ start 150 45 ∷ start 161 46 ∷ start 169 50 ∷ start 173 52 ∷ []
+    start 88 25 ∷ start 92 26 ∷ start 93 27 ∷ start 94 28 ∷ start 97 36 ∷ start 104 30 ∷ start 119 32 ∷ start 130 34 ∷ start 136 38 ∷ start 141 40 ∷
+    start 142 41 ∷ start 150 42 ∷ start 151 43 ∷ start 154 45 ∷ start 165 46 ∷ start 173 50 ∷ start 177 52 ∷ []
 
 -- how many slots lie where loops go on and end
 abbrev depths : List ℕ
@@ -212,7 +212,7 @@ depths =
     0 ∷ 0 ∷ 0 ∷ 0 ∷ 0 ∷ 0 ∷ 0 ∷ 0 ∷ 0 ∷ 0 ∷ 0 ∷ 0 ∷ 0 ∷ 0 ∷ 0 ∷ 0 ∷ 0 ∷ 0 ∷ 0 ∷ 0 ∷ 0 ∷ 0 ∷ 0 ∷ 0 ∷ 0 ∷ 0 ∷ 0 ∷ 0 ∷ 0 ∷ 0 ∷ 0 ∷ 0 ∷ 0 ∷ 0 ∷ 0 ∷ 0 ∷
     0 ∷ 0 ∷ 0 ∷ 0 ∷ 0 ∷ 0 ∷ 0 ∷ 0 ∷ 0 ∷ 0 ∷ 0 ∷ 0 ∷ 0 ∷ 0 ∷ 0 ∷ 0 ∷ 0 ∷ 0 ∷ 0 ∷ 0 ∷ 0 ∷ 0 ∷ 0 ∷ 0 ∷ 0 ∷ 0 ∷ 0 ∷ 0 ∷ 0 ∷ 0 ∷ 0 ∷ 0 ∷ 0 ∷ 0 ∷ 0 ∷ 0 ∷
     0 ∷ 0 ∷ 0 ∷ 0 ∷ 0 ∷ 0 ∷ 0 ∷ 0 ∷ 0 ∷ 0 ∷ 0 ∷ 0 ∷ 0 ∷ 0 ∷ 0 ∷ 0 ∷ 0 ∷ 0 ∷ 0 ∷ 0 ∷ 0 ∷ 0 ∷ 0 ∷ 0 ∷ 0 ∷ 0 ∷ 0 ∷ 0 ∷ 0 ∷ 0 ∷ 0 ∷ 0 ∷ 0 ∷ 0 ∷ 0 ∷ 0 ∷
-    0 ∷ 0 ∷ 0 ∷ 0 ∷ 0 ∷ 0 ∷ 0 ∷ 0 ∷ 0 ∷ 0 ∷ 0 ∷ 0 ∷ 0 ∷ 0 ∷ 0 ∷ 0 ∷ 0 ∷ 0 ∷ 0 ∷ 0 ∷ 0 ∷ 0 ∷ 0 ∷ 0 ∷ 0 ∷ 0 ∷ 0 ∷ 1 ∷ []
+    0 ∷ 0 ∷ 0 ∷ 0 ∷ 0 ∷ 0 ∷ 0 ∷ 0 ∷ 0 ∷ 0 ∷ 0 ∷ 0 ∷ 0 ∷ 0 ∷ 0 ∷ 0 ∷ 0 ∷ 0 ∷ 0 ∷ 0 ∷ 0 ∷ 0 ∷ 0 ∷ 0 ∷ 0 ∷ 0 ∷ 0 ∷ 0 ∷ 0 ∷ 0 ∷ 0 ∷ 1 ∷ []
 
 abbrev pool : Pool
 pool = record {
