@@ -8,8 +8,10 @@ import re
 
 BY_NAME = {"after", "none_left", "destination", "all", "otherwise"}
 WORD = re.compile(
-    r'\s*(?:("(?:[^"\\]|\\.)*")|([^\W\d][\w\']*(?:\.[\w][\w\']*)*)|(\d+)|(\+\+|[+\-*]ℤ|==|&&|\|\||[∷≡→×λ⊎≤<(){}\[\],;=.:+\-*/%^])|(\S))')
-LEVELS = [("||",), ("&&",), ("==", "≡", "<", "≤", "⊎", "×"), ("∷", "++"), ("+", "-", "+ℤ", "-ℤ"), ("*", "/", "%", "*ℤ"), ("^",)]
+    r'\s*(?:("(?:[^"\\]|\\.)*")|(◌[^\s◌]+◌|[^\W\d][\w\']*(?:\.[\w][\w\']*)*)|(\d+)|(\+\+|[+\-*]ℤ|==|&&|\|\||[∷≡→×λ⊎≤<(){}\[\],;=.:+\-*/%^⨾])|(\S))')
+LEVELS = [("⨾",), ("||",), ("&&",), ("==", "≡", "<", "≤", "⊎", "×"), ("∷", "++"), ("+", "-", "+ℤ", "-ℤ"), ("*", "/", "%", "*ℤ"), ("^",)]
+# those that go on to the right
+RIGHT = {"⨾", "||", "&&", "∷", "++"}
 
 
 def words(text):
@@ -93,7 +95,7 @@ class Reader:
             if self.sees("if") or self.sees("λ") or self.sees("let"):
                 right = self.expression()
             else:
-                right = self.binary(level if level in (0, 1, 3) else level + 1)
+                right = self.binary(level if sign in RIGHT else level + 1)
             left = ("sign", sign, left, right)
         return left
 
@@ -285,6 +287,8 @@ class Definitions:
             module.aliases[alias.strip()] = path.strip()
 
     def item(self, module, bare, around):
+        if bare.startswith("infix"):
+            return
         ws = words(bare)
         depth = 0
         for i, (kind, word) in enumerate(ws):
@@ -339,6 +343,20 @@ class Definitions:
         d = self.module(path).definitions[name]
         self.function(d)
         return lambda *xs: self.space[d.code](*xs)
+
+    def remember(self, path, name):
+        """What a definition gives is kept by its arguments, of which the first is known by where it is kept."""
+        d = self.module(path).definitions[name]
+        self.function(d)
+        find, known = self.compiled(d), {}
+
+        def found(first, *xs):
+            key = (id(first), *xs)
+            if key not in known:
+                known[key] = (first, find(first, *xs))
+            return known[key][1]
+        self.space[d.code] = found
+        return known
 
 
 def field(value, name):
@@ -469,6 +487,9 @@ class Compiler:
         if kind == "field":
             return self.projection(self.expression(e[1]), [e[2]])
         if kind == "sign":
+            what, _ = self.all.find(self.module, [f"◌{e[1]}◌"])
+            if what and what[0] == "definition":
+                return self.call(what, [e[2], e[3]])
             return self.sign(e[1], self.expression(e[2]), self.expression(e[3]))
         if kind == "name":
             return self.name(e[1], [])
@@ -619,10 +640,13 @@ STD = {
     "drop": lambda n, xs: listed(items(xs)[n:]),
     "take": lambda n, xs: listed(items(xs)[:n]),
     "list_any": lambda f, xs: any(map(f, items(xs))),
+    "filter": lambda f, xs: listed(filter(f, items(xs))),
+    "bytes_eq": lambda a, b: a == b,
     "filter_map": filter_map,
     "slice_get": slice_get,
     "option_map": lambda f, o: ("Some", f(o[1])) if o[0] == "Some" else o,
     "unwrap_or": lambda o, x: o[1] if o[0] == "Some" else x,
+    "is_some": lambda o: o[0] == "Some",
     "nat_le": lambda a, b: a <= b,
     "nat_lt": lambda a, b: a < b,
     "not": lambda b: not b,

@@ -1,4 +1,4 @@
-"""The tree of a script as the plain data of `pt_tree/specs/Syntax`, from CPython's ast. Names stand for themselves, as texts."""
+"""The tree of a script as the plain data of `pt_tree/specs/Syntax`, from CPython's ast. Names are texts, or what `named` makes of these."""
 import ast
 
 from definitions import listed
@@ -28,7 +28,8 @@ def chain(make, parts, end):
 class Trees:
     """`numbers` gives the node of each block its number, in the order in which they start."""
 
-    def __init__(self, text):
+    def __init__(self, text, named=lambda x: x):
+        self.named = named
         self.lines = text.split("\n")
         self.module = ast.parse(text)
         nodes = [n for n in ast.walk(self.module) if isinstance(n, BLOCKS)]
@@ -66,7 +67,7 @@ class Trees:
             if isinstance(a, ast.Starred):
                 return ("spread", self.exp(a.value), rest)
             if isinstance(a, ast.keyword):
-                return ("named", a.arg, self.exp(a.value), rest) if a.arg else ("spread_named", self.exp(a.value), rest)
+                return ("named", self.named(a.arg), self.exp(a.value), rest) if a.arg else ("spread_named", self.exp(a.value), rest)
             return ("positional", self.exp(a), rest)
         return chain(one, sorted(call.args + call.keywords, key=lambda v: (v.lineno, v.col_offset)), ("no_args",))
 
@@ -92,7 +93,7 @@ class Trees:
             case ast.Constant(value):
                 return ("constant", l, self.constant(value))
             case ast.Name(x):
-                return ("name", l, x)
+                return ("name", l, self.named(x))
             case ast.JoinedStr(values):
                 return ("joined", l, self.pieces(values))
             case ast.Tuple(items):
@@ -104,7 +105,7 @@ class Trees:
             case ast.Dict(keys, values):
                 return ("dict", l, chain(lambda kv, r: ("entry", self.exp(kv[0]), self.exp(kv[1]), r), list(zip(keys, values)), ("no_entries",)))
             case ast.Attribute(value, x):
-                return ("attribute", l, self.exp(value), x)
+                return ("attribute", l, self.exp(value), self.named(x))
             case ast.Subscript(value, index):
                 return ("item", l, self.exp(value), self.exp(index))
             case ast.Slice(a, b, c):
@@ -143,9 +144,9 @@ class Trees:
     def place(self, t):
         match t:
             case ast.Name(x):
-                return ("name_at", t.lineno, x)
+                return ("name_at", t.lineno, self.named(x))
             case ast.Attribute(value, x):
-                return ("attribute_at", t.lineno, self.exp(value), x)
+                return ("attribute_at", t.lineno, self.exp(value), self.named(x))
             case ast.Subscript(value, index):
                 return ("item_at", t.lineno, self.exp(value), self.exp(index))
 
@@ -165,11 +166,11 @@ class Trees:
     def formals(self, names, defaults):
         def one(nd, rest):
             n, d = nd
-            return ("formal", n.lineno, n.arg, self.opt(n.annotation), self.opt(d), rest)
+            return ("formal", n.lineno, self.named(n.arg), self.opt(n.annotation), self.opt(d), rest)
         return chain(one, list(zip(names, defaults)), ("no_formals",))
 
     def named_parameter(self, a):
-        return option(None if a is None else {"line": {"0": a.lineno}, "name": a.arg})
+        return option(None if a is None else {"line": {"0": a.lineno}, "name": self.named(a.arg)})
 
     def parameters(self, a):
         plain = [None] * (len(a.args) - len(a.defaults)) + a.defaults
@@ -181,7 +182,7 @@ class Trees:
         return chain(lambda s, r: ("more", self.statement(s), r), body, ("none",))
 
     def aliases(self, names):
-        return listed({"name": a.name, "alias": option(a.asname)} for a in names)
+        return listed({"name": self.named(a.name), "alias": option(a.asname and self.named(a.asname))} for a in names)
 
     def branches(self, s):
         """The branches of an `if`, and its `else`."""
@@ -196,7 +197,7 @@ class Trees:
         return self.lines[s.lineno - 1][s.col_offset:].startswith("elif")
 
     def handlers(self, hs):
-        return chain(lambda h, r: ("handler", h.lineno, self.opt(h.type), option(h.name), self.statements(h.body), r), hs, ("no_handlers",))
+        return chain(lambda h, r: ("handler", h.lineno, self.opt(h.type), option(h.name and self.named(h.name)), self.statements(h.body), r), hs, ("no_handlers",))
 
     def items(self, items):
         def one(i, rest):
@@ -232,9 +233,9 @@ class Trees:
             case ast.Import(names):
                 return ("import", l, self.aliases(names))
             case ast.ImportFrom(origin, names):
-                return ("import_from", l, origin, self.aliases(names))
+                return ("import_from", l, self.named(origin), self.aliases(names))
             case ast.Global(names) | ast.Nonlocal(names):
-                return (type(s).__name__.lower(), l, listed(names))
+                return (type(s).__name__.lower(), l, listed(map(self.named, names)))
             case ast.If():
                 return ("choice", l, *self.branches(s))
             case ast.While(test, body, otherwise):
@@ -246,10 +247,10 @@ class Trees:
             case ast.With(items, body):
                 return ("with", l, self.items(items), self.statements(body))
             case ast.FunctionDef(x, arguments, body, ds):
-                return ("def", self.first(s), self.decorators(ds), l, self.numbers[s], x, self.parameters(arguments), self.opt(s.returns),
+                return ("def", self.first(s), self.decorators(ds), l, self.numbers[s], self.named(x), self.parameters(arguments), self.opt(s.returns),
                         self.statements(body))
             case ast.ClassDef(x, bases, _, body, ds):
-                return ("class", self.first(s), self.decorators(ds), l, self.numbers[s], x, self.opt(bases[0] if bases else None),
+                return ("class", self.first(s), self.decorators(ds), l, self.numbers[s], self.named(x), self.opt(bases[0] if bases else None),
                         self.statements(body))
         raise ValueError(ast.dump(s))
 

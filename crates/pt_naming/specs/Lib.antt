@@ -1,0 +1,5 @@
+pub mod Nexts
+pub mod Regions
+pub mod Naming
+pub mod BlockNames
+pub mod Around

@@ -1,0 +1,9 @@
+//! How the blocks of a script name their variables (Language Reference 4.2.2, 6.2.1, 6.2.4).
+#![tactic(auto)]
+
+mod laws;
+
+pub use laws::{
+    cells_in_small_scripts, each_free_name_has_a_cell, names_have_their_scopes, names_in_a_class,
+    names_in_small_scripts, what_is_owned_is_local_or_a_cell,
+};
