@@ -198,6 +198,33 @@ class Block:
                     due.append((r, ls))
         return seen
 
+    def sizes(self):
+        """How many slots each place gets, or the least place up to which these numbers disagree, and how."""
+        def failing(reached):
+            return [n for n, row in enumerate(self.b["handlers"])
+                    if any(row[0] <= q < row[1] and row[3] > self.spared(q, V * size) for q, size in reached.items())]
+        first = 1 if self.b["kind"] == EXPRESSION else 0
+        found = {}
+        for p in sorted(self.at):
+            found, due, meet = {0: first}, [0], False
+            while due and not meet:
+                q = due.pop()
+                if q > p:
+                    continue
+                for r, ks, _ in self.steps(q, V * found[q]):
+                    if r in self.at and r not in found:
+                        found[r] = len(ks)
+                        due.append(r)
+                    meet = meet or found.get(r, len(ks)) != len(ks)
+            reached = {q: size for q, size in found.items() if q <= p}
+            if meet:
+                return "meet %d" % p
+            if failing(reached):
+                return "row %d at %d" % (failing(reached)[0], p)
+            if any(not self.has_enough(q, V * size) for q, size in reached.items()):
+                return "few %d" % p
+        return " ".join("%d:%d" % item for item in sorted(found.items()))
+
     def taker(self, q, t):
         for row in self.at[q][4]:
             if row[4] and not row[0] <= t < row[1]:

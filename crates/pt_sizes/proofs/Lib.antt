@@ -1,0 +1,6 @@
+pub mod Tables
+pub mod Theory
+mod Landings
+mod Going
+mod Adding
+mod Telling

@@ -1,0 +1,6 @@
+use Rattle.std.proofs.Common.{◌≡◌, ℕ, map}
+use Rattle.pt_sizes.specs.Waiting.{level_of, levels_of, up, LandingAll}
+use Rattle.pt_sizes.proofs.waiting.Waiting.land.Given as goal
+
+abbrev pub invariant-loop-level : goal.invariant-loop-level
+invariant-loop-level l = (l.node ≡ up l.level-index l.at) × LandingAll (map level_of l.initial.level-items) (map level_of l.level-items) l.level-index l.at l.below l.initial.work.items l.work.items
