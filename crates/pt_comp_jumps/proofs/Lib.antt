@@ -1,0 +1,6 @@
+pub mod Ranges
+pub mod Verdicts
+pub mod Landings
+pub mod Cuts
+pub mod After
+pub mod Alike
