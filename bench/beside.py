@@ -4,6 +4,7 @@ Times are those of the processor, in the program and in the system for it. Where
 are counted too: work that is linear doubles them, whatever the caches do, while times also tell how far the data lies.
 """
 
+import multiprocessing
 import os
 import re
 import shutil
@@ -58,6 +59,12 @@ def timed(call, size, turns):
     return time.process_time() - start
 
 
+def alone(call, size, turns):
+    """The same in a process of its own: what this one takes would count as memory of its children."""
+    with multiprocessing.get_context("fork").Pool(1) as pool:
+        return pool.apply(timed, (call, size, turns))
+
+
 def measured(program, call, size, turns=1):
     """What the program takes at a size and at twice the size, and CPython for what has the same name, so many times each.
 
@@ -65,7 +72,7 @@ def measured(program, call, size, turns=1):
     """
     sizes = (size, 2 * size)
     words = [[call.__name__, str(it), *([str(turns)] if turns > 1 else [])] for it in sizes]
-    runs = [([program.run(it) for it in words], [timed(call, it, turns) for it in sizes]) for _ in range(RUNS)]
+    runs = [([program.run(it) for it in words], [alone(call, it, turns) for it in sizes]) for _ in range(RUNS)]
     own = [min(run[0][at][0] for run in runs) - program.start for at in (0, 1)]
     theirs = [min(run[1][at] for run in runs) for at in (0, 1)]
     counts = [program.instructions(it) for it in words]
