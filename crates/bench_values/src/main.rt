@@ -125,15 +125,39 @@ fn add(alloc: Global, count: u32) -> Result<bool, Memory> {
     Ok(heap.len() == count)
 }
 
-fn number(word: Option<String>) -> u32 {
-    match word {
-        Some(word) => word.as_str().parse::<u32>().unwrap_or(0),
-        None => 0,
+/// Does what a command names, at a size; `limit` has one of its own.
+fn run(alloc: Global, command: &str, size: u32) -> Result<bool, Memory> {
+    match command {
+        "find" => search(alloc, size),
+        "replace" => substitute(alloc, size),
+        "insert" => insert(alloc, size),
+        "get" => get(alloc, size),
+        "remove" => remove(alloc, size),
+        "limit" => limit(alloc),
+        _ => add(alloc, size),
     }
 }
 
-/// The words are what is timed and its size: `find`, `replace`, `insert`, `get`, `remove` or `add`;
-/// `limit` is tried at the one size that it has.
+/// Does that so many times.
+fn repeat_run(alloc: Global, command: &str, size: u32, turns: u32) -> Result<bool, Memory> {
+    for _turn in 0..turns {
+        if !run(alloc, command, size)? {
+            return Ok(false);
+        }
+    }
+    Ok(true)
+}
+
+/// The number that a word is, or another where there is none.
+fn number(word: Option<String>, other: u32) -> u32 {
+    match word {
+        Some(word) => word.as_str().parse::<u32>().unwrap_or(other),
+        None => other,
+    }
+}
+
+/// The words are what is timed, its size, and how many times it is done: `find`, `replace`,
+/// `insert`, `get`, `remove`, `add` or `limit`.
 fn main(rt: HostRuntime) -> ExitCode {
     let Ok(mut args) = env::args(&rt) else {
         return ExitCode::from(1);
@@ -142,17 +166,9 @@ fn main(rt: HostRuntime) -> ExitCode {
     let Some(command) = args.next() else {
         return ExitCode::from(1);
     };
-    let size = number(args.next());
-    let done = match command.as_str() {
-        "find" => search(rt.alloc(), size),
-        "replace" => substitute(rt.alloc(), size),
-        "insert" => insert(rt.alloc(), size),
-        "get" => get(rt.alloc(), size),
-        "remove" => remove(rt.alloc(), size),
-        "limit" => limit(rt.alloc()),
-        _ => add(rt.alloc(), size),
-    };
-    match done {
+    let size = number(args.next(), 0);
+    let turns = number(args.next(), 1);
+    match repeat_run(rt.alloc(), command.as_str(), size, turns) {
         Ok(true) => ExitCode::from(0),
         _ => ExitCode::from(1),
     }
