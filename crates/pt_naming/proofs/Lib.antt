@@ -1,1 +1,3 @@
 mod AroundLemmas
+mod OutwardsLemmas
+pub mod TakenLemmas

@@ -5,14 +5,14 @@ use Rattle.pt_scopes.specs.declared.region.Kind.{Kind}
 use Rattle.pt_scopes.specs.declared.region.Mention.{Mention}
 use Rattle.pt_scopes.specs.declared.region.Region.{Region}
 use Rattle.pt_scopes.specs.Places.{Places}
-use Rattle.pt_scopes.specs.Scope.{facts, home_of, is_class, meant}
+use Rattle.pt_scopes.specs.Scope.{home_of, is_class}
 use Rattle.pt_tree.specs.declared.expression.NamedParameter.{NamedParameter}
 use Rattle.pt_tree.specs.Blocks.{Block, Code, of_module, of_function, of_class, of_lambda, of_generator}
 use Rattle.pt_tree.specs.Syntax as S
 use Rattle.pt_tree.specs.Syntax.{Name, Params, Formals}
 use Rattle.pt_control.specs.Turn as T
 use Rattle.pt_control.specs.Turn.{Variable}
-use Rattle.pt_naming.specs.Naming.{variable, spelled_in, seen, own}
+use Rattle.pt_naming.specs.Naming.{variable, spelled_in, seen, own, is_free_at}
 use Rattle.pt_naming.specs.Regions.{is_inside, class_of}
 
 -- each name once, where it comes first
@@ -51,14 +51,6 @@ named_at g b h m = if m.region == h then own g b m.name else seen g m.region m.n
 -- all that is named in a block, in source order
 abbrev pub variables_of : Places → (block region : ℕ) → List Variable
 variables_of g b h = map (named_at g b h) (filter (λ m. home_of g.regions m.region == h) g.mentions)
-
-abbrev pub is_outside : List Region → (block : ℕ) → (owner : Option ℕ) → Bool
-is_outside rs h None = false
-is_outside rs h (Some q) = not (is_inside rs h q)
-
--- a name in the block or in a block within it, which a function around has
-abbrev pub is_free_at : Places → (block : ℕ) → Mention → Bool
-is_free_at g h m = is_inside g.regions h m.region && is_outside g.regions h (meant g.regions (facts g.mentions m.name) m.region)
 
 abbrev pub read_free : Places → (block : ℕ) → List Name
 read_free g h = distinct (map (λ m. m.name) (filter (is_free_at g h) g.mentions))

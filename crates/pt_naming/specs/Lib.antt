@@ -3,3 +3,4 @@ pub mod Regions
 pub mod Naming
 pub mod BlockNames
 pub mod Around
+pub mod Laws

@@ -3,6 +3,7 @@ use Rattle.std.specs.Prelude.{ℕ, zero, suc, Bool, true, false, not, ◌&&◌, 
 use Rattle.std.specs.List.{list_any}
 use Rattle.std.specs.Option.{unwrap_or}
 use Rattle.pt_scopes.specs.declared.region.Mention.{Mention}
+use Rattle.pt_scopes.specs.declared.region.Region.{Region}
 use Rattle.pt_scopes.specs.declared.scope.Scope.{Scope}
 use Rattle.pt_scopes.specs.declared.scope.Scope.TheVariants as scope
 use Rattle.pt_scopes.specs.Names.{mangled}
@@ -13,7 +14,7 @@ use Rattle.pt_tree.specs.Blocks.{Block}
 use Rattle.pt_control.specs.Turn as T
 use Rattle.pt_control.specs.Turn.{Variable}
 use Rattle.pt_naming.specs.Nexts.{nexts_of}
-use Rattle.pt_naming.specs.Regions.{comprehensions_of, depth_of}
+use Rattle.pt_naming.specs.Regions.{comprehensions_of, depth_of, is_inside}
 
 abbrev pub variable : T.Scope → Name → Variable
 variable s x = record { scope = s; name = x }
@@ -38,13 +39,20 @@ abbrev pub dotted : (depth : ℕ) → Name → Name
 dotted zero x = x
 dotted (suc d) x = dot ∷ dotted d x
 
--- another block than that of its owner speaks of the name
-abbrev pub is_elsewhere : Places → (owner : ℕ) → Name → Mention → Bool
-is_elsewhere g q x m =
-    bytes_eq m.name x && is_just (meant g.regions (facts g.mentions x) m.region) q && not (home_of g.regions m.region == home_of g.regions q)
+abbrev pub is_outside : List Region → (block : ℕ) → (owner : Option ℕ) → Bool
+is_outside rs h None = false
+is_outside rs h (Some q) = not (is_inside rs h q)
 
+-- a name in the block or in a block within it, which a function or comprehension around the block has
+abbrev pub is_free_at : Places → (block : ℕ) → Mention → Bool
+is_free_at g h m = is_inside g.regions h m.region && is_outside g.regions h (meant g.regions (facts g.mentions m.name) m.region)
+
+abbrev pub is_free_of : Places → (owner : ℕ) → Name → (block : ℕ) → Mention → Bool
+is_free_of g q x h m = bytes_eq m.name x && is_just (meant g.regions (facts g.mentions m.name) m.region) q && is_free_at g h m
+
+-- some block has the name free
 abbrev pub is_captured : Places → (owner : ℕ) → Name → Bool
-is_captured g q x = list_any (is_elsewhere g q x) g.mentions
+is_captured g q x = list_any (λ h. list_any (is_free_of g q x h) g.mentions) g.blocks
 
 abbrev pub cell_or_local : (captured : Bool) → T.Scope
 cell_or_local true = T.cell

@@ -10,6 +10,7 @@ ghost use Rattle.pt_tree.specs.Syntax.{Name, Stms};
 ghost use Rattle.pt_control.specs.Turn as T;
 ghost use Rattle.pt_naming.specs.Around.{around_of, names_of};
 ghost use Rattle.pt_naming.specs.BlockNames.{captured_at, free_names};
+ghost use Rattle.pt_naming.specs.Laws.{HaveCells};
 ghost use Rattle.pt_naming.specs.Naming.{own, owned, spelled_in, variable};
 
 /// A name of a comprehension, as one of a function, is local in its block or in a cell.
@@ -24,6 +25,12 @@ pub fn names_have_their_scopes<V>()
         → slice_get (blocks_script ss) b ≡ Some k
         → slice_get (places_script ss).blocks b ≡ Some h
         → (around_of v ss b).variable [] x ≡ own (places_script ss) b (spelled_in k x) }
+{}
+
+/// What a block takes along is in a cell of its maker: the maker's own, or one that it has from around.
+#[tactic(auto, using(crate::proofs::TakenLemmas::cells_of_maker))]
+pub fn what_is_taken_along_is_in_a_cell<V>()
+    ensures { (v : V) (ss : Stms) (b c : ℕ) → HaveCells ((around_of v ss b).captured c) }
 {}
 
 /// A block takes along as many cells as it has free names.
