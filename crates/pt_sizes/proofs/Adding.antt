@@ -1,6 +1,6 @@
 -- Rows are put where they wait.
-use Rattle.std.proofs.Common.{◌≡◌, ℕ, ◌+◌, ◌-◌, ◌*◌, ◌/◌, ◌%◌, ◌<◌, ◌≤◌, Bool, true, false, List, [], ◌∷◌, ◌++◌, length, map, Option, Some, None, refl, sym, ap, ◌∙◌, subst, arith, zero, suc, ◌⊎◌, inl, inr, get_or, set, length-append}
-use Rattle.std.specs.Prelude.{Vec, min, max, Contains, slice_get, slice_index_or, nat_lt, nat_eq, nat_le, ◌&&◌}
+use Rattle.std.proofs.Common.{◌≡◌, ℕ, ◌+◌, ◌-◌, ◌/◌, ◌%◌, ◌<◌, ◌≤◌, Bool, true, false, List, [], ◌∷◌, ◌++◌, length, map, Some, refl, sym, ap, ◌∙◌, subst, arith, zero, suc, ◌⊎◌, inl, inr, get_or, set, length-append}
+use Rattle.std.specs.Prelude.{Vec, min, max, Contains, slice_get}
 use Rattle.std.proofs.lemmas.List.{get_or-map, get_or-set_same, get_or-set_other, length-set, map-set, map-append}
 use Rattle.std.proofs.lemmas.List.Elements.{Contains-push, Contains-push_cases, Contains-append_left}
 use Rattle.std.proofs.lemmas.Bool.Decides.{nat_tests}
@@ -9,9 +9,9 @@ use Rattle.std.proofs.lemmas.Option.{same_Some}
 use Rattle.std.proofs.Math.Nat.{le-max_left, le-max_right, max-eq_left, max-eq_right, min-le_left, min-le_right, le-min}
 use Rattle.pt_ranges.specs.declared.handlers.Handler.{Handler}
 use Rattle.pt_sizes.specs.Flow.{is_under}
-use Rattle.pt_sizes.specs.Waiting.{Level, up, stretch_of, stretch, Waits, Descends, AllDescend, Rises, AllUnder, put, at_low, at_high, placed, first_depth, DeepestBelow, IsTall, Empty, Adding, Added, Ready, Building, Index, IsDeepest, AreDeepest, BareTo, IsByDepth, level_of, levels_of}
+use Rattle.pt_sizes.specs.Waiting.{Level, up, stretch_of, stretch, Waits, Descends, Rises, AllUnder, put, at_low, at_high, placed, first_depth, DeepestBelow, Empty, Adding, Added, Ready, Building, Index, IsDeepest, AreDeepest, BareTo, level_of, levels_of}
 use Rattle.pt_sizes.proofs.Tables.{below_or, none_in_empty}
-use Rattle.pt_sizes.proofs.Landings.{contains_get, get_left, get_last, set_relates, same_or, read_items, no_more, is_empty}
+use Rattle.pt_sizes.proofs.Landings.{contains_get, get_left, get_last, set_relates, same_or, read_items, no_more}
 
 get_cases : (xs : List Handler) (x : Handler) (i : ℕ) (y : Handler) → slice_get (xs ++ x ∷ []) i ≡ Some y → (slice_get xs i ≡ Some y) ⊎ ((i ≡ length xs) × (x ≡ y))
 get_cases [] x zero y e = inr (refl, same_Some _ _ e)

@@ -1,5 +1,5 @@
 -- What going on from a place adds.
-use Rattle.std.proofs.Common.{◌≡◌, ℕ, ◌+◌, ◌*◌, ◌<◌, ◌≤◌, Bool, true, false, List, [], ◌∷◌, ◌++◌, length, Option, Some, None, refl, sym, ap, ◌∙◌, subst, arith, zero, suc, ◌⊎◌, inl, inr, get_or, set, length-append}
+use Rattle.std.proofs.Common.{◌≡◌, ℕ, ◌+◌, ◌<◌, ◌≤◌, Bool, true, false, List, [], ◌∷◌, ◌++◌, length, Option, Some, None, refl, sym, ap, ◌∙◌, subst, arith, zero, suc, ◌⊎◌, inl, inr, get_or, set, length-append}
 use Rattle.std.specs.Prelude.{Contains, ◌||◌, nat_lt, if◌then◌else◌, nat_le}
 use Rattle.std.proofs.lemmas.List.Elements.{Contains-append_left, Contains-append_right, Contains-append_cases}
 use Rattle.std.proofs.lemmas.Bool.{false≢true}
@@ -7,10 +7,10 @@ use Rattle.std.proofs.lemmas.Bool.Decides.{nat_tests}
 use Rattle.pt_ranges.specs.declared.handlers.Handler.{Handler}
 use Rattle.pt_sizes.specs.declared.places.Place.{Place}
 use Rattle.pt_sizes.specs.declared.places.SizeStep.{SizeStep}
-use Rattle.pt_sizes.specs.Flow.{Body, entry, left, own_steps, step_to, step_again, landing, is_under, SizesMeet}
-use Rattle.pt_sizes.specs.Waiting.{Level, Waits, AllDescend, levels_size, IsDeepest, AreDeepest}
-use Rattle.pt_sizes.specs.Search.{Open, Landed, LandedAll, Went, WentOn, OpenNow, Stepped, AfterStep, weight, nones}
-use Rattle.pt_sizes.proofs.Tables.{none_in_empty, some_or_none, entry_in}
+use Rattle.pt_sizes.specs.Flow.{Body, entry, left, own_steps, step_to, step_again, is_under}
+use Rattle.pt_sizes.specs.Waiting.{Level, Waits, AllDescend, levels_size, IsDeepest}
+use Rattle.pt_sizes.specs.Search.{Open, Landed, LandedAll, Went, WentOn, Stepped, AfterStep, weight, nones}
+use Rattle.pt_sizes.proofs.Tables.{some_or_none, entry_in}
 use Rattle.pt_sizes.proofs.Theory.{open_seen, open_above, open_below, meets}
 
 or_first : (t : Bool) (a c : ℕ) → t ≡ true → (t || nat_lt a c) ≡ true

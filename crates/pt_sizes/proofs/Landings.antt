@@ -1,14 +1,13 @@
 -- Rows that land from the stretches in which a place lies.
-use Rattle.std.proofs.Common.{◌≡◌, ℕ, ◌+◌, ◌*◌, ◌/◌, ◌<◌, ◌≤◌, List, [], ◌∷◌, ◌++◌, length, map, Option, Some, None, refl, sym, ap, ◌∙◌, subst, arith, zero, suc, ◌⊎◌, inl, inr, get_or, set, length-append}
+use Rattle.std.proofs.Common.{◌≡◌, ℕ, ◌+◌, ◌/◌, ◌<◌, ◌≤◌, List, [], ◌∷◌, ◌++◌, length, map, Some, refl, sym, ap, ◌∙◌, subst, arith, zero, suc, ◌⊎◌, inl, inr, get_or, set, length-append}
 use Rattle.std.specs.Prelude.{Vec, Contains, slice_get}
 use Rattle.std.proofs.lemmas.List.{get_or-set_same, get_or-set_other, length-set, length-map, get_or-map}
 use Rattle.std.proofs.lemmas.List.Elements.{Contains-push, Contains-push_cases, Contains-append_left}
-use Rattle.std.proofs.lemmas.Option.{same_Some}
 use Rattle.pt_ranges.specs.declared.handlers.Handler.{Handler}
 use Rattle.pt_sizes.specs.declared.places.SizeStep.{SizeStep}
 use Rattle.pt_sizes.specs.Flow.{landing}
 use Rattle.pt_sizes.specs.Search.{LandedAll}
-use Rattle.pt_sizes.specs.Waiting.{Level, level_of, up, stretch_of, stretch, Waits, Descends, AllDescend, level_size, levels_size, LandedSome, LandingSome, LandedOn, LandingAll}
+use Rattle.pt_sizes.specs.Waiting.{Level, level_of, up, stretch_of, stretch, Descends, AllDescend, level_size, levels_size, LandedSome, LandingSome, LandedOn, LandingAll}
 use Rattle.pt_sizes.proofs.Tables.{below_or, none_in_empty}
 
 pub contains_get : {X : Type 0} (xs : List X) (x : X) → Contains xs x → (i : ℕ) × ((i < length xs) × (slice_get xs i ≡ Some x))

@@ -1,17 +1,16 @@
 -- What the end of a stage tells.
-use Rattle.std.proofs.Common.{◌≡◌, ℕ, ◌+◌, ◌<◌, ◌≤◌, Bool, true, false, List, [], ◌∷◌, ◌++◌, length, Option, Some, None, refl, sym, ap, ◌∙◌, subst, arith, ◌⊎◌, inl, inr}
-use Rattle.std.specs.Prelude.{Contains, slice_get}
+use Rattle.std.proofs.Common.{◌≡◌, ℕ, ◌+◌, ◌<◌, Bool, true, false, List, [], length, Option, Some, None, refl, sym, ◌∙◌, subst, arith, inl}
+use Rattle.std.specs.Prelude.{Contains}
 use Rattle.std.proofs.lemmas.Bool.{false≢true}
 use Rattle.pt_ranges.specs.declared.handlers.Handler.{Handler}
 use Rattle.pt_sizes.specs.declared.places.Place.{Place}
 use Rattle.pt_sizes.specs.Flow as F
 use Rattle.pt_sizes.specs.Flow.{Body, entry, sized, is_under, Gets, Stands, SizesMeet, TooDeep, Lacks, Disagrees, Agrees, RowTooDeep, IsFirst, IsTable, IsMeeting, IsDeepRow, IsLack}
-use Rattle.pt_sizes.specs.Waiting.{Level, Waits, Index, levels_of}
-use Rattle.pt_sizes.specs.Search.{Open, OpenNow, AnyDeep, IsFirstTable, DeepHere, DeepBelow, IsLeastDeep}
+use Rattle.pt_sizes.specs.Waiting.{Level, Waits, Index}
+use Rattle.pt_sizes.specs.Search.{OpenNow, IsFirstTable, DeepBelow, IsLeastDeep}
 use Rattle.pt_sizes.proofs.Tables.{none_in_empty, some_or_none}
-use Rattle.pt_sizes.proofs.Landings.{contains_get}
 use Rattle.pt_sizes.proofs.Adding.{get_in}
-use Rattle.pt_sizes.proofs.Theory.{whole, one_size, deep_told, agrees, stage_none, stage_some}
+use Rattle.pt_sizes.proofs.Theory.{whole, one_size, deep_told, agrees, stage_none}
 
 module _ (b : Body) where
   pub opening : (T : List (Option ℕ)) (levels : List Level) → IsFirstTable b.places b.first T → Index b.rows (length b.places) levels → OpenNow b 0 T [] levels false false

@@ -1,5 +1,5 @@
 -- A search that is closed under the ways on has found what places get.
-use Rattle.std.proofs.Common.{◌≡◌, ℕ, ◌+◌, ◌*◌, ◌<◌, ◌≤◌, Bool, true, false, List, [], ◌∷◌, ◌++◌, length, Option, Some, None, refl, sym, ap, ◌∙◌, subst, arith, ◌⊎◌, inl, inr, set}
+use Rattle.std.proofs.Common.{◌≡◌, ℕ, ◌+◌, ◌<◌, ◌≤◌, Bool, true, false, List, [], ◌∷◌, ◌++◌, length, Option, Some, None, sym, ◌∙◌, subst, arith, ◌⊎◌, inl, inr, set}
 use Rattle.std.specs.Prelude.{Contains}
 use Rattle.std.proofs.lemmas.List.{length-set}
 use Rattle.std.proofs.lemmas.List.Elements.{Contains-push, Contains-push_cases, Contains-append_left}
@@ -11,7 +11,7 @@ use Rattle.pt_sizes.specs.declared.places.SizeStep.{SizeStep}
 use Rattle.pt_sizes.specs.Flow as F
 use Rattle.pt_sizes.specs.Flow.{Body, entry, left, own_steps, landing, is_under, sized, Lands, Leads, Gets, Stands, SizesMeet, TooDeep, Lacks, Disagrees, Agrees, RowTooDeep, IsFirst, IsTable, IsMeeting, IsDeepRow, IsLack}
 use Rattle.pt_sizes.specs.Search.{Seen, Led, AnyDeep, Open, Went}
-use Rattle.pt_sizes.proofs.Tables.{below_or, none_in_empty, some_or_none, entry_in, entry_out, entry_after, entry_grow, entry_here}
+use Rattle.pt_sizes.proofs.Tables.{below_or, none_in_empty, some_or_none, entry_in, entry_after, entry_grow, entry_here}
 
 module _ (b : Body) where
   pub more_gets : (l m : ℕ) → l ≤ m → (q n : ℕ) → Gets b l q n → Gets b m q n

@@ -1,6 +1,6 @@
--- How many slots places get, whatever their kinds (Library Reference, "dis"), and how a block may fail by these sizes alone.
+-- How many slots places get, whatever their kinds (Library Reference, "dis"), and how a block may
+-- fail by these sizes alone.
 use Rattle.std.specs.Prelude.{◌≡◌, ℕ, ◌+◌, ◌-◌, ◌<◌, ◌≤◌, List, [], ◌∷◌, ◌++◌, length, Contains, slice_get, slice_index_or, Bool, true, nat_le, if◌then◌else◌, Option, Some, None}
-use Rattle.pt_base.specs.declared.numbers.Pc.{Pc}
 use Rattle.pt_ranges.specs.declared.handlers.Handler.{Handler}
 use Rattle.pt_ranges.specs.Rows.{covers}
 use Rattle.pt_sizes.specs.declared.places.Place.{Place}
@@ -26,7 +26,8 @@ step_again again pc n = if again then sized pc n ∷ [] else []
 abbrev pub own_steps : Place → (pc n : ℕ) → List SizeStep
 own_steps place pc n =
     if nat_le place.needs n
-    then step_to place.next (left place n) place.onward ++ (step_to place.target (left place n) place.aside ++ step_again place.again pc n)
+    then step_to place.next (left place n) place.onward
+    ++ (step_to place.target (left place n) place.aside ++ step_again place.again pc n)
     else []
 
 -- a handler gets as many slots from each place
@@ -59,7 +60,8 @@ pub data Leads (b : Body) (pc n : ℕ) (place : Place) : SizeStep → Type 0 whe
 -- how many slots a place gets through the instructions below a limit
 pub data Gets (b : Body) (limit : ℕ) : (pc n : ℕ) → Type 0 where
   start : (place : Place) → entry b.places 0 ≡ Some place → Gets b limit 0 b.first
-  goes : {q n : ℕ} {s : SizeStep} {place there : Place} → Gets b limit q n → q < limit → entry b.places q ≡ Some place → Leads b q n place s
+  goes : {q n : ℕ} {s : SizeStep} {place there : Place} → Gets b limit q n → q < limit
+      → entry b.places q ≡ Some place → Leads b q n place s
       → entry b.places s.to ≡ Some there → Gets b limit s.to s.size
 
 -- an instruction below the limit whose place gets so many
@@ -73,7 +75,8 @@ pub data SizesMeet (b : Body) (limit : ℕ) : Type 0 where
 
 -- a row is to leave more slots than lie below those that an instruction under it takes
 pub data TooDeep (b : Body) (limit : ℕ) (row : Handler) : Type 0 where
-  deep : {q n : ℕ} {place : Place} → Stands b limit q n place → Contains b.rows row → is_under row q ≡ true → left place n < row.depth → TooDeep b limit row
+  deep : {q n : ℕ} {place : Place} → Stands b limit q n place → Contains b.rows row
+      → is_under row q ≡ true → left place n < row.depth → TooDeep b limit row
 
 pub data Lacks (b : Body) (limit : ℕ) : Type 0 where
   lacks : {q n : ℕ} {place : Place} → Stands b limit q n place → n < place.needs → Lacks b limit

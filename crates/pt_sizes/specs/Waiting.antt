@@ -1,5 +1,6 @@
--- Handler rows that wait, by the places that they cover: on each level stretches of twice as many places.
-use Rattle.std.specs.Prelude.{Vec, Bool, false, nat_lt, nat_eq, ◌&&◌, ◌++◌, ◌-◌, ◌%◌, ◌≡◌, ℕ, zero, suc, ◌+◌, ◌/◌, ◌<◌, ◌≤◌, List, [], ◌∷◌, length, map, sum, Contains, slice_get, slice_set, slice_index_or, Option, Some, None, true, ◌⊎◌}
+-- Handler rows that wait, by the places that they cover: on each level stretches of twice as many
+-- places.
+use Rattle.std.specs.Prelude.{Vec, Bool, false, nat_lt, nat_eq, ◌&&◌, ◌++◌, ◌-◌, ◌%◌, ◌≡◌, ℕ, zero, suc, ◌+◌, ◌/◌, ◌<◌, ◌≤◌, List, [], ◌∷◌, length, map, Contains, slice_get, slice_set, slice_index_or, Some, true, ◌⊎◌}
 use Rattle.pt_ranges.specs.declared.handlers.Handler.{Handler}
 use Rattle.pt_sizes.specs.declared.places.SizeStep.{SizeStep}
 use Rattle.pt_sizes.specs.Flow.{is_under, landing}
@@ -30,7 +31,8 @@ pub record Waits (levels : List Level) (pc : ℕ) (row : Handler) : Type 0 where
 
 -- the deepest first
 abbrev pub Descends : List Handler → Type 0
-Descends rows = (i j : ℕ) (r s : Handler) → i ≤ j → slice_get rows i ≡ Some r → slice_get rows j ≡ Some s → s.depth ≤ r.depth
+Descends rows = (i j : ℕ) (r s : Handler) → i ≤ j → slice_get rows i ≡ Some r
+    → slice_get rows j ≡ Some s → s.depth ≤ r.depth
 
 abbrev pub AllDescend : List Level → Type 0
 AllDescend levels = (level node : ℕ) → Descends (stretch levels level node)
@@ -45,22 +47,27 @@ levels_size (level ∷ levels) = level_size level + levels_size levels
 
 -- the rows wait at all places below a count that they cover
 pub record Index (rows : List Handler) (count : ℕ) (levels : List Level) : Type 0 where
-  pub known : (pc : ℕ) (row : Handler) → Waits levels pc row → Contains rows row × (is_under row pc ≡ true)
-  pub whole : (pc : ℕ) (row : Handler) → pc < count → Contains rows row → is_under row pc ≡ true → Waits levels pc row
+  pub known : (pc : ℕ) (row : Handler) → Waits levels pc row → Contains rows row
+      × (is_under row pc ≡ true)
+  pub whole : (pc : ℕ) (row : Handler) → pc < count → Contains rows row → is_under row pc ≡ true
+      → Waits levels pc row
   pub sorted : AllDescend levels
 
 -- how deep the deepest row is that covers a place
 pub record IsDeepest (rows : List Handler) (pc depth : ℕ) : Type 0 where
   pub most : (row : Handler) → Contains rows row → is_under row pc ≡ true → row.depth ≤ depth
-  pub one : 0 < depth → (row : Handler) × (Contains rows row × ((is_under row pc ≡ true) × (row.depth ≡ depth)))
+  pub one : 0 < depth → (row : Handler) ×
+      (Contains rows row × ((is_under row pc ≡ true) × (row.depth ≡ depth)))
 
 abbrev pub AreDeepest : (rows : List Handler) (table : List ℕ) → (count : ℕ) → Type 0
 AreDeepest rows table count = (pc : ℕ) → pc < count → IsDeepest rows pc (slice_index_or table pc 0)
 
 -- what landing some rows of a stretch comes to
-pub record LandedSome (rows rows' : List Handler) (below : ℕ) (work work' : List SizeStep) : Type 0 where
+pub record LandedSome (rows rows' : List Handler) (below : ℕ)
+    (work work' : List SizeStep) : Type 0 where
   pub kept : (s : SizeStep) → Contains work s → Contains work' s
-  pub came : (s : SizeStep) → Contains work' s → Contains work s ⊎ ((row : Handler) × (Contains rows row × ((row.depth ≤ below) × (landing row ≡ s))))
+  pub came : (s : SizeStep) → Contains work' s → Contains work s
+      ⊎ ((row : Handler) × (Contains rows row × ((row.depth ≤ below) × (landing row ≡ s))))
   pub fewer : (row : Handler) → Contains rows' row → Contains rows row
   pub on : (row : Handler) → Contains rows row → Contains rows' row ⊎ Contains work' (landing row)
   pub clear : (row : Handler) → Contains rows' row → row.depth ≤ below → ⊥
@@ -68,31 +75,43 @@ pub record LandedSome (rows rows' : List Handler) (below : ℕ) (work work' : Li
   pub lighter : length rows' + length work' ≤ length rows + length work
 
 -- the same while it goes on
-pub record LandingSome (rows rows' : List Handler) (below : ℕ) (work work' : List SizeStep) : Type 0 where
+pub record LandingSome (rows rows' : List Handler) (below : ℕ)
+    (work work' : List SizeStep) : Type 0 where
   pub kept : (s : SizeStep) → Contains work s → Contains work' s
-  pub came : (s : SizeStep) → Contains work' s → Contains work s ⊎ ((row : Handler) × (Contains rows row × ((row.depth ≤ below) × (landing row ≡ s))))
+  pub came : (s : SizeStep) → Contains work' s → Contains work s
+      ⊎ ((row : Handler) × (Contains rows row × ((row.depth ≤ below) × (landing row ≡ s))))
   pub fewer : (row : Handler) → Contains rows' row → Contains rows row
   pub on : (row : Handler) → Contains rows row → Contains rows' row ⊎ Contains work' (landing row)
   pub sorted : Descends rows'
   pub lighter : length rows' + length work' ≤ length rows + length work
 
 -- a stretch of a level is landed, and the others stay
-pub record LandedOn (level level' : Level) (node below : ℕ) (work work' : List SizeStep) : Type 0 where
+pub record LandedOn (level level' : Level) (node below : ℕ)
+    (work work' : List SizeStep) : Type 0 where
   pub kept : (s : SizeStep) → Contains work s → Contains work' s
-  pub came : (s : SizeStep) → Contains work' s → Contains work s ⊎ ((row : Handler) × (Contains (stretch_of level node) row × ((row.depth ≤ below) × (landing row ≡ s))))
-  pub fewer : (v : ℕ) (row : Handler) → Contains (stretch_of level' v) row → Contains (stretch_of level v) row
-  pub on : (v : ℕ) (row : Handler) → Contains (stretch_of level v) row → Contains (stretch_of level' v) row ⊎ Contains work' (landing row)
+  pub came : (s : SizeStep) → Contains work' s → Contains work s
+      ⊎ ((row : Handler) × (Contains (stretch_of level node) row
+      × ((row.depth ≤ below) × (landing row ≡ s))))
+  pub fewer : (v : ℕ) (row : Handler) → Contains (stretch_of level' v) row
+      → Contains (stretch_of level v) row
+  pub on : (v : ℕ) (row : Handler) → Contains (stretch_of level v) row
+      → Contains (stretch_of level' v) row ⊎ Contains work' (landing row)
   pub clear : (row : Handler) → Contains (stretch_of level' node) row → row.depth ≤ below → ⊥
   pub sorted : (v : ℕ) → Descends (stretch_of level' v)
   pub lighter : level_size level' + length work' ≤ level_size level + length work
 
 -- the levels up to one are landed at a place
-pub record LandingAll (levels levels' : List Level) (done q below : ℕ) (work work' : List SizeStep) : Type 0 where
+pub record LandingAll (levels levels' : List Level) (done q below : ℕ)
+    (work work' : List SizeStep) : Type 0 where
   pub kept : (s : SizeStep) → Contains work s → Contains work' s
-  pub came : (s : SizeStep) → Contains work' s → Contains work s ⊎ ((row : Handler) × (Waits levels q row × ((row.depth ≤ below) × (landing row ≡ s))))
-  pub fewer : (k v : ℕ) (row : Handler) → Contains (stretch levels' k v) row → Contains (stretch levels k v) row
-  pub on : (k v : ℕ) (row : Handler) → Contains (stretch levels k v) row → Contains (stretch levels' k v) row ⊎ Contains work' (landing row)
-  pub clear : (k : ℕ) (row : Handler) → k < done → Contains (stretch levels' k (up k q)) row → row.depth ≤ below → ⊥
+  pub came : (s : SizeStep) → Contains work' s → Contains work s
+      ⊎ ((row : Handler) × (Waits levels q row × ((row.depth ≤ below) × (landing row ≡ s))))
+  pub fewer : (k v : ℕ) (row : Handler) → Contains (stretch levels' k v) row
+      → Contains (stretch levels k v) row
+  pub on : (k v : ℕ) (row : Handler) → Contains (stretch levels k v) row
+      → Contains (stretch levels' k v) row ⊎ Contains work' (landing row)
+  pub clear : (k : ℕ) (row : Handler) → k < done → Contains (stretch levels' k (up k q)) row
+      → row.depth ≤ below → ⊥
   pub sorted : AllDescend levels'
   pub long : length levels' ≡ length levels
   pub lighter : levels_size levels' + length work' ≤ levels_size levels + length work
@@ -108,7 +127,8 @@ pub record DeepestBelow (levels : List Level) (done q most : ℕ) : Type 0 where
   pub one : 0 < most → (k : ℕ) × (first_depth (stretch levels k (up k q)) ≡ most)
 
 abbrev pub Rises : List Handler → Type 0
-Rises rows = (i j : ℕ) (r s : Handler) → i ≤ j → slice_get rows i ≡ Some r → slice_get rows j ≡ Some s → r.depth ≤ s.depth
+Rises rows = (i j : ℕ) (r s : Handler) → i ≤ j → slice_get rows i ≡ Some r
+    → slice_get rows j ≡ Some s → r.depth ≤ s.depth
 
 abbrev pub AllUnder : (level node : ℕ) → Handler → Type 0
 AllUnder level node row = (q : ℕ) → up level q ≡ node → is_under row q ≡ true
@@ -123,9 +143,11 @@ at_low low high = nat_lt low high && nat_eq (low % 2) 1
 abbrev pub at_high : (low high : ℕ) → Bool
 at_high low high = nat_lt low high && nat_eq (high % 2) 1
 
--- a row is put into the stretches of a level that are no half of one above, of those from low up to high
+-- a row is put into the stretches of a level that are no half of one above, of those from low up to
+-- high
 abbrev pub placed : Level → (low high : ℕ) → Handler → Level
-placed level low high row = put (at_high low high) (put (at_low low high) level low row) (high - 1) row
+placed level low high row = put (at_high low high) (put (at_low low high) level low row)
+    (high - 1) row
 
 -- there are so many levels that the last has one stretch, and each has a stretch for each place
 pub record IsTall (count : ℕ) (levels : List Level) : Type 0 where
@@ -138,11 +160,15 @@ pub record Empty (count size : ℕ) (levels : List Level) : Type 0 where
   pub none : (k v : ℕ) (r : Handler) → Contains (stretch levels k v) r → ⊥
 
 -- a row is put on the levels up to one; what is left are the stretches from low up to high
-pub record Adding (count : ℕ) (row : Handler) (levels levels' : List Level) (done low high : ℕ) : Type 0 where
-  pub old : (k v : ℕ) (r : Handler) → Contains (stretch levels k v) r → Contains (stretch levels' k v) r
-  pub new : (k v : ℕ) (r : Handler) → Contains (stretch levels' k v) r → Contains (stretch levels k v) r ⊎ ((r ≡ row) × AllUnder k v row)
+pub record Adding (count : ℕ) (row : Handler) (levels levels' : List Level)
+    (done low high : ℕ) : Type 0 where
+  pub old : (k v : ℕ) (r : Handler) → Contains (stretch levels k v) r
+      → Contains (stretch levels' k v) r
+  pub new : (k v : ℕ) (r : Handler) → Contains (stretch levels' k v) r
+      → Contains (stretch levels k v) r ⊎ ((r ≡ row) × AllUnder k v row)
   pub sound : (q : ℕ) → low ≤ up done q → up done q < high → is_under row q ≡ true
-  pub whole : (q : ℕ) → q < count → is_under row q ≡ true → Waits levels' q row ⊎ ((low ≤ up done q) × (up done q < high))
+  pub whole : (q : ℕ) → q < count → is_under row q ≡ true → Waits levels' q row
+      ⊎ ((low ≤ up done q) × (up done q < high))
   pub sorted : AllDescend levels'
   pub deeper : (k v : ℕ) (r : Handler) → Contains (stretch levels' k v) r → row.depth ≤ r.depth
   pub small : high ≤ up done count
@@ -150,8 +176,10 @@ pub record Adding (count : ℕ) (row : Handler) (levels levels' : List Level) (d
   pub long : length levels' ≡ length levels
 
 pub record Added (count : ℕ) (row : Handler) (levels levels' : List Level) : Type 0 where
-  pub old : (k v : ℕ) (r : Handler) → Contains (stretch levels k v) r → Contains (stretch levels' k v) r
-  pub new : (k v : ℕ) (r : Handler) → Contains (stretch levels' k v) r → Contains (stretch levels k v) r ⊎ ((r ≡ row) × AllUnder k v row)
+  pub old : (k v : ℕ) (r : Handler) → Contains (stretch levels k v) r
+      → Contains (stretch levels' k v) r
+  pub new : (k v : ℕ) (r : Handler) → Contains (stretch levels' k v) r
+      → Contains (stretch levels k v) r ⊎ ((r ≡ row) × AllUnder k v row)
   pub whole : (q : ℕ) → q < count → is_under row q ≡ true → Waits levels' q row
   pub sorted : AllDescend levels'
   pub deeper : (k v : ℕ) (r : Handler) → Contains (stretch levels' k v) r → row.depth ≤ r.depth
@@ -165,11 +193,14 @@ pub record Ready (count : ℕ) (row : Handler) (levels : List Level) : Type 0 wh
 
 -- rows are put of which some are left, the deepest last
 pub record Building (rows left : List Handler) (count : ℕ) (levels : List Level) : Type 0 where
-  pub known : (k v : ℕ) (r : Handler) → Contains (stretch levels k v) r → Contains rows r × AllUnder k v r
-  pub whole : (r : Handler) → Contains rows r → Contains left r ⊎ ((q : ℕ) → q < count → is_under r q ≡ true → Waits levels q r)
+  pub known : (k v : ℕ) (r : Handler) → Contains (stretch levels k v) r → Contains rows r
+      × AllUnder k v r
+  pub whole : (r : Handler) → Contains rows r → Contains left r
+      ⊎ ((q : ℕ) → q < count → is_under r q ≡ true → Waits levels q r)
   pub from : (r : Handler) → Contains left r → Contains rows r
   pub sorted : AllDescend levels
-  pub deeper : (k v : ℕ) (r s : Handler) → Contains (stretch levels k v) r → Contains left s → s.depth ≤ r.depth
+  pub deeper : (k v : ℕ) (r s : Handler) → Contains (stretch levels k v) r → Contains left s
+      → s.depth ≤ r.depth
   pub rises : Rises left
   pub tall : IsTall count levels
 

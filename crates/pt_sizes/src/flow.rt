@@ -2,8 +2,8 @@
 ghost use Rattle.std.specs.Prelude.{Contains, MatchBool, ◌≡◌, ◌||◌, nat_lt, ◌<◌, ◌≤◌, ◌+◌, ◌++◌, ◌∷◌, [], length, false, map, Some, IfOk};
 ghost use Rattle.pt_ranges.specs.declared.handlers.Handler.{Handler};
 ghost use Rattle.pt_sizes.specs.Flow.{Tells};
-ghost use Rattle.pt_sizes.specs.Waiting.{AllDescend, AreDeepest, Waits, levels_of, levels_size};
-ghost use Rattle.pt_sizes.specs.Search.{AfterSettle, AfterStep, DeepBelow, DeepHere, IsFirstTable, IsLeastDeep, Open, OpenNow, WentOn, body_of, weight};
+ghost use Rattle.pt_sizes.specs.Waiting.{AllDescend, Waits, levels_of, levels_size};
+ghost use Rattle.pt_sizes.specs.Search.{AfterSettle, AfterStep, DeepBelow, DeepHere, IsFirstTable, IsLeastDeep, Open, OpenNow, WentOn, HasDeepest, body, body_of, weight};
 
 use crate::places::{Place, SizeStep, add_own};
 use crate::waiting::Waiting;
@@ -26,11 +26,12 @@ pub enum Sizes {
 
 /// A block whose sizes are sought.
 #[derive(Debug, Drop)]
-pub struct Asked {
-    pub places: Vec<Option<Place>>,
-    pub rows: Vec<Handler>,
-    pub first: u64,
-    pub deepest: Vec<u32>,
+struct Asked {
+    places: Vec<Option<Place>>,
+    rows: Vec<Handler>,
+    first: u64,
+    /// How deep the deepest row is that covers each place.
+    deepest: Vec<u32>,
 }
 
 /// What is known so far.
@@ -43,6 +44,7 @@ struct Search {
     few: bool,
 }
 
+/// What was told, or that the one number is less.
 fn or_less(told: bool, left: u64, right: u64) -> bool
     ensures { result ≡ told || nat_lt left right }
 {
@@ -53,11 +55,12 @@ impl Search {
     /// Goes on from a place whose size is known.
     fn go_on(&mut self, asked: &Asked, place: Place, at: usize, size: u64) -> Result<(), Memory>
         requires inside { at < length asked.now.deepest.items }
-        requires deepest { AreDeepest asked.now.rows.items asked.now.deepest.items (length asked.now.deepest.items) }
+        requires deepest { HasDeepest asked.now }
         requires sorted { AllDescend (levels_of self.old.waiting.levels) }
-        ensures { IfOk result (λ _. WentOn (body_of asked.now.places.items asked.now.rows.items asked.now.first) at size place
-            self.old.table.items self.new.table.items self.old.work.items self.new.work.items (levels_of self.old.waiting.levels)
-            (levels_of self.new.waiting.levels) self.old.deep self.new.deep self.old.few self.new.few) }
+        ensures { IfOk result (λ _. WentOn (body asked.now) at size place
+            self.old.table.items self.new.table.items self.old.work.items self.new.work.items
+            (levels_of self.old.waiting.levels) (levels_of self.new.waiting.levels)
+            self.old.deep self.new.deep self.old.few self.new.few) }
     {
         let below = size.saturating_sub(place.takes);
         add_own(&mut self.work, place, at, size)?;
@@ -70,13 +73,16 @@ impl Search {
     /// Sees to one step; false where two sizes meet.
     fn step(&mut self, asked: &Asked, limit: usize, step: SizeStep) -> Result<bool, Memory>
         requires long { length asked.now.places.items ≡ length asked.now.deepest.items }
-        requires deepest { AreDeepest asked.now.rows.items asked.now.deepest.items (length asked.now.deepest.items) }
+        requires deepest { HasDeepest asked.now }
         requires sorted { AllDescend (levels_of self.old.waiting.levels) }
-        requires open { Open (body_of asked.now.places.items asked.now.rows.items asked.now.first) limit self.old.table.items
-            (self.old.work.items ++ step ∷ []) (Waits (levels_of self.old.waiting.levels)) self.old.deep self.old.few }
-        ensures { IfOk result (λ fine. AfterStep fine (body_of asked.now.places.items asked.now.rows.items asked.now.first) limit
-            (weight self.old.table.items self.old.work.items (levels_size (levels_of self.old.waiting.levels)))
-            self.new.table.items self.new.work.items (levels_of self.new.waiting.levels) self.new.deep self.new.few) }
+        requires open { Open (body asked.now) limit self.old.table.items
+            (self.old.work.items ++ step ∷ [])
+            (Waits (levels_of self.old.waiting.levels)) self.old.deep self.old.few }
+        ensures { IfOk result (λ fine. AfterStep fine (body asked.now) limit
+            (weight self.old.table.items self.old.work.items
+            (levels_size (levels_of self.old.waiting.levels)))
+            self.new.table.items self.new.work.items
+            (levels_of self.new.waiting.levels) self.new.deep self.new.few) }
     {
         if step.to >= asked.places.len() {
             return Ok(true);
@@ -99,11 +105,11 @@ impl Search {
     /// Sees to all that is due; false where two sizes meet.
     fn settle(&mut self, asked: &Asked, limit: usize) -> Result<bool, Memory>
         requires long { length asked.now.places.items ≡ length asked.now.deepest.items }
-        requires deepest { AreDeepest asked.now.rows.items asked.now.deepest.items (length asked.now.deepest.items) }
+        requires deepest { HasDeepest asked.now }
         requires sorted { AllDescend (levels_of self.old.waiting.levels) }
-        requires open { Open (body_of asked.now.places.items asked.now.rows.items asked.now.first) limit self.old.table.items
-            self.old.work.items (Waits (levels_of self.old.waiting.levels)) self.old.deep self.old.few }
-        ensures { IfOk result (λ fine. AfterSettle fine (body_of asked.now.places.items asked.now.rows.items asked.now.first) limit
+        requires open { Open (body asked.now) limit self.old.table.items self.old.work.items
+            (Waits (levels_of self.old.waiting.levels)) self.old.deep self.old.few }
+        ensures { IfOk result (λ fine. AfterSettle fine (body asked.now) limit
             self.new.table.items (levels_of self.new.waiting.levels) self.new.deep self.new.few) }
     {
         while let Some(step) = self.work.pop() {
@@ -118,10 +124,10 @@ impl Search {
     fn stage(&mut self, asked: &Asked, at: usize) -> Result<bool, Memory>
         requires inside { at < length asked.now.places.items }
         requires long { length asked.now.places.items ≡ length asked.now.deepest.items }
-        requires deepest { AreDeepest asked.now.rows.items asked.now.deepest.items (length asked.now.deepest.items) }
-        requires open { OpenNow (body_of asked.now.places.items asked.now.rows.items asked.now.first) at self.old.table.items []
+        requires deepest { HasDeepest asked.now }
+        requires open { OpenNow (body asked.now) at self.old.table.items []
             (levels_of self.old.waiting.levels) false false }
-        ensures { IfOk result (λ fine. AfterSettle fine (body_of asked.now.places.items asked.now.rows.items asked.now.first) (at + 1)
+        ensures { IfOk result (λ fine. AfterSettle fine (body asked.now) (at + 1)
             self.new.table.items (levels_of self.new.waiting.levels) self.new.deep self.new.few) }
     {
         self.work.clear();
@@ -160,7 +166,8 @@ fn first_table(
 fn is_deep_at(asked: &Asked, table: &[Option<u64>], at: usize, row: &Handler) -> bool
     requires place { at < length asked.now.places.items }
     requires size { at < length table.now }
-    ensures { MatchBool result (DeepHere asked.now.places.items table.now at row.now) (DeepHere asked.now.places.items table.now at row.now → ⊥) }
+    ensures { MatchBool result (DeepHere asked.now.places.items table.now at row.now)
+        (DeepHere asked.now.places.items table.now at row.now → ⊥) }
 {
     let Some(place) = asked.places[at] else {
         return false;
@@ -174,7 +181,8 @@ fn is_deep_at(asked: &Asked, table: &[Option<u64>], at: usize, row: &Handler) ->
 fn is_deep(asked: &Asked, table: &[Option<u64>], limit: usize, row: &Handler) -> bool
     requires places { limit ≤ length asked.now.places.items }
     requires sizes { limit ≤ length table.now }
-    ensures { MatchBool result (DeepBelow asked.now.places.items table.now limit row.now) (DeepBelow asked.now.places.items table.now limit row.now → ⊥) }
+    ensures { MatchBool result (DeepBelow asked.now.places.items table.now limit row.now)
+        (DeepBelow asked.now.places.items table.now limit row.now → ⊥) }
 {
     for at in row.from.0 as usize..limit.min(row.to.0 as usize) {
         if is_deep_at(asked, table, at, row) {
@@ -188,7 +196,8 @@ fn is_deep(asked: &Asked, table: &[Option<u64>], limit: usize, row: &Handler) ->
 fn deep_row(asked: &Asked, table: &[Option<u64>], limit: usize) -> usize
     requires places { limit ≤ length asked.now.places.items }
     requires sizes { limit ≤ length table.now }
-    requires some { (row : Handler) × (Contains asked.now.rows.items row × DeepBelow asked.now.places.items table.now limit row) }
+    requires some { (row : Handler) × (Contains asked.now.rows.items row
+        × DeepBelow asked.now.places.items table.now limit row) }
     ensures { IsLeastDeep asked.now.places.items asked.now.rows.items table.now limit result }
 {
     for (number, row) in asked.rows.iter().enumerate() {
@@ -200,7 +209,12 @@ fn deep_row(asked: &Asked, table: &[Option<u64>], limit: usize) -> usize
 }
 
 /// The sizes that places get, where the first gets so many, or the least place up to which they
-/// disagree.
+/// disagree: two at one place, else a handler row that is to leave too many slots, else an
+/// instruction with too few (Library Reference, "dis").
+///
+/// # Errors
+///
+/// `Memory` for want of it, and where a size passes 2^64, to which no block of a code file comes.
 pub fn sizes_of(
     alloc: Global,
     places: Vec<Option<Place>>,

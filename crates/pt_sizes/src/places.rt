@@ -1,4 +1,4 @@
-//! What an instruction takes and gives, in numbers of slots.
+//! What an instruction takes and gives, in numbers of slots (Library Reference, "dis").
 ghost use Rattle.std.specs.Prelude.{◌≡◌, ◌++◌, IfOk};
 ghost use Rattle.pt_sizes.specs.Flow.{own_steps, step_again, step_to};
 

@@ -21,7 +21,8 @@ pub struct Waiting {
 /// Lands the rows of a stretch that leave no more than so many slots.
 fn land_some(rows: &mut Vec<Handler>, below: u64, work: &mut Vec<SizeStep>) -> Result<(), Memory>
     requires { Descends rows.old.items }
-    ensures { IfOk result (λ _. LandedSome rows.old.items rows.new.items below work.old.items work.new.items) }
+    ensures { IfOk result (λ _. LandedSome rows.old.items rows.new.items below work.old.items
+        work.new.items) }
 {
     while let Some(row) = rows.pop() {
         if row.depth as u64 > below {
@@ -43,7 +44,8 @@ fn land_on(
     work: &mut Vec<SizeStep>,
 ) -> Result<(), Memory>
     requires { (v : ℕ) → Descends (stretch_of (level_of level.old) v) }
-    ensures { IfOk result (λ _. LandedOn (level_of level.old) (level_of level.new) node below work.old.items work.new.items) }
+    ensures { IfOk result (λ _. LandedOn (level_of level.old)
+        (level_of level.new) node below work.old.items work.new.items) }
 {
     if node < level.len() {
         land_some(&mut level[node], below, work)?;
@@ -140,7 +142,8 @@ impl Waiting {
     /// Lands the rows that cover a place and leave no more than so many slots.
     pub fn land(&mut self, at: usize, below: u64, work: &mut Vec<SizeStep>) -> Result<(), Memory>
         requires { AllDescend (levels_of self.old.levels) }
-        ensures { IfOk result (λ _. LandedAll (levels_of self.old.levels) (levels_of self.new.levels) at below work.old.items work.new.items) }
+        ensures { IfOk result (λ _. LandedAll (levels_of self.old.levels)
+            (levels_of self.new.levels) at below work.old.items work.new.items) }
     {
         let mut node = at;
         for level in self.levels.iter_mut() {
@@ -166,7 +169,8 @@ impl Waiting {
 
     fn add(&mut self, row: Handler, count: usize) -> Result<(), Memory>
         requires { Ready count row (levels_of self.old.levels) }
-        ensures { IfOk result (λ _. Added count row (levels_of self.old.levels) (levels_of self.new.levels)) }
+        ensures { IfOk result (λ _. Added count row (levels_of self.old.levels)
+            (levels_of self.new.levels)) }
     {
         let mut low = row.from.0 as usize;
         let mut high = count.min(row.to.0 as usize);
@@ -180,7 +184,8 @@ impl Waiting {
 
     /// How deep the deepest row is that covers a place, where no row has landed yet; 0 for none.
     fn deepest_at(&self, at: usize) -> u32
-        ensures { DeepestBelow (levels_of self.now.levels) (length self.now.levels.items) at result }
+        ensures { DeepestBelow (levels_of self.now.levels)
+            (length self.now.levels.items) at result }
     {
         let mut node = at;
         let mut most = 0;
@@ -194,7 +199,8 @@ impl Waiting {
     /// How deep the deepest row is that covers each place, where no row has landed yet.
     pub fn deepest(&self, alloc: Global, count: usize) -> Result<Vec<u32>, Memory>
         ensures long { IfOk result (λ table. length table.items ≡ count) }
-        ensures exact { IfOk result (λ table. (rows : List Handler) → Index rows count (levels_of self.now.levels) → AreDeepest rows table.items count) }
+        ensures exact { IfOk result (λ table. (rows : List Handler)
+            → Index rows count (levels_of self.now.levels) → AreDeepest rows table.items count) }
     {
         let mut table = Vec::new(alloc);
         for at in 0..count {

@@ -1,4 +1,4 @@
-use Rattle.std.proofs.Common.{◌≡◌, ◌+◌, ◌<◌, length, [], sym, subst, arith}
+use Rattle.std.proofs.Common.{◌≡◌, ◌+◌, length, [], sym, subst, arith}
 use Rattle.std.specs.Prelude.{Contains}
 use Rattle.pt_ranges.specs.declared.handlers.Handler.{Handler}
 use Rattle.pt_sizes.specs.Flow.{SizesMeet}

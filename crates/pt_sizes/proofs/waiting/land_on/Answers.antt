@@ -1,7 +1,6 @@
-use Rattle.std.proofs.Common.{◌≡◌, ◌<◌, ◌≤◌, length, map, sym, subst, arith, set}
+use Rattle.std.proofs.Common.{sym, subst, arith}
 use Rattle.std.proofs.lemmas.List.{map-set}
-use Rattle.pt_ranges.specs.declared.handlers.Handler.{Handler}
-use Rattle.pt_sizes.specs.Waiting.{Descends, LandedOn, LandedSome, level_of, stretch_of}
+use Rattle.pt_sizes.specs.Waiting.{Descends, LandedOn, LandedSome, level_of}
 use Rattle.pt_sizes.proofs.Landings.{on_set, read_items, in_level}
 use Rattle.pt_sizes.proofs.waiting.land_on.Goals as goal
 

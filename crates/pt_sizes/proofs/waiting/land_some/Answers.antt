@@ -1,4 +1,4 @@
-use Rattle.std.proofs.Common.{◌≡◌, ◌+◌, ◌<◌, ◌≤◌, ◌∷◌, ◌++◌, [], length, sym, subst, arith}
+use Rattle.std.proofs.Common.{sym, subst, arith}
 use Rattle.pt_sizes.specs.Waiting.{LandingSome, LandedSome}
 use Rattle.pt_sizes.proofs.Landings.{some_more, some_end, some_none}
 use Rattle.pt_sizes.proofs.waiting.land_some.Goals as goal

@@ -1,4 +1,4 @@
-use Rattle.std.proofs.Common.{◌≡◌, ℕ, ◌+◌, ◌<◌, ◌≤◌, length}
+use Rattle.std.proofs.Common.{length}
 use Rattle.pt_sizes.specs.Waiting.{LandingSome}
 use Rattle.pt_sizes.proofs.waiting.land_some.Given as goal
 

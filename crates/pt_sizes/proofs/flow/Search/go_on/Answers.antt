@@ -1,4 +1,4 @@
-use Rattle.std.proofs.Common.{◌≡◌, ◌||◌, nat_lt, ◌-◌, sym, ap, ◌∙◌, subst, arith}
+use Rattle.std.proofs.Common.{◌≡◌, ◌||◌, nat_lt, ◌-◌, sym, ap, ◌∙◌, subst}
 use Rattle.pt_sizes.specs.Waiting.{IsDeepest, levels_of}
 use Rattle.pt_sizes.specs.Search.{LandedAll, WentOn, body_of}
 use Rattle.pt_sizes.proofs.Going.{went_on, or_same}

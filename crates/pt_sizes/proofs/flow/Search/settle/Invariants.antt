@@ -1,6 +1,5 @@
-use Rattle.std.proofs.Common.{length}
-use Rattle.pt_sizes.specs.Waiting.{AllDescend, Waits, levels_of, levels_size}
-use Rattle.pt_sizes.specs.Search.{Open, OpenNow, body_of, weight}
+use Rattle.pt_sizes.specs.Waiting.{levels_of, levels_size}
+use Rattle.pt_sizes.specs.Search.{OpenNow, body_of, weight}
 use Rattle.pt_sizes.proofs.flow.Search.settle.Given as goal
 
 abbrev pub invariant-loop-step : goal.invariant-loop-step

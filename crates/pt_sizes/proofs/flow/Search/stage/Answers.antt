@@ -1,4 +1,4 @@
-use Rattle.std.proofs.Common.{◌≡◌, ◌+◌, ◌<◌, length, Some, None, sym, subst, arith, [], false}
+use Rattle.std.proofs.Common.{◌+◌, Some, None, sym, subst, arith, false}
 use Rattle.pt_sizes.specs.Waiting.{Waits, levels_of}
 use Rattle.pt_sizes.specs.Search.{Open, Went, body_of}
 use Rattle.pt_sizes.proofs.Tables.{entry_is}

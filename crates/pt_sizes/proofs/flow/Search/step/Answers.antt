@@ -1,6 +1,5 @@
-use Rattle.std.proofs.Common.{◌≡◌, ◌<◌, ◌≤◌, length, inl, inr, Some, None, arith, nat_eq, slice_set}
+use Rattle.std.proofs.Common.{◌<◌, length, inr, Some, None, arith, nat_eq}
 use Rattle.std.proofs.lemmas.Bool.Decides.{nat_tests}
-use Rattle.pt_sizes.specs.Flow.{entry}
 use Rattle.pt_sizes.specs.Waiting.{levels_of}
 use Rattle.pt_sizes.specs.Search.{body_of}
 use Rattle.pt_sizes.proofs.Tables.{entry_is, entry_out}

@@ -1,4 +1,4 @@
-use Rattle.std.proofs.Common.{◌≡◌, ◌∷◌, ◌++◌, [], length, subst, arith}
+use Rattle.std.proofs.Common.{subst, arith}
 use Rattle.pt_sizes.specs.Waiting.{Building, levels_of}
 use Rattle.pt_sizes.proofs.Adding.{building_start, building_ready, building_more, building_none}
 use Rattle.pt_sizes.proofs.waiting.Waiting.build.Goals as goal

@@ -1,5 +1,5 @@
 use Rattle.std.proofs.Common.{◌≡◌, ◌/◌, ◌<◌, length, sym, ap, ◌∙◌, subst, arith, map}
-use Rattle.pt_sizes.specs.Waiting.{first_depth, stretch, stretch_of, level_of, up, DeepestBelow}
+use Rattle.pt_sizes.specs.Waiting.{first_depth, stretch, stretch_of, level_of}
 use Rattle.pt_sizes.proofs.Landings.{up_next}
 use Rattle.pt_sizes.proofs.Adding.{deepest_max, depth_here}
 use Rattle.pt_sizes.proofs.waiting.Waiting.deepest_at.Goals as goal

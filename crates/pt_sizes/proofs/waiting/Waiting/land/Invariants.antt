@@ -1,5 +1,5 @@
-use Rattle.std.proofs.Common.{◌≡◌, ℕ, map}
-use Rattle.pt_sizes.specs.Waiting.{level_of, levels_of, up, LandingAll}
+use Rattle.std.proofs.Common.{◌≡◌, map}
+use Rattle.pt_sizes.specs.Waiting.{level_of, up, LandingAll}
 use Rattle.pt_sizes.proofs.waiting.Waiting.land.Given as goal
 
 abbrev pub invariant-loop-level : goal.invariant-loop-level
