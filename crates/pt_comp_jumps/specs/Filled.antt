@@ -1,5 +1,5 @@
--- Where the code of each statement of a block stands, and with which slots it goes on there (Library
--- Reference, "inspect": `f_lineno`).
+-- Where the code of each statement of a block stands, and with which slots it goes on there
+-- (Library Reference, "inspect": `f_lineno`).
 use Rattle.std.specs.Prelude.{ℕ, List, [], ◌∷◌, Contains}
 use Rattle.pt_tree.specs.Syntax.{Name, Exp, Tgt, Stms, Handlers}
 use Rattle.pt_code.specs.declared.Start.{Start}
@@ -38,18 +38,20 @@ module _ {V : Type 0} (code : CodeObject V) where
         → Filled (F.ensuring tried n fin ∷ sh) xs (F.ensuring tried n fin ∷ s) σ
     of_ending : (tried : ℕ) (held : Completion V) (x : Surroundings) (sh : Shape)
         (xs : List Surroundings) (s : Nest V) (σ : Slots V) → May_hold code held x
-        → Filled sh xs s σ → Filled (F.ending tried F.normal ∷ sh) (x ∷ xs) (F.ending tried held ∷ s)
+        → Filled sh xs s σ
+        → Filled (F.ending tried F.normal ∷ sh) (x ∷ xs) (F.ending tried held ∷ s)
         (pending (held_as held x) ∷ σ)
     of_withing : (l n : ℕ) (w : V) (sh : Shape) (xs : List Surroundings) (s : Nest V) (σ : Slots V)
         → Filled sh xs s σ → Filled (F.withing l n tt ∷ sh) xs (F.withing l n w ∷ s) (exit w ∷ σ)
 
 module _ {V : Type 0} (block : Around V) (code : CodeObject V) where
-  -- the place where a statement starts, which the table of starts has with its line: there code goes
-  -- on as control does in each nest of the statement's shape
+  -- the place where a statement starts, which the table of starts has with its line: there code
+  -- goes on as control does in each nest of the statement's shape
   pub record Stands (starts : List Start) (t : Target) : Type 0 where
     pub place : ℕ
     pub surroundings : Surroundings
     pub endings : List Surroundings
-    pub listed : Contains starts (record { pc = record { 0 = place }; line = record { 0 = t.line } })
+    pub listed : Contains starts
+        (record { pc = record { 0 = place }; line = record { 0 = t.line } })
     pub goes_on : (s : Nest V) (σ : Slots V) → Filled code t.within endings s σ
         → Way_on block code (F.stms t.n t.ss s) surroundings σ place

@@ -31,8 +31,8 @@ module _ {V : Type 0} (block : Around V) (code : CodeObject V) where
   StatementsStand = (c : Code) (starts : List Start) → Block_at block code starts (statements_of c)
       → (line : ℕ) (t : Target) → on_line line (starts_of c) ≡ Some t → Stands block code starts t
 
-  -- where a jump lands: at the start of its target, from where code comes to states that match those
-  -- of control
+  -- where a jump lands: at the start of its target, from where code comes to states that match
+  -- those of control
   pub record Landing (c : Code) (starts : List Start) (line : ℕ) (k : Way V) : Type 0 where
     pub target : Target
     pub first : on_line line (starts_of c) ≡ Some target
@@ -47,15 +47,15 @@ module _ {V : Type 0} (block : Around V) (code : CodeObject V) where
 
   -- where code goes on as a nest does, its slots are those of the closed parts
   abbrev pub NestsAreFilled : Type 0
-  NestsAreFilled = (s : Nest V) (x : Surroundings) (σ : Slots V) (p : ℕ) → Nest_on block code s x σ p
-      → (xs : List Surroundings) × Filled code (shape s) xs s σ
+  NestsAreFilled = (s : Nest V) (x : Surroundings) (σ : Slots V) (p : ℕ)
+      → Nest_on block code s x σ p → (xs : List Surroundings) × Filled code (shape s) xs s σ
 
 -- of these closed parts none holds a completion
 abbrev pub NoFinally : {V : Type 0} → List (Part × Held V) → Type 0
 NoFinally ks = list_any (λ k. is_final k.0) ks ≡ false
 
--- the slots of a place, cut to as many as closed parts lie around a target, are those of the target's
--- nest, where its parts are the outer ones of the place and no `finally` part is left
+-- the slots of a place, cut to as many as closed parts lie around a target, are those of the
+-- target's nest, where its parts are the outer ones of the place and no `finally` part is left
 abbrev pub SlotsAreCut : {V : Type 0} → CodeObject V → Type 0
 SlotsAreCut {V = V} code = (sh : Shape) (xs : List Surroundings) (place target : Nest V)
     (σ τ : Slots V) → Filled code sh xs place σ → Above σ τ → (left : List (Part × Held V))
@@ -66,9 +66,9 @@ SlotsAreCut {V = V} code = (sh : Shape) (xs : List Surroundings) (place target :
 abbrev pub Level : (ps ts : List Part) → Type 0
 Level ps ts = (d e : ℕ) (q : Part) → Lies d q ps → Lies e q ts → d ≡ e
 
--- the state behind a permitted jump: with the slots of the place, cut to as many as closed parts lie
--- around the target, code comes from the target's start to states that match, where what `finally`
--- parts hold is held in the same surroundings
+-- the state behind a permitted jump: with the slots of the place, cut to as many as closed parts
+-- lie around the target, code comes from the target's start to states that match, where what
+-- `finally` parts hold is held in the same surroundings
 abbrev pub JumpsMatch : {V : Type 0} → Around V → CodeObject V → Type 0
 JumpsMatch {V = V} block code = (c : Code) (starts : List Start) (sh : Shape)
     (xs : List Surroundings) (place : Nest V) (σ τ : Slots V) (line : ℕ) (k : Way V)
@@ -77,8 +77,8 @@ JumpsMatch {V = V} block code = (c : Code) (starts : List Start) (sh : Shape)
     → Level (parts place) (parts place) → Level (parts place) (parts l.target.within)
     → Comes block code (go block k) (on l.stands.place (cut (length (parts l.target.within)) τ))
 
--- two places between which slots are told apart by parts: a jump said of slots has the verdict of the
--- parts, and leaves as many slots as the target has
+-- two places between which slots are told apart by parts: a jump said of slots has the verdict of
+-- the parts, and leaves as many slots as the target has
 abbrev pub JumpsByParts : Block → Type 0
 JumpsByParts b = (from to line : ℕ) (ks ls : Kinds) (ps ts : List Part)
     → IsLeast (Starts b line) to → Gets b b.size to ls → Begins ks ps → Fills ls ts

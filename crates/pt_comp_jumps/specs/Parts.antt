@@ -19,7 +19,8 @@ kind_of_part (handler_part n) = kind.Exc
 kind_of_part (finally_part n) = kind.Pending
 kind_of_part (exit_part n) = kind.Pending
 
--- of parts around a place, the innermost first, this one has slot d: slots are counted from the lowest
+-- of parts around a place, the innermost first, this one has slot d: slots are counted from the
+-- lowest
 abbrev pub Lies : (d : ℕ) → Part → List Part → Type 0
 Lies d q [] = ⊥
 Lies d q (p ∷ ps) = ((d ≡ length ps) × (same q p ≡ true)) ⊎ Lies d q ps
@@ -58,7 +59,8 @@ answer_to (control.lands k) to d = lands to d
 abbrev pub Shut : Block → (range : ℕ → Bool) → (slot : ℕ) → Type 0
 Shut b range d = (q r k : ℕ) → Goes b b.size q r k → d < k → range q ≡ range r
 
--- a closed part: its places, which of its slots is its own, and that this is the same in all of them
+-- a closed part: its places, which of the slots there is its own, and that this is the same in all
+-- of them
 pub record Closed (b : Block) : Type 0 where
   pub range : ℕ → Bool
   pub slot : ℕ
@@ -66,7 +68,8 @@ pub record Closed (b : Block) : Type 0 where
   pub whole : (q r : ℕ) → range q ≡ true → range r ≡ true → Common b b.size slot q r
 
 -- the parts around a place are those in whose ranges it lies
-pub record Around_place (b : Block) (part : Part → Closed b) (pc : ℕ) (ps : List Part) : Type 0 where
+pub record Around_place (b : Block) (part : Part → Closed b) (pc : ℕ) (ps : List Part)
+    : Type 0 where
   pub lies : (d : ℕ) (q : Part) → Lies d q ps
       → ((part q).range pc ≡ true) × (d ≡ (part q).slot)
   pub found : (q : Part) → (part q).range pc ≡ true → Lies (part q).slot q ps

@@ -30,8 +30,8 @@ pub fn a_jump_lands_where_code_goes_on<V>()
 {}
 
 /// Where the slots in common of two places are those of the closed parts around both, a jump said
-/// of slots has the verdict of the parts. So it is permitted as control permits it, to as many slots
-/// as lie at the target, or refused alike, also where nothing starts on the line.
+/// of slots has the verdict of the parts. So it is permitted as control permits it, to as many
+/// slots as lie at the target, or refused alike, also where nothing starts on the line.
 pub fn jumps_on_slots_are_those_on_parts<V>()
     ensures parts { (b : Block) → JumpsByParts b }
     ensures answered { (b : Block) → AnsweredAlike V b }
