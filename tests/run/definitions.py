@@ -491,7 +491,8 @@ class Compiler:
             return self.projection(self.expression(e[1]), [e[2]])
         if kind == "sign":
             what, _ = self.all.find(self.module, [f"◌{e[1]}◌"])
-            if what and what[0] == "definition":
+            # one that is defined between its arguments is among the signs
+            if what and what[0] == "definition" and what[1].clauses:
                 return self.call(what, [e[2], e[3]])
             return self.sign(e[1], self.expression(e[2]), self.expression(e[3]))
         if kind == "name":
