@@ -8,8 +8,8 @@ import re
 
 BY_NAME = {"after", "none_left", "destination", "all", "otherwise"}
 WORD = re.compile(
-    r'\s*(?:("(?:[^"\\]|\\.)*")|([^\W\d][\w\']*(?:\.[\w][\w\']*)*)|(\d+)|(\+\+|[+\-*]ℤ|==|&&|\|\||[∷≡→×λ⊎≤<(){}\[\],;=.:+\-*/%^])|(\S))')
-LEVELS = [("||",), ("&&",), ("==", "≡", "<", "≤", "⊎", "×"), ("∷", "++"), ("+", "-", "+ℤ", "-ℤ"), ("*", "/", "%", "*ℤ"), ("^",)]
+    r'\s*(?:("(?:[^"\\]|\\.)*")|([^\W\d][\w\']*(?:\.[\w][\w\']*)*)|(\d+)|(\+\+|[+\-*]ℤ|==|&&|\|\||[∷▸≡→×λ⊎≤<(){}\[\],;=.:+\-*/%^])|(\S))')
+LEVELS = [("||",), ("&&",), ("==", "≡", "<", "≤", "⊎", "×"), ("∷", "++", "▸"), ("+", "-", "+ℤ", "-ℤ"), ("*", "/", "%", "*ℤ"), ("^",)]
 
 
 def words(text):
@@ -256,6 +256,8 @@ class Definitions:
             bare = PREFIX.sub("", text)
             if text.startswith("use "):
                 self.use(module, text[4:])
+            elif text.startswith("infixr "):
+                pass
             elif opens:
                 kind = bare.split()[0]
                 self.count += 1
@@ -361,6 +363,7 @@ def quotient(a, b):
 # how signs are written in Python, where it isn't as here; natural numbers have no difference below 0
 SIGNS = {
     "∷": "({a}, {b})",
+    "▸": "('seq', {a}, {b})",
     "++": "joined({a}, {b})",
     "&&": "({a} and {b})",
     "||": "({a} or {b})",
@@ -505,7 +508,7 @@ class Compiler:
         return SIGNS.get(sign, f"({{a}} {sign} {{b}})").format(a=a, b=b)
 
     def name(self, parts, arguments):
-        if parts[0] in self.variables and parts[0] not in self.module.aliases:
+        if parts[0] in self.variables and (len(parts) == 1 or parts[0] not in self.module.aliases):
             return self.applied(self.projection(self.variables[parts[0]], parts[1:]), arguments)
         what, fields = self.all.find(self.module, parts)
         if parts == ["tt"]:

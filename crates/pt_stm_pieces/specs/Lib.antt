@@ -1,0 +1,4 @@
+pub mod Needed
+pub mod StmPiece
+pub mod Names
+pub mod Laws
