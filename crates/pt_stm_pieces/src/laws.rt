@@ -1,5 +1,5 @@
-//! Laws of the code of statements and of blocks in pieces, each the contract of a function that does
-//! nothing.
+//! Laws of the code of statements and of blocks in pieces, each the contract of a function that
+//! does nothing.
 
 ghost use Rattle.pt_stm_pieces.specs.Laws.{
   BlocksAreCode,
@@ -28,14 +28,15 @@ pub fn the_code_of_pieces_follows_its_block<V>()
     ensures { BlocksBegin V }
 {}
 
-/// In the piece of a block an instruction does what each act asks, and exits of loops stand in loops:
-/// where no `break` or `continue` stands outside of its loop, blocks within take along cells, targets
-/// of comprehensions are names of the block alone, and no argument has an empty name or one of stars.
+/// In the piece of a block an instruction does what each act asks, and exits of loops stand in
+/// loops: where no `break` or `continue` stands outside of its loop, blocks within take cells
+/// along, targets of comprehensions are names of the block alone, and no argument has an empty
+/// name or one of stars.
 pub fn the_pieces_of_blocks_fit<V>()
     ensures { PiecesFit V }
 {}
 
-/// In a block that comes of its piece each statement starts behind the start of the one before it.
+/// In a block that comes of its piece each statement starts behind the start of the one before.
 pub fn statements_start_one_behind_another<V>()
     ensures { StartsRise V }
 {}
