@@ -31,6 +31,10 @@ def text_of(name):
     return bytes(items(name)).decode()
 
 
+class CodedTrees(Trees):
+    word = staticmethod(coded)
+
+
 def variable_of(v):
     return v["scope"][0], text_of(v["name"])
 
@@ -177,7 +181,7 @@ class Check:
         return self.get("pt_naming", *arguments)
 
     def one(self, text, older):
-        trees = Trees(text, coded)
+        trees = CodedTrees(text)
         self.known.clear()
         self.expected = Expected(older)
         self.places = self.get("pt_scopes", "Mentions", "places_script")(trees.tree)

@@ -205,6 +205,13 @@ class Definition:
         self.clauses, self.arguments, self.code = [], arguments_of(signature), None
 
 
+class Bare(tuple):
+    """A constructor of a type of the code that stands alone, of which it isn't known whether it takes arguments."""
+
+    def __call__(self, *arguments):
+        return (*self, *arguments)
+
+
 class Module:
     def __init__(self, path):
         self.path, self.definitions, self.constructors, self.names, self.aliases = path, {}, {}, {}, {}
@@ -217,8 +224,8 @@ class Definitions:
     """Those of a folder of crates."""
 
     def __init__(self, crates, primitives):
-        self.crates, self.modules, self.primitives = crates, {}, primitives
-        self.space = {"field": field, "wrong": wrong, "once": once, "quotient": quotient}
+        self.crates, self.modules, self.primitives, self.constants = crates, {}, primitives, {}
+        self.space = {"Bare": Bare, "field": field, "wrong": wrong, "once": once, "quotient": quotient}
         self.count = 0
 
     def file_of(self, path):
@@ -324,9 +331,19 @@ class Definitions:
             if name in m.constructors:
                 return ("constructor", name, m.constructors[name])
             return ("definition", m.definitions[name]) if name in m.definitions else None
-        if path.startswith("Rattle.std."):
+        if path.startswith(("Rattle.std.", "Rattle.indexmap.")):
             return ("primitive", name) if name in self.primitives else None
+        if path.endswith(".TheConstants"):
+            return ("constant", self.constant(path.split(".")[1], name))
         return ("constructor", name, None)
+
+    def constant(self, crate, name):
+        """The name under which the value of a constant of a crate's code is known."""
+        code = f"constant_{crate}_{name}"
+        if crate not in self.constants:
+            self.constants[crate] = constants(os.path.join(self.crates, crate, "src"))
+        self.space[code] = self.constants[crate][name]
+        return code
 
     # definitions as Python functions
     def function(self, d):
@@ -361,8 +378,52 @@ class Definitions:
         return known
 
 
+CONSTANT = re.compile(r"pub const (\w+): [^=]* = ([^;]*);")
+CODE_WORD = re.compile(r'\s*("[^"]*"|[\w:]+|[\[\](),])')
+
+
+def constants(folder):
+    """The constants of a crate's code, as the definitions see them: a name alone is a constructor, and so is one with arguments, but for
+    a struct's, whose fields are numbered; a text is a reference to its bytes."""
+    out = {}
+    for file in sorted(os.listdir(folder)):
+        with open(os.path.join(folder, file), encoding="utf-8") as f:
+            for name, value in CONSTANT.findall(f.read()):
+                out[name] = code_value(CODE_WORD.findall(value))
+    return out
+
+
+def code_value(ws):
+    word = ws.pop(0)
+    if word in ("[", "("):
+        values = code_values(ws)
+        return listed(values) if word == "[" else ("×", *values)
+    if word[0] == '"':
+        return {"now": listed(word[1:-1].encode())}
+    if word.isdigit():
+        return int(word)
+    path = word.split("::")
+    values = []
+    if ws and ws[0] == "(":
+        ws.pop(0)
+        values = code_values(ws)
+    if values and len(path) == 1 and path[0] != "Some":
+        return {str(i): v for i, v in enumerate(values)}
+    return (path[-1], *values)
+
+
+def code_values(ws):
+    values = []
+    while ws[0] not in ("]", ")"):
+        values.append(code_value(ws))
+        if ws[0] == ",":
+            ws.pop(0)
+    ws.pop(0)
+    return values
+
+
 def field(value, name):
-    return value[int(name) + 1] if type(value) is tuple else value[name]
+    return value[int(name) + 1] if isinstance(value, tuple) else value[name]
 
 
 def wrong(name, *values):
@@ -545,10 +606,14 @@ class Compiler:
 
     def call(self, what, arguments):
         if what[0] == "constructor":
+            if what[2] is None and not arguments:
+                return f"Bare(({what[1]!r},))"
             arity = len(arguments) if what[2] is None else what[2]
             return self.saturated(lambda xs: "(" + ", ".join([repr(what[1])] + xs) + ("," if not xs else "") + ")", arity, arguments)
         if what[0] == "primitive":
             return self.primitive(what[1], arguments)
+        if what[0] == "constant":
+            return self.applied(what[1], arguments)
         d = what[1]
         code = self.all.function(d)
         around = []
@@ -626,6 +691,28 @@ def slice_get(xs, n):
     return ("Some", xs[n]) if n < len(xs) else ("None",)
 
 
+def slice_set(xs, n, x):
+    xs = items(xs)
+    return listed(xs[:n] + [x] + xs[n + 1:]) if n < len(xs) else listed(xs)
+
+
+def lookup(f, entries):
+    return next((("Some", e[2]) for e in items(entries) if f(e[1])), ("None",))
+
+
+def position(f, xs):
+    return next((("Some", i) for i, x in enumerate(items(xs)) if f(x)), ("None",))
+
+
+def insert_entry(same, entries, key, value):
+    entries = items(entries)
+    for i, e in enumerate(entries):
+        if same(key)(e[1]):
+            entries[i] = ("×", e[1], value)
+            return listed(entries)
+    return listed(entries + [("×", key, value)])
+
+
 def integer(n):
     """An integer as `pos n` or `negsuc n`, which is -(n + 1)."""
     return ("pos", n) if n >= 0 else ("negsuc", -n - 1)
@@ -638,6 +725,7 @@ def number(z):
 STD = {
     "true": "True", "false": "False", "zero": "0", "suc": lambda n: n + 1,
     "Some": "constructor", "None": "constructor", "pos": "constructor", "negsuc": "constructor", "inl": "constructor", "inr": "constructor",
+    "Ok": "constructor", "Err": "constructor",
     "map": lambda f, xs: listed(map(f, items(xs))),
     "reverse": lambda xs: listed(reversed(items(xs))),
     "length": lambda xs: len(items(xs)),
@@ -656,6 +744,19 @@ STD = {
     "not": lambda b: not b,
     "cond": lambda b, x, y: x if b else y,
     "codes": lambda t: listed(t.encode()),
+    "filter": lambda f, xs: listed(filter(f, items(xs))),
+    "lookup": lookup, "position": position, "insert_entry": insert_entry, "slice_set": slice_set,
+    "option_flatten": lambda o: o[1] if o[0] == "Some" else o,
+    "option_or": lambda o, p: o if o[0] == "Some" else p,
+    "nat_eq": lambda a, b: a == b,
+    "int_lt": lambda a, b: number(a) < number(b),
+    "neg_ℤ": lambda a: integer(-number(a)),
+    "bit_and": lambda a, b: a & b,
+    "bit_or": lambda a, b: a | b,
+    "bit_xor": lambda a, b: a ^ b,
+    "bytes_eq": lambda a, b: a == b,
+    "chars": lambda a: listed(map(ord, bytes(items(a)).decode())),
+    "signed_decimal": lambda a: listed(str(number(a)).encode()),
 }
 
 

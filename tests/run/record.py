@@ -78,7 +78,7 @@ class Recorder:
     def run(self):
         M.use_tool_id(TOOL, "check")
         out = io.StringIO()
-        self.end = "done"
+        self.end, self.error = "done", ""
         for kind in KINDS:
             M.register_callback(TOOL, getattr(M.events, kind), self.function("called_back", self.callback(kind)))
         try:
@@ -91,7 +91,7 @@ class Recorder:
                     exec(self.code, self.space)
                 except BaseException as e:
                     sys.settrace(None)
-                    self.end = describe(e)
+                    self.end, self.error = describe(e), str(e)
                 finally:
                     sys.settrace(None)
                     M.set_events(TOOL, 0)

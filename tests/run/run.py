@@ -45,6 +45,8 @@ class Block:
 
 
 class Runner:
+    trees = Trees
+
     def __init__(self, crates):
         self.definitions = load(crates)
         self.blocks_script = self.get("pt_tree", "Blocks", "blocks_script")
@@ -58,14 +60,14 @@ class Runner:
         return self.definitions.get(SPECS.format(crate, module), name)
 
     def blocks(self, text):
-        trees = Trees(text)
+        trees = self.trees(text)
         scopes = Scopes(trees.module)
         records = items(self.blocks_script(trees.tree))
         assert len(records) == len(trees.nodes)
         out = []
         for i, (node, record) in enumerate(zip(trees.nodes, records)):
             scope = scopes.blocks[node]
-            assert record["class"] == (("Some", scope.class_name) if scope.class_name else NONE), (record["class"], scope.class_name)
+            assert record["class"] == trees.named(scope.class_name), (record["class"], scope.class_name)
             out.append(Block(i, node, record, scope, self.yields(record["code"])))
         return out
 
@@ -90,12 +92,15 @@ class Runner:
             "around": lambda b: around[b["number"]],
         })
         rules = Host(blocks)
-        host = rules.record()
         world = World()
         state = self.start(machine, {"hidden": False, "number": 0}, Names({}), world)
-        state = hooks.begin(state, rules, world)
+        outputs, _, ending = self.follow(machine, rules.record(), hooks.begin(state, rules, world), most)
+        return blocks, world, outputs, ending
+
+    def follow(self, machine, host, state, most):
+        """The outputs of a run of at most so many acts from a state, its last state, and the step that ends it."""
         outputs = []
-        for _ in range(most * 30):
+        for _ in range(most * 30 + 100):
             step = self.step(machine, host, most, state)
             if step[0] == "goes":
                 outputs += items(step[1])
@@ -105,5 +110,5 @@ class Runner:
                 outputs += items(step[1])
                 state = step[2]
             else:
-                return blocks, world, outputs, step
+                return outputs, state, step
         raise RuntimeError("no end")

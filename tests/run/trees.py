@@ -1,4 +1,4 @@
-"""The tree of a script as the plain data of `pt_tree/specs/Syntax`, from CPython's ast. Names are texts, or what `named` makes of these."""
+"""The tree of a script as the plain data of `pt_tree/specs/Syntax`, from CPython's ast. Names stand for themselves, as texts."""
 import ast
 
 from definitions import listed
@@ -28,8 +28,16 @@ def chain(make, parts, end):
 class Trees:
     """`numbers` gives the node of each block its number, in the order in which they start."""
 
-    def __init__(self, text, named=lambda x: x):
-        self.named = named
+    @staticmethod
+    def word(text):
+        """A name or a text."""
+        return text
+
+    @staticmethod
+    def integer(value):
+        return value
+
+    def __init__(self, text):
         self.lines = text.split("\n")
         self.module = ast.parse(text)
         nodes = [n for n in ast.walk(self.module) if isinstance(n, BLOCKS)]
@@ -50,12 +58,14 @@ class Trees:
             return ("None",)
         if value is ...:
             return ("Ellipsis",)
-        return ({bool: "Bool", int: "Int", str: "Str"}[type(value)], value)
+        if isinstance(value, str):
+            return ("Str", self.word(value))
+        return ("Bool", value) if isinstance(value, bool) else ("Int", self.integer(value))
 
     def pieces(self, values):
         def one(v, rest):
             if isinstance(v, ast.Constant):
-                return ("literal", v.lineno, v.value, rest)
+                return ("literal", v.lineno, self.word(v.value), rest)
             spec = v.format_spec.values if v.format_spec else []
             spec = [s for s in spec if not (isinstance(s, ast.Constant) and s.value == "")]
             conversion = {-1: None, 115: ("Str",), 114: ("Repr",)}[v.conversion]
@@ -67,7 +77,7 @@ class Trees:
             if isinstance(a, ast.Starred):
                 return ("spread", self.exp(a.value), rest)
             if isinstance(a, ast.keyword):
-                return ("named", self.named(a.arg), self.exp(a.value), rest) if a.arg else ("spread_named", self.exp(a.value), rest)
+                return ("named", self.word(a.arg), self.exp(a.value), rest) if a.arg else ("spread_named", self.exp(a.value), rest)
             return ("positional", self.exp(a), rest)
         return chain(one, sorted(call.args + call.keywords, key=lambda v: (v.lineno, v.col_offset)), ("no_args",))
 
@@ -93,7 +103,7 @@ class Trees:
             case ast.Constant(value):
                 return ("constant", l, self.constant(value))
             case ast.Name(x):
-                return ("name", l, self.named(x))
+                return ("name", l, self.word(x))
             case ast.JoinedStr(values):
                 return ("joined", l, self.pieces(values))
             case ast.Tuple(items):
@@ -105,7 +115,7 @@ class Trees:
             case ast.Dict(keys, values):
                 return ("dict", l, chain(lambda kv, r: ("entry", self.exp(kv[0]), self.exp(kv[1]), r), list(zip(keys, values)), ("no_entries",)))
             case ast.Attribute(value, x):
-                return ("attribute", l, self.exp(value), self.named(x))
+                return ("attribute", l, self.exp(value), self.word(x))
             case ast.Subscript(value, index):
                 return ("item", l, self.exp(value), self.exp(index))
             case ast.Slice(a, b, c):
@@ -144,9 +154,9 @@ class Trees:
     def place(self, t):
         match t:
             case ast.Name(x):
-                return ("name_at", t.lineno, self.named(x))
+                return ("name_at", t.lineno, self.word(x))
             case ast.Attribute(value, x):
-                return ("attribute_at", t.lineno, self.exp(value), self.named(x))
+                return ("attribute_at", t.lineno, self.exp(value), self.word(x))
             case ast.Subscript(value, index):
                 return ("item_at", t.lineno, self.exp(value), self.exp(index))
 
@@ -166,11 +176,11 @@ class Trees:
     def formals(self, names, defaults):
         def one(nd, rest):
             n, d = nd
-            return ("formal", n.lineno, self.named(n.arg), self.opt(n.annotation), self.opt(d), rest)
+            return ("formal", n.lineno, self.word(n.arg), self.opt(n.annotation), self.opt(d), rest)
         return chain(one, list(zip(names, defaults)), ("no_formals",))
 
     def named_parameter(self, a):
-        return option(None if a is None else {"line": {"0": a.lineno}, "name": self.named(a.arg)})
+        return option(None if a is None else {"line": {"0": a.lineno}, "name": self.word(a.arg)})
 
     def parameters(self, a):
         plain = [None] * (len(a.args) - len(a.defaults)) + a.defaults
@@ -182,7 +192,10 @@ class Trees:
         return chain(lambda s, r: ("more", self.statement(s), r), body, ("none",))
 
     def aliases(self, names):
-        return listed({"name": self.named(a.name), "alias": option(a.asname and self.named(a.asname))} for a in names)
+        return listed({"name": self.word(a.name), "alias": self.named(a.asname)} for a in names)
+
+    def named(self, x):
+        return option(x and self.word(x))
 
     def branches(self, s):
         """The branches of an `if`, and its `else`."""
@@ -197,7 +210,7 @@ class Trees:
         return self.lines[s.lineno - 1][s.col_offset:].startswith("elif")
 
     def handlers(self, hs):
-        return chain(lambda h, r: ("handler", h.lineno, self.opt(h.type), option(h.name and self.named(h.name)), self.statements(h.body), r), hs, ("no_handlers",))
+        return chain(lambda h, r: ("handler", h.lineno, self.opt(h.type), self.named(h.name), self.statements(h.body), r), hs, ("no_handlers",))
 
     def items(self, items):
         def one(i, rest):
@@ -233,9 +246,9 @@ class Trees:
             case ast.Import(names):
                 return ("import", l, self.aliases(names))
             case ast.ImportFrom(origin, names):
-                return ("import_from", l, self.named(origin), self.aliases(names))
+                return ("import_from", l, self.word(origin), self.aliases(names))
             case ast.Global(names) | ast.Nonlocal(names):
-                return (type(s).__name__.lower(), l, listed(map(self.named, names)))
+                return (type(s).__name__.lower(), l, listed(map(self.word, names)))
             case ast.If():
                 return ("choice", l, *self.branches(s))
             case ast.While(test, body, otherwise):
@@ -247,10 +260,10 @@ class Trees:
             case ast.With(items, body):
                 return ("with", l, self.items(items), self.statements(body))
             case ast.FunctionDef(x, arguments, body, ds):
-                return ("def", self.first(s), self.decorators(ds), l, self.numbers[s], self.named(x), self.parameters(arguments), self.opt(s.returns),
+                return ("def", self.first(s), self.decorators(ds), l, self.numbers[s], self.word(x), self.parameters(arguments), self.opt(s.returns),
                         self.statements(body))
             case ast.ClassDef(x, bases, _, body, ds):
-                return ("class", self.first(s), self.decorators(ds), l, self.numbers[s], self.named(x), self.opt(bases[0] if bases else None),
+                return ("class", self.first(s), self.decorators(ds), l, self.numbers[s], self.word(x), self.opt(bases[0] if bases else None),
                         self.statements(body))
         raise ValueError(ast.dump(s))
 

@@ -3,7 +3,6 @@
 Run with CPython 3.12 in this folder.
 """
 
-import re
 import sys
 import warnings
 from pathlib import Path
@@ -20,24 +19,8 @@ OPERATORS = {"+": "Add", "-": "Sub", "*": "Mul", "/": "Div", "//": "FloorDiv", "
 UNARY = {"+": "Plus", "-": "Minus", "~": "Invert"}
 COMPARISONS = {"<": "Less", "<=": "LessEqual", ">": "Greater", ">=": "GreaterEqual", "==": "Equal", "!=": "NotEqual", "in": "In",
                "not in": "NotIn", "is": "Is", "is not": "IsNot"}
-STD = dict(definitions.STD)
-STD.update({
-    "Ok": "constructor", "Err": "constructor",
-    "nat_eq": lambda a, b: a == b,
-    "int_lt": lambda a, b: number(a) < number(b),
-    "neg_ℤ": lambda a: integer(-number(a)),
-    "bit_and": lambda a, b: a & b,
-    "bit_or": lambda a, b: a | b,
-    "bit_xor": lambda a, b: a ^ b,
-    "bytes_eq": lambda a, b: a == b,
-    "chars": lambda a: listed(map(ord, bytes(items(a)).decode())),
-    "signed_decimal": lambda a: listed(str(number(a)).encode()),
-})
-
 
 CRATES = HERE.parent.parent / "crates"
-CONSTANTS = {name: int(place) for name, place in
-             re.findall(r"const (\w+): ObjId = ObjId\((\d+)\)", (CRATES / "pt_prims" / "src" / "class.rt").read_text("utf-8"))}
 
 
 def start():
@@ -59,7 +42,7 @@ def start():
 
 class Rows:
     def __init__(self):
-        self.all = definitions.load(str(CRATES), STD)
+        self.all = definitions.load(str(CRATES))
         self.content = self.get("prim_answer")
         self.grown = self.get("prim_heap")
 
@@ -113,7 +96,7 @@ class Rows:
             return {"None": "n", "Bool": "tf"[value[1:] == (False,)]}.get(value[0]) or f"i{number(value[1])}"
         if answer[0] == "Raise":
             assert new and answer[2] == ("Some", ("Obj", {"0": count}))
-            error = heap[CONSTANTS[answer[1][0]]][1]["name"]
+            error = heap[answer[1]["0"]][1]["name"]
             return f"{self.text(error)}: {self.text(heap[-1][1])}"
         assert not new
         if answer[0] == "Help":

@@ -24,7 +24,7 @@ all_hooks = log ∷ debugger ∷ tool 0 ∷ tool 1 ∷ tool 2 ∷ tool 3 ∷ too
 -- the world once an exception has come to a frame: it gets an entry of its traceback where the frame is visible
 abbrev pub world_with_entry : {N V W : Type 0} → Host N V W → V → Frame N V → W → W
 world_with_entry host v f w =
-    if f.block.hidden then w else host.enters v (record { frame = f.number; line = line_of host.first_line f }) w
+    if f.block.hidden then w else host.enters v (record { frame = f.number; block = f.block; line = line_of host.first_line f }) w
 
 -- a trace function that raises is unset
 abbrev pub trace_unless : {V : Type 0} → Hook → Option V → Option V

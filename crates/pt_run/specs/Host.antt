@@ -146,9 +146,10 @@ pub data Made (V W : Type 0) : Type 0 where
   made : V → W → Made V W
   beyond : What → Made V W
 
--- an exception came to a frame at this line, for its traceback
+-- an exception came to a frame of a block at this line, for its traceback
 pub record Entry : Type 0 where
   pub frame : ℕ
+  pub block : BlockId
   pub line : ℕ
 
 -- what an exception is that leaves the module: an exit with a status and perhaps a text, one with another value, or an error with

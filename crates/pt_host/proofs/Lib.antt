@@ -1,0 +1,6 @@
+pub mod Within
+pub mod PrimsWithin
+pub mod VariablesSound
+pub mod CallsSound
+pub mod HeapSound
+pub mod EntriesSound

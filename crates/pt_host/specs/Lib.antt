@@ -1,0 +1,14 @@
+pub mod World
+pub mod Constants
+pub mod Trees
+pub mod Texts
+pub mod Errors
+pub mod Builtins
+pub mod Variables
+pub mod Calls
+pub mod Answers
+pub mod Leaving
+pub mod LogLines
+pub mod HeapHost
+pub mod Sound
+pub mod Laws

@@ -1,0 +1,79 @@
+-- What the asks of a run read and change: the names of an activation, and the objects, cells and
+-- global names of the run (Language Reference 3.1, 4.2).
+use Rattle.std.specs.Prelude.{◌≡◌, ℕ, List, [], ◌∷◌, ◌++◌, Bool, Option, Some, None, length, map}
+use Rattle.std.specs.Prelude.{nat_eq, if◌then◌else◌}
+use Rattle.pt_base.specs.declared.what.What.TheVariants.{Heap}
+use Rattle.pt_tree.specs.Syntax.{Name}
+use Rattle.pt_heap.specs.declared.value.Value.{Value}
+use Rattle.pt_heap.specs.declared.object.Object.{Object}
+use Rattle.pt_heap.specs.declared.object.Object.TheVariants.{Str}
+use Rattle.pt_start.specs.Start.{start_objects}
+use Rattle.pt_names.specs.Names.{Named}
+use Rattle.pt_bind.specs.declared.arguments.Params.{Params}
+use Rattle.pt_prims.specs.Operations.{object_limit, next_object}
+use Rattle.pt_run.specs.Machine.{BlockId}
+use Rattle.pt_run.specs.Host.{Store, Made, made, beyond}
+
+-- the values of the local names, or of those of a class; and the numbers of the cells of the names
+-- that have one
+pub record Names : Type 0 where
+  pub values : Named
+  pub cells : List (Name × ℕ)
+
+pub record World : Type 0 where
+  pub heap : List Object
+  pub globals : Named
+  pub cells : List (Option Value)
+
+abbrev pub Stores : Type 0
+Stores = Store Names World
+
+-- what a code object tells of a block (3.2.13.1): its name and its first line, its parameters, its
+-- local names, the parameters first, the names whose cells it makes, those whose cells it takes
+-- along, and whether a call of it makes a generator
+pub record CodeFacts : Type 0 where
+  pub name : Name
+  pub first_line : ℕ
+  pub params : Params
+  pub locals : List Name
+  pub cells : List Name
+  pub frees : List Name
+  pub yields : Bool
+
+-- the blocks, and the texts of constants, each once
+pub record Program : Type 0 where
+  pub facts : BlockId → CodeFacts
+  pub texts : List (List ℕ)
+
+abbrev pub with_heap : List Object → World → World
+with_heap h w = record w { heap = h }
+
+abbrev pub in_world : World → Stores → Stores
+in_world w st = record st { world = w }
+
+abbrev pub with_objects : List Object → Stores → Stores
+with_objects h st = in_world (with_heap h st.world) st
+
+-- an object is put behind the others; a full heap takes none
+abbrev pub Allotted : Type 0
+Allotted = Made Value (List Object)
+
+abbrev pub allot : Object → List Object → Allotted
+allot o h =
+    if nat_eq (length h) object_limit then beyond Heap else made (next_object h) (h ++ o ∷ [])
+
+abbrev pub allot_then : Allotted → (Value → List Object → Allotted) → Allotted
+allot_then (made v h) f = f v h
+allot_then (beyond what) f = beyond what
+
+-- what came of it: the value, if there was room, and then the heap
+abbrev pub IsAllotted : Allotted → Option Value → (heap : List Object) → Type 0
+IsAllotted (made v h) o heap = (o ≡ Some v) × (heap ≡ h)
+IsAllotted (beyond what) o heap = o ≡ None
+
+-- as a run begins: the builtin objects, an object for each text of a constant, and no names
+abbrev pub start_world : Program → World
+start_world p = record { heap = start_objects ++ map Str p.texts; globals = []; cells = [] }
+
+abbrev pub no_names : Names
+no_names = record { values = []; cells = [] }

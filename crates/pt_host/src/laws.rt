@@ -1,0 +1,36 @@
+//! Laws of the host, each the contract of a function that does nothing.
+
+ghost use Rattle.std.specs.Prelude.{◌≡◌, codes};
+ghost use Rattle.pt_host.specs.Sound.{KeepsTheHeapSound, MakesSoundFailures, TakesEntries};
+ghost use Rattle.pt_host.specs.World.{Program};
+ghost use Rattle.pt_host.specs.declared.places.TheConstants.{DISABLE, GENERATOR_EXIT, MISSING};
+ghost use Rattle.pt_host.specs.declared.places.TheConstants.{NAME_ERROR, RECURSION_ERROR};
+ghost use Rattle.pt_host.specs.declared.places.TheConstants.{RUNTIME_ERROR, STOP_ITERATION};
+ghost use Rattle.pt_host.specs.declared.places.TheConstants.{SYSTEM_EXIT, TYPE_ERROR};
+ghost use Rattle.pt_host.specs.declared.places.TheConstants.{UNBOUND_LOCAL_ERROR, VALUE_ERROR};
+ghost use Rattle.pt_host.specs.Laws.{start_name};
+
+/// The objects that the host speaks of stand at their places as a run starts.
+pub fn objects_stand_at_their_places()
+    ensures exit { start_name SYSTEM_EXIT ≡ codes "SystemExit" }
+    ensures closing { start_name GENERATOR_EXIT ≡ codes "GeneratorExit" }
+    ensures names { start_name NAME_ERROR ≡ codes "NameError" }
+    ensures locals { start_name UNBOUND_LOCAL_ERROR ≡ codes "UnboundLocalError" }
+    ensures runs { start_name RUNTIME_ERROR ≡ codes "RuntimeError" }
+    ensures depth { start_name RECURSION_ERROR ≡ codes "RecursionError" }
+    ensures iterators { start_name STOP_ITERATION ≡ codes "StopIteration" }
+    ensures types { start_name TYPE_ERROR ≡ codes "TypeError" }
+    ensures values { start_name VALUE_ERROR ≡ codes "ValueError" }
+    ensures disable { start_name DISABLE ≡ codes "DISABLE" }
+    ensures missing { start_name MISSING ≡ codes "MISSING" }
+{}
+
+/// Where the heap is sound and all that is held and asked names objects of it, each answer leaves
+/// that so, with no fewer objects; and so do the exceptions that a run makes by itself and the
+/// entries of tracebacks.
+#[tactic(auto, using(crate::proofs::HeapSound::keeps_sound, crate::proofs::Within::failures_sound, crate::proofs::EntriesSound::takes_entries))]
+pub fn the_host_keeps_the_heap_sound()
+    ensures answers { (program : Program) → KeepsTheHeapSound program }
+    ensures failures { MakesSoundFailures }
+    ensures entries { TakesEntries }
+{}

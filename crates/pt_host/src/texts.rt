@@ -1,0 +1,124 @@
+//! What exceptions say of names and calls.
+
+ghost use Rattle.std.specs.Prelude.{◌≡◌, ◌++◌, IfOk, OnOk};
+ghost use Rattle.pt_host.specs.Texts.{binding_text, free_text, local_text, name_text};
+ghost use Rattle.pt_host.specs.Texts.{not_callable_text};
+
+use pt_base::{Memory, Text};
+use pt_bind::BindErr;
+use std::alloc::Global;
+
+/// Puts a name between two texts behind a text.
+fn push_name(text: &mut Text, before: &str, name: &str, behind: &str) -> Result<(), Memory>
+    ensures { OnOk result (text.new ≡ text.old ++ before.now ++ name.now ++ behind.now) }
+{
+    text.push_str(before)?;
+    text.push_str(name)?;
+    text.push_str(behind)
+}
+
+/// A name between two texts.
+fn about_name(alloc: Global, before: &str, name: &str, behind: &str) -> Result<Text, Memory>
+    ensures { IfOk result (λ text. text ≡ before.now ++ name.now ++ behind.now) }
+{
+    let mut text = Text::new(alloc);
+    push_name(&mut text, before, name, behind)?;
+    Ok(text)
+}
+
+/// A local name has no value.
+pub fn local_text(alloc: Global, name: &str) -> Result<Text, Memory>
+    ensures { IfOk result (λ text. text ≡ local_text name.now) }
+{
+    let behind = "' where it is not associated with a value";
+    about_name(alloc, "cannot access local variable '", name, behind)
+}
+
+/// A name of a function around has no value.
+pub fn free_text(alloc: Global, name: &str) -> Result<Text, Memory>
+    ensures { IfOk result (λ text. text ≡ free_text name.now) }
+{
+    let behind = "' where it is not associated with a value in enclosing scope";
+    about_name(alloc, "cannot access free variable '", name, behind)
+}
+
+/// A name of the module has no value.
+pub fn name_text(alloc: Global, name: &str) -> Result<Text, Memory>
+    ensures { IfOk result (λ text. text ≡ name_text name.now) }
+{
+    about_name(alloc, "name '", name, "' is not defined")
+}
+
+/// An object of this class is no function.
+pub fn not_callable_text(alloc: Global, class: &str) -> Result<Text, Memory>
+    ensures { IfOk result (λ text. text ≡ not_callable_text class.now) }
+{
+    about_name(alloc, "'", class, "' object is not callable")
+}
+
+/// The arguments of a call don't fit the parameters of a function of this name.
+pub fn binding_text(alloc: Global, function: &str, error: &BindErr) -> Result<Text, Memory>
+    ensures { IfOk result (λ text. text ≡ binding_text function.now error.now) }
+{
+    let mut text = Text::from_str(alloc, function)?;
+    match error {
+        BindErr::Missing { name } => {
+            push_name(&mut text, "() misses argument '", name.as_str(), "'")?;
+            Ok(text)
+        }
+        BindErr::TooMany { given: _ } => {
+            text.push_str("() got too many arguments")?;
+            Ok(text)
+        }
+        BindErr::Unexpected { name } => {
+            push_name(
+                &mut text,
+                "() got an unexpected argument '",
+                name.as_str(),
+                "'",
+            )?;
+            Ok(text)
+        }
+        BindErr::Double { name } => {
+            push_name(&mut text, "() got argument '", name.as_str(), "' twice")?;
+            Ok(text)
+        }
+        BindErr::Memory => Err(Memory),
+    }
+}
+
+#[cfg(test)]
+mod tests {
+    use super::*;
+    use std::test::Fail;
+
+    #[test]
+    fn texts_tell_names(rt: HostRuntime) -> Result<(), Fail> {
+        let alloc = rt.alloc();
+        let local = "cannot access local variable 'x' where it is not associated with a value";
+        assert!(rt; local_text(alloc, "x")?.is(local));
+        let free =
+            "cannot access free variable 'x' where it is not associated with a value in enclosing scope";
+        assert!(rt; free_text(alloc, "x")?.is(free));
+        assert!(rt; name_text(alloc, "x")?.is("name 'x' is not defined"));
+        assert!(rt; not_callable_text(alloc, "int")?.is("'int' object is not callable"));
+        Ok(())
+    }
+
+    #[test]
+    fn texts_tell_arguments(rt: HostRuntime) -> Result<(), Fail> {
+        let alloc = rt.alloc();
+        let name = Text::from_str(alloc, "b")?;
+        let missing = binding_text(alloc, "f", &BindErr::Missing { name })?;
+        assert!(rt; missing.is("f() misses argument 'b'"));
+        let many = binding_text(alloc, "f", &BindErr::TooMany { given: 2 })?;
+        assert!(rt; many.is("f() got too many arguments"));
+        let name = Text::from_str(alloc, "b")?;
+        let unexpected = binding_text(alloc, "f", &BindErr::Unexpected { name })?;
+        assert!(rt; unexpected.is("f() got an unexpected argument 'b'"));
+        let name = Text::from_str(alloc, "b")?;
+        let double = binding_text(alloc, "f", &BindErr::Double { name })?;
+        assert!(rt; double.is("f() got argument 'b' twice"));
+        Ok(())
+    }
+}

@@ -1,0 +1,179 @@
+"""Compares runs by the definitions of `pt_run` and `pt_host` with those of CPython 3.12.1: what is printed, the events in order, and the
+ending, over the written scripts below and over random ones.
+
+  check_objects.py [--crates FOLDER] [--from N] [--many N] [--show SEED]
+"""
+import argparse
+import collections
+import re
+import sys
+import threading
+import warnings
+
+from check import EVENTS, RULES, TRACED, Plan, alike, first_difference, of_ended_iteration, of_one_line, of_spread_call
+from definitions import number
+from objects import ObjectRunner, text_of
+from programs import program
+from record import CALLS, Recorder
+
+# exceptions whose texts are CPython's
+NAMED = ("<NameError>", "<UnboundLocalError>")
+
+
+def as_here(text):
+    """What CPython prints, in which functions have no text of their own here."""
+    return re.sub(r"<built-in function \w+>", "<builtin_function_or_method object>", re.sub(r"<function \S+ at 0x\w+>", "<function object>", text))
+
+
+class Told:
+    """What a run tells, in the words of `record`."""
+
+    def __init__(self, text):
+        self.lines, self.heard = text.split("\n"), {"trace": [], "tool": []}
+        self.told_last, self.target, self.log = {}, None, []
+
+    def hear(self, stream, rules, event):
+        if not any([rule(self, stream, event) for rule in rules]):
+            self.heard[stream].append(event)
+
+
+class Check:
+    def __init__(self, crates):
+        self.runner = ObjectRunner(crates)
+
+    def run(self, text, most=20000):
+        blocks, outputs, world, step = self.runner.run(text, most)
+        told, heap = Told(text), world["heap"]
+        for event in (o[1] for o in outputs if o[0] == "gives"):
+            what = event["what"]
+            where = (blocks[event["block"]["number"]].key, event["line"])
+            value = self.runner.describe(what[1], heap) if what[0] in ("returns", "unwinds", "raises", *CALL_KINDS) else ""
+            if what[0] in TRACED:
+                told.hear("trace", (of_ended_iteration, of_one_line), (TRACED[what[0]], *where, "None" if what[0] == "unwinds" else value, False, event["frame"]))
+            if what[0] in EVENTS:
+                told.hear("tool", (of_ended_iteration, of_one_line, of_spread_call), (EVENTS[what[0]], *where, value, False, event["frame"]))
+        told.log = [text_of(o[1]) for o in outputs if o[0] == "logs"]
+        out = "".join(text_of(o[1]) for o in outputs if o[0] == "prints")
+        return told, out, self.ending(step, heap), sum(o[0] == "begins" for o in outputs)
+
+    def ending(self, step, heap):
+        if step[0] != "ends":
+            return (step[0],)
+        match step[1]:
+            case ("raised", error, _):
+                return ("raised", self.runner.describe(error, heap), self.runner.text_of_error(error, heap))
+            case ("outside", what, line):
+                return ("outside", what[0], line)
+        return (step[1][0],)
+
+    def compare(self, text):
+        """What differs, if anything does, and how the run ended. One that leaves the profile is compared as far as it comes."""
+        told, out, end, acts = self.run(text)
+        recorder = Recorder(text, Plan(), RULES)
+        recorder.run()
+        left = end[0] == "outside"
+        difference = None
+        for stream in ("trace", "tool"):
+            a, b = alike(recorder.heard[stream]), alike(told.heard[stream])
+            i = first_difference(a[:len(b)] if left else a, b)
+            if i is not None:
+                difference = difference or [stream, i, a[max(0, i - 3):i + 3], b[max(0, i - 3):i + 3]]
+        printed = as_here(recorder.out)
+        if not (printed.startswith(out) if left else printed == out):
+            difference = difference or ["out", printed[-200:], out[-200:]]
+        wanted = recorder.end if end[0] == "done" else "done" if recorder.end == "done" else ("raised", recorder.end)
+        if not left and (end[0] if end[0] == "done" else end[:2]) != wanted:
+            difference = difference or ["end", recorder.end, end]
+        if not left and end[:2] == ("raised", recorder.end) and recorder.end in NAMED and recorder.error != end[2]:
+            difference = difference or ["text", recorder.error, end[2]]
+        return difference, end, acts, sum(len(e) for e in told.heard.values())
+
+
+CALL_KINDS = ("calls", "returns_from", "raises_from")
+OUTER = """\
+def outer():
+    n = 1
+    def inner(k=2):
+        nonlocal n
+        n = n + k
+        return n
+    inner()
+    return inner(k=5)
+print(outer())
+"""
+DEEP = "def f():\n    f()\nf()\n"
+# a script and its bound on acts; what it prints, the lines that are told, its acts and how it ends
+WRITTEN = [
+    ("", 9, "", [], 0, ("done",)),
+    ("", 0, "", [], 0, ("done",)),
+    ("pass\n", 0, "", [], 0, ("spent",)),
+    ("pass\n", 1, "", [1], 1, ("done",)),
+    ("x = 0\nwhile x < 2:\n    x += 1\nprint(x)\n", 99, "2\n", [1, 2, 3, 2, 3, 2, 4], 26, ("done",)),
+    ("x = 2\nwhile x: x -= 1\n", 99, "", [1, 2, 2, 2], 16, ("done",)),
+    ("print(x)\n", 99, "", [1], 2, ("raised", "<NameError>", "name 'x' is not defined")),
+    (OUTER, 99, "8\n", [1, 9, 2, 3, 7, 5, 6, 8, 5, 6], 31, ("done",)),
+    (DEEP, 9999, "", [1, 3] + [2] * 999, 2002, ("raised", "<RecursionError>", "too many activations")),
+    (DEEP, 2001, "", [1, 3] + [2] * 999, 2001, ("spent",)),
+    ("def f(a, *, b): return a\nf(1)\n", 99, "", [1, 2], 5, ("raised", "<TypeError>", "f() misses argument 'b'")),
+    ("def f(a): pass\nf(1, 2)\n", 99, "", [1, 2], 6, ("raised", "<TypeError>", "f() got too many arguments")),
+    ("def f(a): pass\nf(b=1)\n", 99, "", [1, 2], 5, ("raised", "<TypeError>", "f() got an unexpected argument 'b'")),
+    ("def f(a): pass\nf(1, a=1)\n", 99, "", [1, 2], 6, ("raised", "<TypeError>", "f() got argument 'a' twice")),
+    ("(1)(2)\n", 99, "", [1], 3, ("raised", "<TypeError>", "'int' object is not callable")),
+    ("def f():\n    g = lambda: x\n    g()\n    x = 1\nf()\n", 99, "", [1, 5, 2, 3, 2], 9,
+     ("raised", "<NameError>", "cannot access free variable 'x' where it is not associated with a value in enclosing scope")),
+    ("def f():\n    x = 1\n    del x\n    x\nf()\n", 99, "", [1, 5, 2, 3, 4], 8,
+     ("raised", "<UnboundLocalError>", "cannot access local variable 'x' where it is not associated with a value")),
+    ("x = 170141183460469231731687303715884105727\nprint(x)\nprint(x + 1)\n", 99, "170141183460469231731687303715884105727\n", [1, 2, 3], 10,
+     ("outside", "Integer", 3)),
+    ("x = 1\nprint(x / 2)\n", 99, "", [1, 2], 6, ("outside", "Float", 2)),
+    ("print('a' * 2)\n", 99, "", [1], 4, ("outside", "Feature", 1)),
+]
+
+
+def written(check):
+    """How many of the written scripts run otherwise than they are to."""
+    bad = 0
+    for text, most, *wanted in WRITTEN:
+        told, out, end, acts = check.run(text, most)
+        lines = [int(line.split()[1]) for line in told.log if line.startswith("line ")]
+        if [out, lines, acts, end] != wanted:
+            bad += 1
+            print(text, [out, lines[:40], acts, end], wanted, sep="\n    ")
+    return bad
+
+
+def main():
+    p = argparse.ArgumentParser()
+    p.add_argument("--crates", default="../../crates")
+    p.add_argument("--from", type=int, default=0, dest="first")
+    p.add_argument("--many", type=int, default=100)
+    p.add_argument("--show", type=int)
+    a = p.parse_args()
+    check = Check(a.crates)
+    bad = 0 if a.show is not None else written(check)
+    ends, acts, events = collections.Counter(), 0, 0
+    seeds = [a.show] if a.show is not None else range(a.first, a.first + a.many)
+    for seed in seeds:
+        text = program(seed)
+        difference, end, taken, told = check.compare(text)
+        ends[" ".join(str(e) for e in end[:2])] += 1
+        acts, events = acts + taken, events + told
+        if difference:
+            bad += 1
+            print(seed, *difference, sep="\n    ")
+        if a.show is not None:
+            print("\n".join(f"{i + 1:3} {line}" for i, line in enumerate(text.split("\n"))), end)
+    print(", ".join(f"{k} {n}" for k, n in sorted(ends.items())))
+    print(f"{len(WRITTEN)} written scripts, {len(seeds)} random ones, {acts} acts, {events} events, {bad} with a difference")
+    return bad > 0
+
+
+if __name__ == "__main__":
+    sys.setrecursionlimit(100000)
+    warnings.simplefilter("ignore")
+    threading.stack_size(512 * 1024 * 1024)
+    found = []
+    thread = threading.Thread(target=lambda: found.append(main()))
+    thread.start()
+    thread.join()
+    sys.exit(found[0] if found else 2)

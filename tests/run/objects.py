@@ -1,0 +1,101 @@
+"""A script run by the definitions of `pt_run` with the host of `pt_host`: names are bytes, and values are those of the definitions."""
+import ast
+
+from definitions import integer, items, listed, number
+from run import Runner
+from trees import Trees
+
+
+def word(text):
+    return listed(text.encode())
+
+
+def text_of(codes):
+    return bytes(items(codes)).decode()
+
+
+class ByteTrees(Trees):
+    word, integer = staticmethod(word), staticmethod(integer)
+
+
+def facts_of(block):
+    """What a host knows of a block."""
+    a = getattr(block.node, "args", None) if not isinstance(block.node, ast.GeneratorExp) else None
+    names = lambda parameters: [block.scope.spell(p.arg) for p in parameters]
+    plain, only = (names(a.args), names(a.kwonlyargs)) if a else ([], [])
+    star, stars = (a.vararg, a.kwarg) if a else (None, None)
+    parameters = plain + only + names([p for p in (star, stars) if p])
+    others = sorted(block.scope.bound - block.scope.cells - set(parameters)) if block.scope.is_function() else []
+    words = lambda xs: listed(map(word, xs))
+    return {
+        "name": word(block.name), "first_line": block.first_line, "yields": block.yields,
+        "params": {"plain": words(plain), "only": words(only), "star": star is not None, "stars": stars is not None, "defaults": ()},
+        "locals": words(parameters + others), "cells": words(sorted(block.scope.cells)), "frees": words(block.captured),
+    }
+
+
+class ObjectRunner(Runner):
+    trees = ByteTrees
+
+    def __init__(self, crates):
+        super().__init__(crates)
+        self.heap_host = self.get("pt_host", "HeapHost", "heap_host")
+        self.start_world = self.get("pt_host", "World", "start_world")
+        self.no_names = self.get("pt_host", "World", "no_names")
+        self.texts_of = self.get("pt_host", "Constants", "texts_of")
+        self.class_name = self.get("pt_prims", "Classes", "class_name")
+
+    def around(self, blocks, block):
+        plain = super().around(blocks, block)
+        variable = plain["variable"](())
+
+        def bytes_of(v):
+            return {**v, "name": word(v["name"])}
+        return {
+            "null": ("None",),
+            "variable": lambda within: lambda name: bytes_of(variable(text_of(name))),
+            "spelled": lambda name: word(plain["spelled"](text_of(name))),
+            "captured": lambda number: listed(map(bytes_of, items(plain["captured"](number)))),
+        }
+
+    def run(self, text, most=20000):
+        """The blocks, the outputs, the last state but one and the step that ends the run."""
+        blocks = self.blocks(text)
+        around = [self.around(blocks, b) for b in blocks]
+        facts = [facts_of(b) for b in blocks]
+        program = {"facts": lambda b: facts[b["number"]], "texts": self.texts_of(self.trees(text).tree)}
+        machine = self.machine({
+            "code": lambda b: blocks[b["number"]].record["code"],
+            "around": lambda b: around[b["number"]],
+        })
+        state = self.start(machine, {"hidden": False, "number": 0}, self.no_names(), self.start_world(program))
+        outputs, state, step = self.follow(machine, self.heap_host(program), state, most)
+        return blocks, outputs, state["world"], step
+
+    def describe(self, value, heap):
+        """A value, in the words of `record.describe`."""
+        match value:
+            case ("None",):
+                return "None"
+            case ("Bool", b):
+                return repr(b)
+            case ("Int", z):
+                return repr(number(z))
+            case ("Obj", place):
+                thing = items(heap)[place["0"]]
+                match thing[0]:
+                    case "Str":
+                        return repr(text_of(thing[1]))
+                    case "Function":
+                        return "<function>"
+                    case "Builtin":
+                        return "<builtin>"
+                    case "Class":
+                        return f"<class {text_of(thing[1]['name'])}>"
+        return f"<{text_of(self.class_name(heap, value))}>"
+
+    @staticmethod
+    def text_of_error(value, heap):
+        heap = items(heap)
+        arguments = items(heap[value[1]["0"]][1]["args"])
+        return text_of(heap[arguments[0][1]["0"]][1]) if arguments else ""
