@@ -315,7 +315,10 @@ def main():
     options.add_argument("--many", type=int, default=1000)
     options.add_argument("--show", type=int)
     o = options.parse_args()
-    texts = BY_HAND + [script(n) for n in range(o.first, o.first + o.many)] if o.show is None else [script(o.show)]
+    written = BY_HAND if o.show is None else []
+    drawn = range(o.first, o.first + o.many) if o.show is None else [o.show]
+    seeds = [f"script {n} by hand" for n in range(len(written))] + [f"script {n}" for n in drawn]
+    texts = written + [script(n) for n in drawn]
     told = subprocess.run([o.older, os.path.join(HERE, "older.py")], input=json.dumps(texts), capture_output=True, text=True, check=True).stdout
     check, failed = Check(o.crates), 0
     blocks = comprehensions = names = 0
@@ -325,7 +328,7 @@ def main():
         except Differs as d:
             failed += 1
             if failed <= 5:
-                print(f"script {n - len(BY_HAND) + o.first if o.show is None else o.show}:", *d.args, numbered(text), sep="\n  ")
+                print(f"{seeds[n]}:", *d.args, numbered(text), sep="\n  ", flush=True)
         blocks += len(check.homes)
         comprehensions += len(older) - len(check.homes)
         names += len(items(check.places["mentions"]))

@@ -1,3 +1,4 @@
 mod AroundLemmas
 mod OutwardsLemmas
 pub mod TakenLemmas
+pub mod ClassLemmas

@@ -10,7 +10,7 @@ ghost use Rattle.pt_tree.specs.Syntax.{Name, Stms};
 ghost use Rattle.pt_control.specs.Turn as T;
 ghost use Rattle.pt_naming.specs.Around.{around_of, names_of};
 ghost use Rattle.pt_naming.specs.BlockNames.{captured_at, free_names};
-ghost use Rattle.pt_naming.specs.Laws.{HaveCells};
+ghost use Rattle.pt_naming.specs.Laws.{HaveCells, IsClassBody};
 ghost use Rattle.pt_naming.specs.Naming.{own, owned, spelled_in, variable};
 
 /// A name of a comprehension, as one of a function, is local in its block or in a cell.
@@ -25,6 +25,14 @@ pub fn names_have_their_scopes<V>()
         → slice_get (blocks_script ss) b ≡ Some k
         → slice_get (places_script ss).blocks b ≡ Some h
         → (around_of v ss b).variable [] x ≡ own (places_script ss) b (spelled_in k x) }
+{}
+
+/// Names of a class are those of its body alone, outside of comprehensions.
+#[tactic(auto, using(crate::proofs::ClassLemmas::names_of_class))]
+pub fn names_of_a_class_are_in_its_body<V>()
+    ensures { (v : V) (ss : Stms) (b : ℕ) (within : List ℕ) (x : Name)
+        → ((around_of v ss b).variable within x).scope ≡ T.of_class
+        → (within ≡ []) × IsClassBody (places_script ss) b }
 {}
 
 /// What a block takes along is in a cell of its maker: the maker's own, or one that it has from around.
