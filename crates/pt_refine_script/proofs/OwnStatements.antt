@@ -2,7 +2,7 @@
 use Rattle.std.proofs.Common.{◌≡◌, ◌∙◌, ap, sym, ℕ, Bool, List}
 use Rattle.pt_wide.specs.Syntax as W
 use Rattle.pt_refine_expr.specs.StatementNarrow.{narrow_stm}
-use Rattle.pt_refine_script.specs.StatementsNarrowed.{narrow_classed, narrow_defined, narrow_guarded, narrow_iterated, narrow_repeated, narrow_tried}
+use Rattle.pt_refine_script.specs.StatementsNarrowed.{narrow_assignment, narrow_classed, narrow_defined, narrow_guarded, narrow_iterated, narrow_repeated, narrow_tried}
 
 pub while-own : (before : ℕ) (s : W.Stm) {l : ℕ} {c : W.Exp} {body els : W.Stms} → s ≡ W.while l c body els → narrow_stm before s ≡ narrow_repeated before s
 while-own n s is = ap (narrow_stm n) is ∙ sym (ap (narrow_repeated n) is)
@@ -21,3 +21,6 @@ def-own n s is = ap (narrow_stm n) is ∙ sym (ap (narrow_defined n) is)
 
 pub class-own : (before : ℕ) (s : W.Stm) {l : ℕ} {ds : W.Decorators} {cl : ℕ} {x : List ℕ} {args : W.Args} {comma : Bool} {body : W.Stms} → s ≡ W.class l ds cl x args comma body → narrow_stm before s ≡ narrow_classed before s
 class-own n s is = ap (narrow_stm n) is ∙ sym (ap (narrow_classed n) is)
+
+pub assign-own : (before : ℕ) (s : W.Stm) {l : ℕ} {ts : W.Exps} {e : W.Exp} → s ≡ W.assign l ts e → narrow_stm before s ≡ narrow_assignment before s
+assign-own n s is = ap (narrow_stm n) is ∙ sym (ap (narrow_assignment n) is)

@@ -90,7 +90,8 @@ fn handler(n: &mut Narrower, one: &WideHandler) -> Result<Handler, Unnarrowed>
 }
 
 /// A statement (Language Reference 7, 8). Each kind that has a block has a frame of its own, so that
-/// blocks inside blocks take room for their own kinds alone.
+/// blocks inside blocks take room for their own kinds alone; and so have the kinds without blocks,
+/// which no compiler makes a part of the last one with a block, since they are called here too.
 #[cycle(blocks)]
 fn statement(n: &mut Narrower, s: &WideStmt) -> Result<Stmt, Unnarrowed>
     ensures { MakesStm result n.old (W.stm_of s.now) n.new }
@@ -103,6 +104,7 @@ fn statement(n: &mut Narrower, s: &WideStmt) -> Result<Stmt, Unnarrowed>
         WideStmtNode::With { .. } => guarded(n, s),
         WideStmtNode::Def { .. } => defined(n, s),
         WideStmtNode::Class { .. } => classed(n, s),
+        WideStmtNode::Assign { .. } => assignment(n, s),
         _ => conditional(n, s),
     }
 }

@@ -15,7 +15,7 @@ use Rattle.pt_refine_expr.specs.StatementBlocks.{blocks_branches, blocks_decorat
 use Rattle.pt_refine_expr.specs.StatementNarrow.{narrow_base, narrow_branches, narrow_handlers, narrow_stm, narrow_stms}
 use Rattle.pt_refine_script.specs.StatementsNarrowed.{narrow_assignment, narrow_classed, narrow_defined, narrow_guarded, narrow_iterated, narrow_repeated, narrow_tried, wide_branches, wide_handlers}
 use Rattle.pt_refine_expr.proofs.Building.{leaves, same-narrow, both-is, left-at, left-none, made-four, made-is, made-three, made-two, put-is, put-three, walk-end, walk-step}
-use Rattle.pt_refine_script.proofs.OwnStatements.{class-own, def-own, for-own, try-own, while-own, with-own}
+use Rattle.pt_refine_script.proofs.OwnStatements.{assign-own, class-own, def-own, for-own, try-own, while-own, with-own}
 use Rattle.pt_refine_script.proofs.OtherStatements.{classed-other, defined-other, guarded-other, iterated-other, repeated-other, statement-other, tried-other}
 use Rattle.pt_refine_script.proofs.StatementBuilding.{at-made-stm, branch-made, handler-made, made-class, made-def, stms-chained}
 use Rattle.pt_refine_script.proofs.block_trees.+blocks.Goals as goal
@@ -40,6 +40,9 @@ statement-returns-in-Def t c = same-narrow T.stm_of c.defined.result (narrow_def
 
 pub statement-returns-in-Class : goal.statement-returns-in-Class
 statement-returns-in-Class t c = same-narrow T.stm_of c.classed.result (narrow_classed c.args.n.now (stm_of c.args.s.now)) (narrow_stm c.args.n.now (stm_of c.args.s.now)) c.args.n.now (blocks_stm (stm_of c.args.s.now)) c.classed.new.n (class-own c.args.n.now _ (wide.stm_of-Class c.args.s.now _ _ _ _ _ _ c.in-Class.is)) c.classed.ensures
+
+pub statement-returns-in-Assign : goal.statement-returns-in-Assign
+statement-returns-in-Assign t c = same-narrow T.stm_of c.assignment.result (narrow_assignment c.args.n.now (stm_of c.args.s.now)) (narrow_stm c.args.n.now (stm_of c.args.s.now)) c.args.n.now (blocks_stm (stm_of c.args.s.now)) c.assignment.new.n (assign-own c.args.n.now _ (wide.stm_of-Assign c.args.s.now _ _ c.in-Assign.is)) c.assignment.ensures
 
 pub statement-returns-in_default : goal.statement-returns-in_default
 statement-returns-in_default t c = c.conditional-in_default.ensures
