@@ -1,6 +1,6 @@
 -- A code object of a block that fits runs it: it knows how many slots lie at each place.
-use Rattle.std.proofs.Common.{◌≡◌, ◌⊎◌, inl, inr, ℕ, ◌+◌, ◌-◌, ◌≤◌, zero, suc, Bool, true, false, if◌then◌else◌, List, [], ◌∷◌, ◌++◌, length, map, filter, Option, Some, None, refl, sym, ap, ◌∙◌, subst, arith}
-use Rattle.std.specs.Prelude.{Contains, cond, slice_get}
+use Rattle.std.proofs.Common.{◌≡◌, ◌⊎◌, inl, inr, ℕ, ◌+◌, ◌-◌, ◌≤◌, zero, suc, Bool, true, false, if◌then◌else◌, List, [], ◌∷◌, ◌++◌, length, map, filter, Option, Some, None, refl, ap, subst, arith}
+use Rattle.std.specs.Prelude.{Contains, cond}
 use Rattle.std.proofs.lemmas.List.Elements.{Contains-append_cases}
 use Rattle.std.proofs.lemmas.Bool.{true_from_ne_false, leb-true}
 use Rattle.pt_instr.specs.declared.Instr.{Instr}
@@ -17,9 +17,8 @@ use Rattle.pt_slots.specs.CodeObject.{Pool, CodeObject}
 use Rattle.pt_slots.specs.Needs.{captured_by, needs}
 use Rattle.pt_slots.specs.BlockObject as O
 use Rattle.pt_slots.specs.BlockObject.{IsBlockObject, SlotsAt, pool_of, slots_at_start}
-use Rattle.pt_fits.specs.Block.{Links, Block, effect, captured, kinds_at_start, links_of, block_of}
+use Rattle.pt_fits.specs.Block.{Links, Block, effect, captured, kinds_at_start, block_of}
 use Rattle.pt_fits.specs.Steps.{target_of}
-use Rattle.pt_fits.specs.Places.{Gets, Reached}
 use Rattle.pt_fits.specs.Agreement as A
 use Rattle.pt_fits.specs.Fits.{Fits}
 use Rattle.pt_fits.specs.Laws.{Runs}
@@ -27,7 +26,6 @@ use Rattle.pt_fits.proofs.ViewLaid.{view_is_laid}
 use Rattle.pt_fits.proofs.Ways.{first, later}
 use Rattle.pt_verify.specs.Sizes as S
 use Rattle.pt_verify.specs.Sizes.{SizeStep, sized, left, is_enough, gives_onward, gives_aside, gives_again, own_sizes, leaves_enough, landing_size, handler_sizes, size_steps, size_steps_of, Sized}
-use Rattle.pt_verify.specs.Laws.{GetsSize}
 use Rattle.pt_verify.specs.Objects.{ObjectRuns}
 use Rattle.pt_verify.proofs.SizeLemmas.{kinds_have_sizes, sizes_have_kinds}
 

@@ -4,6 +4,7 @@ ghost use Rattle.std.specs.Prelude.{ℕ};
 ghost use Rattle.pt_ranges.specs.declared.handlers.Handler.{Handler};
 ghost use Rattle.pt_fits.specs.Block.{Block};
 ghost use Rattle.pt_verify.specs.Objects.{ObjectRuns};
+ghost use Rattle.pt_verify.specs.PlaceTable.{TablesTell};
 ghost use Rattle.pt_verify.specs.Laws.{AsDeep, AsFew, AsLengths, KindsHaveSizes, SizesHaveKinds};
 
 /// The sizes of places are the lengths of their kinds, whatever these are.
@@ -20,6 +21,12 @@ pub fn sizes_decide()
     ensures meet { (b : Block) (p : ℕ) → AsLengths b p }
     ensures deep { (b : Block) (p : ℕ) (row : Handler) → AsDeep b p row }
     ensures few { (b : Block) (p : ℕ) → AsFew b p }
+{}
+
+/// What is told of the table of a block's places is told of the block.
+#[tactic(auto, using(crate::proofs::PlaceTable::tables_tell))]
+pub fn a_table_tells_of_its_block()
+    ensures { (b : Block) → TablesTell b }
 {}
 
 /// The code object of a block that fits runs it.

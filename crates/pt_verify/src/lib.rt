@@ -2,5 +2,10 @@
 #![tactic(auto)]
 
 mod laws;
+mod places;
 
-pub use laws::{a_code_object_runs_its_block, sizes_are_lengths, sizes_decide};
+pub use laws::{
+    a_code_object_runs_its_block, a_table_tells_of_its_block, sizes_are_lengths, sizes_decide,
+};
+pub use places::sizes;
+pub use pt_sizes::Sizes;
