@@ -1,6 +1,6 @@
 //! The code of list, set and dictionary comprehensions (Language Reference 6.2.4).
 
-ghost use Rattle.std.specs.Prelude.{◌≡◌, ◌+◌, ◌×◌, [], ◌∷◌, suc, map, IfOk, OnOk};
+ghost use Rattle.std.specs.Prelude.{◌≡◌, ◌+◌, [], ◌∷◌, suc, map, IfOk, OnOk};
 ghost use Rattle.pt_tree.specs.Fold.{behind, clause_of, clauses_of, exp_of};
 ghost use Rattle.pt_tree.specs.Sizes.{size, target_size, clauses_size};
 ghost use Rattle.pt_assembler.specs.Piece.{plain as plain_op};

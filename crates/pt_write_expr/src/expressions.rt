@@ -1,6 +1,6 @@
 //! The code of expressions and targets: operands from left to right, and then their own act.
 
-ghost use Rattle.std.specs.Prelude.{◌≡◌, ◌+◌, ◌×◌, [], ◌∷◌, map, false, IfOk, OnOk};
+ghost use Rattle.std.specs.Prelude.{◌≡◌, ◌+◌, [], ◌∷◌, map, false, IfOk, OnOk};
 ghost use Rattle.pt_tree.specs.Syntax.{Exp, lambda, no_args, no_entries, no_formals, no_pieces};
 ghost use Rattle.pt_tree.specs.Fold.{all_of, argument_of, chained, entry_of, exp_of, formal_of, opt_exp, parameters_of, piece_of, place_node_of, target_of, targets_of};
 ghost use Rattle.pt_tree.specs.Sizes.{size, all_size, operands_size, opt_size, pieces_size, entries_size, args_size, formals_size, params_size, place_size, target_size, targets_size};

@@ -1,6 +1,6 @@
 //! The code of a chain of comparisons, behind its first two operands (Language Reference 6.10).
 
-ghost use Rattle.std.specs.Prelude.{◌≡◌, ◌+◌, ◌×◌, [], map, IfOk, OnOk};
+ghost use Rattle.std.specs.Prelude.{◌≡◌, ◌+◌, [], map, IfOk, OnOk};
 ghost use Rattle.pt_tree.specs.Syntax.{no_links};
 ghost use Rattle.pt_tree.specs.Fold.{chained, link_of};
 ghost use Rattle.pt_tree.specs.Sizes.{links_size};
