@@ -1,2 +1,4 @@
 pub mod Splits
 pub mod ComprehensionLemmas
+pub mod NameLemmas
+pub mod ArmLemmas
