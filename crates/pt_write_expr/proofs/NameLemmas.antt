@@ -1,10 +1,12 @@
 -- What control knows of a name is what the block says of it: comprehensions around are known by their numbers.
-use Rattle.std.proofs.Common.{◌≡◌, ◌∙◌, List, [], ◌∷◌, map, refl, ap, sym}
+use Rattle.std.proofs.Common.{◌≡◌, ◌∙◌, ℕ, List, [], ◌∷◌, map, Result, OnOk, refl, ap, sym}
+use Rattle.std.proofs.lemmas.Result.{on_ok_weaker}
 use Rattle.pt_base.specs.declared.numbers.ActNo.{ActNo}
 use Rattle.pt_tree.specs.Syntax.{Name}
 use Rattle.pt_block_names.specs.declared.block_names.BlockNames.{BlockNames}
 use Rattle.pt_block_names.specs.declared.variable.Variable.{Variable}
 use Rattle.pt_block_names.specs.Named.{act_no, variable_of, variable_in}
+use Rattle.pt_assembler.specs.Layout.{Written}
 use Rattle.pt_write_expr.specs.Parts.{known, numbers}
 
 act_no-numbers : (ns : List ActNo) → map act_no (numbers ns) ≡ ns
@@ -17,3 +19,7 @@ pub known-variable : (b : BlockNames) (within : List ActNo) (x y : Name) (v : Va
 known-variable b within x y v is same =
     ap variable_of is ∙ ap (λ z. variable_of (variable_in b within z)) same
     ∙ sym (ap (λ ns. variable_of (variable_in b ns x)) (act_no-numbers within))
+
+-- what is written does not hang on the line that is said
+pub on_each_line : {T E : Type 0} (r : Result T E) (new a : Written) (b : ℕ → Written) → ((l : ℕ) → a ≡ b l) → OnOk r (new ≡ a) → OnOk r ((l : ℕ) → new ≡ b l)
+on_each_line r new a b same is = on_ok_weaker r (λ w l. w ∙ same l) is

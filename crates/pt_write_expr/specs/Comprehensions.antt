@@ -21,6 +21,9 @@ operation_of built.List = T.list
 operation_of built.Set = T.set
 operation_of built.Dict = T.dict
 
+abbrev pub whole : (line : ℕ) → Made → (first : ClauseOf) → (rest : List ClauseOf) → Exp
+whole l m c cs = S.comprehension l m c.line c.target c.iterable (behind c cs)
+
 abbrev pub conditions_size : List Exp → ℕ
 conditions_size [] = 0
 conditions_size (e ∷ es) = size e + 1 + conditions_size es
@@ -52,4 +55,4 @@ module _ {V : Type 0} (around : Around V) where
       (new : Written) → Type 0
   Is_open b l g v inside c cs old end head deep new = (m : Made) → built_as m ≡ operation_of b
       → bind end (layout (item_piece around m l new.act deep inside) (head ∷ []) new)
-      ≡ layout (exp_piece around (S.comprehension l m c.line c.target c.iterable (behind c cs)) old.act g v) [] old
+      ≡ layout (exp_piece around (whole l m c cs) old.act g v) [] old

@@ -10,7 +10,7 @@ use Rattle.pt_control.specs.Turn.{Around}
 use Rattle.pt_block_names.specs.declared.block_names.BlockNames.{BlockNames}
 use Rattle.pt_block_names.specs.Named as named
 use Rattle.pt_assembler.specs.declared.operation.Jump.{Jump}
-use Rattle.pt_assembler.specs.Piece.{plain, const, to, Piece, empty, act, closed, ◌▸◌}
+use Rattle.pt_assembler.specs.Piece.{plain, const, to, Piece, empty, act, block, closed, ◌▸◌}
 use Rattle.pt_emitter.specs.ExpPiece.{exp_piece, op_piece, spec_piece, renewed_piece, null_piece}
 
 -- what code asks of a block; the value None is no part of it
@@ -105,3 +105,6 @@ module _ {V : Type 0} (around : Around V) where
   decided_piece j S.no_exps l n v = empty
   decided_piece j (S.more_exps e es) l n v =
       act (to j 0) n l false ▸ closed (exp_piece around e (n + 1) false v) ▸ decided_piece j es l (n + 1 + size e) v
+
+  abbrev pub decision_piece : Jump → (first : Exp) → Exps → (l n : ℕ) → (g : Bool) → (v : List ℕ) → Piece
+  decision_piece j e es l n g v = block (closed (exp_piece around e n g v) ▸ decided_piece j es l (n + size e) v)

@@ -1,15 +1,17 @@
 //! The code of list, set and dictionary comprehensions (Language Reference 6.2.4).
 
 ghost use Rattle.std.specs.Prelude.{◌≡◌, ◌+◌, [], ◌∷◌, suc, map, IfOk, OnOk};
+ghost use Rattle.pt_tree.specs.Syntax.{a_dict, a_list, a_set};
 ghost use Rattle.pt_tree.specs.Fold.{behind, clause_of, clauses_of, exp_of};
 ghost use Rattle.pt_tree.specs.Sizes.{size, target_size, clauses_size};
 ghost use Rattle.pt_assembler.specs.Piece.{plain as plain_op};
 ghost use Rattle.pt_assembler.specs.Layout.{layout, new_label, next_label, put, bind};
 ghost use Rattle.pt_assembler.specs.declared.operation.Jump.TheVariants.{Always};
 ghost use Rattle.pt_assembler.specs.declared.operation.Operation.TheVariants.{To};
+ghost use Rattle.pt_emitter.specs.ExpPiece.{exp_piece};
 ghost use Rattle.pt_emitter.specs.Ops.{operation};
 ghost use Rattle.pt_write_expr.specs.Parts.{known, numbers};
-ghost use Rattle.pt_write_expr.specs.Comprehensions.{operation_of, conditions_size, turn_size, conditions_piece, turn_piece, Goes_on, Is_open};
+ghost use Rattle.pt_write_expr.specs.Comprehensions.{whole, operation_of, conditions_size, turn_size, conditions_piece, turn_piece, Goes_on, Is_open};
 
 use crate::expressions::{expr_code, target_code};
 use crate::renewal::renew_clauses;
@@ -22,7 +24,7 @@ use pt_write_ops::plain;
 
 /// What a comprehension builds.
 #[derive(Clone, Copy, Debug, PartialEq, Eq)]
-pub enum Built {
+enum Built {
     List,
     Set,
     Dict,
@@ -30,14 +32,14 @@ pub enum Built {
 
 /// A comprehension of which the item is missing, and the end.
 #[derive(Drop)]
-pub struct Open {
-    pub end: Label,
+struct Open {
+    end: Label,
     /// Where the next item is taken.
-    pub head: Label,
+    head: Label,
     /// How many iterators lie above what is built.
-    pub loops: u32,
+    loops: u32,
     /// The comprehensions around the item.
-    pub within: Seq<ActNo>,
+    within: Seq<ActNo>,
 }
 
 /// The innermost loop of a comprehension.
@@ -58,16 +60,102 @@ fn empty_instr(built: Built) -> Instr
 }
 
 /// One slot more.
-pub fn one_more(count: u32) -> Result<u32, Memory>
+fn one_more(count: u32) -> Result<u32, Memory>
     ensures { IfOk result (λ n. n ≡ suc count) }
 {
     count.checked_add(1).ok_or(Memory)
 }
 
+/// The code of a list comprehension.
+#[cycle(expressions)]
+#[tactic(auto, using(pt_tree::proofs::Folds::expressions))]
+pub fn list_comprehension(
+    w: &mut Writer,
+    at: &Surroundings,
+    line: Line,
+    item: &Expr,
+    first: &Clause,
+    rest: &[Clause],
+    again: bool,
+) -> Result<(), Memory>
+    ensures code { OnOk result (w.new ≡ layout (exp_piece (known at.now.names.now)
+        (whole line.0 (a_list (exp_of item.now)) (clause_of first.now)
+        (map clause_of rest.now)) w.old.act again (numbers at.now.within.now)) [] w.old) }
+    ensures act { OnOk result (w.new.act ≡ w.old.act + size (whole line.0
+        (a_list (exp_of item.now)) (clause_of first.now) (map clause_of rest.now))) }
+{
+    let open = comprehension(w, at, line, Built::List, first, rest, again)?;
+    let inside = Surroundings {
+        names: at.names,
+        within: open.within.as_slice(),
+    };
+    expr_code(w, &inside, item, false)?;
+    plain(w, Instr::ListAdd(one_more(open.loops)?), line, false)?;
+    close_comprehension(w, open.end, open.head)
+}
+
+/// The code of a set comprehension.
+#[cycle(expressions)]
+#[tactic(auto, using(pt_tree::proofs::Folds::expressions))]
+pub fn set_comprehension(
+    w: &mut Writer,
+    at: &Surroundings,
+    line: Line,
+    item: &Expr,
+    first: &Clause,
+    rest: &[Clause],
+    again: bool,
+) -> Result<(), Memory>
+    ensures code { OnOk result (w.new ≡ layout (exp_piece (known at.now.names.now)
+        (whole line.0 (a_set (exp_of item.now)) (clause_of first.now)
+        (map clause_of rest.now)) w.old.act again (numbers at.now.within.now)) [] w.old) }
+    ensures act { OnOk result (w.new.act ≡ w.old.act + size (whole line.0
+        (a_set (exp_of item.now)) (clause_of first.now) (map clause_of rest.now))) }
+{
+    let open = comprehension(w, at, line, Built::Set, first, rest, again)?;
+    let inside = Surroundings {
+        names: at.names,
+        within: open.within.as_slice(),
+    };
+    expr_code(w, &inside, item, false)?;
+    plain(w, Instr::SetAdd(one_more(open.loops)?), line, false)?;
+    close_comprehension(w, open.end, open.head)
+}
+
+/// The code of a dict comprehension.
+#[cycle(expressions)]
+#[tactic(auto, using(pt_tree::proofs::Folds::expressions))]
+pub fn dict_comprehension(
+    w: &mut Writer,
+    at: &Surroundings,
+    line: Line,
+    key: &Expr,
+    value: &Expr,
+    first: &Clause,
+    rest: &[Clause],
+    again: bool,
+) -> Result<(), Memory>
+    ensures code { OnOk result (w.new ≡ layout (exp_piece (known at.now.names.now)
+        (whole line.0 (a_dict (exp_of key.now) (exp_of value.now)) (clause_of first.now)
+        (map clause_of rest.now)) w.old.act again (numbers at.now.within.now)) [] w.old) }
+    ensures act { OnOk result (w.new.act ≡ w.old.act + size (whole line.0
+        (a_dict (exp_of key.now) (exp_of value.now)) (clause_of first.now) (map clause_of rest.now))) }
+{
+    let open = comprehension(w, at, line, Built::Dict, first, rest, again)?;
+    let inside = Surroundings {
+        names: at.names,
+        within: open.within.as_slice(),
+    };
+    expr_code(w, &inside, key, false)?;
+    expr_code(w, &inside, value, false)?;
+    plain(w, Instr::DictAdd(one_more(open.loops)?), line, false)?;
+    close_comprehension(w, open.end, open.head)
+}
+
 /// The code of a comprehension up to its item.
 #[cycle(expressions)]
 #[tactic(auto, using(pt_tree::proofs::Folds::expressions, crate::proofs::ComprehensionLemmas::comprehensions))]
-pub fn comprehension(
+fn comprehension(
     w: &mut Writer,
     at: &Surroundings,
     line: Line,
@@ -109,7 +197,7 @@ pub fn comprehension(
 }
 
 /// The end of a comprehension, behind its item.
-pub fn close_comprehension(w: &mut Writer, end: Label, head: Label) -> Result<(), Memory>
+fn close_comprehension(w: &mut Writer, end: Label, head: Label) -> Result<(), Memory>
     ensures code { OnOk result (w.new ≡ bind end (put (To Always head) w.old)) }
     ensures act { OnOk result (w.new.act ≡ w.old.act) }
 {

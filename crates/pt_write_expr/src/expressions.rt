@@ -1,15 +1,15 @@
 //! The code of expressions and targets: operands from left to right, and then their own act.
 
 ghost use Rattle.std.specs.Prelude.{◌≡◌, ◌+◌, [], ◌∷◌, map, false, IfOk, OnOk};
-ghost use Rattle.pt_tree.specs.Syntax.{Exp, lambda, no_args, no_entries, no_formals, no_pieces};
+ghost use Rattle.pt_tree.specs.Syntax.{Exp, conditional, lambda, no_args, no_entries, no_formals, no_pieces};
 ghost use Rattle.pt_tree.specs.Fold.{all_of, argument_of, chained, entry_of, exp_of, formal_of, opt_exp, parameters_of, piece_of, place_node_of, target_of, targets_of};
 ghost use Rattle.pt_tree.specs.Sizes.{size, all_size, operands_size, opt_size, pieces_size, entries_size, args_size, formals_size, params_size, place_size, target_size, targets_size};
 ghost use Rattle.pt_assembler.specs.Layout.{layout};
 ghost use Rattle.pt_emitter.specs.ExpPiece.{exp_piece, target_piece, targets_piece, place_piece};
 ghost use Rattle.pt_write_ops.specs.Roles.{role_of};
-ghost use Rattle.pt_write_expr.specs.Parts.{known, numbers, still, exps_count, entries_count, pieces_count, defaults_count, opt_count, each_piece, pairs_piece, parts_piece, arguments_piece, defaults_piece, opt_piece, decided_piece};
+ghost use Rattle.pt_write_expr.specs.Parts.{known, numbers, still, exps_count, entries_count, pieces_count, defaults_count, opt_count, each_piece, pairs_piece, parts_piece, arguments_piece, defaults_piece, opt_piece, decision_piece};
 
-use crate::comprehensions::{Built, close_comprehension, comprehension, one_more};
+use crate::comprehensions::{dict_comprehension, list_comprehension, set_comprehension};
 use crate::links::links;
 use crate::parameters::defaulted_names;
 use crate::surroundings::{Surroundings, join, still_due};
@@ -102,36 +102,37 @@ pub fn expr_code(w: &mut Writer, at: &Surroundings, e: &Expr, again: bool) -> Re
             expr_code(w, at, right.get(), false)?;
             links(w, at, line, *operator, rest.as_slice())
         }
-        ExprNode::And { first, rest } => {
-            let end = w.label()?;
-            expr_code(w, at, first.get(), again)?;
-            decided(w, at, Jump::IfFalseKeep, end, line, rest.as_slice())?;
-            w.bind(end);
-            Ok(())
-        }
-        ExprNode::Or { first, rest } => {
-            let end = w.label()?;
-            expr_code(w, at, first.get(), again)?;
-            decided(w, at, Jump::IfTrueKeep, end, line, rest.as_slice())?;
-            w.bind(end);
-            Ok(())
-        }
+        ExprNode::And { first, rest } => decision(
+            w,
+            at,
+            line,
+            Jump::IfFalseKeep,
+            first.get(),
+            rest.as_slice(),
+            again,
+        ),
+        ExprNode::Or { first, rest } => decision(
+            w,
+            at,
+            line,
+            Jump::IfTrueKeep,
+            first.get(),
+            rest.as_slice(),
+            again,
+        ),
         ExprNode::Conditional {
             test,
             body,
             otherwise,
-        } => {
-            let end = w.label()?;
-            let other = w.label()?;
-            expr_code(w, at, test.get(), again)?;
-            w.act(Operation::To(Jump::IfFalse, other), line, false)?;
-            expr_code(w, at, body.get(), false)?;
-            w.step(Operation::To(Jump::Always, end))?;
-            w.bind(other);
-            expr_code(w, at, otherwise.get(), false)?;
-            w.bind(end);
-            Ok(())
-        }
+        } => choice(
+            w,
+            at,
+            line,
+            test.get(),
+            body.get(),
+            otherwise.get(),
+            again,
+        ),
         ExprNode::Call { callee, arguments } => {
             expr_code(w, at, callee.get(), again)?;
             each_argument(w, at, line, arguments.as_slice())?;
@@ -143,66 +144,39 @@ pub fn expr_code(w: &mut Writer, at: &Surroundings, e: &Expr, again: bool) -> Re
             parameters,
             ..
         } => function_code(w, at, line, *block, parameters, again),
-        ExprNode::ListComprehension { item, first, rest } => {
-            let partial = comprehension(
-                w,
-                at,
-                line,
-                Built::List,
-                first.get(),
-                rest.as_slice(),
-                again,
-            )?;
-            let inside = Surroundings {
-                names: at.names,
-                within: partial.within.as_slice(),
-            };
-            expr_code(w, &inside, item.get(), false)?;
-            plain(w, Instr::ListAdd(one_more(partial.loops)?), line, false)?;
-            close_comprehension(w, partial.end, partial.head)
-        }
-        ExprNode::SetComprehension { item, first, rest } => {
-            let partial = comprehension(
-                w,
-                at,
-                line,
-                Built::Set,
-                first.get(),
-                rest.as_slice(),
-                again,
-            )?;
-            let inside = Surroundings {
-                names: at.names,
-                within: partial.within.as_slice(),
-            };
-            expr_code(w, &inside, item.get(), false)?;
-            plain(w, Instr::SetAdd(one_more(partial.loops)?), line, false)?;
-            close_comprehension(w, partial.end, partial.head)
-        }
+        ExprNode::ListComprehension { item, first, rest } => list_comprehension(
+            w,
+            at,
+            line,
+            item.get(),
+            first.get(),
+            rest.as_slice(),
+            again,
+        ),
+        ExprNode::SetComprehension { item, first, rest } => set_comprehension(
+            w,
+            at,
+            line,
+            item.get(),
+            first.get(),
+            rest.as_slice(),
+            again,
+        ),
         ExprNode::DictComprehension {
             key,
             value,
             first,
             rest,
-        } => {
-            let partial = comprehension(
-                w,
-                at,
-                line,
-                Built::Dict,
-                first.get(),
-                rest.as_slice(),
-                again,
-            )?;
-            let inside = Surroundings {
-                names: at.names,
-                within: partial.within.as_slice(),
-            };
-            expr_code(w, &inside, key.get(), false)?;
-            expr_code(w, &inside, value.get(), false)?;
-            plain(w, Instr::DictAdd(one_more(partial.loops)?), line, false)?;
-            close_comprehension(w, partial.end, partial.head)
-        }
+        } => dict_comprehension(
+            w,
+            at,
+            line,
+            key.get(),
+            value.get(),
+            first.get(),
+            rest.as_slice(),
+            again,
+        ),
         ExprNode::Generator { block, first, .. } => {
             expr_code(w, at, &first.get().iterable, again)?;
             plain(w, Instr::Iter, first.get().line, false)?;
@@ -338,27 +312,61 @@ fn part_of_slice(
     }
 }
 
-/// The operands behind the first of an `and` or `or`, each behind a jump to the end.
+/// The operands of an `and` or `or`, each behind the first behind a jump to the end.
 #[cycle(expressions)]
 #[tactic(auto, using(pt_tree::proofs::Folds::expressions))]
-fn decided(
+fn decision(
     w: &mut Writer,
     at: &Surroundings,
-    jump: Jump,
-    end: Label,
     line: Line,
+    jump: Jump,
+    first: &Expr,
     rest: &[Expr],
+    again: bool,
 ) -> Result<(), Memory>
-    ensures code { OnOk result (w.new ≡ layout (decided_piece (known at.now.names.now) jump
-        (all_of (map exp_of rest.now)) line.0 w.old.act (numbers at.now.within.now))
-        (end ∷ []) w.old) }
-    ensures act { OnOk result
-        (w.new.act ≡ w.old.act + operands_size (all_of (map exp_of rest.now))) }
+    ensures code { OnOk result (w.new ≡ layout (decision_piece (known at.now.names.now) jump
+        (exp_of first.now) (all_of (map exp_of rest.now)) line.0 w.old.act again
+        (numbers at.now.within.now)) [] w.old) }
+    ensures act { OnOk result (w.new.act ≡ w.old.act + size (exp_of first.now)
+        + operands_size (all_of (map exp_of rest.now))) }
 {
+    let end = w.label()?;
+    expr_code(w, at, first, again)?;
     for operand in rest {
         w.act(Operation::To(jump, end), line, false)?;
         expr_code(w, at, operand, false)?;
     }
+    w.bind(end);
+    Ok(())
+}
+
+/// The code of a conditional expression (Language Reference 6.13).
+#[cycle(expressions)]
+#[tactic(auto, using(pt_tree::proofs::Folds::expressions))]
+fn choice(
+    w: &mut Writer,
+    at: &Surroundings,
+    line: Line,
+    test: &Expr,
+    body: &Expr,
+    otherwise: &Expr,
+    again: bool,
+) -> Result<(), Memory>
+    ensures code { OnOk result (w.new ≡ layout (exp_piece (known at.now.names.now)
+        (conditional line.0 (exp_of test.now) (exp_of body.now) (exp_of otherwise.now)) w.old.act
+        again (numbers at.now.within.now)) [] w.old) }
+    ensures act { OnOk result (w.new.act ≡ w.old.act + size
+        (conditional line.0 (exp_of test.now) (exp_of body.now) (exp_of otherwise.now))) }
+{
+    let end = w.label()?;
+    let other = w.label()?;
+    expr_code(w, at, test, again)?;
+    w.act(Operation::To(Jump::IfFalse, other), line, false)?;
+    expr_code(w, at, body, false)?;
+    w.step(Operation::To(Jump::Always, end))?;
+    w.bind(other);
+    expr_code(w, at, otherwise, false)?;
+    w.bind(end);
     Ok(())
 }
 

@@ -28,10 +28,10 @@ invariant-parts-loop-piece l = record {
   act : l.w.act + pieces_size (chained S.no_pieces (map piece_of (drop l.piece-index l.pieces))) ≡ l.fn.w.act + pieces_size (chained S.no_pieces (map piece_of l.pieces));
 }
 
-abbrev pub invariant-decided-loop-operand : goal.invariant-decided-loop-operand
-invariant-decided-loop-operand l = record {
-  code : layout (decided_piece (known l.at.names.now) l.jump (all_of (map exp_of (drop l.operand-index l.rest))) l.line.0 l.w.act (numbers l.at.within.now)) (l.end ∷ []) l.w ≡ layout (decided_piece (known l.at.names.now) l.jump (all_of (map exp_of l.rest)) l.line.0 l.fn.w.act (numbers l.at.within.now)) (l.end ∷ []) l.fn.w;
-  act : l.w.act + operands_size (all_of (map exp_of (drop l.operand-index l.rest))) ≡ l.fn.w.act + operands_size (all_of (map exp_of l.rest));
+abbrev pub invariant-decision-loop-operand : goal.invariant-decision-loop-operand
+invariant-decision-loop-operand l = record {
+  code : layout (decided_piece (known l.at.names.now) l.jump (all_of (map exp_of (drop l.operand-index l.rest))) l.line.0 l.w.act (numbers l.at.within.now)) (l.end ∷ []) l.w ≡ layout (decided_piece (known l.at.names.now) l.jump (all_of (map exp_of l.rest)) l.line.0 l.initial.w.act (numbers l.at.within.now)) (l.end ∷ []) l.initial.w;
+  act : l.w.act + operands_size (all_of (map exp_of (drop l.operand-index l.rest))) ≡ l.initial.w.act + operands_size (all_of (map exp_of l.rest));
 }
 
 abbrev pub invariant-each_argument-loop-argument : goal.invariant-each_argument-loop-argument
