@@ -1,4 +1,6 @@
 pub mod Splits
 pub mod ComprehensionLemmas
+pub mod StepLemmas
 pub mod NameLemmas
+pub mod DefaultLemmas
 pub mod ArmLemmas

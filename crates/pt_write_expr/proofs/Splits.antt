@@ -228,7 +228,8 @@ module _ {V : Type 0} (around : Around V) where
   formals-laid : (ps : Formals) (n k : ℕ) (v : List ℕ) (behind : (n k : ℕ) → Piece) (L : List Label) (w : Written) → layout (formals_piece around ps n k v behind) L w
       ≡ layout (behind (n + formals_size ps) (k + defaults_count ps)) L (layout (defaults_piece around ps n false v) [] w)
   formals-laid S.no_formals n k v behind L w = rw (add-zero n, add-zero k)
-  formals-laid (S.formal a x t S.absent r) n k v behind L w = formals-laid r n k v behind L w
+  formals-laid (S.formal a x t S.absent r) n k v behind L w =
+      let none : 0 + formals_size r ≡ formals_size r = omega arith in rw none (formals-laid r n k v behind L w)
   formals-laid (S.formal a x t (S.given d) r) n k v behind L w =
       let at : n + size d + formals_size r ≡ n + (size d + formals_size r) = omega arith in
       let many : suc k + defaults_count r ≡ k + suc (defaults_count r) = omega arith in
@@ -237,15 +238,17 @@ module _ {V : Type 0} (around : Around V) where
   first-laid : (ps : Formals) (n : ℕ) (g : Bool) (v : List ℕ) (none : Piece) (behind : (n k : ℕ) → Piece) (L : List Label) (w : Written)
       → layout (first_piece around ps n g v none behind) L w
       ≡ layout (chosen none (behind (n + formals_size ps) (defaults_count ps)) (defaults_count ps)) L (layout (defaults_piece around ps n g v) [] w)
+  unfolding chosen
   first-laid S.no_formals n g v none behind L w = refl
-  first-laid (S.formal a x t S.absent r) n g v none behind L w = first-laid r n g v none behind L w
+  first-laid (S.formal a x t S.absent r) n g v none behind L w =
+      let zeros : 0 + formals_size r ≡ formals_size r = omega arith in rw zeros (first-laid r n g v none behind L w)
   first-laid (S.formal a x t (S.given d) r) n g v none behind L w =
       let at : n + size d + formals_size r ≡ n + (size d + formals_size r) = omega arith in
       formals-laid r (n + size d) 1 v behind L (layout (exp_piece around d n g v) [] w) ∙ rw (at, one-more (defaults_count r))
 
   no_size : (ps : Formals) → defaults_count ps ≡ 0 → formals_size ps ≡ 0
   no_size S.no_formals none = refl
-  no_size (S.formal a x t S.absent r) none = no_size r none
+  no_size (S.formal a x t S.absent r) none = let zeros : 0 + formals_size r ≡ formals_size r = omega arith in zeros ∙ no_size r none
   no_size (S.formal a x t (S.given d) r) none = cc
 
   module _ (b l : ℕ) (ps ks : Formals) (n : ℕ) (g : Bool) (v : List ℕ) (L : List Label) where
@@ -256,7 +259,7 @@ module _ {V : Type 0} (around : Around V) where
         → layout (chosen (first_piece around ks n g v (made n g 0) (λ m k. made m false k)) (formals_piece around ks (n + formals_size ps) c v (λ m k. made m false k)) c) L w
         ≡ layout (made (n + formals_size ps + formals_size ks) (still (still g c) d) (c + d)) L
         (layout (defaults_piece around ks (n + formals_size ps) (still g c) v) [] w)
-    unfolding made
+    unfolding made chosen
     behind_first zero zero no_ps no_ks w =
         first-laid ks n g v (made n g 0) (λ m k. made m false k) L w
         ∙ rw (no_ks, no_size ps no_ps, no_size ks no_ks, add-zero n, add-zero n)

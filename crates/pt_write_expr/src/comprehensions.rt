@@ -84,14 +84,14 @@ pub fn list_comprehension(
     ensures act { OnOk result (w.new.act ≡ w.old.act + size (whole line.0
         (a_list (exp_of item.now)) (clause_of first.now) (map clause_of rest.now))) }
 {
-    let open = comprehension(w, at, line, Built::List, first, rest, again)?;
+    let partial = comprehension(w, at, line, Built::List, first, rest, again)?;
     let inside = Surroundings {
         names: at.names,
-        within: open.within.as_slice(),
+        within: partial.within.as_slice(),
     };
     expr_code(w, &inside, item, false)?;
-    plain(w, Instr::ListAdd(one_more(open.loops)?), line, false)?;
-    close_comprehension(w, open.end, open.head)
+    plain(w, Instr::ListAdd(one_more(partial.loops)?), line, false)?;
+    close_comprehension(w, partial.end, partial.head)
 }
 
 /// The code of a set comprehension.
@@ -112,14 +112,14 @@ pub fn set_comprehension(
     ensures act { OnOk result (w.new.act ≡ w.old.act + size (whole line.0
         (a_set (exp_of item.now)) (clause_of first.now) (map clause_of rest.now))) }
 {
-    let open = comprehension(w, at, line, Built::Set, first, rest, again)?;
+    let partial = comprehension(w, at, line, Built::Set, first, rest, again)?;
     let inside = Surroundings {
         names: at.names,
-        within: open.within.as_slice(),
+        within: partial.within.as_slice(),
     };
     expr_code(w, &inside, item, false)?;
-    plain(w, Instr::SetAdd(one_more(open.loops)?), line, false)?;
-    close_comprehension(w, open.end, open.head)
+    plain(w, Instr::SetAdd(one_more(partial.loops)?), line, false)?;
+    close_comprehension(w, partial.end, partial.head)
 }
 
 /// The code of a dict comprehension.
@@ -141,15 +141,15 @@ pub fn dict_comprehension(
     ensures act { OnOk result (w.new.act ≡ w.old.act + size (whole line.0
         (a_dict (exp_of key.now) (exp_of value.now)) (clause_of first.now) (map clause_of rest.now))) }
 {
-    let open = comprehension(w, at, line, Built::Dict, first, rest, again)?;
+    let partial = comprehension(w, at, line, Built::Dict, first, rest, again)?;
     let inside = Surroundings {
         names: at.names,
-        within: open.within.as_slice(),
+        within: partial.within.as_slice(),
     };
     expr_code(w, &inside, key, false)?;
     expr_code(w, &inside, value, false)?;
-    plain(w, Instr::DictAdd(one_more(open.loops)?), line, false)?;
-    close_comprehension(w, open.end, open.head)
+    plain(w, Instr::DictAdd(one_more(partial.loops)?), line, false)?;
+    close_comprehension(w, partial.end, partial.head)
 }
 
 /// The code of a comprehension up to its item.

@@ -6,7 +6,7 @@ use Rattle.pt_tree.specs.Fold.{chained, formal_of}
 use Rattle.pt_tree.specs.declared.expression.Parameter.{Parameter, out-Parameter}
 use Rattle.pt_control.specs.Expressions.{defaulted}
 use Rattle.pt_scopes.specs.Names.{mangled}
-use Rattle.pt_write_expr.proofs.ArmLemmas.{defaulted-given, defaulted-absent}
+use Rattle.pt_write_expr.proofs.DefaultLemmas.{defaulted-given, defaulted-absent}
 use Rattle.pt_write_expr.proofs.parameters.push_defaulted.Goals as goal
 use Rattle.pt_write_expr.proofs.parameters.push_defaulted.Goals.{then-is_some+in_ok-spelled+in_ok-push, else-is_some}
 
