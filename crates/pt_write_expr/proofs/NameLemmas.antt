@@ -23,3 +23,6 @@ known-variable b within x y v is same =
 -- what is written does not hang on the line that is said
 pub on_each_line : {T E : Type 0} (r : Result T E) (new a : Written) (b : ℕ → Written) → ((l : ℕ) → a ≡ b l) → OnOk r (new ≡ a) → OnOk r ((l : ℕ) → new ≡ b l)
 on_each_line r new a b same is = on_ok_weaker r (λ w l. w ∙ same l) is
+
+pub at_its_line : {T E : Type 0} (r : Result T E) (new : Written) (b : ℕ → Written) (l : ℕ) (z : Written) → b l ≡ z → OnOk r ((l : ℕ) → new ≡ b l) → OnOk r (new ≡ z)
+at_its_line r new b l z same is = on_ok_weaker r (λ w. w l ∙ same) is

@@ -264,7 +264,8 @@ module _ {V : Type 0} (around : Around V) where
         first-laid ks n g v (made n g 0) (λ m k. made m false k) L w
         ∙ rw (no_ks, no_size ps no_ps, no_size ks no_ks, add-zero n, add-zero n)
     behind_first zero (suc d) no_ps are w =
-        first-laid ks n g v (made n g 0) (λ m k. made m false k) L w ∙ rw (are, no_size ps no_ps, add-zero n)
+        let zeros : 0 + suc d ≡ suc d = omega arith in
+        first-laid ks n g v (made n g 0) (λ m k. made m false k) L w ∙ rw (are, no_size ps no_ps, add-zero n, zeros)
     behind_first (suc c) zero are no_ks w = formals-laid ks (n + formals_size ps) (suc c) v (λ m k. made m false k) L w ∙ rw no_ks
     behind_first (suc c) (suc d) are more w = formals-laid ks (n + formals_size ps) (suc c) v (λ m k. made m false k) L w ∙ rw more
 

@@ -20,7 +20,6 @@ use Rattle.pt_emitter.specs.ExpPiece.{exp_piece, target_piece, clauses_piece, it
 use Rattle.pt_write_expr.specs.declared.comprehensions.Built.{Built}
 use Rattle.pt_write_expr.specs.Parts.{anew_piece}
 use Rattle.pt_write_expr.specs.Comprehensions.{operation_of, conditions_size, turn_size, conditions_piece, turn_piece, Goes_on, Is_open}
-
 use Rattle.pt_write_expr.proofs.ComprehensionLemmas.{built_first, names_anew, first_turn, open-laid, clause-laid}
 
 module _ {V : Type 0} (around : Around V) where

@@ -124,15 +124,7 @@ pub fn expr_code(w: &mut Writer, at: &Surroundings, e: &Expr, again: bool) -> Re
             test,
             body,
             otherwise,
-        } => choice(
-            w,
-            at,
-            line,
-            test.get(),
-            body.get(),
-            otherwise.get(),
-            again,
-        ),
+        } => choice(w, at, line, test.get(), body.get(), otherwise.get(), again),
         ExprNode::Call { callee, arguments } => {
             expr_code(w, at, callee.get(), again)?;
             each_argument(w, at, line, arguments.as_slice())?;

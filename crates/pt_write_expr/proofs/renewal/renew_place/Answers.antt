@@ -10,8 +10,6 @@ use Rattle.pt_block_names.specs.Named.{variable_of}
 use Rattle.pt_emitter.specs.Ops.{renew}
 use Rattle.pt_write_expr.specs.Parts.{known, numbers, anew_piece}
 use Rattle.pt_write_expr.proofs.NameLemmas.{known-variable, on_each_line}
-use Rattle.pt_write_expr.proofs.ArmLemmas.{list-closed}
-use Rattle.pt_write_expr.proofs.StepLemmas.{opened}
 use Rattle.pt_write_expr.proofs.renewal.renew_place.Goals as goal
 
 pub returns-in_ok-variable-in-Name-clause-code : goal.returns-in_ok-variable-in-Name-clause-code
