@@ -65,13 +65,13 @@ fn put(level: &mut Vec<Vec<Handler>>, test: bool, node: usize, row: Handler) -> 
     Ok(())
 }
 
-fn at_low(low: usize, high: usize) -> bool
+pub fn at_low(low: usize, high: usize) -> bool
     ensures { result ≡ at_low low high }
 {
     low < high && low % 2 == 1
 }
 
-fn at_high(low: usize, high: usize) -> bool
+pub fn at_high(low: usize, high: usize) -> bool
     ensures { result ≡ at_high low high }
 {
     low < high && high % 2 == 1

@@ -1,2 +1,4 @@
 pub mod SizeLemmas
 pub mod ObjectRuns
+pub mod Tabled
+mod PlaceLemmas

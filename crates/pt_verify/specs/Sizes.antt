@@ -4,13 +4,9 @@ use Rattle.pt_instr.specs.declared.effects.Effect.{Effect}
 use Rattle.pt_instr.specs.Effects.{Kinds}
 use Rattle.pt_ranges.specs.declared.handlers.Handler.{Handler}
 use Rattle.pt_code.specs.View.{Ins}
+pub use Rattle.pt_sizes.specs.declared.places.SizeStep.{SizeStep}
 use Rattle.pt_fits.specs.Block.{Links, Block, effect, kinds_at_start}
 use Rattle.pt_fits.specs.Steps.{reads, target_of}
-
--- a way on, and how many slots lie there
-pub record SizeStep : Type 0 where
-  pub to : ℕ
-  pub size : ℕ
 
 abbrev pub sized : (to size : ℕ) → SizeStep
 sized to n = record { to = to; size = n }
