@@ -4,7 +4,7 @@ use Rattle.pt_wide.specs.declared.expression.Comprehension.TheVariants as form
 use Rattle.pt_wide.specs.Syntax as W
 use Rattle.pt_wide.specs.declared.expression.Comprehension.{Comprehension}
 use Rattle.pt_refine_expr.specs.Narrow.{narrow_exp, narrow_bare}
-use Rattle.pt_refine_expr.specs.Narrowed.{narrow_atom, narrow_call, narrow_comprehension}
+use Rattle.pt_refine_expr.specs.Narrowed.{narrow_atom, narrow_call_or_conditional, narrow_comprehension}
 
 pub parenthesized-bare : (n l : ℕ) (e : W.Exp) → narrow_exp n (W.parenthesized l e) ≡ narrow_bare l n e
 parenthesized-bare n l (W.comprehension m form.List e cs) = refl
@@ -19,5 +19,5 @@ tuple-bare l n e is = ap (narrow_bare l n) is ∙ sym (ap (narrow_atom l n) is)
 pub comprehension-bare : (l n : ℕ) (e : W.Exp) {m : ℕ} {form : Comprehension} {a : W.Exp} {cs : W.Clauses} → e ≡ W.comprehension m form a cs → narrow_bare l n e ≡ narrow_comprehension l n e
 comprehension-bare l n e is = ap (narrow_bare l n) is ∙ sym (ap (narrow_comprehension l n) is)
 
-pub call-bare : (l n : ℕ) (e : W.Exp) {m : ℕ} {f : W.Exp} {args : W.Args} → e ≡ W.call m f args → narrow_bare l n e ≡ narrow_call l n e
-call-bare l n e is = ap (narrow_bare l n) is ∙ sym (ap (narrow_call l n) is)
+pub call-bare : (l n : ℕ) (e : W.Exp) {m : ℕ} {f : W.Exp} {args : W.Args} → e ≡ W.call m f args → narrow_bare l n e ≡ narrow_call_or_conditional l n e
+call-bare l n e is = ap (narrow_bare l n) is ∙ sym (ap (narrow_call_or_conditional l n) is)

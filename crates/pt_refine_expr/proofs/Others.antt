@@ -26,7 +26,7 @@ use Rattle.pt_wide.proofs.Folds.{exp_of-is, formal_of-parts, node_of-is}
 use Rattle.pt_refine_expr.specs.declared.stars.Stars.{Stars}
 use Rattle.pt_refine_expr.specs.Faults.{bad_target, excluded, faults_place, faults_slash, faults_target}
 use Rattle.pt_refine_expr.specs.Narrow.{narrow_bare, narrow_exp, narrow_params}
-use Rattle.pt_refine_expr.specs.Narrowed.{narrow_bare_target, narrow_choice, narrow_comprehension, narrow_atom, narrow_call, wide_formals}
+use Rattle.pt_refine_expr.specs.Narrowed.{narrow_bare_target, narrow_choice, narrow_comprehension, narrow_atom, narrow_call_or_conditional, wide_formals}
 use Rattle.pt_refine_expr.specs.StatementFaults.{is_generator}
 use Rattle.pt_refine_expr.specs.Targets.{are_items, are_targets, behind_item, exp_line, is_inside_target, is_item, is_operand}
 
@@ -147,29 +147,33 @@ Not-bare x =
     ((o : UnOp) (a : WideExpr) → x ≡ node.Unary o a → ⊥) ×
     ((a : WideExpr) → x ≡ node.Not a → ⊥) ×
     ((a : WideExpr) (o : WideBinOp) (b : WideExpr) → x ≡ node.Binary a o b → ⊥) ×
-    ((c a b : WideExpr) → x ≡ node.Conditional c a b → ⊥) ×
     ((ps : WideParameters) (a : WideExpr) → x ≡ node.Lambda ps a → ⊥)
 
-bare-node : (l u : ℕ) (n : Node) (x : WideNode) (m : ℕ) → out-WideNode x ≡ n → Not-bare x → narrow_bare l u (plain-at n m) ≡ narrow_call l u (plain-at n m)
-bare-node l u (open_node.Parenthesized a) x m is (not-Parenthesized, not-Attribute, not-Item, not-Unary, not-Not, not-Binary, not-Conditional, not-Lambda) = absurd (not-Parenthesized a (rolled-node x _ (node.Parenthesized a) is (node.outs-Parenthesized a)))
-bare-node l u (open_node.Attribute a y) x m is (not-Parenthesized, not-Attribute, not-Item, not-Unary, not-Not, not-Binary, not-Conditional, not-Lambda) = absurd (not-Attribute a y (rolled-node x _ (node.Attribute a y) is (node.outs-Attribute a y)))
-bare-node l u (open_node.Item a i) x m is (not-Parenthesized, not-Attribute, not-Item, not-Unary, not-Not, not-Binary, not-Conditional, not-Lambda) = absurd (not-Item a i (rolled-node x _ (node.Item a i) is (node.outs-Item a i)))
-bare-node l u (open_node.Unary o a) x m is (not-Parenthesized, not-Attribute, not-Item, not-Unary, not-Not, not-Binary, not-Conditional, not-Lambda) = absurd (not-Unary o a (rolled-node x _ (node.Unary o a) is (node.outs-Unary o a)))
-bare-node l u (open_node.Not a) x m is (not-Parenthesized, not-Attribute, not-Item, not-Unary, not-Not, not-Binary, not-Conditional, not-Lambda) = absurd (not-Not a (rolled-node x _ (node.Not a) is (node.outs-Not a)))
-bare-node l u (open_node.Binary a o b) x m is (not-Parenthesized, not-Attribute, not-Item, not-Unary, not-Not, not-Binary, not-Conditional, not-Lambda) = absurd (not-Binary a o b (rolled-node x _ (node.Binary a o b) is (node.outs-Binary a o b)))
-bare-node l u (open_node.Conditional c a b) x m is (not-Parenthesized, not-Attribute, not-Item, not-Unary, not-Not, not-Binary, not-Conditional, not-Lambda) = absurd (not-Conditional c a b (rolled-node x _ (node.Conditional c a b) is (node.outs-Conditional c a b)))
-bare-node l u (open_node.Lambda ps a) x m is (not-Parenthesized, not-Attribute, not-Item, not-Unary, not-Not, not-Binary, not-Conditional, not-Lambda) = absurd (not-Lambda ps a (rolled-node x _ (node.Lambda ps a) is (node.outs-Lambda ps a)))
+bare-node : (l u : ℕ) (n : Node) (x : WideNode) (m : ℕ) → out-WideNode x ≡ n → Not-bare x → narrow_bare l u (plain-at n m) ≡ narrow_call_or_conditional l u (plain-at n m)
+bare-node l u (open_node.Parenthesized a) x m is (not-Parenthesized, not-Attribute, not-Item, not-Unary, not-Not, not-Binary, not-Lambda) = absurd (not-Parenthesized a (rolled-node x _ (node.Parenthesized a) is (node.outs-Parenthesized a)))
+bare-node l u (open_node.Attribute a y) x m is (not-Parenthesized, not-Attribute, not-Item, not-Unary, not-Not, not-Binary, not-Lambda) = absurd (not-Attribute a y (rolled-node x _ (node.Attribute a y) is (node.outs-Attribute a y)))
+bare-node l u (open_node.Item a i) x m is (not-Parenthesized, not-Attribute, not-Item, not-Unary, not-Not, not-Binary, not-Lambda) = absurd (not-Item a i (rolled-node x _ (node.Item a i) is (node.outs-Item a i)))
+bare-node l u (open_node.Unary o a) x m is (not-Parenthesized, not-Attribute, not-Item, not-Unary, not-Not, not-Binary, not-Lambda) = absurd (not-Unary o a (rolled-node x _ (node.Unary o a) is (node.outs-Unary o a)))
+bare-node l u (open_node.Not a) x m is (not-Parenthesized, not-Attribute, not-Item, not-Unary, not-Not, not-Binary, not-Lambda) = absurd (not-Not a (rolled-node x _ (node.Not a) is (node.outs-Not a)))
+bare-node l u (open_node.Binary a o b) x m is (not-Parenthesized, not-Attribute, not-Item, not-Unary, not-Not, not-Binary, not-Lambda) = absurd (not-Binary a o b (rolled-node x _ (node.Binary a o b) is (node.outs-Binary a o b)))
+bare-node l u (open_node.Lambda ps a) x m is (not-Parenthesized, not-Attribute, not-Item, not-Unary, not-Not, not-Binary, not-Lambda) = absurd (not-Lambda ps a (rolled-node x _ (node.Lambda ps a) is (node.outs-Lambda ps a)))
 bare-node l u n x m is never = refl
 
-pub bare-other : (line before : ℕ) (e : WideExpr) → Not-bare e.node → narrow_bare line before (exp_of e) ≡ narrow_call line before (exp_of e)
-bare-other l u e never = ap (narrow_bare l u) (exp-is e) ∙ bare-node l u (out-WideNode e.node) e.node e.line.0 refl never ∙ sym (ap (narrow_call l u) (exp-is e))
+pub bare-other : (line before : ℕ) (e : WideExpr) → Not-bare e.node → narrow_bare line before (exp_of e) ≡ narrow_call_or_conditional line before (exp_of e)
+bare-other l u e never = ap (narrow_bare l u) (exp-is e) ∙ bare-node l u (out-WideNode e.node) e.node e.line.0 refl never ∙ sym (ap (narrow_call_or_conditional l u) (exp-is e))
 
-call-node : (l u : ℕ) (n : Node) (x : WideNode) (m : ℕ) → out-WideNode x ≡ n → ((f : WideExpr) (args : List WideArgument) → x ≡ node.Call f args → ⊥) → narrow_call l u (plain-at n m) ≡ narrow_atom l u (plain-at n m)
-call-node l u (open_node.Call f args) x m is never = absurd (never f args (rolled-node x _ (node.Call f args) is (node.outs-Call f args)))
+abbrev Not-call : WideNode → Type 0
+Not-call x =
+    ((f : WideExpr) (args : List WideArgument) → x ≡ node.Call f args → ⊥) ×
+    ((c a b : WideExpr) → x ≡ node.Conditional c a b → ⊥)
+
+call-node : (l u : ℕ) (n : Node) (x : WideNode) (m : ℕ) → out-WideNode x ≡ n → Not-call x → narrow_call_or_conditional l u (plain-at n m) ≡ narrow_atom l u (plain-at n m)
+call-node l u (open_node.Call f args) x m is (not-Call, not-Conditional) = absurd (not-Call f args (rolled-node x _ (node.Call f args) is (node.outs-Call f args)))
+call-node l u (open_node.Conditional c a b) x m is (not-Call, not-Conditional) = absurd (not-Conditional c a b (rolled-node x _ (node.Conditional c a b) is (node.outs-Conditional c a b)))
 call-node l u n x m is never = refl
 
-pub call-other : (line before : ℕ) (e : WideExpr) → ((f : WideExpr) (args : List WideArgument) → e.node ≡ node.Call f args → ⊥) → narrow_call line before (exp_of e) ≡ narrow_atom line before (exp_of e)
-call-other l u e never = ap (narrow_call l u) (exp-is e) ∙ call-node l u (out-WideNode e.node) e.node e.line.0 refl never ∙ sym (ap (narrow_atom l u) (exp-is e))
+pub call-other : (line before : ℕ) (e : WideExpr) → Not-call e.node → narrow_call_or_conditional line before (exp_of e) ≡ narrow_atom line before (exp_of e)
+call-other l u e never = ap (narrow_call_or_conditional l u) (exp-is e) ∙ call-node l u (out-WideNode e.node) e.node e.line.0 refl never ∙ sym (ap (narrow_atom l u) (exp-is e))
 
 abbrev Not-atom : WideNode → Type 0
 Not-atom x =

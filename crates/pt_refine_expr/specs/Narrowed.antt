@@ -148,6 +148,7 @@ narrow_atom l n (W.set m es) = narrow_exp n (W.set m es)
 narrow_atom l n (W.dict m es) = narrow_exp n (W.dict m es)
 narrow_atom l n e = narrow_choice l n e
 
-abbrev pub narrow_call : (line before : ℕ) → W.Exp → Option T.Exp
-narrow_call l n (W.call m f args) = narrow_exp n (W.call m f args)
-narrow_call l n e = narrow_atom l n e
+abbrev pub narrow_call_or_conditional : (line before : ℕ) → W.Exp → Option T.Exp
+narrow_call_or_conditional l n (W.call m f args) = narrow_exp n (W.call m f args)
+narrow_call_or_conditional l n (W.conditional m c a b) = narrow_exp n (W.conditional m c a b)
+narrow_call_or_conditional l n e = narrow_atom l n e

@@ -4,7 +4,7 @@
 ghost use Rattle.std.specs.Prelude.{◌≡◌, Some, None, IfErr, IfOk};
 ghost use Rattle.pt_refine_expr.specs.Blocks.{blocks_all, blocks_args, blocks_clauses, blocks_entries, blocks_entry, blocks_exp, blocks_formals, blocks_links, blocks_opt, blocks_params, blocks_pieces};
 ghost use Rattle.pt_refine_expr.specs.Narrow.{narrow_all, narrow_args, narrow_clauses, narrow_entries, narrow_formals, narrow_links, narrow_operator, narrow_opt, narrow_pair, narrow_params, narrow_pieces};
-ghost use Rattle.pt_refine_expr.specs.Narrowed.{Makes, MakesBare, MakesExp, MakesTarget, MakesBareTarget, MakesTargets, Puts, args_of, clauses_of, entries_of, exps_of, formals_of, links_of, narrow_atom, narrow_call, narrow_choice, narrow_comprehension, pair_of, pieces_of, put_clause, wide_args, wide_clauses, wide_entries, wide_exps, wide_formals, wide_links, wide_pieces};
+ghost use Rattle.pt_refine_expr.specs.Narrowed.{Makes, MakesBare, MakesExp, MakesTarget, MakesBareTarget, MakesTargets, Puts, args_of, clauses_of, entries_of, exps_of, formals_of, links_of, narrow_atom, narrow_call_or_conditional, narrow_choice, narrow_comprehension, pair_of, pieces_of, put_clause, wide_args, wide_clauses, wide_entries, wide_exps, wide_formals, wide_links, wide_pieces};
 ghost use Rattle.pt_tree.specs.Fold as T;
 ghost use Rattle.pt_wide.specs.Fold as W;
 
@@ -26,9 +26,9 @@ use pt_wide::{
     WideNode, WideParameter, WideParameters, WidePiece,
 };
 
-/// An expression (Language Reference 6); here the kinds that nest without brackets, deeper than
-/// brackets do. Each arm has room of its own in the frame, so that nodes are made elsewhere, and the
-/// other kinds have frames of their own.
+/// An expression (Language Reference 6); here kinds that nest without brackets, deeper than brackets
+/// do. Each arm has room of its own in the frame, which all kinds take, so that nodes are made
+/// elsewhere, and the other kinds have frames of their own.
 #[cycle(trees)]
 pub fn expression(n: &mut Narrower, e: &WideExpr) -> Result<Expr, Unnarrowed>
     ensures { MakesExp result n.old (W.exp_of e.now) n.new }
@@ -64,16 +64,6 @@ pub fn expression(n: &mut Narrower, e: &WideExpr) -> Result<Expr, Unnarrowed>
             let right = boxed(n, right.get())?;
             Ok(binary_of(line, left, operator, right))
         }
-        WideNode::Conditional {
-            test,
-            body,
-            otherwise,
-        } => {
-            let body = boxed(n, body.get())?;
-            let test = boxed(n, test.get())?;
-            let otherwise = boxed(n, otherwise.get())?;
-            Ok(conditional_of(line, test, body, otherwise))
-        }
         WideNode::Lambda {
             parameters: names,
             body,
@@ -83,14 +73,15 @@ pub fn expression(n: &mut Narrower, e: &WideExpr) -> Result<Expr, Unnarrowed>
             let body = boxed(n, body.get())?;
             Ok(lambda_of(line, block, parameters, body))
         }
-        _ => call(n, line, e),
+        _ => call_or_conditional(n, line, e),
     }
 }
 
-/// A call (Language Reference 6.3.4).
+/// A call or a conditional expression (Language Reference 6.3.4, 6.13), which nest without brackets
+/// too.
 #[cycle(trees)]
-fn call(n: &mut Narrower, start: Line, e: &WideExpr) -> Result<Expr, Unnarrowed>
-    ensures { Makes T.exp_of result (narrow_call start.0 n.old (W.exp_of e.now)) n.old (blocks_exp (W.exp_of e.now)) n.new }
+fn call_or_conditional(n: &mut Narrower, start: Line, e: &WideExpr) -> Result<Expr, Unnarrowed>
+    ensures { Makes T.exp_of result (narrow_call_or_conditional start.0 n.old (W.exp_of e.now)) n.old (blocks_exp (W.exp_of e.now)) n.new }
 {
     let line = e.line;
     match &e.node {
@@ -101,6 +92,16 @@ fn call(n: &mut Narrower, start: Line, e: &WideExpr) -> Result<Expr, Unnarrowed>
             let callee = boxed(n, callee.get())?;
             let arguments = arguments(n, values.as_slice())?;
             Ok(call_of(line, callee, arguments))
+        }
+        WideNode::Conditional {
+            test,
+            body,
+            otherwise,
+        } => {
+            let body = boxed(n, body.get())?;
+            let test = boxed(n, test.get())?;
+            let otherwise = boxed(n, otherwise.get())?;
+            Ok(conditional_of(line, test, body, otherwise))
         }
         _ => atom(n, start, e),
     }
@@ -124,7 +125,7 @@ fn inner(n: &mut Narrower, start: Line, e: &WideExpr) -> Result<Expr, Unnarrowed
         WideNode::Parenthesized(inside) => inner(n, e.line, inside.get()),
         WideNode::Tuple(_) => atom(n, start, e),
         WideNode::Comprehension { .. } => comprehension(n, start, e),
-        WideNode::Call { .. } => call(n, start, e),
+        WideNode::Call { .. } => call_or_conditional(n, start, e),
         _ => expression(n, e),
     }
 }

@@ -13,7 +13,7 @@ use Rattle.pt_wide.specs.Syntax as W
 use Rattle.pt_refine_expr.specs.Blocks.{blocks_all, blocks_args, blocks_clauses, blocks_entries, blocks_exp, blocks_formals, blocks_links, blocks_params, blocks_pieces}
 use Rattle.pt_refine_expr.specs.Narrow as N
 use Rattle.pt_refine_expr.specs.Narrow.{generator, narrow_all, narrow_args, narrow_bare, narrow_clauses, narrow_entries, narrow_exp, narrow_formals, narrow_links, narrow_opt, narrow_pair, narrow_params, narrow_pieces, narrow_target, narrow_targets}
-use Rattle.pt_refine_expr.specs.Narrowed.{clauses_of, formals_of, links_of, narrow_bare_target, narrow_choice, narrow_comprehension, narrow_atom, narrow_call, pair_of, wide_args, wide_clauses, wide_entries, wide_exps, wide_formals, wide_links, wide_pieces}
+use Rattle.pt_refine_expr.specs.Narrowed.{clauses_of, formals_of, links_of, narrow_bare_target, narrow_choice, narrow_comprehension, narrow_atom, narrow_call_or_conditional, pair_of, wide_args, wide_clauses, wide_entries, wide_exps, wide_formals, wide_links, wide_pieces}
 use Rattle.pt_refine_expr.specs.Targets.{alone, are_targets, behind_item, is_inside_target, opened}
 use Rattle.pt_refine_expr.specs.Ways.{both, three}
 use Rattle.pt_refine_expr.proofs.Bare.{call-bare, comprehension-bare, parenthesized-bare, tuple-bare}
@@ -43,7 +43,7 @@ pub inner-returns-in-Comprehension : goal.inner-returns-in-Comprehension
 inner-returns-in-Comprehension t c = same-narrow T.exp_of c.comprehension.result (narrow_comprehension c.args.start.0 c.args.n.now (V.exp_of c.args.e.now)) (narrow_bare c.args.start.0 c.args.n.now (V.exp_of c.args.e.now)) c.args.n.now (blocks_exp (V.exp_of c.args.e.now)) c.comprehension.new.n (comprehension-bare c.args.start.0 c.args.n.now _ (wide.exp_of-Comprehension c.args.e.now _ _ _ _ c.in-Comprehension.is)) c.comprehension.ensures
 
 pub inner-returns-in-Call : goal.inner-returns-in-Call
-inner-returns-in-Call t c = same-narrow T.exp_of c.call.result (narrow_call c.args.start.0 c.args.n.now (V.exp_of c.args.e.now)) (narrow_bare c.args.start.0 c.args.n.now (V.exp_of c.args.e.now)) c.args.n.now (blocks_exp (V.exp_of c.args.e.now)) c.call.new.n (call-bare c.args.start.0 c.args.n.now _ (wide.exp_of-Call c.args.e.now _ _ c.in-Call.is)) c.call.ensures
+inner-returns-in-Call t c = same-narrow T.exp_of c.call_or_conditional.result (narrow_call_or_conditional c.args.start.0 c.args.n.now (V.exp_of c.args.e.now)) (narrow_bare c.args.start.0 c.args.n.now (V.exp_of c.args.e.now)) c.args.n.now (blocks_exp (V.exp_of c.args.e.now)) c.call_or_conditional.new.n (call-bare c.args.start.0 c.args.n.now _ (wide.exp_of-Call c.args.e.now _ _ c.in-Call.is)) c.call_or_conditional.ensures
 
 pub inner-returns-in_default : goal.inner-returns-in_default
 inner-returns-in_default t c = same-narrow T.exp_of c.expression.result (narrow_exp c.args.n.now (V.exp_of c.args.e.now)) (narrow_bare c.args.start.0 c.args.n.now (V.exp_of c.args.e.now)) c.args.n.now (blocks_exp (V.exp_of c.args.e.now)) c.expression.new.n (own-other c.args.start.0 c.args.n.now c.args.e.now (c.in_default.not-Tuple, c.in_default.not-Comprehension)) c.expression.ensures
@@ -87,11 +87,11 @@ choice-returns-in_ok-rest-in-And t c = at-made (narrow_choice c.args.start.0 c.a
 pub choice-returns-in_ok-rest-in-Or : goal.choice-returns-in_ok-rest-in-Or
 choice-returns-in_ok-rest-in-Or t c = at-made (narrow_choice c.args.start.0 c.args.n.now) (wide.exp_of-Or c.args.e.now _ _ (c.in-Or.is ∙ rw (c.get-in-Or.ensures, c.as_slice-in-Or.ensures))) (made-is refl (tree.exp_of-Or _ _ _ refl) refl (made-two (P.or c.args.e.now.line.0) (λ m. narrow_all m (wide_exps c.as_slice-in-Or.result.now)) c.in_ok-first-in-Or.ensures c.in_ok-rest-in-Or.ensures))
 
-pub expression-returns-in_ok-otherwise-in-Conditional : goal.expression-returns-in_ok-otherwise-in-Conditional
-expression-returns-in_ok-otherwise-in-Conditional t c = at-made (narrow_exp c.args.n.now) (wide.exp_of-Conditional c.args.e.now _ _ _ (c.in-Conditional.is ∙ rw (c.get-in-Conditional.ensures, c.get-in-Conditional-2.ensures, c.get-in-Conditional-3.ensures))) (made-is refl c.conditional_of.ensures refl (made-three (λ x y. P.conditional c.args.e.now.line.0 y x) (λ m. narrow_exp m (V.exp_of c.get-in-Conditional-2.result.now)) (λ m. narrow_exp m (V.exp_of c.get-in-Conditional-3.result.now)) c.in_ok-body-in-Conditional.ensures c.in_ok-test-in-Conditional.ensures c.in_ok-otherwise-in-Conditional.ensures))
+pub call_or_conditional-returns-in_ok-otherwise-in-Conditional : goal.call_or_conditional-returns-in_ok-otherwise-in-Conditional
+call_or_conditional-returns-in_ok-otherwise-in-Conditional t c = at-made (narrow_call_or_conditional c.args.start.0 c.args.n.now) (wide.exp_of-Conditional c.args.e.now _ _ _ (c.in-Conditional.is ∙ rw (c.get-in-Conditional.ensures, c.get-in-Conditional-2.ensures, c.get-in-Conditional-3.ensures))) (made-is refl c.conditional_of.ensures refl (made-three (λ x y. P.conditional c.args.e.now.line.0 y x) (λ m. narrow_exp m (V.exp_of c.get-in-Conditional-2.result.now)) (λ m. narrow_exp m (V.exp_of c.get-in-Conditional-3.result.now)) c.in_ok-body-in-Conditional.ensures c.in_ok-test-in-Conditional.ensures c.in_ok-otherwise-in-Conditional.ensures))
 
-pub call-returns-in_ok-arguments-in-Call : goal.call-returns-in_ok-arguments-in-Call
-call-returns-in_ok-arguments-in-Call t c = at-made (narrow_call c.args.start.0 c.args.n.now) (wide.exp_of-Call c.args.e.now _ _ (c.in-Call.is ∙ rw (c.get.ensures, c.as_slice.ensures))) (made-is refl c.call_of.ensures refl (made-two (P.call c.args.e.now.line.0) (λ m. narrow_args m (wide_args c.as_slice.result.now)) c.in_ok-callee-in-Call.ensures c.in_ok-arguments-in-Call.ensures))
+pub call_or_conditional-returns-in_ok-arguments-in-Call : goal.call_or_conditional-returns-in_ok-arguments-in-Call
+call_or_conditional-returns-in_ok-arguments-in-Call t c = at-made (narrow_call_or_conditional c.args.start.0 c.args.n.now) (wide.exp_of-Call c.args.e.now _ _ (c.in-Call.is ∙ rw (c.get.ensures, c.as_slice.ensures))) (made-is refl c.call_of.ensures refl (made-two (P.call c.args.e.now.line.0) (λ m. narrow_args m (wide_args c.as_slice.result.now)) c.in_ok-callee-in-Call.ensures c.in_ok-arguments-in-Call.ensures))
 
 pub expression-returns-in_ok-body-in-Lambda : goal.expression-returns-in_ok-body-in-Lambda
 expression-returns-in_ok-body-in-Lambda t c = at-made (narrow_exp c.args.n.now) (wide.exp_of-Lambda c.args.e.now _ _ (c.in-Lambda.is ∙ rw c.get-in-Lambda.ensures)) (made-is refl (c.lambda_of.ensures ∙ ap (λ b. P.lambda c.args.e.now.line.0 b (T.parameters_of c.in_ok-parameters-in-Lambda.parameters) (T.exp_of c.in_ok-body-in-Lambda.body)) c.in_ok-block-in-Lambda.ensures.number) (one-form (blocks_params (V.parameters_of c.in-Lambda.names)) (blocks_exp (V.exp_of c.get-in-Lambda.result.now))) (made-start (λ i. both (P.lambda c.args.e.now.line.0 c.args.n.now) (narrow_params i (V.parameters_of c.in-Lambda.names)) (narrow_exp (i + blocks_params (V.parameters_of c.in-Lambda.names)) (V.exp_of c.get-in-Lambda.result.now))) c.in_ok-block-in-Lambda.ensures.started (made-two (P.lambda c.args.e.now.line.0 c.args.n.now) (λ m. narrow_exp m (V.exp_of c.get-in-Lambda.result.now)) c.in_ok-parameters-in-Lambda.ensures c.in_ok-body-in-Lambda.ensures)))
@@ -362,20 +362,20 @@ choice-returns-in_err-first-in-Or t c = grind (arith, leaves, wide.exp_of-Or c.a
 pub choice-returns-in_err-rest-in-Or : goal.choice-returns-in_err-rest-in-Or
 choice-returns-in_err-rest-in-Or t c = grind (arith, leaves, wide.exp_of-Or c.args.e.now _ _ c.in-Or.is)
 
-pub expression-returns-in_err-body-in-Conditional : goal.expression-returns-in_err-body-in-Conditional
-expression-returns-in_err-body-in-Conditional t c = grind (arith, leaves, wide.exp_of-Conditional c.args.e.now _ _ _ c.in-Conditional.is)
+pub call_or_conditional-returns-in_err-body-in-Conditional : goal.call_or_conditional-returns-in_err-body-in-Conditional
+call_or_conditional-returns-in_err-body-in-Conditional t c = grind (arith, leaves, wide.exp_of-Conditional c.args.e.now _ _ _ c.in-Conditional.is)
 
-pub expression-returns-in_err-test-in-Conditional : goal.expression-returns-in_err-test-in-Conditional
-expression-returns-in_err-test-in-Conditional t c = grind (arith, leaves, wide.exp_of-Conditional c.args.e.now _ _ _ c.in-Conditional.is)
+pub call_or_conditional-returns-in_err-test-in-Conditional : goal.call_or_conditional-returns-in_err-test-in-Conditional
+call_or_conditional-returns-in_err-test-in-Conditional t c = grind (arith, leaves, wide.exp_of-Conditional c.args.e.now _ _ _ c.in-Conditional.is)
 
-pub expression-returns-in_err-otherwise-in-Conditional : goal.expression-returns-in_err-otherwise-in-Conditional
-expression-returns-in_err-otherwise-in-Conditional t c = grind (arith, leaves, wide.exp_of-Conditional c.args.e.now _ _ _ c.in-Conditional.is)
+pub call_or_conditional-returns-in_err-otherwise-in-Conditional : goal.call_or_conditional-returns-in_err-otherwise-in-Conditional
+call_or_conditional-returns-in_err-otherwise-in-Conditional t c = grind (arith, leaves, wide.exp_of-Conditional c.args.e.now _ _ _ c.in-Conditional.is)
 
-pub call-returns-in_err-callee-in-Call : goal.call-returns-in_err-callee-in-Call
-call-returns-in_err-callee-in-Call t c = grind (arith, leaves, wide.exp_of-Call c.args.e.now _ _ c.in-Call.is)
+pub call_or_conditional-returns-in_err-callee-in-Call : goal.call_or_conditional-returns-in_err-callee-in-Call
+call_or_conditional-returns-in_err-callee-in-Call t c = grind (arith, leaves, wide.exp_of-Call c.args.e.now _ _ c.in-Call.is)
 
-pub call-returns-in_err-arguments-in-Call : goal.call-returns-in_err-arguments-in-Call
-call-returns-in_err-arguments-in-Call t c = grind (arith, leaves, wide.exp_of-Call c.args.e.now _ _ c.in-Call.is)
+pub call_or_conditional-returns-in_err-arguments-in-Call : goal.call_or_conditional-returns-in_err-arguments-in-Call
+call_or_conditional-returns-in_err-arguments-in-Call t c = grind (arith, leaves, wide.exp_of-Call c.args.e.now _ _ c.in-Call.is)
 
 pub expression-returns-in_err-parameters-in-Lambda : goal.expression-returns-in_err-parameters-in-Lambda
 expression-returns-in_err-parameters-in-Lambda t c = grind (arith, leaves, wide.exp_of-Lambda c.args.e.now _ _ c.in-Lambda.is)
@@ -529,10 +529,10 @@ pub comprehension-returns-in_default : goal.comprehension-returns-in_default
 comprehension-returns-in_default t c = λ out. comprehension-other c.args.start.0 c.args.n.now c.args.e.now (c.in_default.not-Comprehension, c.in_default.not-DictComprehension)
 
 pub expression-returns-in_default : goal.expression-returns-in_default
-expression-returns-in_default t c = same-narrow T.exp_of c.call.result (narrow_call c.args.e.now.line.0 c.args.n.now (V.exp_of c.args.e.now)) (narrow_exp c.args.n.now (V.exp_of c.args.e.now)) c.args.n.now (blocks_exp (V.exp_of c.args.e.now)) c.call.new.n (sym (bare-is c.args.n.now c.args.e.now) ∙ bare-other c.args.e.now.line.0 c.args.n.now c.args.e.now (c.in_default.not-Parenthesized, c.in_default.not-Attribute, c.in_default.not-Item, c.in_default.not-Unary, c.in_default.not-Not, c.in_default.not-Binary, c.in_default.not-Conditional, c.in_default.not-Lambda)) c.call.ensures
+expression-returns-in_default t c = same-narrow T.exp_of c.call_or_conditional.result (narrow_call_or_conditional c.args.e.now.line.0 c.args.n.now (V.exp_of c.args.e.now)) (narrow_exp c.args.n.now (V.exp_of c.args.e.now)) c.args.n.now (blocks_exp (V.exp_of c.args.e.now)) c.call_or_conditional.new.n (sym (bare-is c.args.n.now c.args.e.now) ∙ bare-other c.args.e.now.line.0 c.args.n.now c.args.e.now (c.in_default.not-Parenthesized, c.in_default.not-Attribute, c.in_default.not-Item, c.in_default.not-Unary, c.in_default.not-Not, c.in_default.not-Binary, c.in_default.not-Lambda)) c.call_or_conditional.ensures
 
-pub call-returns-in_default : goal.call-returns-in_default
-call-returns-in_default t c = same-narrow T.exp_of c.atom.result (narrow_atom c.args.start.0 c.args.n.now (V.exp_of c.args.e.now)) (narrow_call c.args.start.0 c.args.n.now (V.exp_of c.args.e.now)) c.args.n.now (blocks_exp (V.exp_of c.args.e.now)) c.atom.new.n (call-other c.args.start.0 c.args.n.now c.args.e.now c.in_default.not-Call) c.atom.ensures
+pub call_or_conditional-returns-in_default : goal.call_or_conditional-returns-in_default
+call_or_conditional-returns-in_default t c = same-narrow T.exp_of c.atom.result (narrow_atom c.args.start.0 c.args.n.now (V.exp_of c.args.e.now)) (narrow_call_or_conditional c.args.start.0 c.args.n.now (V.exp_of c.args.e.now)) c.args.n.now (blocks_exp (V.exp_of c.args.e.now)) c.atom.new.n (call-other c.args.start.0 c.args.n.now c.args.e.now (c.in_default.not-Call, c.in_default.not-Conditional)) c.atom.ensures
 
 pub atom-returns-in_default : goal.atom-returns-in_default
 atom-returns-in_default t c = same-narrow T.exp_of c.choice.result (narrow_choice c.args.start.0 c.args.n.now (V.exp_of c.args.e.now)) (narrow_atom c.args.start.0 c.args.n.now (V.exp_of c.args.e.now)) c.args.n.now (blocks_exp (V.exp_of c.args.e.now)) c.choice.new.n (atom-other c.args.start.0 c.args.n.now c.args.e.now (c.in_default.not-Constant, c.in_default.not-Name, c.in_default.not-Joined, c.in_default.not-Tuple, c.in_default.not-List, c.in_default.not-Set, c.in_default.not-Dict)) c.choice.ensures
