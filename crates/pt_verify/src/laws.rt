@@ -36,14 +36,13 @@ pub fn a_table_tells_of_its_block()
 /// block fails by nothing but what needs kinds, and there it is refused as sizes say, two lengths
 /// before a handler row and this before too few slots; only the cuts under a row come between. And
 /// whatever fails by lengths where the block first fails is told.
-#[tactic(auto, using(crate::proofs::RefusalLemmas::sizes_refuse, crate::proofs::RefusalLemmas::refused_first))]
+#[tactic(auto, using(crate::proofs::RefusalLemmas::refused_first))]
 pub fn sizes_tell_refusals()
     ensures told { (b : Block) → SizesRefuse b }
     ensures first { (b : Block) → RefusedFirst b }
 {}
 
 /// Each block of a code that has a file has a view, so that what is told by any view is told of it.
-#[tactic(auto, using(crate::proofs::ViewLemmas::blocks_are_seen))]
 pub fn blocks_that_are_read_are_seen()
     ensures { (c : Code) → BlocksAreSeen c }
 {}
