@@ -1,21 +1,21 @@
 """Reads the listing of each script's code back, and checks it against the acts of the script, which come from CPython's ast.
 
-  check.py [--listings FOLDER] [SCRIPT ..]
+  check.py [SCRIPT ..]
 
-Without --listings `pt dis SCRIPT` gives the listing; else NAME.txt of the folder is that of NAME.py. Checked are: the blocks with their
-names; places that rise, and targets that are places of the block; that each act begins once, and the acts with which a loop tests again
-twice; its line; that the instruction at an act is one that does what the act says; and the listings of `expected`, which were written by hand.
+Checked are: the blocks with their names; places that rise, and targets that are places of the block; that each act begins once, and the
+acts with which a loop tests again twice; its line; that the instruction at an act is one that does what the act says; that the code of a
+block has the names that the block is said to have, and no other; and the listings of `expected`, which were written by hand.
 """
-import argparse
 import ast
 import glob
 import os
-import subprocess
 import sys
+import threading
 
 HERE = os.path.dirname(os.path.abspath(__file__))
 sys.path.insert(0, os.path.join(HERE, "..", "front"))
 import acts  # noqa: E402
+from laid import Listings  # noqa: E402
 
 LOADS = {"Local", "Cell", "Global", "Name"}
 STORES = {"SetLocal", "SetCell", "SetGlobal", "SetName"}
@@ -124,48 +124,43 @@ def check(script, listing):
     return len(blocks), sum(check_block(node, block) for node, block in zip(nodes, blocks))
 
 
-def kinds_of(scripts):
-    """The nodes of the scripts, as ast names them."""
-    found = set()
-    for script in scripts:
-        with open(script, encoding="utf-8") as f:
-            found |= {type(n).__name__ for n in ast.walk(ast.parse(f.read()))}
-    return found
-
-
-def listing_of(script, folder):
-    if folder:
-        with open(os.path.join(folder, os.path.basename(script)[:-3] + ".txt"), encoding="utf-8") as f:
-            return f.read()
-    pt = os.path.join(HERE, "..", "..", "pt")
-    return subprocess.run([pt, "--only-proved", "dis", script], check=True, capture_output=True, text=True).stdout
+def by_hand(script):
+    """The listing that was written by hand, if there is one."""
+    name = os.path.join(HERE, "expected", os.path.basename(script)[:-3] + ".txt")
+    if not os.path.exists(name):
+        return None
+    with open(name, encoding="utf-8") as f:
+        return f.read()
 
 
 def main():
-    parser = argparse.ArgumentParser()
-    parser.add_argument("--listings")
-    parser.add_argument("scripts", nargs="*")
-    options = parser.parse_args()
     mark_tests()
-    scripts = options.scripts or sorted(glob.glob(os.path.join(HERE, "scripts", "*.py")))
-    wrong = blocks = marks = by_hand = 0
+    scripts = sys.argv[1:] or sorted(glob.glob(os.path.join(HERE, "scripts", "*.py")))
+    listings, wrong, blocks, marks, written = Listings(), 0, 0, 0, 0
     for script in scripts:
         try:
-            listing = listing_of(script, options.listings)
+            with open(script, encoding="utf-8") as f:
+                listing, others = listings.of(f.read())
             b, n = check(script, listing)
             blocks, marks = blocks + b, marks + n
-            written = os.path.join(HERE, "expected", os.path.basename(script)[:-3] + ".txt")
-            if os.path.exists(written):
-                by_hand += 1
-                with open(written, encoding="utf-8") as f:
-                    if f.read() != listing:
-                        raise Differs("the listing isn't the one that was written by hand")
+            if others:
+                raise Differs(f"the code of the blocks {others} has other names")
+            expected = by_hand(script)
+            written += expected is not None
+            if expected not in (None, listing):
+                raise Differs("the listing isn't the one that was written by hand")
         except Differs as e:
             wrong += 1
             print(f"{os.path.basename(script)}: {e}")
-    print(f"{len(scripts)} scripts, {blocks} blocks, {marks} acts, {by_hand} listings by hand, {wrong} wrong")
+    print(f"{len(scripts)} scripts, {blocks} blocks, {marks} acts, {written} listings by hand, {wrong} wrong")
     return 1 if wrong else 0
 
 
 if __name__ == "__main__":
-    sys.exit(main())
+    status = []
+    sys.setrecursionlimit(200000)
+    threading.stack_size(512 * 1024 * 1024)
+    thread = threading.Thread(target=lambda: status.append(main()))
+    thread.start()
+    thread.join()
+    sys.exit(status[0] if status else 1)
