@@ -11,4 +11,5 @@ visited-acts [] t = sym (append-nil t)
 visited-acts (b ∷ bs) t = visited-acts bs (t ++ acts_of b ∷ []) ∙ append_assoc t (acts_of b ∷ []) (map acts_of bs)
 
 pub ruleset row_ends = (append_assoc, append-nil)
+
 pub ruleset collected = visited-acts

@@ -66,12 +66,7 @@ impl BlockVisitor for Collector {
         self.blocks.push(acts)
     }
 
-    fn lambda(
-        &mut self,
-        line: Line,
-        _parameters: &Parameters,
-        body: &Expr,
-    ) -> Result<(), Memory> {
+    fn lambda(&mut self, line: Line, _parameters: &Parameters, body: &Expr) -> Result<(), Memory> {
         let acts = BlockActs::of_lambda(self.alloc, line, body)?;
         self.blocks.push(acts)
     }

@@ -54,5 +54,7 @@ pub fn acts(alloc: Global, script: &Script) -> Result<ActTable, Memory>
 {
     let mut collector = Collector::new(alloc);
     visit(&mut collector, script)?;
-    Ok(ActTable { blocks: collector.into_blocks() })
+    Ok(ActTable {
+        blocks: collector.into_blocks(),
+    })
 }

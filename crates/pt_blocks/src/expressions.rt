@@ -121,10 +121,7 @@ pub fn visit_expression<V: BlockVisitor>(visitor: &mut V, e: &Expr) -> Result<()
 
 #[cycle(blocks)]
 #[tactic(auto, using(pt_tree::proofs::Folds::expressions, crate::proofs::Walk::blocks))]
-fn visit_boxed<V: BlockVisitor>(
-    visitor: &mut V,
-    e: &Option<Boxed<Expr>>,
-) -> Result<(), Memory>
+fn visit_boxed<V: BlockVisitor>(visitor: &mut V, e: &Option<Boxed<Expr>>) -> Result<(), Memory>
     ensures { OnOk result (visitor.new ≡ visited V.behind (blocks_opt (opt_exp e.now)) visitor.old) }
 {
     match e {
@@ -146,10 +143,7 @@ fn visit_all<V: BlockVisitor>(visitor: &mut V, items: &[Expr]) -> Result<(), Mem
 
 #[cycle(blocks)]
 #[tactic(auto, using(pt_tree::proofs::Folds::expressions, crate::proofs::Walk::blocks))]
-fn visit_links<V: BlockVisitor>(
-    visitor: &mut V,
-    rest: &[Comparison],
-) -> Result<(), Memory>
+fn visit_links<V: BlockVisitor>(visitor: &mut V, rest: &[Comparison]) -> Result<(), Memory>
     ensures { OnOk result (visitor.new ≡ visited V.behind (blocks_links (chained no_links (map link_of rest.now))) visitor.old) }
 {
     for link in rest {
@@ -160,10 +154,7 @@ fn visit_links<V: BlockVisitor>(
 
 #[cycle(blocks)]
 #[tactic(auto, using(pt_tree::proofs::Folds::expressions, crate::proofs::Walk::blocks))]
-fn visit_entries<V: BlockVisitor>(
-    visitor: &mut V,
-    entries: &[Entry],
-) -> Result<(), Memory>
+fn visit_entries<V: BlockVisitor>(visitor: &mut V, entries: &[Entry]) -> Result<(), Memory>
     ensures { OnOk result (visitor.new ≡ visited V.behind (blocks_entries (chained no_entries (map entry_of entries.now))) visitor.old) }
 {
     for entry in entries {
@@ -201,10 +192,7 @@ fn visit_piece<V: BlockVisitor>(visitor: &mut V, piece: &Piece) -> Result<(), Me
 
 #[cycle(blocks)]
 #[tactic(auto, using(pt_tree::proofs::Folds::expressions, crate::proofs::Walk::blocks))]
-fn visit_arguments<V: BlockVisitor>(
-    visitor: &mut V,
-    arguments: &[Argument],
-) -> Result<(), Memory>
+fn visit_arguments<V: BlockVisitor>(visitor: &mut V, arguments: &[Argument]) -> Result<(), Memory>
     ensures { OnOk result (visitor.new ≡ visited V.behind (blocks_args (chained no_args (map argument_of arguments.now))) visitor.old) }
 {
     for argument in arguments {
@@ -215,10 +203,7 @@ fn visit_arguments<V: BlockVisitor>(
 
 #[cycle(blocks)]
 #[tactic(auto, using(pt_tree::proofs::Folds::expressions, crate::proofs::Walk::blocks))]
-fn visit_argument<V: BlockVisitor>(
-    visitor: &mut V,
-    argument: &Argument,
-) -> Result<(), Memory>
+fn visit_argument<V: BlockVisitor>(visitor: &mut V, argument: &Argument) -> Result<(), Memory>
     ensures { OnOk result (visitor.new ≡ visited V.behind (blocks_args (argument_of argument.now no_args)) visitor.old) }
 {
     match argument {
@@ -242,10 +227,7 @@ fn visit_clause<V: BlockVisitor>(visitor: &mut V, clause: &Clause) -> Result<(),
 /// The clauses behind the first.
 #[cycle(blocks)]
 #[tactic(auto, using(pt_tree::proofs::Folds::expressions, crate::proofs::Walk::blocks))]
-fn visit_clauses<V: BlockVisitor>(
-    visitor: &mut V,
-    clauses: &[Clause],
-) -> Result<(), Memory>
+fn visit_clauses<V: BlockVisitor>(visitor: &mut V, clauses: &[Clause]) -> Result<(), Memory>
     ensures { OnOk result (visitor.new ≡ visited V.behind (blocks_clauses (clauses_of (map clause_of clauses.now))) visitor.old) }
 {
     for clause in clauses {
@@ -275,10 +257,7 @@ pub fn visit_place<V: BlockVisitor>(
 
 #[cycle(blocks)]
 #[tactic(auto, using(pt_tree::proofs::Folds::expressions, crate::proofs::Walk::blocks))]
-pub fn visit_target<V: BlockVisitor>(
-    visitor: &mut V,
-    target: &Target,
-) -> Result<(), Memory>
+pub fn visit_target<V: BlockVisitor>(visitor: &mut V, target: &Target) -> Result<(), Memory>
     ensures { OnOk result (visitor.new ≡ visited V.behind (blocks_target (target_of target.now)) visitor.old) }
 {
     match &target.node {
@@ -291,10 +270,7 @@ pub fn visit_target<V: BlockVisitor>(
 
 #[cycle(blocks)]
 #[tactic(auto, using(pt_tree::proofs::Folds::expressions, crate::proofs::Walk::blocks))]
-pub fn visit_targets<V: BlockVisitor>(
-    visitor: &mut V,
-    targets: &[Target],
-) -> Result<(), Memory>
+pub fn visit_targets<V: BlockVisitor>(visitor: &mut V, targets: &[Target]) -> Result<(), Memory>
     ensures { OnOk result (visitor.new ≡ visited V.behind (blocks_targets (targets_of (map target_of targets.now))) visitor.old) }
 {
     for target in targets {
@@ -318,10 +294,7 @@ pub fn visit_parameters<V: BlockVisitor>(
 
 #[cycle(blocks)]
 #[tactic(auto, using(pt_tree::proofs::Folds::expressions, crate::proofs::Walk::blocks))]
-fn visit_defaults<V: BlockVisitor>(
-    visitor: &mut V,
-    parameters: &[Parameter],
-) -> Result<(), Memory>
+fn visit_defaults<V: BlockVisitor>(visitor: &mut V, parameters: &[Parameter]) -> Result<(), Memory>
     ensures { OnOk result (visitor.new ≡ visited V.behind (blocks_formals (chained no_formals (map formal_of parameters.now))) visitor.old) }
 {
     for parameter in parameters {

@@ -7,18 +7,15 @@ ghost use Rattle.pt_tree.specs.Fold.{chained, opt_exp, target_of};
 ghost use Rattle.pt_tree.specs.StatementFold.{branch_of, decorators_of, handler_of, items_of, stm_of, stms_of};
 ghost use Rattle.pt_tree.specs.Syntax.{no_branches, no_handlers};
 
-use crate::visitor::{BlockVisitor, first_line_of};
 use crate::expressions::{
     visit_expression, visit_parameters, visit_place, visit_target, visit_targets,
 };
+use crate::visitor::{BlockVisitor, first_line_of};
 use pt_base::Memory;
 use pt_tree::{Branch, Decorator, Expr, Handler, Stmt, StmtNode, Target, WithItem};
 
 #[tactic(auto, using(crate::proofs::Walk::blocks))]
-fn visit_optional<V: BlockVisitor>(
-    visitor: &mut V,
-    e: &Option<Expr>,
-) -> Result<(), Memory>
+fn visit_optional<V: BlockVisitor>(visitor: &mut V, e: &Option<Expr>) -> Result<(), Memory>
     ensures { OnOk result (visitor.new ≡ visited V.behind (blocks_opt (opt_exp e.now)) visitor.old) }
 {
     match e {
@@ -54,10 +51,7 @@ fn visit_decorators<V: BlockVisitor>(
 }
 
 #[tactic(auto, using(crate::proofs::Walk::blocks))]
-fn visit_items<V: BlockVisitor>(
-    visitor: &mut V,
-    items: &[WithItem],
-) -> Result<(), Memory>
+fn visit_items<V: BlockVisitor>(visitor: &mut V, items: &[WithItem]) -> Result<(), Memory>
     ensures { OnOk result (visitor.new ≡ visited V.behind (blocks_items (items_of items.now)) visitor.old) }
 {
     for item in items {
@@ -181,10 +175,7 @@ fn visit_statement<V: BlockVisitor>(visitor: &mut V, s: &Stmt) -> Result<(), Mem
 
 #[cycle(blocks)]
 #[tactic(auto, using(pt_tree::proofs::StatementFolds::statements, crate::proofs::Walk::blocks))]
-pub fn visit_statements<V: BlockVisitor>(
-    visitor: &mut V,
-    statements: &[Stmt],
-) -> Result<(), Memory>
+pub fn visit_statements<V: BlockVisitor>(visitor: &mut V, statements: &[Stmt]) -> Result<(), Memory>
     ensures { OnOk result (visitor.new ≡ visited V.behind (blocks_stms (stms_of statements.now)) visitor.old) }
 {
     for s in statements {
@@ -195,10 +186,7 @@ pub fn visit_statements<V: BlockVisitor>(
 
 #[cycle(blocks)]
 #[tactic(auto, using(pt_tree::proofs::StatementFolds::statements, crate::proofs::Walk::blocks))]
-fn visit_branches<V: BlockVisitor>(
-    visitor: &mut V,
-    branches: &[Branch],
-) -> Result<(), Memory>
+fn visit_branches<V: BlockVisitor>(visitor: &mut V, branches: &[Branch]) -> Result<(), Memory>
     ensures { OnOk result (visitor.new ≡ visited V.behind (blocks_branches (chained no_branches (map branch_of branches.now))) visitor.old) }
 {
     for branch in branches {
@@ -210,10 +198,7 @@ fn visit_branches<V: BlockVisitor>(
 
 #[cycle(blocks)]
 #[tactic(auto, using(pt_tree::proofs::StatementFolds::statements, crate::proofs::Walk::blocks))]
-fn visit_handlers<V: BlockVisitor>(
-    visitor: &mut V,
-    handlers: &[Handler],
-) -> Result<(), Memory>
+fn visit_handlers<V: BlockVisitor>(visitor: &mut V, handlers: &[Handler]) -> Result<(), Memory>
     ensures { OnOk result (visitor.new ≡ visited V.behind (blocks_handlers (chained no_handlers (map handler_of handlers.now))) visitor.old) }
 {
     for handler in handlers {

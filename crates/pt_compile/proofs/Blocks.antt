@@ -89,7 +89,7 @@ among ss n (k ∷ ks) t zero b e = record {
   tables = t;
   is = sym (some_same _ b e) ∙ ap (λ m. layout_of t (around_of tt ss m) (names_of ss m) k) (omega arith);
   grown = subst (λ c. Grown (tables_of c.written) (tables_behind t (layouts ss n (k ∷ ks) t))) (some_same _ b e)
-    (behind_grown ss (n + 1) ks (tables_of (layout_of t (around_of tt ss n) (names_of ss n) k).written));
+      (behind_grown ss (n + 1) ks (tables_of (layout_of t (around_of tt ss n) (names_of ss n) k).written));
 }
 among ss n (k ∷ ks) t (suc i) b e =
     let a = among ss (n + 1) ks (tables_of (layout_of t (around_of tt ss n) (names_of ss n) k).written) i b e in
