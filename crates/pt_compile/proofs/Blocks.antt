@@ -34,24 +34,25 @@ grown_by : (v w : Written) → Tabled v w → Grown (tables_of v) (tables_of w)
 grown_by v w (t, (k, (l, r))) = record { texts = t; constants = k; lists = l }
 
 local_tabled : (x : Name) (w : Written) → Tabled w (with_local x w)
-local_tabled x w = (only_then w (with_text x w) _ (text_only x w) (local_only (number_of_text x w) (with_text x w))).tables
+local_tabled x w = (only_then w (with_text x w) (with_local x w) (text_only x w) (local_only (number_of_text x w) (with_text x w))).tables
 
 cell_tabled : (x : Name) (w : Written) → Tabled w (with_cell x w)
-cell_tabled x w = (only_then w (with_text x w) _ (text_only x w) (cell_only (number_of_text x w) (with_text x w))).tables
+cell_tabled x w = (only_then w (with_text x w) (with_cell x w) (text_only x w) (cell_only (number_of_text x w) (with_text x w))).tables
 
 free_tabled : (x : Name) (w : Written) → Tabled w (with_free x w)
-free_tabled x w = (only_then w (with_text x w) _ (text_only x w) (free_only (number_of_text x w) (with_text x w))).tables
+free_tabled x w = (only_then w (with_text x w) (with_free x w) (text_only x w) (free_only (number_of_text x w) (with_text x w))).tables
 
 all_tabled : (f : Name → Written → Written) → ((x : Name) (w : Written) → Tabled w (f x w)) → (xs : List Name) (w : Written) → Tabled w (with_all f xs w)
 all_tabled f g [] w = tabled_same w
-all_tabled f g (x ∷ xs) w = tabled_then w (f x w) _ (g x w) (all_tabled f g xs (f x w))
+all_tabled f g (x ∷ xs) w = tabled_then w (f x w) (with_all f xs (f x w)) (g x w) (all_tabled f g xs (f x w))
 
 names_tabled : (ns : Names) (w : Written) → Tabled w (with_names ns w)
 names_tabled ns w =
     let a = with_all with_local ns.locals w in
     let b = with_all with_cell ns.cells a in
-    tabled_then w a _ (all_tabled with_local local_tabled ns.locals w)
-    (tabled_then a b _ (all_tabled with_cell cell_tabled ns.cells a) (all_tabled with_free free_tabled ns.frees b))
+    let c = with_all with_free ns.frees b in
+    tabled_then w a c (all_tabled with_local local_tabled ns.locals w)
+    (tabled_then a b c (all_tabled with_cell cell_tabled ns.cells a) (all_tabled with_free free_tabled ns.frees b))
 
 layout_grown : (t : Tables) (a : _) (ns : Names) (k : Block) → Grown t (tables_of (layout_of t a ns k).written)
 layout_grown t a ns k =
@@ -59,13 +60,14 @@ layout_grown t a ns k =
     let b = with_text k.name v in
     let c = with_names ns b in
     grown_by v (layout (code_piece a k.code) [] c)
-    (tabled_then v b _ (text_only k.name v).tables (tabled_then b c _ (names_tabled ns b) (grows (code_piece a k.code) [] c).tables))
+    (tabled_then v b (layout (code_piece a k.code) [] c) (text_only k.name v).tables
+    (tabled_then b c (layout (code_piece a k.code) [] c) (names_tabled ns b) (grows (code_piece a k.code) [] c).tables))
 
 behind_grown : (ss : Stms) (n : ℕ) (ks : List Block) (t : Tables) → Grown t (tables_behind t (layouts ss n ks t))
 behind_grown ss n [] t = grown_not t
 behind_grown ss n (k ∷ ks) t =
     let b = layout_of t (around_of tt ss n) (names_of ss n) k in
-    grown_on t (tables_of b.written) _ (layout_grown t (around_of tt ss n) (names_of ss n) k) (behind_grown ss (n + 1) ks (tables_of b.written))
+    grown_on t (tables_of b.written) (tables_behind t (layouts ss n (k ∷ ks) t)) (layout_grown t (around_of tt ss n) (names_of ss n) k) (behind_grown ss (n + 1) ks (tables_of b.written))
 
 -- a layout among those of blocks
 record Among (ss : Stms) (n : ℕ) (ks : List Block) (t : Tables) (i : ℕ) (b : BlockLayout) : Type 0 where

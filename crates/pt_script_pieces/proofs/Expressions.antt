@@ -13,6 +13,12 @@ pub both : (xs ys : List Block) → AllStand xs → AllStand ys → AllStand (xs
 both [] ys h k = k
 both (x ∷ xs) ys h k = (h.0, both xs ys h.1 k)
 
+pub both3 : (xs ys zs : List Block) → AllStand xs → AllStand ys → AllStand zs → AllStand (xs ++ ys ++ zs)
+both3 xs ys zs h k l = both (xs ++ ys) zs (both xs ys h k) l
+
+pub both4 : (ws xs ys zs : List Block) → AllStand ws → AllStand xs → AllStand ys → AllStand zs → AllStand (ws ++ xs ++ ys ++ zs)
+both4 ws xs ys zs g h k l = both (ws ++ xs ++ ys) zs (both3 ws xs ys g h k) l
+
 mutual
   pub stand_exp : (x : Exp) → AllStand (blocks_exp x)
   stand_exp (S.constant l k) = tt
@@ -24,18 +30,18 @@ mutual
   stand_exp (S.dict l es) = stand_entries es
   stand_exp (S.attribute l a x) = stand_exp a
   stand_exp (S.item l a i) = both (blocks_exp a) (blocks_exp i) (stand_exp a) (stand_exp i)
-  stand_exp (S.slice l a b c) = both (blocks_opt a) (blocks_opt b ++ blocks_opt c) (stand_opt a) (both (blocks_opt b) (blocks_opt c) (stand_opt b) (stand_opt c))
+  stand_exp (S.slice l a b c) = both3 (blocks_opt a) (blocks_opt b) (blocks_opt c) (stand_opt a) (stand_opt b) (stand_opt c)
   stand_exp (S.unary l o a) = stand_exp a
   stand_exp (S.not_of l a) = stand_exp a
   stand_exp (S.binary l o a b) = both (blocks_exp a) (blocks_exp b) (stand_exp a) (stand_exp b)
-  stand_exp (S.compare l a o b r) = both (blocks_exp a) (blocks_exp b ++ blocks_links r) (stand_exp a) (both (blocks_exp b) (blocks_links r) (stand_exp b) (stand_links r))
+  stand_exp (S.compare l a o b r) = both3 (blocks_exp a) (blocks_exp b) (blocks_links r) (stand_exp a) (stand_exp b) (stand_links r)
   stand_exp (S.and l a es) = both (blocks_exp a) (blocks_all es) (stand_exp a) (stand_all es)
   stand_exp (S.or l a es) = both (blocks_exp a) (blocks_all es) (stand_exp a) (stand_all es)
-  stand_exp (S.conditional l c a b) = both (blocks_exp a) (blocks_exp c ++ blocks_exp b) (stand_exp a) (both (blocks_exp c) (blocks_exp b) (stand_exp c) (stand_exp b))
+  stand_exp (S.conditional l c a b) = both3 (blocks_exp a) (blocks_exp c) (blocks_exp b) (stand_exp a) (stand_exp c) (stand_exp b)
   stand_exp (S.call l f args) = both (blocks_exp f) (blocks_args args) (stand_exp f) (stand_args args)
   stand_exp (S.lambda l b ps e) = (tt, both (blocks_params ps) (blocks_exp e) (stand_params ps) (stand_exp e))
-  stand_exp (S.comprehension l m fl t it cs) = both (blocks_made m) (blocks_target t ++ blocks_exp it ++ blocks_clauses cs) (stand_made m) (both (blocks_target t) (blocks_exp it ++ blocks_clauses cs) (stand_target t) (both (blocks_exp it) (blocks_clauses cs) (stand_exp it) (stand_clauses cs)))
-  stand_exp (S.generator l b e fl t it cs) = (tt, both (blocks_exp e) (blocks_target t ++ blocks_exp it ++ blocks_clauses cs) (stand_exp e) (both (blocks_target t) (blocks_exp it ++ blocks_clauses cs) (stand_target t) (both (blocks_exp it) (blocks_clauses cs) (stand_exp it) (stand_clauses cs))))
+  stand_exp (S.comprehension l m fl t it cs) = both4 (blocks_made m) (blocks_target t) (blocks_exp it) (blocks_clauses cs) (stand_made m) (stand_target t) (stand_exp it) (stand_clauses cs)
+  stand_exp (S.generator l b e fl t it cs) = (tt, both4 (blocks_exp e) (blocks_target t) (blocks_exp it) (blocks_clauses cs) (stand_exp e) (stand_target t) (stand_exp it) (stand_clauses cs))
   stand_exp (S.yield l v) = stand_opt v
   stand_exp (S.yield_from l e) = stand_exp e
 
@@ -50,11 +56,11 @@ mutual
   stand_pieces : (x : Pieces) → AllStand (blocks_pieces x)
   stand_pieces S.no_pieces = tt
   stand_pieces (S.literal l t r) = stand_pieces r
-  stand_pieces (S.field l e c ps r) = both (blocks_exp e) (blocks_pieces ps ++ blocks_pieces r) (stand_exp e) (both (blocks_pieces ps) (blocks_pieces r) (stand_pieces ps) (stand_pieces r))
+  stand_pieces (S.field l e c ps r) = both3 (blocks_exp e) (blocks_pieces ps) (blocks_pieces r) (stand_exp e) (stand_pieces ps) (stand_pieces r)
 
   stand_entries : (x : Entries) → AllStand (blocks_entries x)
   stand_entries S.no_entries = tt
-  stand_entries (S.entry k v r) = both (blocks_exp k) (blocks_exp v ++ blocks_entries r) (stand_exp k) (both (blocks_exp v) (blocks_entries r) (stand_exp v) (stand_entries r))
+  stand_entries (S.entry k v r) = both3 (blocks_exp k) (blocks_exp v) (blocks_entries r) (stand_exp k) (stand_exp v) (stand_entries r)
 
   stand_links : (x : Links) → AllStand (blocks_links x)
   stand_links S.no_links = tt
@@ -75,7 +81,7 @@ mutual
   stand_clauses : (x : Clauses) → AllStand (blocks_clauses x)
   stand_clauses S.no_clauses = tt
   stand_clauses (S.only_if c cs) = both (blocks_exp c) (blocks_clauses cs) (stand_exp c) (stand_clauses cs)
-  stand_clauses (S.for_each fl t it cs) = both (blocks_target t) (blocks_exp it ++ blocks_clauses cs) (stand_target t) (both (blocks_exp it) (blocks_clauses cs) (stand_exp it) (stand_clauses cs))
+  stand_clauses (S.for_each fl t it cs) = both3 (blocks_target t) (blocks_exp it) (blocks_clauses cs) (stand_target t) (stand_exp it) (stand_clauses cs)
 
   pub stand_place : (x : Place) → AllStand (blocks_place x)
   stand_place (S.name_at l x) = tt
@@ -108,4 +114,4 @@ stand_opt_target (Some t) = stand_target t
 
 pub stand_items : (x : Items) → AllStand (blocks_items x)
 stand_items S.no_items = tt
-stand_items (S.with_item l e t is) = both (blocks_exp e) (blocks_opt_target t ++ blocks_items is) (stand_exp e) (both (blocks_opt_target t) (blocks_items is) (stand_opt_target t) (stand_items is))
+stand_items (S.with_item l e t is) = both3 (blocks_exp e) (blocks_opt_target t) (blocks_items is) (stand_exp e) (stand_opt_target t) (stand_items is)

@@ -13,7 +13,7 @@ use Rattle.pt_tree.specs.Blocks.{Block, blocks_branches, blocks_decorators, bloc
 use Rattle.pt_assembler.specs.declared.operation.Exit.{Exit}
 use Rattle.pt_stm_pieces.specs.Needed.{exits, some_branch_exits, some_exits, some_handler_exits}
 use Rattle.pt_stm_pieces.specs.Laws.{NoExits, StandsInLoops}
-use Rattle.pt_script_pieces.proofs.Expressions.{AllStand, both, stand_decorators, stand_exp, stand_items, stand_opt, stand_params, stand_place, stand_target, stand_targets}
+use Rattle.pt_script_pieces.proofs.Expressions.{both3, both4, AllStand, both, stand_decorators, stand_exp, stand_items, stand_opt, stand_params, stand_place, stand_target, stand_targets}
 use Rattle.pt_script_pieces.proofs.Placed.{AllPlaced, Placed, all_placed, in_a_loop, into_class, into_function, split}
 
 neither : (b c : Bool) → b ≡ false → c ≡ false → (b || c) ≡ false
@@ -116,21 +116,18 @@ mutual
   stand_stm a c (S.while l t body els) p =
       let rest = second (places_exp a c t) (places_stms (loop_context a) c body ⨾ places_stms a c els) p in
       let parts = split (places_stms (loop_context a) c body) (places_stms a c els) rest in
-      both (blocks_exp t) (blocks_stms body ++ blocks_stms els) (stand_exp t)
-      (both (blocks_stms body) (blocks_stms els) (stand_stms (loop_context a) c body parts.0) (stand_stms a c els parts.1))
+      both3 (blocks_exp t) (blocks_stms body) (blocks_stms els) (stand_exp t) (stand_stms (loop_context a) c body parts.0) (stand_stms a c els parts.1)
   stand_stm a c (S.for l t it body els) p =
       let rest = third (places_target a c t) (places_exp a c it) (places_stms (loop_context a) c body ⨾ places_stms a c els) p in
       let parts = split (places_stms (loop_context a) c body) (places_stms a c els) rest in
-      both (blocks_target t) (blocks_exp it ++ blocks_stms body ++ blocks_stms els) (stand_target t)
-      (both (blocks_exp it) (blocks_stms body ++ blocks_stms els) (stand_exp it)
-      (both (blocks_stms body) (blocks_stms els) (stand_stms (loop_context a) c body parts.0) (stand_stms a c els parts.1)))
+      both4 (blocks_target t) (blocks_exp it) (blocks_stms body) (blocks_stms els) (stand_target t) (stand_exp it)
+      (stand_stms (loop_context a) c body parts.0) (stand_stms a c els parts.1)
   stand_stm a c (S.try l body hs els fin) p =
       let one = split (places_stms a c body) (places_handlers a c hs ⨾ places_stms a c els ⨾ places_stms a c fin) p in
       let two = split (places_handlers a c hs) (places_stms a c els ⨾ places_stms a c fin) one.1 in
       let three = split (places_stms a c els) (places_stms a c fin) two.1 in
-      both (blocks_stms body) (blocks_handlers hs ++ blocks_stms els ++ blocks_stms fin) (stand_stms a c body one.0)
-      (both (blocks_handlers hs) (blocks_stms els ++ blocks_stms fin) (stand_handlers a c hs two.0)
-      (both (blocks_stms els) (blocks_stms fin) (stand_stms a c els three.0) (stand_stms a c fin three.1)))
+      both4 (blocks_stms body) (blocks_handlers hs) (blocks_stms els) (blocks_stms fin) (stand_stms a c body one.0)
+      (stand_handlers a c hs two.0) (stand_stms a c els three.0) (stand_stms a c fin three.1)
   stand_stm a c (S.with l is body) p =
       both (blocks_items is) (blocks_stms body) (stand_items is) (stand_stms a c body (second (places_items a c is) (places_stms a c body) p))
   stand_stm a c (S.def l ds dl n x ps r body) p =
@@ -138,17 +135,15 @@ mutual
       let entered = into_function a (λ b. places_params a b c ps ⨾ places_stms b c body) made in
       let b = function_context entered.0 in
       let inner = second (places_params a b c ps) (places_stms b c body) entered.1 in
-      both (blocks_decorators ds) (_ ∷ blocks_params ps ++ blocks_stms body) (stand_decorators ds)
-      (body_exits body (none_exits b refl c body inner), both (blocks_params ps) (blocks_stms body) (stand_params ps) (stand_stms b c body inner))
+      both4 (blocks_decorators ds) (_ ∷ []) (blocks_params ps) (blocks_stms body) (stand_decorators ds)
+      (body_exits body (none_exits b refl c body inner), tt) (stand_params ps) (stand_stms b c body inner)
   stand_stm a c (S.class l ds cl n x base body) p =
       let made = third (places_decorators a c ds) (tells Bind a c x cl) (in_class a (λ b. places_opt a c base ⨾ places_stms b x body)) p in
       let entered = into_class a (λ b. places_opt a c base ⨾ places_stms b x body) made in
       let b = class_context entered.0 in
       let inner = second (places_opt a c base) (places_stms b x body) entered.1 in
-      both (blocks_decorators ds) (_ ∷ blocks_opt base ++ map (inside_class x) (blocks_stms body)) (stand_decorators ds) (
-        none_exits b refl x body inner,
-        both (blocks_opt base) (map (inside_class x) (blocks_stms body)) (stand_opt base) (inside x (blocks_stms body) (stand_stms b x body inner)),
-      )
+      both4 (blocks_decorators ds) (_ ∷ []) (blocks_opt base) (map (inside_class x) (blocks_stms body)) (stand_decorators ds)
+      (none_exits b refl x body inner, tt) (stand_opt base) (inside x (blocks_stms body) (stand_stms b x body inner))
   stand_stm a c (S.docstring l) p = tt
 
   stand_stms : (a : Context) (c : Name) (ss : Stms) → Placed (places_stms a c ss) → AllStand (blocks_stms ss)
@@ -162,16 +157,14 @@ mutual
   stand_branches a c (S.branch l t body r) p =
       let rest = second (places_exp a c t) (places_stms a c body ⨾ places_branches a c r) p in
       let parts = split (places_stms a c body) (places_branches a c r) rest in
-      both (blocks_exp t) (blocks_stms body ++ blocks_branches r) (stand_exp t)
-      (both (blocks_stms body) (blocks_branches r) (stand_stms a c body parts.0) (stand_branches a c r parts.1))
+      both3 (blocks_exp t) (blocks_stms body) (blocks_branches r) (stand_exp t) (stand_stms a c body parts.0) (stand_branches a c r parts.1)
 
   stand_handlers : (a : Context) (c : Name) (hs : Handlers) → Placed (places_handlers a c hs) → AllStand (blocks_handlers hs)
   stand_handlers a c S.no_handlers p = tt
   stand_handlers a c (S.handler l t x body r) p =
       let rest = third (places_opt a c t) (places_named a c l x) (places_stms a c body ⨾ places_handlers a c r) p in
       let parts = split (places_stms a c body) (places_handlers a c r) rest in
-      both (blocks_opt t) (blocks_stms body ++ blocks_handlers r) (stand_opt t)
-      (both (blocks_stms body) (blocks_handlers r) (stand_stms a c body parts.0) (stand_handlers a c r parts.1))
+      both3 (blocks_opt t) (blocks_stms body) (blocks_handlers r) (stand_opt t) (stand_stms a c body parts.0) (stand_handlers a c r parts.1)
 
 stand_at : (bs : List Block) → AllStand bs → (i : ℕ) (k : Block) → slice_get bs i ≡ Some k → StandsInLoops k.code
 stand_at [] h i k at = absurd (let same : None ≡ Some k = at in cc)
