@@ -106,11 +106,12 @@ among ss n (k ∷ ks) t (suc i) b e =
 pub blocks_are_laid_out : BlocksAreLaidOut
 blocks_are_laid_out ss n b e =
     let a = among ss 0 (blocks_script ss) no_tables n b e in
+    let same : 0 + n ≡ n = omega arith in
     record {
       block = a.block;
       is_block = a.is_block;
       tables = a.tables;
-      is = a.is;
+      is = a.is ∙ ap (λ m. layout_of a.tables (around_of tt ss m) (names_of ss m) a.block) same;
       whole = record {
         texts = a.grown.texts;
         constants = a.grown.constants;

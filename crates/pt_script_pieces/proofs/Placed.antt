@@ -42,11 +42,11 @@ split f g p =
 
 pub into_function : (a : Context) (inside : Context → Part) → Placed (in_function a inside) → (r : ℕ) × Placed (inside (function_context r))
 unfolding in_function
-into_function a inside p = (p.0, (split (block Function a) (inside (function_context p.0)) p).1)
+into_function a inside p = (p.0, (split (block Function a) (inside (function_context p.0)) (p.0, p.1)).1)
 
 pub into_class : (a : Context) (inside : Context → Part) → Placed (in_class a inside) → (r : ℕ) × Placed (inside (class_context r))
 unfolding in_class
-into_class a inside p = (p.0, (split (block Class a) (inside (class_context p.0)) p).1)
+into_class a inside p = (p.0, (split (block Class a) (inside (class_context p.0)) (p.0, p.1)).1)
 
 -- a `break` or `continue` outside of loops is misplaced
 pub in_a_loop : {X : Type 0} (b : Bool) (a : Context) (l : ℕ) → b ≡ false → Placed (if b then nothing else misplaced a l) → X

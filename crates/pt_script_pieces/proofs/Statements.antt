@@ -30,48 +30,48 @@ third f g h p = second g h (second f (g ⨾ h) p)
 
 mutual
   no_exits : (a : Context) → a.in_loop ≡ false → (c : Name) (st : Stm) → Placed (places_stm a c st) → (e : Exit) → exits e st ≡ false
-  no_exits a no c (S.break l) p e = in_a_loop a.in_loop a l no p
-  no_exits a no c (S.continue l) p e = in_a_loop a.in_loop a l no p
-  no_exits a no c (S.choice l bs els) p e =
+  no_exits a outside c (S.break l) p e = in_a_loop a.in_loop a l outside p
+  no_exits a outside c (S.continue l) p e = in_a_loop a.in_loop a l outside p
+  no_exits a outside c (S.choice l bs els) p e =
       let parts : Placed (places_branches a c bs) × Placed (places_stms a c els) = split (places_branches a c bs) (places_stms a c els) p in
-      neither (some_branch_exits e bs) (some_exits e els) (no_branch_exits a no c bs parts.0 e) (none_exits a no c els parts.1 e)
-  no_exits a no c (S.while l t body els) p e =
-      none_exits a no c els (third (places_exp a c t) (places_stms (loop_context a) c body) (places_stms a c els) p) e
-  no_exits a no c (S.for l t it body els) p e =
-      none_exits a no c els
+      neither (some_branch_exits e bs) (some_exits e els) (no_branch_exits a outside c bs parts.0 e) (none_exits a outside c els parts.1 e)
+  no_exits a outside c (S.while l t body els) p e =
+      none_exits a outside c els (third (places_exp a c t) (places_stms (loop_context a) c body) (places_stms a c els) p) e
+  no_exits a outside c (S.for l t it body els) p e =
+      none_exits a outside c els
       (third (places_exp a c it) (places_stms (loop_context a) c body) (places_stms a c els)
       (second (places_target a c t) (places_exp a c it ⨾ places_stms (loop_context a) c body ⨾ places_stms a c els) p)) e
-  no_exits a no c (S.try l body hs els fin) p e =
+  no_exits a outside c (S.try l body hs els fin) p e =
       let one = split (places_stms a c body) (places_handlers a c hs ⨾ places_stms a c els ⨾ places_stms a c fin) p in
       let two = split (places_handlers a c hs) (places_stms a c els ⨾ places_stms a c fin) one.1 in
       let three = split (places_stms a c els) (places_stms a c fin) two.1 in
-      neither (some_exits e body) (some_handler_exits e hs || (some_exits e els || some_exits e fin)) (none_exits a no c body one.0 e)
-      (neither (some_handler_exits e hs) (some_exits e els || some_exits e fin) (no_handler_exits a no c hs two.0 e)
-      (neither (some_exits e els) (some_exits e fin) (none_exits a no c els three.0 e) (none_exits a no c fin three.1 e)))
-  no_exits a no c (S.with l is body) p e = none_exits a no c body (second (places_items a c is) (places_stms a c body) p) e
-  no_exits a no c st p e = refl
+      neither (some_exits e body) (some_handler_exits e hs || (some_exits e els || some_exits e fin)) (none_exits a outside c body one.0 e)
+      (neither (some_handler_exits e hs) (some_exits e els || some_exits e fin) (no_handler_exits a outside c hs two.0 e)
+      (neither (some_exits e els) (some_exits e fin) (none_exits a outside c els three.0 e) (none_exits a outside c fin three.1 e)))
+  no_exits a outside c (S.with l is body) p e = none_exits a outside c body (second (places_items a c is) (places_stms a c body) p) e
+  no_exits a outside c st p e = refl
 
   none_exits : (a : Context) → a.in_loop ≡ false → (c : Name) (ss : Stms) → Placed (places_stms a c ss) → (e : Exit) → some_exits e ss ≡ false
-  none_exits a no c S.none p e = refl
-  none_exits a no c (S.more st ss) p e =
+  none_exits a outside c S.none p e = refl
+  none_exits a outside c (S.more st ss) p e =
       let parts : Placed (places_stm a c st) × Placed (places_stms a c ss) = split (places_stm a c st) (places_stms a c ss) p in
-      neither (exits e st) (some_exits e ss) (no_exits a no c st parts.0 e) (none_exits a no c ss parts.1 e)
+      neither (exits e st) (some_exits e ss) (no_exits a outside c st parts.0 e) (none_exits a outside c ss parts.1 e)
 
   no_branch_exits : (a : Context) → a.in_loop ≡ false → (c : Name) (bs : Branches) → Placed (places_branches a c bs) → (e : Exit)
       → some_branch_exits e bs ≡ false
-  no_branch_exits a no c S.no_branches p e = refl
-  no_branch_exits a no c (S.branch l t body r) p e =
+  no_branch_exits a outside c S.no_branches p e = refl
+  no_branch_exits a outside c (S.branch l t body r) p e =
       let rest = split (places_exp a c t) (places_stms a c body ⨾ places_branches a c r) p in
       let parts = split (places_stms a c body) (places_branches a c r) rest.1 in
-      neither (some_exits e body) (some_branch_exits e r) (none_exits a no c body parts.0 e) (no_branch_exits a no c r parts.1 e)
+      neither (some_exits e body) (some_branch_exits e r) (none_exits a outside c body parts.0 e) (no_branch_exits a outside c r parts.1 e)
 
   no_handler_exits : (a : Context) → a.in_loop ≡ false → (c : Name) (hs : Handlers) → Placed (places_handlers a c hs) → (e : Exit)
       → some_handler_exits e hs ≡ false
-  no_handler_exits a no c S.no_handlers p e = refl
-  no_handler_exits a no c (S.handler l t x body r) p e =
+  no_handler_exits a outside c S.no_handlers p e = refl
+  no_handler_exits a outside c (S.handler l t x body r) p e =
       let rest = third (places_opt a c t) (places_named a c l x) (places_stms a c body ⨾ places_handlers a c r) p in
       let parts = split (places_stms a c body) (places_handlers a c r) rest in
-      neither (some_exits e body) (some_handler_exits e r) (none_exits a no c body parts.0 e) (no_handler_exits a no c r parts.1 e)
+      neither (some_exits e body) (some_handler_exits e r) (none_exits a outside c body parts.0 e) (no_handler_exits a outside c r parts.1 e)
 
 -- the documentation string of a function is no exit
 
