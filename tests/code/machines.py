@@ -6,6 +6,7 @@ import re
 import sys
 
 HERE = os.path.dirname(os.path.abspath(__file__))
+CRATES = os.path.join(HERE, "..", "..", "crates")
 sys.path[:0] = [os.path.join(HERE, "..", "run"), os.path.join(HERE, "..", "fits")]
 
 import scripts  # noqa: E402, F401

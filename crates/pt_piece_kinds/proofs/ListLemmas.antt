@@ -3,7 +3,7 @@ use Rattle.std.proofs.Common.{◌≡◌, ℕ, ◌+◌, ◌-◌, ◌≤◌, zero,
 use Rattle.std.proofs.lemmas.List.{map-append, reverse-append, reverse-reverse, length-map, length-reverse}
 use Rattle.pt_instr.specs.declared.kinds.Kind.{Kind}
 use Rattle.pt_fits.proofs.KindLemmas.{lowest as lowest_reversed}
-use Rattle.pt_piece_kinds.specs.Walk.{Known, Profile, kinds_of, lowest}
+use Rattle.pt_piece_kinds.specs.Walk.{Known, StackMap, kinds_of, lowest}
 use Rattle.pt_piece_kinds.specs.Typed.{Over}
 
 module _ {A : Type 0} where
@@ -57,31 +57,31 @@ module _ {A B : Type 0} (f : A → B) where
 abbrev pub kind : Known → Kind
 kind k = k.kind
 
-pub kinds_append : (ts rs : Profile) → kinds_of (ts ++ rs) ≡ kinds_of rs ++ kinds_of ts
+pub kinds_append : (ts rs : StackMap) → kinds_of (ts ++ rs) ≡ kinds_of rs ++ kinds_of ts
 kinds_append ts rs = ap reverse (map-append kind ts rs) ∙ reverse-append (map kind ts) (map kind rs)
 
-pub length_kinds : (ks : Profile) → length (kinds_of ks) ≡ length ks
+pub length_kinds : (ks : StackMap) → length (kinds_of ks) ≡ length ks
 length_kinds ks = length-reverse (map kind ks) ∙ length-map ks kind
 
 -- the kinds of slots that stand with the lowest first
-pub kinds_reversed : (ks : Profile) → kinds_of (reverse ks) ≡ map kind ks
+pub kinds_reversed : (ks : StackMap) → kinds_of (reverse ks) ≡ map kind ks
 kinds_reversed ks = ap reverse (map_reverse kind ks) ∙ reverse-reverse (map kind ks)
 
-pub over_itself : (ks : Profile) → Over ks ks
+pub over_itself : (ks : StackMap) → Over ks ks
 over_itself ks = ([], refl)
 
-pub over_more : {base ks : Profile} (k : Known) → Over base ks → Over base (k ∷ ks)
+pub over_more : {base ks : StackMap} (k : Known) → Over base ks → Over base (k ∷ ks)
 over_more k (more, e) = (k ∷ more, ap (λ xs. k ∷ xs) e)
 
-pub over_all : {base ks : Profile} (ts : Profile) → Over base ks → Over base (ts ++ ks)
+pub over_all : {base ks : StackMap} (ts : StackMap) → Over base ks → Over base (ts ++ ks)
 over_all [] o = o
 over_all (t ∷ ts) o = over_more t (over_all ts o)
 
-pub over_over : {base mid ks : Profile} → Over base mid → Over mid ks → Over base ks
+pub over_over : {base mid ks : StackMap} → Over base mid → Over mid ks → Over base ks
 over_over {base = base} {ks = ks} (xs, e) (ys, f) = (ys ++ xs, f ∙ (ap (λ zs. ys ++ zs) e ∙ sym (append_assoc ys xs base)))
 
-pub over_length : {base ks : Profile} → Over base ks → length base ≤ length ks
+pub over_length : {base ks : StackMap} → Over base ks → length base ≤ length ks
 over_length {base = base} {ks = ks} (xs, e) = let n = length-append xs base in let m : length ks ≡ length (xs ++ base) = ap length e in omega (arith, n, m)
 
-pub lowest_of_over : {base ks : Profile} (d : ℕ) → Over base ks → d ≤ length base → lowest d ks ≡ lowest d base
+pub lowest_of_over : {base ks : StackMap} (d : ℕ) → Over base ks → d ≤ length base → lowest d ks ≡ lowest d base
 lowest_of_over {base = base} d (xs, e) l = ap (lowest d) e ∙ lowest_over d xs base l

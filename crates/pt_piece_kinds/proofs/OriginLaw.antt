@@ -9,7 +9,7 @@ use Rattle.pt_fits.specs.Places as places
 use Rattle.pt_fits.specs.Places.{Gets}
 use Rattle.pt_fits.specs.Leaves as L
 use Rattle.pt_fits.specs.Leaves.{Goes, Common}
-use Rattle.pt_piece_kinds.specs.Walk.{Known, Profile}
+use Rattle.pt_piece_kinds.specs.Walk.{Known, StackMap}
 use Rattle.pt_piece_kinds.specs.Table.{Table, IsOf, AllOf, Follows, slot_of, WasMadeAt, IsTableOf}
 use Rattle.pt_piece_kinds.specs.Laws.{HasKinds, TableHasKinds, CommonIsOfOneOrigin, OneOriginIsCommon}
 
@@ -42,7 +42,7 @@ place_of (places.onward g l c i e) = (i, e)
 module _ (b : Block) (at : Table) (table : IsTableOf b at) where
   -- a step from a place that gets kinds, as the table has it
   record Led (q r kept : ℕ) (ls : Kinds) : Type 0 where
-    before : Profile
+    before : StackMap
     from : at q ≡ Some before
     follows : Follows at before (step r ls kept)
 
@@ -92,7 +92,7 @@ module _ (b : Block) (at : Table) (table : IsTableOf b at) where
       (to_origin d o g (subst (WasMadeAt o) (sym (slot_kept d v u)) m)))
       (λ u. subst (Common b b.size d r) (sym (slot_made d o v u m)) L.same) (cases_lt d kept)
 
-  there : (q d o : ℕ) (z : Option Profile) → at q ≡ z → WasMadeAt o (slot_of z d) → Common b b.size d q o
+  there : (q d o : ℕ) (z : Option StackMap) → at q ≡ z → WasMadeAt o (slot_of z d) → Common b b.size d q o
   there q d o None e m = absurd m
   there q d o (Some ks) e m = to_origin d o (table.reached q ks e) (subst (λ z. WasMadeAt o (slot_of z d)) (sym e) m)
 

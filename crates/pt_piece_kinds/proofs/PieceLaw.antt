@@ -21,7 +21,7 @@ use Rattle.pt_assembler.specs.Piece.{Op, Piece, pick}
 use Rattle.pt_assembler.specs.PieceAt.{instr_to, instr_of_free, target, start_of, Is, Exits, Context, in_loop, under, over, row_of, Exit_at, Piece_at}
 use Rattle.pt_fits.specs.Block.{Links, Block, effect}
 use Rattle.pt_fits.specs.Steps.{Step, steps, target_of}
-use Rattle.pt_piece_kinds.specs.Walk.{Profile, kinds_of, made, or_else, instr_of, given_at, onward, behind_op, aside_op, to_one, is_empty, deepened, Setting, with_label, with_none, with_loop, end_of, flow, behind, slots_at}
+use Rattle.pt_piece_kinds.specs.Walk.{StackMap, kinds_of, made, or_else, instr_of, given_at, onward, behind_op, aside_op, to_one, is_empty, deepened, Setting, with_label, with_none, with_loop, end_of, flow, behind, slots_at}
 use Rattle.pt_piece_kinds.specs.Typed.{Over, Takes, IsUniform, Lands, Fires, Typed}
 use Rattle.pt_piece_kinds.specs.Typed as typed
 use Rattle.pt_piece_kinds.specs.Table.{next_in, next_of, Rises, Table, Follows}
@@ -76,8 +76,8 @@ target_to IfTrueKeep p t e = sym (is_some_of e)
 target_to IfFalseKeep p t e = sym (is_some_of e)
 target_to Leave p t e = absurd (let h : ⊥ = cc in h)
 
-landed_label : (at : Table) (pool : Pool) (L : List Target) (Ls : List (Option Profile)) (op : Op) (j : Instr) (t : ℕ) (slots : Profile)
-    → ((l : ℕ) (ks : Profile) → pick None Ls l ≡ Some ks → at (pick start_of L l).pc.0 ≡ Some ks)
+landed_label : (at : Table) (pool : Pool) (L : List Target) (Ls : List (Option StackMap)) (op : Op) (j : Instr) (t : ℕ) (slots : StackMap)
+    → ((l : ℕ) (ks : StackMap) → pick None Ls l ≡ Some ks → at (pick start_of L l).pc.0 ≡ Some ks)
     → Is pool L op j → Lands op Ls (Some slots) → target_of j ≡ Some t → at t ≡ Some slots
 landed_label at pool L Ls (P.to k l) j t slots f e h tg = ap at (target_to k (pick start_of L l).pc.0 t (ap target_of (sym e) ∙ tg)) ∙ f l slots h
 landed_label at pool L Ls (P.plain i) j t slots f e h tg = absurd h
@@ -98,7 +98,7 @@ if_ge q e m u v same l = ap (λ t. if t then u else v) (ap (nat_lt q) same ∙ l
 if_eq : {A : Type 0} (q e m : ℕ) (u v : A) → e ≡ m → q ≡ m → (if nat_eq q e then u else v) ≡ u
 if_eq q e m u v same l = ap (λ t. if t then u else v) (ap (nat_eq q) same ∙ eq-eqb q m l)
 
-if_none : (t : Bool) (u v : Option Profile) → u ≡ None → v ≡ None → (if t then u else v) ≡ None
+if_none : (t : Bool) (u v : Option StackMap) → u ≡ None → v ≡ None → (if t then u else v) ≡ None
 if_none true u v e f = e
 if_none false u v e f = f
 
@@ -115,11 +115,11 @@ one_none (P.with_list g xs) k = refl
 
 module _ (links : Links) (next : ℕ → ℕ) where
   -- where no way comes, none goes on
-  pub record Nothing (q : Piece) (c : Setting) (base : Profile) (from : ℕ) : Type 0 where
+  pub record Nothing (q : Piece) (c : Setting) (base : StackMap) (from : ℕ) : Type 0 where
     pub behind : behind links next q c base from None ≡ None
     pub sent : (k : ℕ) → (let f = flow links next q c base from None in f.sent k) ≡ None
 
-  pub nothing : (q : Piece) (c : Setting) (base : Profile) (from : ℕ) → Nothing q c base from
+  pub nothing : (q : Piece) (c : Setting) (base : StackMap) (from : ℕ) → Nothing q c base from
   nothing P.empty c base p = record { behind = refl; sent = λ k. refl }
   nothing (P.act op n l g) c base p = record { behind = refl; sent = one_none op }
   nothing (P.move op) c base p = record { behind = refl; sent = one_none op }
@@ -151,7 +151,7 @@ module _ (links : Links) (next : ℕ → ℕ) where
   nothing (P.started l q) c base p = let u = nothing q c base p in record { behind = u.behind; sent = u.sent }
   nothing (P.numbered n q) c base p = let u = nothing q c base p in record { behind = u.behind; sent = u.sent }
 
-  pub nothing_at : (q : Piece) (c : Setting) (base : Profile) (from pc : ℕ) → slots_at links next q c base from None pc ≡ None
+  pub nothing_at : (q : Piece) (c : Setting) (base : StackMap) (from pc : ℕ) → slots_at links next q c base from None pc ≡ None
   nothing_at P.empty c base p pc = refl
   nothing_at (P.act op n l g) c base p pc = if_none (nat_eq pc p) None None refl refl
   nothing_at (P.move op) c base p pc = if_none (nat_eq pc p) None None refl refl
@@ -260,7 +260,7 @@ module _ {V : Type 0} (code : CodeObject V) (starts : List Start) (b : Block) (s
       by true e = absurd (let f = empty_is p L x from to h e in let g : ⊥ = omega (arith, f, u, v) in g)
       by false e = refl
 
-  away : (q from to : ℕ) (o : Option Profile) → from < to → to ≤ q → (if nat_eq q from then o else None) ≡ None
+  away : (q from to : ℕ) (o : Option StackMap) → from < to → to ≤ q → (if nat_eq q from then o else None) ≡ None
   away q from to o u v = by (nat_eq q from) refl
     where
       by : (t : Bool) → nat_eq q from ≡ t → (if t then o else None) ≡ None
@@ -268,7 +268,7 @@ module _ {V : Type 0} (code : CodeObject V) (starts : List Start) (b : Block) (s
       by false e = refl
 
   -- behind its end a piece has no slots
-  pub nowhere : (p : Piece) (L : List Target) (x : Context) (c : Setting) (base : Profile) (from to : ℕ) (s : Option Profile)
+  pub nowhere : (p : Piece) (L : List Target) (x : Context) (c : Setting) (base : StackMap) (from to : ℕ) (s : Option StackMap)
       → Piece_at code starts p L x from to → (q : ℕ) → to ≤ q → slots_at b.links next p c base from s q ≡ None
   nowhere P.empty L x c base from to s h q v = refl
   nowhere (P.act op n l g) L x c base from to s (j, i, h) q v = away q from to s (rises_to x.rows j _ from to h) v
@@ -301,16 +301,16 @@ module _ {V : Type 0} (code : CodeObject V) (starts : List Start) (b : Block) (s
 
   module _ (at : Table) where
     -- a piece that is laid out and typed, of which the table has the slots
-    pub record Laid (p : Piece) (L : List Target) (x : Context) (c : Setting) (Ls : List (Option Profile)) (base : Profile) (from to : ℕ) (s : Option Profile)
+    pub record Laid (p : Piece) (L : List Target) (x : Context) (c : Setting) (Ls : List (Option StackMap)) (base : StackMap) (from to : ℕ) (s : Option StackMap)
         : Type 0 where
       pub stands : Piece_at code starts p L x from to
       pub typed : Typed b.links next p c Ls base from s
       pub agrees : (q : ℕ) → from ≤ q → q < to → at q ≡ slots_at b.links next p c base from s q
-      pub after : (ks : Profile) → behind b.links next p c base from s ≡ Some ks → at to ≡ Some ks
+      pub after : (ks : StackMap) → behind b.links next p c base from s ≡ Some ks → at to ≡ Some ks
 
-    module _ (L : List Target) (x : Context) (c : Setting) (Ls : List (Option Profile)) (base : Profile) (from to : ℕ) (ks : Profile) where
-      abbrev After : ℕ → Option Profile → Type 0
-      After m o = (ls : Profile) → o ≡ Some ls → at m ≡ Some ls
+    module _ (L : List Target) (x : Context) (c : Setting) (Ls : List (Option StackMap)) (base : StackMap) (from to : ℕ) (ks : StackMap) where
+      abbrev After : ℕ → Option StackMap → Type 0
+      After m o = (ls : StackMap) → o ≡ Some ls → at m ≡ Some ls
 
       first : (a d : Piece) (l : Laid (P.seq a d) L x c Ls base from to (Some ks))
           → After (l.stands).0 (behind b.links next a c base from (Some ks)) → Laid a L x c Ls base from (l.stands).0 (Some ks)
@@ -448,10 +448,10 @@ module _ {V : Type 0} (code : CodeObject V) (starts : List Start) (b : Block) (s
         }
 
     -- the slots at its first place are those with which it begins
-    at_first : (from to : ℕ) (ks : Profile) → from < to → ((q : ℕ) → from ≤ q → q < to → at q ≡ (if nat_eq q from then Some ks else None)) → at from ≡ Some ks
+    at_first : (from to : ℕ) (ks : StackMap) → from < to → ((q : ℕ) → from ≤ q → q < to → at q ≡ (if nat_eq q from then Some ks else None)) → at from ≡ Some ks
     at_first from to ks l f = f from (omega arith) l ∙ if_eq from from from (Some ks) None refl refl
 
-    pub begins : (p : Piece) (L : List Target) (x : Context) (c : Setting) (Ls : List (Option Profile)) (base : Profile) (from to : ℕ) (ks : Profile)
+    pub begins : (p : Piece) (L : List Target) (x : Context) (c : Setting) (Ls : List (Option StackMap)) (base : StackMap) (from to : ℕ) (ks : StackMap)
         → Laid p L x c Ls base from to (Some ks) → at from ≡ Some ks
     begins P.empty L x c Ls base from to ks l = ap at l.stands ∙ l.after ks refl
     begins (P.act op n k g) L x c Ls base from to ks l = at_first from to ks (rises_to x.rows (l.stands).0 _ from to (l.stands).2) l.agrees
@@ -480,33 +480,33 @@ module _ {V : Type 0} (code : CodeObject V) (starts : List Start) (b : Block) (s
     begins (P.numbered k q) L x c Ls base from to ks l = begins q L x c Ls base from to ks (in_count L x c Ls base from to ks k q l)
 
     -- what the table has around a piece
-    pub record Env (L : List Target) (Ls : List (Option Profile)) (x : Context) (base : Profile) : Type 0 where
-      pub labels : (l : ℕ) (ks : Profile) → pick None Ls l ≡ Some ks → at (pick start_of L l).pc.0 ≡ Some ks
+    pub record Env (L : List Target) (Ls : List (Option StackMap)) (x : Context) (base : StackMap) : Type 0 where
+      pub labels : (l : ℕ) (ks : StackMap) → pick None Ls l ≡ Some ks → at (pick start_of L l).pc.0 ≡ Some ks
       pub rows : RowsRight at base x.rows
       pub depth : x.depth ≡ length base
 
-    no_labels : (y : Context) (base : Profile) → RowsRight at base y.rows → y.depth ≡ length base → Env [] [] y base
+    no_labels : (y : Context) (base : StackMap) → RowsRight at base y.rows → y.depth ≡ length base → Env [] [] y base
     no_labels y base r d = record { labels = λ k ls e. not_both (sym e); rows = r; depth = d }
 
-    one_label : (L : List Target) (Ls : List (Option Profile)) (x : Context) (base : Profile) (t : Target) (o : Option Profile) → Env L Ls x base
-        → ((ls : Profile) → o ≡ Some ls → at t.pc.0 ≡ Some ls) → Env (t ∷ L) (o ∷ Ls) x base
+    one_label : (L : List Target) (Ls : List (Option StackMap)) (x : Context) (base : StackMap) (t : Target) (o : Option StackMap) → Env L Ls x base
+        → ((ls : StackMap) → o ≡ Some ls → at t.pc.0 ≡ Some ls) → Env (t ∷ L) (o ∷ Ls) x base
     one_label L Ls x base t o v f = record { labels = labels; rows = v.rows; depth = v.depth }
       where
-        labels : (k : ℕ) (ls : Profile) → pick None (o ∷ Ls) k ≡ Some ls → at (pick start_of (t ∷ L) k).pc.0 ≡ Some ls
+        labels : (k : ℕ) (ls : StackMap) → pick None (o ∷ Ls) k ≡ Some ls → at (pick start_of (t ∷ L) k).pc.0 ≡ Some ls
         labels zero ls e = f ls e
         labels (suc k) ls e = v.labels k ls e
 
     abbrev Right : ℕ → Type 0
-    Right q = (ks : Profile) → at q ≡ Some ks → (s : Step) → Contains (steps b q (kinds_of ks)) s → Follows at ks s
+    Right q = (ks : StackMap) → at q ≡ Some ks → (s : Step) → Contains (steps b q (kinds_of ks)) s → Follows at ks s
 
-    abbrev Each : ℕ → Profile → Type 0
+    abbrev Each : ℕ → StackMap → Type 0
     Each q ks = (s : Step) → Contains (steps b q (kinds_of ks)) s → Follows at ks s
 
-    right_here : (q : ℕ) (ks : Profile) → at q ≡ Some ks → Each q ks → Right q
+    right_here : (q : ℕ) (ks : StackMap) → at q ≡ Some ks → Each q ks → Right q
     right_here q ks h f ls g = subst (Each q) (is_some_of (sym h ∙ g)) f
 
     -- an instruction is the only one in its place
-    only_here : (from to : ℕ) (o : Option Profile) → ((q : ℕ) → from ≤ q → q < to → at q ≡ (if nat_eq q from then o else None)) → Right from
+    only_here : (from to : ℕ) (o : Option StackMap) → ((q : ℕ) → from ≤ q → q < to → at q ≡ (if nat_eq q from then o else None)) → Right from
         → (q : ℕ) → from ≤ q → q < to → Right q
     only_here from to o f r q u v = by (nat_eq q from) refl
       where
@@ -515,9 +515,9 @@ module _ {V : Type 0} (code : CodeObject V) (starts : List Start) (b : Block) (s
         by false e = λ ks h. not_both (sym h ∙ (f q u v ∙ ap (λ t. if t then o else None) e))
 
     -- an instruction that finds what it takes
-    fired : (op : Op) (L : List Target) (x : Context) (c : Setting) (Ls : List (Option Profile)) (base : Profile) (from to : ℕ) (m : Option ActMark) (j : Instr) (ks : Profile)
+    fired : (op : Op) (L : List Target) (x : Context) (c : Setting) (Ls : List (Option StackMap)) (base : StackMap) (from to : ℕ) (m : Option ActMark) (j : Instr) (ks : StackMap)
         → Is code.pool L op j → Stands code x.rows j m from to → Fires b.links op c.loop Ls base ks → Env L Ls x base → at from ≡ Some ks
-        → ((ls : Profile) → behind_op b.links op (next from) c.loop (Some ks) ≡ Some ls → at to ≡ Some ls) → Each from ks
+        → ((ls : StackMap) → behind_op b.links op (next from) c.loop (Some ks) ≡ Some ls → at to ≡ Some ls) → Each from ks
     fired op L x c Ls base from to m j ks i h f v itself after =
         subst (Each from) (sym f.is) (each_right b at from (ins j m to x.rows) (stands_at x.rows j m from to h) f.taken f.rest base
         (subst (λ e. Takes e f.taken) (sym same_row) f.takes) f.over v.rows c.loop goes_behind goes_aside (itself ∙ ap Some f.is))
@@ -525,23 +525,23 @@ module _ {V : Type 0} (code : CodeObject V) (starts : List Start) (b : Block) (s
         same_row : effect b.links j ≡ effect b.links (instr_of op)
         same_row = same_effect b.links code.pool L op j i f.uniform
 
-        goes_behind : (ls : Profile) → onward (effect b.links j) to c.loop (f.taken ++ f.rest) (let e = effect b.links j in e.gives) ≡ Some ls → at to ≡ Some ls
+        goes_behind : (ls : StackMap) → onward (effect b.links j) to c.loop (f.taken ++ f.rest) (let e = effect b.links j in e.gives) ≡ Some ls → at to ≡ Some ls
         goes_behind ls g = after ls (ap (λ n. behind_op b.links op n c.loop (Some ks)) (next_is x.rows j m from to h)
             ∙ (ap (λ z. behind_op b.links op to c.loop (Some z)) f.is ∙ (ap (λ e. onward e to c.loop (f.taken ++ f.rest) e.gives) (sym same_row) ∙ g)))
 
-        goes_aside : (t : ℕ) (ls : Profile) → target_of j ≡ Some t → given_at (effect b.links j) 0 None (f.taken ++ f.rest) (let e = effect b.links j in e.aside) ≡ Some ls
+        goes_aside : (t : ℕ) (ls : StackMap) → target_of j ≡ Some t → given_at (effect b.links j) 0 None (f.taken ++ f.rest) (let e = effect b.links j in e.aside) ≡ Some ls
             → at t ≡ Some ls
         goes_aside t ls tg g = landed_label at code.pool L Ls op j t ls v.labels i
             (subst (Lands op Ls) (ap (λ z. aside_op b.links op (Some z)) f.is ∙ (ap (λ e. given_at e 0 None (f.taken ++ f.rest) e.aside) (sym same_row) ∙ g)) f.lands) tg
 
-    left : (x : Context) (base : Profile) (from to t : ℕ) (m : Option ActMark) (ks : Profile) → Stands code x.rows (instr.Leave (record { 0 = t })) m from to → Over base ks
+    left : (x : Context) (base : StackMap) (from to t : ℕ) (m : Option ActMark) (ks : StackMap) → Stands code x.rows (instr.Leave (record { 0 = t })) m from to → Over base ks
         → RowsRight at base x.rows → at from ≡ Some ks → Each from ks
     unfolding effect_of
     left x base from to t m ks h o v itself =
         each_right b at from (ins (instr.Leave (record { 0 = t })) m to x.rows) (stands_at x.rows _ m from to h) [] ks base (typed.plainly refl) o v None
         (λ ls g. not_both (sym g)) (λ t ls tg g. not_both (sym tg)) itself
 
-    normally : (rows : List Handler) (c : Setting) (base : Profile) (from to : ℕ) → Stands code rows instr.Normal None from to
+    normally : (rows : List Handler) (c : Setting) (base : StackMap) (from to : ℕ) → Stands code rows instr.Normal None from to
         → RowsRight at base rows → at to ≡ Some (made to c.loop kinds.Pending ∷ base) → at from ≡ Some base → Each from base
     unfolding effect_of
     normally rows c base from to h v f itself =
@@ -549,8 +549,8 @@ module _ {V : Type 0} (code : CodeObject V) (starts : List Start) (b : Block) (s
         (λ ls g. f ∙ g) (λ t ls tg g. not_both (sym tg)) itself
 
     -- the end of what an always row covers
-    normal_right : (L : List Target) (x : Context) (c : Setting) (Ls : List (Option Profile)) (base : Profile) (from to : ℕ) (ks : Profile) (q : Piece)
-        (l : Laid (P.ensured q) L x c Ls base from to (Some ks)) → Env L Ls x base → (o : Option Profile)
+    normal_right : (L : List Target) (x : Context) (c : Setting) (Ls : List (Option StackMap)) (base : StackMap) (from to : ℕ) (ks : StackMap) (q : Piece)
+        (l : Laid (P.ensured q) L x c Ls base from to (Some ks)) → Env L Ls x base → (o : Option StackMap)
         → behind b.links next q (with_none c) base from (Some ks) ≡ o → typed.EndsAt base o → Right ((l.stands).1).0
     normal_right L x c Ls base from to ks q l v None e h = λ ls g. not_both (sym g ∙ (normal_there L x c Ls base from to ks q l ∙ e))
     normal_right L x c Ls base from to ks q l v (Some ls) e h =
@@ -558,7 +558,7 @@ module _ {V : Type 0} (code : CodeObject V) (starts : List Start) (b : Block) (s
         right_here ((l.stands).1).0 base there (normally (row_of from to to x.depth true ∷ x.rows) c base ((l.stands).1).0 to ((l.stands).1).2
         (row_right L x c Ls base from to ks q l v.depth, v.rows) (target_there L x c Ls base from to ks q l) there)
 
-    pub right : (p : Piece) (L : List Target) (x : Context) (c : Setting) (Ls : List (Option Profile)) (base : Profile) (from to : ℕ) (s : Option Profile)
+    pub right : (p : Piece) (L : List Target) (x : Context) (c : Setting) (Ls : List (Option StackMap)) (base : StackMap) (from to : ℕ) (s : Option StackMap)
         → Laid p L x c Ls base from to s → Env L Ls x base → (q : ℕ) → from ≤ q → q < to → Right q
     right p L x c Ls base from to None l v q y z = λ ks h. not_both (sym h ∙ (l.agrees q y z ∙ nothing_at b.links next p c base from q))
     right P.empty L x c Ls base from to (Some ks) l v q y z = absurd (let h : from ≡ to = l.stands in let e : ⊥ = omega (arith, h, y, z) in e)

@@ -10,7 +10,7 @@ use Rattle.pt_ranges.specs.declared.handlers.Handler.{Handler}
 use Rattle.pt_code.specs.View.{Ins}
 use Rattle.pt_fits.specs.Block.{Block, effect, captured}
 use Rattle.pt_fits.specs.Steps.{Step, step, steps, steps_of, by_instruction, by_handlers, onward as onward_steps, aside as aside_steps, again, gives, given_behind, spared, below, taken, has_enough, is_within, held_by, landing, target_of, are_kinds}
-use Rattle.pt_piece_kinds.specs.Walk.{Loop, Profile, kinds_of, made, lowest, given, turned, given_at, onward}
+use Rattle.pt_piece_kinds.specs.Walk.{Loop, StackMap, kinds_of, made, lowest, given, turned, given_at, onward}
 use Rattle.pt_piece_kinds.specs.Typed.{Over, Takes, plainly}
 use Rattle.pt_piece_kinds.specs.Typed as typed
 use Rattle.pt_piece_kinds.specs.Table.{Table, IsOf, AllOf, Follows}
@@ -18,12 +18,12 @@ use Rattle.pt_piece_kinds.proofs.ListLemmas.{take_over, drop_over, take_front, d
 use Rattle.pt_piece_kinds.proofs.EffectLemmas.{KeepsOf, Keeps, keeps_no_slot, keeps_behind, keeps_aside, swap_keeps, swap_aside, aside_kinds}
 
 -- a step leads from the one slots to the others
-pub record Leads (ks slots : Profile) (s : Step) : Type 0 where
+pub record Leads (ks slots : StackMap) (s : Step) : Type 0 where
   pub kinds : kinds_of slots ≡ s.kinds
   pub kept : take s.kept (reverse slots) ≡ take s.kept (reverse ks)
   pub made : AllOf s.to (drop s.kept (reverse slots))
 
-pub follows : {at : Table} {ks slots : Profile} {s : Step} → at s.to ≡ Some slots → Leads ks slots s → Follows at ks s
+pub follows : {at : Table} {ks slots : StackMap} {s : Step} → at s.to ≡ Some slots → Leads ks slots s → Follows at ks s
 follows {slots = slots} e l = record { slots = slots; there = e; kinds = l.kinds; kept = l.kept; made = l.made }
 
 kind_made : (p : ℕ) (x : Option Loop) (k : Kind) → kind (made p x k) ≡ k
@@ -50,12 +50,12 @@ all_made : (p : ℕ) (x : Option Loop) (g : Kinds) → AllOf p (map (made p x) g
 all_made p x [] = tt
 all_made p x (k ∷ g) = (made_of p x k, all_made p x g)
 
-pub counted : {e : Effect} {ts : Profile} → Takes e ts → length e.takes ≡ length ts
+pub counted : {e : Effect} {ts : StackMap} → Takes e ts → length e.takes ≡ length ts
 counted {ts = ts} (plainly f) = ap length (sym f) ∙ length_kinds ts
 counted {ts = ts} (typed.turned s n f) = n ∙ (ap length (sym f) ∙ length_kinds ts)
 
-module _ (e : Effect) (ts rs : Profile) (count : length e.takes ≡ length ts) where
-  abbrev ks : Profile
+module _ (e : Effect) (ts rs : StackMap) (count : length e.takes ≡ length ts) where
+  abbrev ks : StackMap
   ks = ts ++ rs
 
   spared_is : spared e (kinds_of ks) ≡ length rs
@@ -81,10 +81,10 @@ module _ (e : Effect) (ts rs : Profile) (count : length e.takes ≡ length ts) w
     abbrev m : ℕ
     m = min e.keeps (length g)
 
-    abbrev Y : Profile
+    abbrev Y : StackMap
     Y = take m (reverse ts) ++ map (made to x) (drop e.keeps g)
 
-    abbrev slots : Profile
+    abbrev slots : StackMap
     slots = given e.keeps to x ts g ++ rs
 
     reversed : reverse slots ≡ reverse rs ++ Y
@@ -129,7 +129,7 @@ none : {X C : Type 0} {y : X} → Contains [] y → C
 none (k, l, e) = absurd (let h : ⊥ = omega (arith, l) in h)
 
 -- a handler row leaves the lowest slots, and makes one
-module _ (ks : Profile) (row : Handler) (x : Option Loop) (deep : row.depth ≤ length ks) where
+module _ (ks : StackMap) (row : Handler) (x : Option Loop) (deep : row.depth ≤ length ks) where
   deep_reversed : row.depth ≤ length (reverse ks)
   deep_reversed = let a = length-reverse ks in let d = deep in omega (arith, a, d)
 
@@ -152,16 +152,16 @@ module _ (ks : Profile) (row : Handler) (x : Option Loop) (deep : row.depth ≤ 
   }
 
 -- what a row that covers a place has at its target, where the lowest slots of the place are these
-pub record RowRight (at : Table) (base : Profile) (row : Handler) : Type 0 where
+pub record RowRight (at : Table) (base : StackMap) (row : Handler) : Type 0 where
   pub loop : Option Loop
   pub there : at row.target.0 ≡ Some (made row.target.0 loop (held_by row) ∷ lowest row.depth base)
   pub within : row.depth ≤ length base
 
-abbrev pub RowsRight : Table → (base : Profile) → List Handler → Type 0
+abbrev pub RowsRight : Table → (base : StackMap) → List Handler → Type 0
 RowsRight at base [] = Unit {0}
 RowsRight at base (row ∷ rows) = RowRight at base row × RowsRight at base rows
 
-pub rows_over : (at : Table) {base more : Profile} (rows : List Handler) → Over base more → RowsRight at base rows → RowsRight at more rows
+pub rows_over : (at : Table) {base more : StackMap} (rows : List Handler) → Over base more → RowsRight at base rows → RowsRight at more rows
 rows_over at [] o h = tt
 rows_over at {base = base} {more = more} (row ∷ rows) o (h, hs) = (
   record {
@@ -172,16 +172,16 @@ rows_over at {base = base} {more = more} (row ∷ rows) o (h, hs) = (
   rows_over at rows o hs,
 )
 
-module _ (b : Block) (at : Table) (q : ℕ) (i : Ins) (stands : b.at q ≡ Some i) (ts rs base : Profile) where
+module _ (b : Block) (at : Table) (q : ℕ) (i : Ins) (stands : b.at q ≡ Some i) (ts rs base : StackMap) where
   abbrev f : Effect
   f = effect b.links i.instr
 
-  abbrev here : Profile
+  abbrev here : StackMap
   here = ts ++ rs
 
   module _ (takes : Takes (effect b.links i.instr) ts) (over : Over base rs) (rows : RowsRight at base i.rows) (x : Option Loop)
-      (behind : (slots : Profile) → onward (effect b.links i.instr) i.next x (ts ++ rs) (let e = effect b.links i.instr in e.gives) ≡ Some slots → at i.next ≡ Some slots)
-      (aside : (t : ℕ) (slots : Profile) → target_of i.instr ≡ Some t
+      (behind : (slots : StackMap) → onward (effect b.links i.instr) i.next x (ts ++ rs) (let e = effect b.links i.instr in e.gives) ≡ Some slots → at i.next ≡ Some slots)
+      (aside : (t : ℕ) (slots : StackMap) → target_of i.instr ≡ Some t
       → given_at (effect b.links i.instr) 0 None (ts ++ rs) (let e = effect b.links i.instr in e.aside) ≡ Some slots → at t ≡ Some slots)
       (itself : at q ≡ Some (ts ++ rs)) where
     count : length f.takes ≡ length ts
@@ -214,7 +214,7 @@ module _ (b : Block) (at : Table) (q : ℕ) (i : Ins) (stands : b.at q ≡ Some 
         by (plainly h) = if_plain h f.swaps refl
         by (typed.turned s n h) = no_slot s
 
-    onward_right : (o : Option Kinds) → Keeps f o → ((slots : Profile) → onward f i.next x here o ≡ Some slots → at i.next ≡ Some slots)
+    onward_right : (o : Option Kinds) → Keeps f o → ((slots : StackMap) → onward f i.next x here o ≡ Some slots → at i.next ≡ Some slots)
         → (s : Step) → Contains (onward_steps f (kinds_of here) i.next o) s → Follows at here s
     onward_right None k h s c = none c
     onward_right (Some g) k h s c =

@@ -8,7 +8,7 @@ use Rattle.pt_instr.specs.Effects.{Kinds}
 use Rattle.pt_fits.specs.Block.{Block}
 use Rattle.pt_fits.specs.Places.{Gets}
 use Rattle.pt_fits.specs.Leaves.{Common}
-use Rattle.pt_piece_kinds.specs.Walk.{Profile, kinds_of, Setting, behind, slots_at}
+use Rattle.pt_piece_kinds.specs.Walk.{StackMap, kinds_of, Setting, behind, slots_at}
 use Rattle.pt_piece_kinds.specs.Typed.{Typed}
 use Rattle.pt_piece_kinds.specs.Table.{next_of, Rises, Table, AgreesWith, slot_of, WasMadeAt, IsTableOf}
 
@@ -16,21 +16,21 @@ abbrev pub outermost : Setting
 outermost = record { labels = []; loop = None }
 
 -- the table of a block whose code is one piece, from these slots at its start
-abbrev pub table_of : Block → Piece → (start : Profile) → Table
+abbrev pub table_of : Block → Piece → (start : StackMap) → Table
 table_of b p ks = λ pc. slots_at b.links (next_of b) p outermost ks 0 (Some ks) pc
 
-abbrev pub IsTyped : Block → Piece → (start : Profile) → Type 0
+abbrev pub IsTyped : Block → Piece → (start : StackMap) → Type 0
 IsTyped b p ks = Typed b.links (next_of b) p outermost [] ks 0 (Some ks)
 
 -- of a piece that is typed, which stands in a block and ends in nothing that goes on
 abbrev pub WalkIsRight : (V : Type 0) → Type 0
-WalkIsRight V = (code : CodeObject V) (b : Block) (starts : List Start) (p : Piece) (ks : Profile) → ((pc : ℕ) → code.at pc ≡ b.at pc) → Rises b
+WalkIsRight V = (code : CodeObject V) (b : Block) (starts : List Start) (p : Piece) (ks : StackMap) → ((pc : ℕ) → code.at pc ≡ b.at pc) → Rises b
     → Piece_at code starts p [] (record { rows = []; depth = length ks; around = None }) 0 b.size → IsTyped b p ks
     → behind b.links (next_of b) p outermost ks 0 (Some ks) ≡ None → AgreesWith b (table_of b p ks)
 
 -- a place gets the kinds that a table has there, and no others
 pub record HasKinds (b : Block) (at : Table) (pc : ℕ) (ks : Kinds) : Type 0 where
-  pub slots : Profile
+  pub slots : StackMap
   pub there : at pc ≡ Some slots
   pub kinds : kinds_of slots ≡ ks
 

@@ -24,10 +24,10 @@ pub record Known : Type 0 where
   pub loop : Option Loop
 
 -- of the slots at a place, the top first
-abbrev pub Profile : Type 0
-Profile = List Known
+abbrev pub StackMap : Type 0
+StackMap = List Known
 
-abbrev pub kinds_of : Profile → Kinds
+abbrev pub kinds_of : StackMap → Kinds
 kinds_of ks = reverse (map (λ k. k.kind) ks)
 
 -- a slot that isn't followed, and one that is
@@ -60,45 +60,45 @@ instr_of (with_list f xs) = f (record { 0 = 0 })
 instr_of (to j l) = instr_to j 0
 
 -- of what is taken, so much stays as it is; g is given, the top last
-abbrev pub given : (keeps pc : ℕ) → Option Loop → (taken : Profile) → Kinds → Profile
+abbrev pub given : (keeps pc : ℕ) → Option Loop → (taken : StackMap) → Kinds → StackMap
 given n p x ts g = reverse (take (min n (length g)) (reverse ts) ++ map (made p x) (drop n g))
 
 -- where two are swapped, the lower one may be an iterator
-abbrev pub turned : (swaps : Bool) → (taken : Profile) → Kinds → Kinds
+abbrev pub turned : (swaps : Bool) → (taken : StackMap) → Kinds → Kinds
 turned b ts g = if b && are_kinds (kinds_of ts) (kind.Iter ∷ kind.Value ∷ []) then kind.Value ∷ kind.Iter ∷ [] else g
 
 -- the slots at a place to which an instruction goes, if it gives anything there
-abbrev pub given_at : Effect → (pc : ℕ) → Option Loop → Profile → Option Kinds → Option Profile
+abbrev pub given_at : Effect → (pc : ℕ) → Option Loop → StackMap → Option Kinds → Option StackMap
 given_at e p x ks None = None
 given_at e p x ks (Some g) = Some (given e.keeps p x (take (length e.takes) ks) g ++ drop (length e.takes) ks)
 
-abbrev pub onward : Effect → (pc : ℕ) → Option Loop → Profile → Option Kinds → Option Profile
+abbrev pub onward : Effect → (pc : ℕ) → Option Loop → StackMap → Option Kinds → Option StackMap
 onward e p x ks None = None
 onward e p x ks (Some g) = given_at e p x ks (Some (turned e.swaps (take (length e.takes) ks) g))
 
 -- where no way comes, none goes on
-abbrev pub behind_op : Links → Op → (next : ℕ) → Option Loop → Option Profile → Option Profile
+abbrev pub behind_op : Links → Op → (next : ℕ) → Option Loop → Option StackMap → Option StackMap
 behind_op links op p x None = None
 behind_op links op p x (Some ks) = let e = effect links (instr_of op) in onward e p x ks e.gives
 
-abbrev pub aside_op : Links → Op → Option Profile → Option Profile
+abbrev pub aside_op : Links → Op → Option StackMap → Option StackMap
 aside_op links op None = None
 aside_op links op (Some ks) = let e = effect links (instr_of op) in given_at e 0 None ks e.aside
 
 -- what comes to the place behind a piece, and to each label
 pub record Flow : Type 0 where
-  pub behind : Option Profile
-  pub sent : (label : ℕ) → Option Profile
+  pub behind : Option StackMap
+  pub sent : (label : ℕ) → Option StackMap
 
-abbrev pub to_none : (label : ℕ) → Option Profile
+abbrev pub to_none : (label : ℕ) → Option StackMap
 to_none k = None
 
-abbrev pub to_one : Op → Option Profile → (label : ℕ) → Option Profile
+abbrev pub to_one : Op → Option StackMap → (label : ℕ) → Option StackMap
 to_one (to j l) o k = if nat_eq l k then o else None
 to_one op o k = None
 
 -- the slots that a handler row leaves, with one more
-abbrev pub held : Kind → (pc : ℕ) → Option Loop → (base : Profile) → Option Profile → Option Profile
+abbrev pub held : Kind → (pc : ℕ) → Option Loop → (base : StackMap) → Option StackMap → Option StackMap
 held k p x base None = None
 held k p x base (Some ks) = Some (made p x k ∷ base)
 
@@ -117,7 +117,7 @@ is_empty (numbered n p) = is_empty p
 is_empty p = false
 
 -- above so many more of the slots that lie there
-abbrev pub deepened : (count : ℕ) → (base : Profile) → Option Profile → Profile
+abbrev pub deepened : (count : ℕ) → (base : StackMap) → Option StackMap → StackMap
 deepened k base None = base
 deepened k base (Some ks) = lowest (length base + k) ks
 
@@ -155,7 +155,7 @@ module _ (next : ℕ → ℕ) where
 
 module _ (links : Links) (next : ℕ → ℕ) where
   -- from the slots at its first place; the base are those that its handler rows leave
-  abbrev pub flow : Piece → Setting → (base : Profile) → (from : ℕ) → Option Profile → Flow
+  abbrev pub flow : Piece → Setting → (base : StackMap) → (from : ℕ) → Option StackMap → Flow
   flow empty c base p s = record { behind = s; sent = to_none }
   flow (act op n l g) c base p s = record { behind = behind_op links op (next p) c.loop s; sent = to_one op (aside_op links op s) }
   flow (move op) c base p s = record { behind = behind_op links op (next p) c.loop s; sent = to_one op (aside_op links op s) }
@@ -177,11 +177,11 @@ module _ (links : Links) (next : ℕ → ℕ) where
   flow (started l q) c base p s = flow q c base p s
   flow (numbered n q) c base p s = flow q c base p s
 
-  abbrev pub behind : Piece → Setting → (base : Profile) → (from : ℕ) → Option Profile → Option Profile
+  abbrev pub behind : Piece → Setting → (base : StackMap) → (from : ℕ) → Option StackMap → Option StackMap
   behind q c base p s = let f = flow q c base p s in f.behind
 
   -- the slots at each place in it
-  abbrev pub slots_at : Piece → Setting → (base : Profile) → (from : ℕ) → Option Profile → (pc : ℕ) → Option Profile
+  abbrev pub slots_at : Piece → Setting → (base : StackMap) → (from : ℕ) → Option StackMap → (pc : ℕ) → Option StackMap
   slots_at empty c base p s pc = None
   slots_at (act op n l g) c base p s pc = if nat_eq pc p then s else None
   slots_at (move op) c base p s pc = if nat_eq pc p then s else None
