@@ -2,9 +2,10 @@
 #![tactic(auto)]
 
 mod block_acts;
-mod collector;
+mod blocks;
 mod forms;
 mod rows;
+mod statement_blocks;
 mod statement_rows;
 mod table;
 
