@@ -1,3 +1,4 @@
 pub mod Docstrings
 pub mod Behind
 pub mod Walk
+pub mod Handled

@@ -3,14 +3,17 @@
 
 mod block_acts;
 mod blocks;
+mod counts;
 mod forms;
 mod rows;
 mod statement_blocks;
 mod statement_rows;
 mod table;
 
+pub use counts::handler_acts;
 pub use forms::{
     blocks_stand_in_source_order, each_compound_statement_has_its_acts,
     each_expression_has_its_acts, each_simple_statement_has_its_acts,
 };
+pub use statement_rows::is_docstring;
 pub use table::{ActTable, acts};

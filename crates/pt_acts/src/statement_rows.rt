@@ -395,7 +395,7 @@ fn push_branches(rows: &mut Seq<ActRow>, branches: &[Branch]) -> Result<(), Memo
 
 #[cycle(rows)]
 #[tactic(auto, using(pt_tree::proofs::StatementFolds::statements, crate::proofs::Behind::statements))]
-fn push_handlers(rows: &mut Seq<ActRow>, handlers: &[Handler]) -> Result<(), Memory>
+pub fn push_handlers(rows: &mut Seq<ActRow>, handlers: &[Handler]) -> Result<(), Memory>
     ensures { OnOk result (rows.new ≡ rows.old ++ acts_handlers (chained no_handlers (map handler_of handlers.now))) }
 {
     for handler in handlers {
@@ -416,7 +416,9 @@ fn is_text(e: &Expr) -> bool
     matches!(constant, Constant::Str(_))
 }
 
-fn is_docstring(s: &Stmt) -> bool
+/// Whether a statement is a text alone, which doesn't run where a function begins with it
+/// (Language Reference 8.7).
+pub fn is_docstring(s: &Stmt) -> bool
     ensures { result ≡ is_docstring_of (stm_of s.now) }
 {
     let StmtNode::Expr(value) = &s.node else {

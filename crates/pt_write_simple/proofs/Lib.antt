@@ -1,0 +1,4 @@
+pub mod AssignmentLemmas
+pub mod DeletionLemmas
+pub mod LeavingLemmas
+pub mod DefinitionLemmas
