@@ -1,0 +1,2 @@
+pub mod PlaceTable
+pub mod PlacesUpTo

@@ -1,0 +1,7 @@
+//! What stands at each place of a block, found once.
+#![tactic(auto)]
+
+mod marks;
+mod places;
+
+pub use places::{Place, Places};
