@@ -1,0 +1,3 @@
+pub mod Transitions
+pub mod Successors
+pub mod Laws
