@@ -1,0 +1,4 @@
+mod Expressions
+mod Placed
+mod Statements
+pub mod Cells
