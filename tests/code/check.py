@@ -13,10 +13,9 @@ import traceback
 
 import blocks
 import errors
-from machines import HERE, Script, Specs, scripts
+from machines import CRATES, Script, Specs, scripts
 from follow import Differs, Pair  # noqa: I001
 
-CRATES = os.path.join(HERE, "..", "..", "crates")
 # how often an answer is a raise, and how often a jump comes, in the runs of a block, in turn
 PLANS = [(0.0, 0.0), (0.04, 0.0), (0.15, 0.0), (0.04, 0.25)]
 

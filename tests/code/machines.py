@@ -6,6 +6,7 @@ import re
 import sys
 
 HERE = os.path.dirname(os.path.abspath(__file__))
+CRATES = os.path.join(HERE, "..", "..", "crates")
 sys.path[:0] = [os.path.join(HERE, "..", "run"), os.path.join(HERE, "..", "fits")]
 
 import scripts  # noqa: E402, F401
@@ -52,6 +53,7 @@ WORDS = {
     "flat_map": lambda f, xs: listed(y for x in items(xs) for y in items(f(x))),
     "filter": lambda f, xs: listed(x for x in items(xs) if f(x)),
     "find": find,
+    "min": lambda a, b: min(a, b),
     "replicate": lambda n, x: listed([x] * n),
     "to_le_bytes": lambda width, n: listed(n.to_bytes(4, "little")),
     "w32": "32",

@@ -184,10 +184,12 @@ class Check:
         trees = CodedTrees(text)
         self.known.clear()
         self.expected = Expected(older)
-        self.places = self.get("pt_scopes", "Mentions", "places_script")(trees.tree)
+        self.naming = self.of("Script", "naming_script")(trees.tree)
+        self.places = self.naming["places"]
         self.blocks = items(self.get("pt_tree", "Blocks", "blocks_script")(trees.tree))
         self.homes = items(self.places["blocks"])
-        self.functions = self.of("BlockNames", "functions_of")(listed(self.blocks), self.places["blocks"])
+        self.nexts = items(self.naming["nexts"])
+        self.functions = self.of("Script", "functions_of")(self.naming)
         self.bare, self.mistaken = bare_annotations(trees.module), self.expected.mistaken()
         nodes = [n for n in ast.walk(trees.module) if isinstance(n, NODES)]
         self.nodes = [trees.module] + sorted(nodes, key=lambda n: (n.lineno, n.col_offset))
@@ -203,7 +205,7 @@ class Check:
         self.asked += self.control(self.nodes)
 
     def names_of(self, b):
-        names = self.of("Around", "names_at")(self.places, self.functions, b, ("Some", self.blocks[b]), ("Some", self.homes[b]))
+        names = self.of("Around", "names_at")(self.naming, b, ("Some", self.blocks[b]), ("Some", self.homes[b]))
         return {kind: [text_of(x) for x in items(xs)] for kind, xs in names.items()}
 
     def is_bare(self, name):
@@ -212,6 +214,7 @@ class Check:
     def regions(self, older):
         ours = [(r["around"], r["kind"][0] == "Comprehension", r["kind"][0] == "Class") for r in items(self.places["regions"])]
         same("regions", ours, [(r["parent"] or 0, r["comprehension"], r["class"]) for r in older])
+        same("nexts", len(self.nexts), len(ours))
         same("homes", [r["home"] for r in items(self.places["regions"])], [self.expected.home(i) for i in range(len(older))])
 
     def names(self, b, h, names):
@@ -228,27 +231,26 @@ class Check:
         same(("taken", b), taken, [self.expected.taken(h, x) for x in of[b]["frees"]])
         if b:
             maker = self.homes.index(self.expected.home(self.expected.regions[h]["parent"]))
-            around = self.of("Around", "around_in")(
-                None, self.places, self.functions, maker, ("Some", self.blocks[maker]), ("Some", self.homes[maker]))
+            around = self.of("Around", "around_by")(None, self.naming, maker)
             same(("around", b), [variable_of(v) for v in items(around["captured"](b))], taken)
             for scope, x in taken:
                 same(("has", b, x), x in of[maker][scope + "s"], True)
 
+    def comprehensions(self, h):
+        return [i for i, r in enumerate(items(self.places["regions"])) if r["kind"][0] == "Comprehension" and r["home"] == h]
+
     def numbers(self, b, h):
         """The acts by whose numbers comprehensions are known are their first Nexts."""
-        nexts = items(self.of("Nexts", "nexts_of")(self.blocks[b]["code"]))
-        regions = self.of("Regions", "comprehensions_of")(self.places["regions"], h)
         acts = items(self.get("pt_tree", "Blocks", "acts_of")(self.blocks[b]))
-        same(("comprehensions", b), len(nexts), len(items(regions)))
         evaluated = 0
-        for next_, region in zip(nexts, items(regions)):
-            if next_ == ("None",):
+        for region in self.comprehensions(h):
+            if self.nexts[region] == ("None",):
                 continue
             evaluated += 1
-            n = next_[1]
+            n = self.nexts[region][1]
             same(("acts", b, n), [a["kind"][0] for a in acts[n - 2:n + 1]], ["Iter", "Build", "Next"])
             same(("line", b, n), acts[n]["line"]["0"], self.nodes[region].generators[0].target.lineno)
-            same(("region", b, n), self.of("Naming", "numbered")(listed(nexts), regions, n), ("Some", region))
+            same(("region", b, n), self.of("Regions", "numbered")(self.places["regions"], self.naming["nexts"], h, n), ("Some", region))
         kinds = [a["kind"][0] for a in acts]
         same(("first Nexts", b), evaluated, sum(kinds[i:i + 3] == ["Iter", "Build", "Next"] for i in range(len(kinds))))
 
@@ -267,13 +269,8 @@ class Check:
     def control(self, nodes):
         """What control asks: a name as it is written, within comprehensions by their numbers."""
         regions = {n: i for i, n in enumerate(nodes)}
-        next_of = {}
-        for b, h in enumerate(self.homes):
-            nexts = items(self.of("Nexts", "nexts_of")(self.blocks[b]["code"]))
-            comprehensions = items(self.of("Regions", "comprehensions_of")(self.places["regions"], h))
-            next_of.update({r: n[1] for n, r in zip(nexts, comprehensions) if n != ("None",)})
-        arounds = [self.of("Around", "around_in")(None, self.places, self.functions, b, ("Some", k), ("Some", h))
-                   for b, (k, h) in enumerate(zip(self.blocks, self.homes))]
+        next_of = {r: n[1] for r, n in enumerate(self.nexts) if n != ("None",)}
+        arounds = [self.of("Around", "around_by")(None, self.naming, b) for b in range(len(self.homes))]
         asked = 0
         for x, region in names_with_regions(nodes[0], regions):
             within = []

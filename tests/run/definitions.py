@@ -263,8 +263,8 @@ class Definitions:
             while blocks and indent <= blocks[-1][0]:
                 blocks.pop()
             bare = PREFIX.sub("", text)
-            if text.startswith("use "):
-                self.use(module, text[4:])
+            if bare.startswith("use "):
+                self.use(module, bare[4:])
             elif text.startswith("infixr "):
                 pass
             elif opens:

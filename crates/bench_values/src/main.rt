@@ -82,11 +82,36 @@ fn get(alloc: Global, count: u32) -> Result<bool, Memory> {
 }
 
 /// Puts so many in, and takes each out, the first first.
-fn remove(alloc: Global, count: u32) -> Result<bool, Memory> {
+fn emptied(alloc: Global, count: u32) -> Result<Option<Dict>, Memory> {
     let mut dict = filled(alloc, count)?;
     for number in 0..count {
         let key = key(alloc, number)?;
         if dict.remove(&key).is_none() {
+            return Ok(None);
+        }
+    }
+    Ok(Some(dict))
+}
+
+/// Puts so many in, and takes them out.
+fn remove(alloc: Global, count: u32) -> Result<bool, Memory> {
+    match emptied(alloc, count)? {
+        Some(dict) => Ok(dict.len() == 0),
+        None => Ok(false),
+    }
+}
+
+/// Puts so many in, takes them out, and then puts as many in with each taken out before the next.
+fn refill(alloc: Global, count: u32) -> Result<bool, Memory> {
+    let Some(mut dict) = emptied(alloc, count)? else {
+        return Ok(false);
+    };
+    for number in 0..count {
+        let again = key(alloc, number)?;
+        if dict.insert(again, Value::None, Value::None).is_err() {
+            return Err(Memory);
+        }
+        if dict.remove(&key(alloc, number)?).is_none() {
             return Ok(false);
         }
     }
@@ -133,6 +158,7 @@ fn run(alloc: Global, command: &str, size: u32) -> Result<bool, Memory> {
         "insert" => insert(alloc, size),
         "get" => get(alloc, size),
         "remove" => remove(alloc, size),
+        "refill" => refill(alloc, size),
         "limit" => limit(alloc),
         _ => add(alloc, size),
     }
@@ -157,7 +183,7 @@ fn number(word: Option<String>, other: u32) -> u32 {
 }
 
 /// The words are what is timed, its size, and how many times it is done: `find`, `replace`,
-/// `insert`, `get`, `remove`, `add` or `limit`.
+/// `insert`, `get`, `remove`, `refill`, `add` or `limit`.
 fn main(rt: HostRuntime) -> ExitCode {
     let Ok(mut args) = env::args(&rt) else {
         return ExitCode::from(1);

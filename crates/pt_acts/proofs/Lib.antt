@@ -1,3 +1,3 @@
 pub mod Docstrings
 pub mod Behind
-pub mod Walk
+pub mod Blocks

@@ -1,12 +1,12 @@
--- The acts and the blocks of the pieces in which code walks comprehensions, `with` statements and bodies.
+-- The acts of the pieces in which code walks comprehensions, `with` statements and bodies.
 use Rattle.std.specs.Prelude.{ℕ, Bool, false, List, [], ◌∷◌, ◌++◌}
 use Rattle.pt_tree.specs.declared.act.ActRow.{ActRow}
 use Rattle.pt_tree.specs.declared.act.ActKind.TheVariants as A
 use Rattle.pt_tree.specs.Syntax as S
 use Rattle.pt_tree.specs.Syntax.{Exp, Items, Stm, Stms}
-use Rattle.pt_tree.specs.Fold.{ClauseOf, all_of}
+use Rattle.pt_tree.specs.Fold.{ClauseOf}
 use Rattle.pt_tree.specs.Acts.{act, acts_exp, acts_target, acts_opt_target}
-use Rattle.pt_tree.specs.Blocks.{Block, blocks_all, blocks_exp, blocks_target, is_string}
+use Rattle.pt_tree.specs.Blocks.{is_string}
 
 abbrev pub acts_conditions : (line : ℕ) → List Exp → List ActRow
 acts_conditions l [] = []
@@ -19,10 +19,6 @@ acts_iterator c = acts_exp c.iterable ++ act A.Iter c.line
 -- each turn of a clause
 abbrev pub acts_turn : (line : ℕ) → ClauseOf → List ActRow
 acts_turn l c = act A.Next c.line ++ acts_target c.target ++ acts_conditions l c.conditions
-
--- the blocks of a clause
-abbrev pub blocks_clause : ClauseOf → List Block
-blocks_clause c = blocks_target c.target ++ blocks_exp c.iterable ++ blocks_all (all_of c.conditions)
 
 abbrev pub acts_entered : Items → List ActRow
 acts_entered S.no_items = []

@@ -59,7 +59,7 @@ impl BlockActs {
     }
 
     /// The acts of a lambda, which returns its body on its own line.
-    #[tactic(auto, using(crate::proofs::Walk::blocks))]
+    #[tactic(auto, using(crate::proofs::Blocks::row_ends))]
     pub fn of_lambda(alloc: Global, line: Line, body: &Expr) -> Result<BlockActs, Memory>
         ensures { IfOk result (λ b. b ≡ acts_of_code (of_lambda line.0 (exp_of body.now))) }
     {

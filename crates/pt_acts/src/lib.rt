@@ -2,10 +2,9 @@
 #![tactic(auto)]
 
 mod block_acts;
-mod blocks;
+mod collector;
 mod forms;
 mod rows;
-mod statement_blocks;
 mod statement_rows;
 mod table;
 

@@ -3,8 +3,9 @@ ghost use Rattle.pt_tree.specs.StatementFold.{script_of};
 ghost use Rattle.pt_acts.specs.Table.{acts_in, acts_script};
 
 use crate::block_acts::BlockActs;
-use crate::statement_blocks::collect_statements;
+use crate::collector::Collector;
 use pt_base::{ActNo, BlockId, Memory, Seq};
+use pt_blocks::visit;
 use pt_tree::{ActRow, Script};
 use std::alloc::Global;
 use std::marker::Model;
@@ -47,13 +48,13 @@ impl ActTable {
 }
 
 /// The acts of every block of a script, in time and memory in proportion to its tree.
+#[tactic(auto, using(crate::proofs::Blocks::collected))]
 pub fn acts(alloc: Global, script: &Script) -> Result<ActTable, Memory>
     ensures { IfOk result (λ t. t ≡ acts_script (script_of script.now)) }
 {
-    let body = script.body.as_slice();
-    let mut blocks = Seq::new(alloc);
-    let module = BlockActs::of_statements(alloc, body)?;
-    blocks.push(module)?;
-    collect_statements(alloc, &mut blocks, body)?;
-    Ok(ActTable { blocks })
+    let mut collector = Collector::new(alloc);
+    visit(&mut collector, script)?;
+    Ok(ActTable {
+        blocks: collector.into_blocks(),
+    })
 }

@@ -4,48 +4,56 @@ use Rattle.pt_tree.specs.Blocks as B
 use Rattle.pt_tree.specs.Blocks.{Code, function_body}
 use Rattle.pt_control.specs.Turn as T
 use Rattle.pt_control.specs.Turn.{Around, Turn}
+use Rattle.pt_control.specs.Frames as F
 use Rattle.pt_control.specs.Frames.{Control}
+use Rattle.pt_control.specs.Bases.{way_base}
 use Rattle.pt_control.specs.Control as control
+use Rattle.pt_control.specs.Jump as J
 use Rattle.pt_control.specs.Reached.{start_code}
-use Rattle.pt_slots.specs.Slots.{State}
+use Rattle.pt_slots.specs.Slots.{State, on, thrown_to, reraises, off}
 use Rattle.pt_slots.specs.CodeObject.{CodeObject}
 use Rattle.pt_slots.specs.Machine as slots
 use Rattle.pt_comp_expr.specs.Law.{active_at}
 use Rattle.pt_comp.specs.Law as comp
+use Rattle.pt_comp.specs.Law.{Match}
 use Rattle.pt_comp.proofs.Steps as steps
-use Rattle.pt_run.specs.Machine.{BlockId, turn_in}
+use Rattle.pt_run.specs.Machine as M
+use Rattle.pt_run.specs.Machine.{BlockId, is_act, turn_in}
 use Rattle.pt_run.specs.Host.{Host}
 use Rattle.pt_run.specs.Run.{Debugger}
 use Rattle.pt_run.specs.Laws.{HaveTheSameRuns}
 use Rattle.pt_run.specs.Source as source_of
-use Rattle.pt_run.specs.Source.{Source, or_null}
-use Rattle.pt_run.specs.Follows.{Nears, there, moves, SameTurn, same_act, same_note, same_end, Follows}
+use Rattle.pt_run.specs.Source.{Source, or_null, begins_act}
+use Rattle.pt_run.specs.Follows as follows
+use Rattle.pt_run.specs.Follows.{BehindReply, SameTurn, same_act, same_note, same_end, SameJump, AtLine, Follows}
 use Rattle.pt_run.proofs.Runs.{have_the_same_runs}
 use Rattle.pt_code_run.specs.CodeMachine as code_of
-use Rattle.pt_code_run.specs.CodeMachine.{CodeSource}
-use Rattle.pt_code_run.specs.Law.{Of, IsCodeOf, Script, Coded, At, at_match, Stands, at_turn, at_start, at_landing, JumpAlike, LeadAlike}
+use Rattle.pt_code_run.specs.CodeMachine.{Place, CodeSource, place_of}
+use Rattle.pt_code_run.specs.Reached as R
+use Rattle.pt_code_run.specs.Reached.{Reached}
+use Rattle.pt_code_run.specs.Parts.{HasClosedParts, KnowsActs}
+use Rattle.pt_code_run.specs.Law.{Of, IsCodeOf, Script, Coded}
 use Rattle.pt_code_run.proofs.Beginnings.{start_context}
+use Rattle.pt_code_run.proofs.States.{At, at_match, Near, comes_near, Lands, at_landing, Stands, at_turn, at_start, behind_jump}
+use Rattle.pt_code_run.proofs.Jumps.{jumps_alike}
+use Rattle.pt_code_run.proofs.Leads.{same_destination}
 
-module _ {V : Type 0} (source : Source V) (code : CodeSource V) where
-  abbrev Near : BlockId → source_of.Position V → code_of.Position V → Type 0
-  Near b p q = Nears (Script source code) (Coded source code) (At source code) b p q
+module _ {V : Type 0} (source : Source V) (code : CodeSource V) (knows : (b : BlockId) → KnowsActs source code b) where
+  -- behind a reply states that stand for each other, and the same act next
+  behind : (b : BlockId) (c : Control V) (t : State V) → Reached source code b c t → comp.Comes (source.around b) (code.object b) c t
+      → BehindReply (Script source code) (Coded source code) (At source code) b (source_of.at c) (code_of.at t)
+  behind b c t r h = record { nears = comes_near source code b c t r h; same_next = same_destination source code b (knows b) c t r h }
 
-  comes_near : (b : BlockId) (c : Control V) (t : State V) → comp.Comes (source.around b) (code.object b) c t → Near b (source_of.at c) (code_of.at t)
-  comes_near b _ _ (comp.there c t m) = there _ (at_match c t m)
-  comes_near b _ _ (comp.moves c t u e h) = moves _ _ (ap (turn_in code_of.at) e) (comes_near b c u h)
-
-  same : (b : BlockId) (x : Turn (Control V) V) (y : Turn (State V) V) → comp.Same (source.around b) (code.object b) x y
+  same : (b : BlockId) (c : Control V) (t : State V) → Reached source code b c t → (x : Turn (Control V) V) (y : Turn (State V) V)
+      → comp.Same (source.around b) (code.object b) x y → control.turn (source.around b) c ≡ x → slots.turn (code.object b) t ≡ y
       → SameTurn (Script source code) (Coded source code) (At source code) b (turn_in source_of.at x) (turn_in code_of.at y)
-  same b _ _ (comp.same_act m a k k' h) = same_act m a _ _ (λ r. comes_near b _ _ (h r))
-  same b _ _ (comp.same_note a k k' h) = same_note a _ _ (λ r. comes_near b _ _ (h r))
-  same b _ _ (comp.same_over e) = same_end e
+  same b c t d _ _ (comp.same_act m a k k' h) e f = same_act m a _ _ (λ r. behind b _ _ (R.by_reply c t m a k k' d e f r) (h r))
+  same b c t d _ _ (comp.same_note a k k' h) e f = same_note a _ _ (λ r. comes_near source code b _ _ (R.by_note c t a k k' d e f r) (h r))
+  same b c t d _ _ (comp.same_over v) e f = same_end v
 
   turns : (b : BlockId) (p : source_of.Position V) (q : code_of.Position V) → At source code b p q
       → SameTurn (Script source code) (Coded source code) (At source code) b ((Script source code).turn b p) ((Coded source code).turn b q)
-  turns b _ _ (at_match c t m) = same b _ _ (steps.follows (source.around b) (code.object b) c t m)
-
-  stands : (b : BlockId) (p : source_of.Position V) (q : code_of.Position V) → At source code b p q → Stands source code b p q
-  stands b _ _ (at_match c t m) = at_turn c t m
+  turns b _ _ (at_match c t m d) = same b c t d _ _ (steps.follows (source.around b) (code.object b) c t m) refl refl
 
 module _ {V : Type 0} (around : Around V) (object : CodeObject V) where
   abbrev start_of : Bool → Option V → State V
@@ -74,33 +82,106 @@ module _ {V : Type 0} (around : Around V) (object : CodeObject V) where
   nothing_active true i = refl
   nothing_active false i = refl
 
-module _ {V : Type 0} (source : Source V) (code : CodeSource V) (of : IsCodeOf source code) where
-  begins : (b : BlockId) (i : Option V) → Near source code b ((Script source code).start b i) ((Coded source code).start b i)
-  begins b i = comes_near source code b _ _ (begin_by (source.around b) (code.object b) (code.iterates b) (source.code b) i (of b))
+-- where an act begins, a jump is asked for from a place
+module _ {V : Type 0} (around : Around V) (object : CodeObject V) where
+  act_begins : (c : Control V) → is_act (control.turn around c) ≡ true → begins_act c ≡ true
+  act_begins (F.for_value m a w) e = refl
+  act_begins (F.for_deed m a k s) e = refl
+  act_begins (F.for_leave m a s) e = refl
+  act_begins (F.for_throw m a s) e = refl
+  act_begins (F.for_truth m a t f s) e = refl
+  act_begins (F.for_iter m v o) e = refl
+  act_begins (F.for_item m i n t k f) e = refl
+  act_begins (F.for_entry m v l n t is body s) e = refl
+  act_begins (F.for_unpack m v n ts k s) e = refl
+  act_begins (F.for_delegate m i r w) e = refl
+  act_begins (F.silent_value a w) e = absurd cc
+  act_begins (F.silent_deed a k s) e = absurd cc
+  act_begins (F.noting a k s) e = absurd cc
+  act_begins (F.closed v) e = absurd cc
 
-  same_active : (b : BlockId) (p : source_of.Position V) (q : code_of.Position V) → Stands source code b p q
+  both_act : (x : Turn (Control V) V) (y : Turn (State V) V) → comp.Same around object x y → is_act x ≡ true → is_act y ≡ true
+  both_act _ _ (comp.same_act (Some m) a k k' h) e = refl
+  both_act _ _ (comp.same_act None a k k' h) e = e
+  both_act _ _ (comp.same_note a k k' h) e = e
+  both_act _ _ (comp.same_over v) e = e
+
+  act_place : (t : State V) → is_act (slots.turn object t) ≡ true → (p : Place V) × (place_of t ≡ Some p)
+  act_place (on pc ss) e = (record { pc = pc; slots = ss }, refl)
+  act_place (thrown_to pc v ss) e = (record { pc = pc; slots = ss }, refl)
+  act_place (reraises v rows ss) e = absurd cc
+  act_place (off v) e = absurd cc
+
+module _ {V : Type 0} (source : Source V) (code : CodeSource V) (of : IsCodeOf source code) (has : (b : BlockId) → HasClosedParts source code b)
+    (knows : (b : BlockId) → KnowsActs source code b) where
+  abbrev Alike : BlockId → source_of.Position V → code_of.Position V → ℕ → Type 0
+  Alike b p q l = SameJump (Script source code) (Coded source code) (At source code) (Lands source code has) b ((Script source code).jump b p l) ((Coded source code).jump b q l)
+
+  stands : (b : BlockId) (p : source_of.Position V) (q : code_of.Position V) → At source code b p q → Stands source code has b p q
+  stands b _ _ (at_match c t m r) = at_turn c t m
+
+  begins : (b : BlockId) (i : Option V) → Near source code b ((Script source code).start b i) ((Coded source code).start b i)
+  begins b i = comes_near source code b _ _ (R.begins i) (begin_by (source.around b) (code.object b) (code.iterates b) (source.code b) i (of b))
+
+  same_active : (b : BlockId) (p : source_of.Position V) (q : code_of.Position V) → Stands source code has b p q
       → (Script source code).active p ≡ (Coded source code).active q
   same_active b _ _ (at_turn c t m) = sym (steps.active_alike (source.around b) (code.object b) c t m)
   same_active b _ _ (at_start i) =
       start_context (source.around b) (source.code b) (or_null (source.around b).null i)
       ∙ sym (nothing_active (source.around b) (code.object b) (code.iterates b) i)
-  same_active b _ _ (at_landing k x p h a) = sym a
+  same_active b _ _ (behind_jump _ _ (at_landing k p d h a)) = sym a
 
-  follows : JumpAlike source code → LeadAlike source code → Follows (Script source code) (Coded source code) (At source code) (Stands source code)
-  follows jumps leads = record {
-    turns = turns source code;
-    stands = stands source code;
+  -- from an act
+  from_place : (b : BlockId) (c : Control V) (t : State V) (l : ℕ) → Match (source.around b) (code.object b) c t → Reached source code b c t
+      → is_act (control.turn (source.around b) c) ≡ true → is_act (slots.turn (code.object b) t) ≡ true → (p : Place V) → place_of t ≡ Some p
+      → Alike b (source_of.at c) (code_of.at t) l
+  from_place b c t l m r e f p g =
+      let here = jumps_alike source code has b (control.nest_at c) p ((has b).acts c t p r m e g) l (λ k q i j. R.from_act c t p q k l r e f g i j) in
+      let one : (Script source code).jump b (source_of.at c) l ≡ source_of.jump_of source b (J.jump (source.code b) (control.nest_at c) l) =
+      ap (λ a. if a then source_of.jump_of source b (J.jump (source.code b) (control.nest_at c) l) else M.refuses M.not_at_line) (act_begins (source.around b) (code.object b) c e) in
+      let two : (Coded source code).jump b (code_of.at t) l ≡ code_of.landing code b (code.jump b p l) =
+      ap (λ a. if a then code_of.jump_from code b (place_of t) l else M.refuses M.not_at_line) f ∙ ap (λ o. code_of.jump_from code b o l) g in
+      subst (λ z. SameJump (Script source code) (Coded source code) (At source code) (Lands source code has) b z ((Coded source code).jump b (code_of.at t) l)) (sym one)
+      (subst (λ z. SameJump (Script source code) (Coded source code) (At source code) (Lands source code has) b (source_of.jump_of source b (J.jump (source.code b) (control.nest_at c) l)) z) (sym two) here)
+
+  from_act : (b : BlockId) (p : source_of.Position V) (q : code_of.Position V) (l : ℕ) → At source code b p q → is_act ((Script source code).turn b p) ≡ true → Alike b p q l
+  from_act b _ _ l (at_match c t m r) e =
+      let f = of_turn source_of.at (control.turn (source.around b) c) e in
+      let g = both_act (source.around b) (code.object b) _ _ (steps.follows (source.around b) (code.object b) c t m) f in
+      let p = act_place (source.around b) (code.object b) t g in
+      from_place b c t l m r f g p.0 p.1
+    where
+      of_turn : (i : Control V → source_of.Position V) (x : Turn (Control V) V) → is_act (turn_in i x) ≡ true → is_act x ≡ true
+      of_turn i (T.act (Some m) a k) h = refl
+      of_turn i (T.act None a k) h = h
+      of_turn i (T.note a k) h = h
+      of_turn i (T.move d) h = h
+      of_turn i (T.over v) h = h
+      of_turn i T.stuck h = h
+
+  from_landing : (b : BlockId) (p : source_of.Position V) (q : code_of.Position V) (l : ℕ) → Lands source code has b p q → Alike b p q l
+  from_landing b _ _ l (at_landing k p d h a) = jumps_alike source code has b (way_base k) p h l (λ j q i g. R.from_landing k j p q l d i g)
+
+  jumps : (b : BlockId) (p : source_of.Position V) (q : code_of.Position V) (l : ℕ) → AtLine (Script source code) (Coded source code) (At source code) (Lands source code has) b p q
+      → Alike b p q l
+  jumps b _ _ l (follows.at_act p q h e) = from_act b p q l h e
+  jumps b _ _ l (follows.at_landing p q h) = from_landing b p q l h
+
+  code_follows : Follows (Script source code) (Coded source code) (At source code) (Stands source code has) (Lands source code has)
+  code_follows = record {
+    turns = turns source code knows;
+    stands = stands;
+    landings = λ b p q h. behind_jump p q h;
     starts = λ b i. at_start i;
     begins = begins;
     active = same_active;
     jumps = jumps;
-    destination = leads;
   }
 
 module _ {D N V W : Type 0} where
-  pub has_the_runs : (source : Source V) (code : CodeSource V) → IsCodeOf source code → JumpAlike source code → LeadAlike source code
+  pub has_the_runs : (source : Source V) (code : CodeSource V) → IsCodeOf source code → ((b : BlockId) → HasClosedParts source code b) → ((b : BlockId) → KnowsActs source code b)
       → (host : Host N V W) (ask : Debugger D N V W) (n : ℕ) (block : BlockId) (names : N) (world : W) (d : D)
       → HaveTheSameRuns (source_of.machine source) (code_of.machine code) host ask n block names world d
-  has_the_runs source code of jumps leads host ask n block names world d =
-      have_the_same_runs (Script source code) (Coded source code) (At source code) (Stands source code) (follows source code of jumps leads)
+  has_the_runs source code of has knows host ask n block names world d =
+      have_the_same_runs (Script source code) (Coded source code) (At source code) (Stands source code has) (Lands source code has) (code_follows source code of has knows)
       host ask n block names world d

@@ -1,2 +1,5 @@
 mod Beginnings
+mod States
+mod Jumps
+mod Leads
 mod Following

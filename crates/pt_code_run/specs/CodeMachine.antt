@@ -1,6 +1,5 @@
 -- Code on slots as a machine of a run: the code object of each block, and where jumps lead in it.
-use Rattle.std.specs.Prelude.{ℕ, Bool, true, false, List, Option, Some, None, if◌then◌else◌}
-use Rattle.pt_control.specs.Turn as T
+use Rattle.std.specs.Prelude.{ℕ, Bool, List, Option, Some, None, if◌then◌else◌}
 use Rattle.pt_control.specs.Turn.{Turn}
 use Rattle.pt_slots.specs.Slots.{raise, iterator, Slots, State, on, thrown_to, reraises, off, active}
 use Rattle.pt_slots.specs.CodeObject.{CodeObject}
@@ -10,7 +9,7 @@ use Rattle.pt_slots.specs.Destinations as destinations
 use Rattle.pt_code.specs.View.{Ins}
 use Rattle.pt_comp_expr.specs.Law.{active_at}
 use Rattle.pt_run.specs.Machine as M
-use Rattle.pt_run.specs.Machine.{BlockId, Reason, not_at_line, Jump, Machine, turn_in}
+use Rattle.pt_run.specs.Machine.{BlockId, Reason, not_at_line, Jump, Machine, is_act, turn_in}
 use Rattle.pt_run.specs.Source.{or_null, number_or_all}
 
 -- a place with what lies in its slots
@@ -54,14 +53,9 @@ place_of (thrown_to pc e ss) = Some (record { pc = pc; slots = ss })
 place_of (reraises e rows ss) = None
 place_of (off e) = None
 
--- an act begins with a mark
-abbrev pub begins_act : {S V : Type 0} → Turn S V → Bool
-begins_act (T.act (Some m) a k) = true
-begins_act t = false
-
 module _ {V : Type 0} (object : CodeObject V) where
   -- a raise at a place lands by the rows that cover it
-  abbrev raised_under : Option Ins → Slots V → (exception : V) → State V
+  abbrev pub raised_under : Option Ins → Slots V → (exception : V) → State V
   raised_under (Some i) ss e = land object i.rows (raise e) ss
   raised_under None ss e = land object List.[] (raise e) ss
 
@@ -69,22 +63,22 @@ module _ {V : Type 0} (object : CodeObject V) where
   raised_at p e = raised_under (object.at p.pc) p.slots e
 
 module _ {V : Type 0} (code : CodeSource V) where
-  abbrev start_of : BlockId → Option V → State V
+  abbrev pub start_of : BlockId → Option V → State V
   start_of b i = if code.iterates b then slots.start_generator (or_null (code.object b).null i) else slots.start
 
   abbrev turn : BlockId → Position V → Turn (Position V) V
   turn b q = turn_in at (slots.turn (code.object b) (state_of q))
 
-  abbrev landing : BlockId → CodeJump V → Jump (Position V) V
+  abbrev pub landing : BlockId → CodeJump V → Jump (Position V) V
   landing b (refuses r) = M.refuses r
   landing b (goes_to p) = M.lands (at_statement p) (at (state_at p)) (λ e. at (raised_at (code.object b) p e))
 
-  abbrev jump_from : BlockId → Option (Place V) → (line : ℕ) → Jump (Position V) V
+  abbrev pub jump_from : BlockId → Option (Place V) → (line : ℕ) → Jump (Position V) V
   jump_from b (Some p) l = landing b (code.jump b p l)
   jump_from b None l = M.refuses not_at_line
 
   abbrev jump : BlockId → Position V → (line : ℕ) → Jump (Position V) V
-  jump b (at t) l = if begins_act (slots.turn (code.object b) t) then jump_from b (place_of t) l else M.refuses not_at_line
+  jump b (at t) l = if is_act (slots.turn (code.object b) t) then jump_from b (place_of t) l else M.refuses not_at_line
   jump b (at_statement p) l = landing b (code.jump b p l)
 
   abbrev pub machine : Machine (Position V) V

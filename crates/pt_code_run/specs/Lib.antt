@@ -1,2 +1,4 @@
 pub mod CodeMachine
+pub mod Reached
+pub mod Parts
 pub mod Law

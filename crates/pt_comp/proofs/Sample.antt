@@ -16,7 +16,7 @@ use Rattle.pt_slots.specs.Instructions.{perform, operates}
 use Rattle.pt_comp_expr.specs.Samples.{sample_block}
 use Rattle.pt_comp_expr.specs.Places.{above, ins, Ins_at, Seeks, Null_at, Cell_at, Stores, Sets, Unpacks, Operates}
 use Rattle.pt_comp_expr.proofs.Operations.{takes_values, takes_both, takes_base}
-use Rattle.pt_comp.specs.Places.{Deletes, DeletesAttribute, ImportsName, GivesTruth, LeadsOn, Splits, at_once, never_left, Block_at}
+use Rattle.pt_comp.specs.Places.{Deletes, DeletesAttribute, ImportsName, GivesTruth, LeadsOn, Splits, at_once, behind_nop, never_left, Block_at}
 use Rattle.pt_comp.specs.Samples.{every_statement, every_statement_code, every_statement_starts, row_0, row_1, row_2, row_3, row_4, row_5}
 
 -- an instruction of the sample stands, and does what it is to do
@@ -112,8 +112,8 @@ begins_at k l e = (k, l, e)
 
 pub stands : Block_at sample_block every_statement_code every_statement_starts every_statement
 stands = (
-  183,
-  185,
+  184,
+  186,
   (
     (begins_at 0 (omega arith) refl),
     (
@@ -344,70 +344,146 @@ stands = (
                                                                         56,
                                                                         (at_once 56),
                                                                         (
-                                                                          56,
-                                                                          refl,
+                                                                          71,
                                                                           (
-                                                                            (begins_at 12 (omega arith) refl),
+                                                                            60,
                                                                             (
-                                                                              56,
-                                                                              (at_once 56),
+                                                                              57,
+                                                                              (at_seek (instr.Local (record { 0 = 1 })) refl (λ ss. refl)),
                                                                               (
-                                                                                71,
+                                                                                58,
+                                                                                refl,
                                                                                 (
-                                                                                  60,
+                                                                                  59,
                                                                                   (
-                                                                                    57,
-                                                                                    (at_seek (instr.Local (record { 0 = 1 })) refl (λ ss. refl)),
+                                                                                    (begins_at 12 (omega arith) refl),
+                                                                                    (58, (at_once 58), (59, refl, refl)),
+                                                                                  ),
+                                                                                  refl,
+                                                                                ),
+                                                                              ),
+                                                                            ),
+                                                                            (
+                                                                              66,
+                                                                              (
+                                                                                61,
+                                                                                (at_seek (instr.Local (record { 0 = 2 })) refl (λ ss. refl)),
+                                                                                (
+                                                                                  62,
+                                                                                  refl,
+                                                                                  (
+                                                                                    65,
                                                                                     (
-                                                                                      58,
-                                                                                      refl,
+                                                                                      (begins_at 13 (omega arith) refl),
                                                                                       (
-                                                                                        59,
-                                                                                        (
-                                                                                          (begins_at 13 (omega arith) refl),
-                                                                                          (58, (at_once 58), (59, refl, refl)),
-                                                                                        ),
+                                                                                        64,
+                                                                                        (never_left 62 63 64 true (at_truth (instr.Const (record { 0 = 2 })) refl (λ ss. refl)) (at_lead (instr.JumpUnless (record { 0 = 65 })) refl (λ ss. refl))),
+                                                                                        (65, refl, refl),
+                                                                                      ),
+                                                                                    ),
+                                                                                    refl,
+                                                                                  ),
+                                                                                ),
+                                                                              ),
+                                                                              (
+                                                                                (begins_at 14 (omega arith) refl),
+                                                                                (
+                                                                                  68,
+                                                                                  (never_left 66 67 68 true (at_truth (instr.Const (record { 0 = 2 })) refl (λ ss. refl)) (at_lead (instr.JumpUnless (record { 0 = 71 })) refl (λ ss. refl))),
+                                                                                  (
+                                                                                    71,
+                                                                                    (
+                                                                                      69,
+                                                                                      (at_seek (instr.Local (record { 0 = 1 })) refl (λ ss. refl)),
+                                                                                      (
+                                                                                        70,
+                                                                                        (at_seek (instr.Local (record { 0 = 2 })) refl (λ ss. refl)),
                                                                                         refl,
                                                                                       ),
                                                                                     ),
+                                                                                    refl,
+                                                                                  ),
+                                                                                ),
+                                                                              ),
+                                                                            ),
+                                                                          ),
+                                                                          (
+                                                                            (begins_at 15 (omega arith) refl),
+                                                                            (
+                                                                              71,
+                                                                              (at_once 71),
+                                                                              (
+                                                                                88,
+                                                                                (
+                                                                                  73,
+                                                                                  82,
+                                                                                  84,
+                                                                                  (
+                                                                                    72,
+                                                                                    (at_seek (instr.Local (record { 0 = 1 })) refl (λ ss. refl)),
+                                                                                    refl,
                                                                                   ),
                                                                                   (
-                                                                                    66,
+                                                                                    tt,
+                                                                                    tt,
                                                                                     (
-                                                                                      61,
-                                                                                      (at_seek (instr.Local (record { 0 = 2 })) refl (λ ss. refl)),
+                                                                                      (begins_at 16 (omega arith) refl),
                                                                                       (
-                                                                                        62,
-                                                                                        refl,
+                                                                                        73,
+                                                                                        (at_once 73),
                                                                                         (
-                                                                                          65,
+                                                                                          79,
                                                                                           (
-                                                                                            (begins_at 14 (omega arith) refl),
+                                                                                            79,
                                                                                             (
-                                                                                              64,
-                                                                                              (never_left 62 63 64 true (at_truth (instr.Const (record { 0 = 2 })) refl (λ ss. refl)) (at_lead (instr.JumpUnless (record { 0 = 65 })) refl (λ ss. refl))),
-                                                                                              (65, refl, refl),
+                                                                                              74,
+                                                                                              (at_seek (instr.Local (record { 0 = 2 })) refl (λ ss. refl)),
+                                                                                              (
+                                                                                                75,
+                                                                                                refl,
+                                                                                                (
+                                                                                                  78,
+                                                                                                  (
+                                                                                                    (begins_at 17 (omega arith) refl),
+                                                                                                    (
+                                                                                                      77,
+                                                                                                      (never_left 75 76 77 true (at_truth (instr.Const (record { 0 = 2 })) refl (λ ss. refl)) (at_lead (instr.JumpUnless (record { 0 = 78 })) refl (λ ss. refl))),
+                                                                                                      (78, (refl, refl), refl),
+                                                                                                    ),
+                                                                                                  ),
+                                                                                                  refl,
+                                                                                                ),
+                                                                                              ),
+                                                                                            ),
+                                                                                            refl,
+                                                                                          ),
+                                                                                          (
+                                                                                            (begins_at 18 (omega arith) refl),
+                                                                                            (
+                                                                                              81,
+                                                                                              (never_left 79 80 81 true (at_truth (instr.Const (record { 0 = 2 })) refl (λ ss. refl)) (at_lead (instr.JumpUnless (record { 0 = 82 })) refl (λ ss. refl))),
+                                                                                              (82, (refl, refl), refl),
                                                                                             ),
                                                                                           ),
-                                                                                          refl,
                                                                                         ),
                                                                                       ),
                                                                                     ),
                                                                                     (
-                                                                                      (begins_at 15 (omega arith) refl),
+                                                                                      83,
+                                                                                      (at_seek (instr.Local (record { 0 = 1 })) refl (λ ss. refl)),
+                                                                                      refl,
+                                                                                    ),
+                                                                                    (
+                                                                                      (begins_at 19 (omega arith) refl),
                                                                                       (
-                                                                                        68,
-                                                                                        (never_left 66 67 68 true (at_truth (instr.Const (record { 0 = 2 })) refl (λ ss. refl)) (at_lead (instr.JumpUnless (record { 0 = 71 })) refl (λ ss. refl))),
+                                                                                        86,
+                                                                                        (never_left 84 85 86 true (at_truth (instr.Const (record { 0 = 2 })) refl (λ ss. refl)) (at_lead (instr.JumpUnless (record { 0 = 88 })) refl (λ ss. refl))),
                                                                                         (
-                                                                                          71,
+                                                                                          88,
                                                                                           (
-                                                                                            69,
+                                                                                            87,
                                                                                             (at_seek (instr.Local (record { 0 = 1 })) refl (λ ss. refl)),
-                                                                                            (
-                                                                                              70,
-                                                                                              (at_seek (instr.Local (record { 0 = 2 })) refl (λ ss. refl)),
-                                                                                              refl,
-                                                                                            ),
+                                                                                            refl,
                                                                                           ),
                                                                                           refl,
                                                                                         ),
@@ -416,448 +492,179 @@ stands = (
                                                                                   ),
                                                                                 ),
                                                                                 (
-                                                                                  (begins_at 16 (omega arith) refl),
+                                                                                  (begins_at 20 (omega arith) refl),
                                                                                   (
-                                                                                    71,
-                                                                                    (at_once 71),
+                                                                                    88,
+                                                                                    (at_once 88),
                                                                                     (
-                                                                                      88,
+                                                                                      142,
                                                                                       (
-                                                                                        73,
-                                                                                        82,
-                                                                                        84,
+                                                                                        91,
+                                                                                        139,
+                                                                                        141,
                                                                                         (
-                                                                                          72,
-                                                                                          (at_seek (instr.Local (record { 0 = 1 })) refl (λ ss. refl)),
-                                                                                          refl,
+                                                                                          89,
+                                                                                          (at_seek (instr.Local (record { 0 = 2 })) refl (λ ss. refl)),
+                                                                                          (90, refl, refl),
                                                                                         ),
                                                                                         (
                                                                                           tt,
                                                                                           tt,
                                                                                           (
-                                                                                            (begins_at 17 (omega arith) refl),
+                                                                                            92,
+                                                                                            (at_store (instr.SetLocal (record { 0 = 1 })) refl (λ v ss. refl)),
                                                                                             (
-                                                                                              73,
-                                                                                              (at_once 73),
+                                                                                              (begins_at 21 (omega arith) refl),
                                                                                               (
-                                                                                                79,
+                                                                                                92,
+                                                                                                (at_once 92),
                                                                                                 (
-                                                                                                  79,
+                                                                                                  139,
                                                                                                   (
-                                                                                                    74,
-                                                                                                    (at_seek (instr.Local (record { 0 = 2 })) refl (λ ss. refl)),
+                                                                                                    93,
+                                                                                                    refl,
                                                                                                     (
-                                                                                                      75,
-                                                                                                      refl,
+                                                                                                      row_2,
+                                                                                                      (record { depth = refl; always = refl; around = (refl, refl) }),
                                                                                                       (
-                                                                                                        78,
+                                                                                                        135,
                                                                                                         (
-                                                                                                          (begins_at 18 (omega arith) refl),
+                                                                                                          135,
                                                                                                           (
-                                                                                                            77,
-                                                                                                            (never_left 75 76 77 true (at_truth (instr.Const (record { 0 = 2 })) refl (λ ss. refl)) (at_lead (instr.JumpUnless (record { 0 = 78 })) refl (λ ss. refl))),
-                                                                                                            (78, (refl, refl), refl),
-                                                                                                          ),
-                                                                                                        ),
-                                                                                                        refl,
-                                                                                                      ),
-                                                                                                    ),
-                                                                                                  ),
-                                                                                                  refl,
-                                                                                                ),
-                                                                                                (
-                                                                                                  (begins_at 19 (omega arith) refl),
-                                                                                                  (
-                                                                                                    81,
-                                                                                                    (never_left 79 80 81 true (at_truth (instr.Const (record { 0 = 2 })) refl (λ ss. refl)) (at_lead (instr.JumpUnless (record { 0 = 82 })) refl (λ ss. refl))),
-                                                                                                    (82, (refl, refl), refl),
-                                                                                                  ),
-                                                                                                ),
-                                                                                              ),
-                                                                                            ),
-                                                                                          ),
-                                                                                          (
-                                                                                            83,
-                                                                                            (at_seek (instr.Local (record { 0 = 1 })) refl (λ ss. refl)),
-                                                                                            refl,
-                                                                                          ),
-                                                                                          (
-                                                                                            (begins_at 20 (omega arith) refl),
-                                                                                            (
-                                                                                              86,
-                                                                                              (never_left 84 85 86 true (at_truth (instr.Const (record { 0 = 2 })) refl (λ ss. refl)) (at_lead (instr.JumpUnless (record { 0 = 88 })) refl (λ ss. refl))),
-                                                                                              (
-                                                                                                88,
-                                                                                                (
-                                                                                                  87,
-                                                                                                  (at_seek (instr.Local (record { 0 = 1 })) refl (λ ss. refl)),
-                                                                                                  refl,
-                                                                                                ),
-                                                                                                refl,
-                                                                                              ),
-                                                                                            ),
-                                                                                          ),
-                                                                                        ),
-                                                                                      ),
-                                                                                      (
-                                                                                        (begins_at 21 (omega arith) refl),
-                                                                                        (
-                                                                                          88,
-                                                                                          (at_once 88),
-                                                                                          (
-                                                                                            142,
-                                                                                            (
-                                                                                              91,
-                                                                                              139,
-                                                                                              141,
-                                                                                              (
-                                                                                                89,
-                                                                                                (at_seek (instr.Local (record { 0 = 2 })) refl (λ ss. refl)),
-                                                                                                (90, refl, refl),
-                                                                                              ),
-                                                                                              (
-                                                                                                tt,
-                                                                                                tt,
-                                                                                                (
-                                                                                                  92,
-                                                                                                  (at_store (instr.SetLocal (record { 0 = 1 })) refl (λ v ss. refl)),
-                                                                                                  (
-                                                                                                    (begins_at 22 (omega arith) refl),
-                                                                                                    (
-                                                                                                      92,
-                                                                                                      (at_once 92),
-                                                                                                      (
-                                                                                                        139,
-                                                                                                        (
-                                                                                                          93,
-                                                                                                          refl,
-                                                                                                          (
-                                                                                                            row_2,
-                                                                                                            (record { depth = refl; always = refl; around = (refl, refl) }),
+                                                                                                            (begins_at 22 (omega arith) refl),
                                                                                                             (
-                                                                                                              135,
+                                                                                                              93,
+                                                                                                              (at_once 93),
                                                                                                               (
                                                                                                                 135,
                                                                                                                 (
-                                                                                                                  (begins_at 23 (omega arith) refl),
+                                                                                                                  94,
+                                                                                                                  refl,
                                                                                                                   (
-                                                                                                                    93,
-                                                                                                                    (at_once 93),
+                                                                                                                    row_0,
+                                                                                                                    99,
+                                                                                                                    (record { depth = refl; except = refl }),
                                                                                                                     (
-                                                                                                                      135,
+                                                                                                                      97,
                                                                                                                       (
-                                                                                                                        94,
-                                                                                                                        refl,
+                                                                                                                        (begins_at 23 (omega arith) refl),
                                                                                                                         (
-                                                                                                                          row_0,
-                                                                                                                          99,
-                                                                                                                          (record { depth = refl; except = refl }),
+                                                                                                                          96,
+                                                                                                                          (never_left 94 95 96 true (at_truth (instr.Const (record { 0 = 2 })) refl (λ ss. refl)) (at_lead (instr.JumpUnless (record { 0 = 97 })) refl (λ ss. refl))),
                                                                                                                           (
                                                                                                                             97,
-                                                                                                                            (
-                                                                                                                              (begins_at 24 (omega arith) refl),
-                                                                                                                              (
-                                                                                                                                96,
-                                                                                                                                (never_left 94 95 96 true (at_truth (instr.Const (record { 0 = 2 })) refl (λ ss. refl)) (at_lead (instr.JumpUnless (record { 0 = 97 })) refl (λ ss. refl))),
-                                                                                                                                (
-                                                                                                                                  97,
-                                                                                                                                  (refl, refl),
-                                                                                                                                  refl,
-                                                                                                                                ),
-                                                                                                                              ),
-                                                                                                                            ),
-                                                                                                                            (
-                                                                                                                              98,
-                                                                                                                              (
-                                                                                                                                (begins_at 25 (omega arith) refl),
-                                                                                                                                (
-                                                                                                                                  97,
-                                                                                                                                  (at_once 97),
-                                                                                                                                  (98, refl, refl),
-                                                                                                                                ),
-                                                                                                                              ),
-                                                                                                                              refl,
-                                                                                                                            ),
+                                                                                                                            (refl, refl),
+                                                                                                                            refl,
                                                                                                                           ),
+                                                                                                                        ),
+                                                                                                                      ),
+                                                                                                                      (
+                                                                                                                        98,
+                                                                                                                        (
+                                                                                                                          (begins_at 24 (omega arith) refl),
                                                                                                                           (
-                                                                                                                            114,
+                                                                                                                            97,
+                                                                                                                            (at_once 97),
+                                                                                                                            (98, refl, refl),
+                                                                                                                          ),
+                                                                                                                        ),
+                                                                                                                        refl,
+                                                                                                                      ),
+                                                                                                                    ),
+                                                                                                                    (
+                                                                                                                      114,
+                                                                                                                      (
+                                                                                                                        100,
+                                                                                                                        (at_seek (instr.Local (record { 0 = 2 })) refl (λ ss. refl)),
+                                                                                                                        (
+                                                                                                                          101,
+                                                                                                                          refl,
+                                                                                                                          (
+                                                                                                                            102,
+                                                                                                                            (at_split (instr.JumpUnless (record { 0 = 114 })) refl (λ ss. refl) (λ ss. refl)),
                                                                                                                             (
-                                                                                                                              100,
-                                                                                                                              (at_seek (instr.Local (record { 0 = 2 })) refl (λ ss. refl)),
+                                                                                                                              row_1,
+                                                                                                                              (record { depth = refl; always = refl; around = (refl, refl) }),
                                                                                                                               (
-                                                                                                                                101,
+                                                                                                                                103,
                                                                                                                                 refl,
                                                                                                                                 (
-                                                                                                                                  102,
-                                                                                                                                  (at_split (instr.JumpUnless (record { 0 = 114 })) refl (λ ss. refl) (λ ss. refl)),
+                                                                                                                                  104,
+                                                                                                                                  (at_store (instr.SetLocal (record { 0 = 3 })) refl (λ v ss. refl)),
                                                                                                                                   (
-                                                                                                                                    row_1,
-                                                                                                                                    (record { depth = refl; always = refl; around = (refl, refl) }),
+                                                                                                                                    107,
                                                                                                                                     (
-                                                                                                                                      103,
-                                                                                                                                      refl,
+                                                                                                                                      (begins_at 25 (omega arith) refl),
                                                                                                                                       (
-                                                                                                                                        104,
-                                                                                                                                        (at_store (instr.SetLocal (record { 0 = 3 })) refl (λ v ss. refl)),
+                                                                                                                                        106,
+                                                                                                                                        (never_left 104 105 106 true (at_truth (instr.Const (record { 0 = 2 })) refl (λ ss. refl)) (at_lead (instr.JumpUnless (record { 0 = 107 })) refl (λ ss. refl))),
                                                                                                                                         (
                                                                                                                                           107,
                                                                                                                                           (
-                                                                                                                                            (begins_at 26 (omega arith) refl),
-                                                                                                                                            (
-                                                                                                                                              106,
-                                                                                                                                              (never_left 104 105 106 true (at_truth (instr.Const (record { 0 = 2 })) refl (λ ss. refl)) (at_lead (instr.JumpUnless (record { 0 = 107 })) refl (λ ss. refl))),
-                                                                                                                                              (
-                                                                                                                                                107,
-                                                                                                                                                (
-                                                                                                                                                  refl,
-                                                                                                                                                  refl,
-                                                                                                                                                ),
-                                                                                                                                                refl,
-                                                                                                                                              ),
-                                                                                                                                            ),
+                                                                                                                                            refl,
+                                                                                                                                            refl,
                                                                                                                                           ),
                                                                                                                                           refl,
                                                                                                                                         ),
                                                                                                                                       ),
                                                                                                                                     ),
-                                                                                                                                    (
-                                                                                                                                      109,
-                                                                                                                                      (at_null (instr.Const (record { 0 = 3 })) refl (λ ss. refl)),
-                                                                                                                                      (
-                                                                                                                                        110,
-                                                                                                                                        (at_store (instr.SetLocal (record { 0 = 3 })) refl (λ v ss. refl)),
-                                                                                                                                        (
-                                                                                                                                          111,
-                                                                                                                                          (at_delete (instr.DelLocal (record { 0 = 3 })) refl (λ ss. refl)),
-                                                                                                                                          (
-                                                                                                                                            112,
-                                                                                                                                            refl,
-                                                                                                                                            (
-                                                                                                                                              113,
-                                                                                                                                              refl,
-                                                                                                                                              refl,
-                                                                                                                                            ),
-                                                                                                                                          ),
-                                                                                                                                        ),
-                                                                                                                                      ),
-                                                                                                                                    ),
+                                                                                                                                    refl,
                                                                                                                                   ),
                                                                                                                                 ),
                                                                                                                               ),
-                                                                                                                            ),
-                                                                                                                            (
-                                                                                                                              125,
                                                                                                                               (
-                                                                                                                                115,
-                                                                                                                                (at_seek (instr.Local (record { 0 = 4 })) refl (λ ss. refl)),
+                                                                                                                                109,
+                                                                                                                                (at_null (instr.Const (record { 0 = 3 })) refl (λ ss. refl)),
                                                                                                                                 (
-                                                                                                                                  116,
-                                                                                                                                  refl,
+                                                                                                                                  110,
+                                                                                                                                  (at_store (instr.SetLocal (record { 0 = 3 })) refl (λ v ss. refl)),
                                                                                                                                   (
-                                                                                                                                    117,
-                                                                                                                                    (at_split (instr.JumpUnless (record { 0 = 125 })) refl (λ ss. refl) (λ ss. refl)),
+                                                                                                                                    111,
+                                                                                                                                    (at_delete (instr.DelLocal (record { 0 = 3 })) refl (λ ss. refl)),
                                                                                                                                     (
-                                                                                                                                      118,
+                                                                                                                                      112,
                                                                                                                                       refl,
                                                                                                                                       (
-                                                                                                                                        119,
+                                                                                                                                        113,
                                                                                                                                         refl,
-                                                                                                                                        (
-                                                                                                                                          123,
-                                                                                                                                          (
-                                                                                                                                            (begins_at 27 (omega arith) refl),
-                                                                                                                                            (
-                                                                                                                                              121,
-                                                                                                                                              (never_left 119 120 121 true (at_truth (instr.Const (record { 0 = 2 })) refl (λ ss. refl)) (at_lead (instr.JumpUnless (record { 0 = 123 })) refl (λ ss. refl))),
-                                                                                                                                              (
-                                                                                                                                                123,
-                                                                                                                                                (
-                                                                                                                                                  122,
-                                                                                                                                                  (at_seek (instr.Local (record { 0 = 1 })) refl (λ ss. refl)),
-                                                                                                                                                  refl,
-                                                                                                                                                ),
-                                                                                                                                                refl,
-                                                                                                                                              ),
-                                                                                                                                            ),
-                                                                                                                                          ),
-                                                                                                                                          (
-                                                                                                                                            124,
-                                                                                                                                            refl,
-                                                                                                                                            refl,
-                                                                                                                                          ),
-                                                                                                                                        ),
+                                                                                                                                        refl,
                                                                                                                                       ),
                                                                                                                                     ),
                                                                                                                                   ),
                                                                                                                                 ),
-                                                                                                                              ),
-                                                                                                                              (
-                                                                                                                                134,
-                                                                                                                                (
-                                                                                                                                  126,
-                                                                                                                                  (at_null (instr.Const (record { 0 = 3 })) refl (λ ss. refl)),
-                                                                                                                                  (
-                                                                                                                                    127,
-                                                                                                                                    refl,
-                                                                                                                                    (
-                                                                                                                                      128,
-                                                                                                                                      (at_split (instr.JumpUnless (record { 0 = 134 })) refl (λ ss. refl) (λ ss. refl)),
-                                                                                                                                      (
-                                                                                                                                        129,
-                                                                                                                                        refl,
-                                                                                                                                        (
-                                                                                                                                          130,
-                                                                                                                                          refl,
-                                                                                                                                          (
-                                                                                                                                            132,
-                                                                                                                                            (
-                                                                                                                                              (begins_at 28 (omega arith) refl),
-                                                                                                                                              (
-                                                                                                                                                130,
-                                                                                                                                                (at_once 130),
-                                                                                                                                                (
-                                                                                                                                                  132,
-                                                                                                                                                  (
-                                                                                                                                                    131,
-                                                                                                                                                    (at_seek (instr.Local (record { 0 = 1 })) refl (λ ss. refl)),
-                                                                                                                                                    refl,
-                                                                                                                                                  ),
-                                                                                                                                                  refl,
-                                                                                                                                                ),
-                                                                                                                                              ),
-                                                                                                                                            ),
-                                                                                                                                            (
-                                                                                                                                              133,
-                                                                                                                                              refl,
-                                                                                                                                              refl,
-                                                                                                                                            ),
-                                                                                                                                          ),
-                                                                                                                                        ),
-                                                                                                                                      ),
-                                                                                                                                    ),
-                                                                                                                                  ),
-                                                                                                                                ),
-                                                                                                                                (135, refl),
                                                                                                                               ),
                                                                                                                             ),
                                                                                                                           ),
                                                                                                                         ),
                                                                                                                       ),
-                                                                                                                      refl,
-                                                                                                                    ),
-                                                                                                                  ),
-                                                                                                                ),
-                                                                                                                refl,
-                                                                                                              ),
-                                                                                                              refl,
-                                                                                                            ),
-                                                                                                            (
-                                                                                                              138,
-                                                                                                              (
-                                                                                                                (begins_at 29 (omega arith) refl),
-                                                                                                                (
-                                                                                                                  136,
-                                                                                                                  (at_once 136),
-                                                                                                                  (
-                                                                                                                    138,
-                                                                                                                    (
-                                                                                                                      137,
-                                                                                                                      (at_seek (instr.Local (record { 0 = 1 })) refl (λ ss. refl)),
-                                                                                                                      refl,
-                                                                                                                    ),
-                                                                                                                    refl,
-                                                                                                                  ),
-                                                                                                                ),
-                                                                                                              ),
-                                                                                                              refl,
-                                                                                                            ),
-                                                                                                          ),
-                                                                                                        ),
-                                                                                                        refl,
-                                                                                                      ),
-                                                                                                    ),
-                                                                                                  ),
-                                                                                                ),
-                                                                                                (140, refl, refl),
-                                                                                                (
-                                                                                                  (begins_at 30 (omega arith) refl),
-                                                                                                  (141, (at_once 141), (142, refl, refl)),
-                                                                                                ),
-                                                                                              ),
-                                                                                            ),
-                                                                                            (
-                                                                                              (begins_at 31 (omega arith) refl),
-                                                                                              (
-                                                                                                142,
-                                                                                                (at_once 142),
-                                                                                                (
-                                                                                                  165,
-                                                                                                  (
-                                                                                                    row_5,
-                                                                                                    (record { depth = refl; always = refl; around = tt }),
-                                                                                                    (
-                                                                                                      143,
-                                                                                                      (at_seek (instr.Local (record { 0 = 1 })) refl (λ ss. refl)),
-                                                                                                      (
-                                                                                                        144,
-                                                                                                        refl,
-                                                                                                        (
-                                                                                                          147,
-                                                                                                          (
-                                                                                                            145,
-                                                                                                            (at_unpack (instr.Unpack 2) refl (λ v ss. refl)),
-                                                                                                            (
-                                                                                                              146,
-                                                                                                              (at_store (instr.SetLocal (record { 0 = 2 })) refl (λ v ss. refl)),
-                                                                                                              (
-                                                                                                                147,
-                                                                                                                (at_store (instr.SetLocal (record { 0 = 3 })) refl (λ v ss. refl)),
-                                                                                                                refl,
-                                                                                                              ),
-                                                                                                            ),
-                                                                                                          ),
-                                                                                                          (
-                                                                                                            162,
-                                                                                                            (
-                                                                                                              row_4,
-                                                                                                              (record { depth = refl; always = refl; around = tt }),
-                                                                                                              (
-                                                                                                                148,
-                                                                                                                (at_seek (instr.Local (record { 0 = 4 })) refl (λ ss. refl)),
-                                                                                                                (
-                                                                                                                  149,
-                                                                                                                  refl,
-                                                                                                                  (
-                                                                                                                    150,
-                                                                                                                    refl,
-                                                                                                                    (
-                                                                                                                      159,
                                                                                                                       (
-                                                                                                                        (begins_at 32 (omega arith) refl),
+                                                                                                                        125,
                                                                                                                         (
-                                                                                                                          150,
-                                                                                                                          (at_once 150),
+                                                                                                                          115,
+                                                                                                                          (at_seek (instr.Local (record { 0 = 4 })) refl (λ ss. refl)),
                                                                                                                           (
-                                                                                                                            159,
+                                                                                                                            116,
+                                                                                                                            refl,
                                                                                                                             (
-                                                                                                                              151,
-                                                                                                                              refl,
+                                                                                                                              117,
+                                                                                                                              (at_split (instr.JumpUnless (record { 0 = 125 })) refl (λ ss. refl) (λ ss. refl)),
                                                                                                                               (
-                                                                                                                                row_3,
-                                                                                                                                (record { depth = refl; always = refl; around = tt }),
+                                                                                                                                118,
+                                                                                                                                refl,
                                                                                                                                 (
-                                                                                                                                  153,
+                                                                                                                                  119,
+                                                                                                                                  refl,
                                                                                                                                   (
-                                                                                                                                    153,
+                                                                                                                                    123,
                                                                                                                                     (
-                                                                                                                                      (begins_at 33 (omega arith) refl),
+                                                                                                                                      (begins_at 26 (omega arith) refl),
                                                                                                                                       (
-                                                                                                                                        151,
-                                                                                                                                        (at_once 151),
+                                                                                                                                        121,
+                                                                                                                                        (never_left 119 120 121 true (at_truth (instr.Const (record { 0 = 2 })) refl (λ ss. refl)) (at_lead (instr.JumpUnless (record { 0 = 123 })) refl (λ ss. refl))),
                                                                                                                                         (
-                                                                                                                                          153,
+                                                                                                                                          123,
                                                                                                                                           (
-                                                                                                                                            152,
+                                                                                                                                            122,
                                                                                                                                             (at_seek (instr.Local (record { 0 = 1 })) refl (λ ss. refl)),
                                                                                                                                             refl,
                                                                                                                                           ),
@@ -865,27 +672,208 @@ stands = (
                                                                                                                                         ),
                                                                                                                                       ),
                                                                                                                                     ),
-                                                                                                                                    refl,
-                                                                                                                                  ),
-                                                                                                                                  refl,
-                                                                                                                                ),
-                                                                                                                                (
-                                                                                                                                  158,
-                                                                                                                                  (
-                                                                                                                                    (begins_at 34 (omega arith) refl),
                                                                                                                                     (
-                                                                                                                                      156,
-                                                                                                                                      (never_left 154 155 156 true (at_truth (instr.Const (record { 0 = 2 })) refl (λ ss. refl)) (at_lead (instr.JumpUnless (record { 0 = 158 })) refl (λ ss. refl))),
+                                                                                                                                      124,
+                                                                                                                                      refl,
+                                                                                                                                      refl,
+                                                                                                                                    ),
+                                                                                                                                  ),
+                                                                                                                                ),
+                                                                                                                              ),
+                                                                                                                            ),
+                                                                                                                          ),
+                                                                                                                        ),
+                                                                                                                        (
+                                                                                                                          134,
+                                                                                                                          (
+                                                                                                                            126,
+                                                                                                                            (at_null (instr.Const (record { 0 = 3 })) refl (λ ss. refl)),
+                                                                                                                            (
+                                                                                                                              127,
+                                                                                                                              refl,
+                                                                                                                              (
+                                                                                                                                128,
+                                                                                                                                (at_split (instr.JumpUnless (record { 0 = 134 })) refl (λ ss. refl) (λ ss. refl)),
+                                                                                                                                (
+                                                                                                                                  129,
+                                                                                                                                  refl,
+                                                                                                                                  (
+                                                                                                                                    130,
+                                                                                                                                    refl,
+                                                                                                                                    (
+                                                                                                                                      132,
                                                                                                                                       (
-                                                                                                                                        158,
+                                                                                                                                        (begins_at 27 (omega arith) refl),
                                                                                                                                         (
-                                                                                                                                          157,
-                                                                                                                                          (at_null (instr.Const (record { 0 = 3 })) refl (λ ss. refl)),
-                                                                                                                                          refl,
+                                                                                                                                          130,
+                                                                                                                                          (at_once 130),
+                                                                                                                                          (
+                                                                                                                                            132,
+                                                                                                                                            (
+                                                                                                                                              131,
+                                                                                                                                              (at_seek (instr.Local (record { 0 = 1 })) refl (λ ss. refl)),
+                                                                                                                                              refl,
+                                                                                                                                            ),
+                                                                                                                                            refl,
+                                                                                                                                          ),
                                                                                                                                         ),
+                                                                                                                                      ),
+                                                                                                                                      (
+                                                                                                                                        133,
+                                                                                                                                        refl,
                                                                                                                                         refl,
                                                                                                                                       ),
                                                                                                                                     ),
+                                                                                                                                  ),
+                                                                                                                                ),
+                                                                                                                              ),
+                                                                                                                            ),
+                                                                                                                          ),
+                                                                                                                          (135, refl),
+                                                                                                                        ),
+                                                                                                                      ),
+                                                                                                                    ),
+                                                                                                                  ),
+                                                                                                                ),
+                                                                                                                refl,
+                                                                                                              ),
+                                                                                                            ),
+                                                                                                          ),
+                                                                                                          refl,
+                                                                                                        ),
+                                                                                                        refl,
+                                                                                                      ),
+                                                                                                      (
+                                                                                                        138,
+                                                                                                        (
+                                                                                                          (begins_at 28 (omega arith) refl),
+                                                                                                          (
+                                                                                                            136,
+                                                                                                            (at_once 136),
+                                                                                                            (
+                                                                                                              138,
+                                                                                                              (
+                                                                                                                137,
+                                                                                                                (at_seek (instr.Local (record { 0 = 1 })) refl (λ ss. refl)),
+                                                                                                                refl,
+                                                                                                              ),
+                                                                                                              refl,
+                                                                                                            ),
+                                                                                                          ),
+                                                                                                        ),
+                                                                                                        refl,
+                                                                                                      ),
+                                                                                                    ),
+                                                                                                  ),
+                                                                                                  refl,
+                                                                                                ),
+                                                                                              ),
+                                                                                            ),
+                                                                                          ),
+                                                                                          (140, refl, refl),
+                                                                                          (
+                                                                                            (begins_at 29 (omega arith) refl),
+                                                                                            (141, (at_once 141), (142, refl, refl)),
+                                                                                          ),
+                                                                                        ),
+                                                                                      ),
+                                                                                      (
+                                                                                        (begins_at 30 (omega arith) refl),
+                                                                                        (
+                                                                                          142,
+                                                                                          (at_once 142),
+                                                                                          (
+                                                                                            165,
+                                                                                            (
+                                                                                              row_5,
+                                                                                              (record { depth = refl; always = refl; around = tt }),
+                                                                                              (
+                                                                                                143,
+                                                                                                (at_seek (instr.Local (record { 0 = 1 })) refl (λ ss. refl)),
+                                                                                                (
+                                                                                                  144,
+                                                                                                  refl,
+                                                                                                  (
+                                                                                                    147,
+                                                                                                    (
+                                                                                                      145,
+                                                                                                      (at_unpack (instr.Unpack 2) refl (λ v ss. refl)),
+                                                                                                      (
+                                                                                                        146,
+                                                                                                        (at_store (instr.SetLocal (record { 0 = 2 })) refl (λ v ss. refl)),
+                                                                                                        (
+                                                                                                          147,
+                                                                                                          (at_store (instr.SetLocal (record { 0 = 3 })) refl (λ v ss. refl)),
+                                                                                                          refl,
+                                                                                                        ),
+                                                                                                      ),
+                                                                                                    ),
+                                                                                                    (
+                                                                                                      162,
+                                                                                                      (
+                                                                                                        row_4,
+                                                                                                        (record { depth = refl; always = refl; around = tt }),
+                                                                                                        (
+                                                                                                          148,
+                                                                                                          (at_seek (instr.Local (record { 0 = 4 })) refl (λ ss. refl)),
+                                                                                                          (
+                                                                                                            149,
+                                                                                                            refl,
+                                                                                                            (
+                                                                                                              150,
+                                                                                                              refl,
+                                                                                                              (
+                                                                                                                159,
+                                                                                                                (
+                                                                                                                  (begins_at 31 (omega arith) refl),
+                                                                                                                  (
+                                                                                                                    150,
+                                                                                                                    (at_once 150),
+                                                                                                                    (
+                                                                                                                      159,
+                                                                                                                      (
+                                                                                                                        151,
+                                                                                                                        refl,
+                                                                                                                        (
+                                                                                                                          row_3,
+                                                                                                                          (record { depth = refl; always = refl; around = tt }),
+                                                                                                                          (
+                                                                                                                            153,
+                                                                                                                            (
+                                                                                                                              153,
+                                                                                                                              (
+                                                                                                                                (begins_at 32 (omega arith) refl),
+                                                                                                                                (
+                                                                                                                                  151,
+                                                                                                                                  (at_once 151),
+                                                                                                                                  (
+                                                                                                                                    153,
+                                                                                                                                    (
+                                                                                                                                      152,
+                                                                                                                                      (at_seek (instr.Local (record { 0 = 1 })) refl (λ ss. refl)),
+                                                                                                                                      refl,
+                                                                                                                                    ),
+                                                                                                                                    refl,
+                                                                                                                                  ),
+                                                                                                                                ),
+                                                                                                                              ),
+                                                                                                                              refl,
+                                                                                                                            ),
+                                                                                                                            refl,
+                                                                                                                          ),
+                                                                                                                          (
+                                                                                                                            158,
+                                                                                                                            (
+                                                                                                                              (begins_at 33 (omega arith) refl),
+                                                                                                                              (
+                                                                                                                                156,
+                                                                                                                                (never_left 154 155 156 true (at_truth (instr.Const (record { 0 = 2 })) refl (λ ss. refl)) (at_lead (instr.JumpUnless (record { 0 = 158 })) refl (λ ss. refl))),
+                                                                                                                                (
+                                                                                                                                  158,
+                                                                                                                                  (
+                                                                                                                                    157,
+                                                                                                                                    (at_null (instr.Const (record { 0 = 3 })) refl (λ ss. refl)),
+                                                                                                                                    refl,
                                                                                                                                   ),
                                                                                                                                   refl,
                                                                                                                                 ),
@@ -899,104 +887,105 @@ stands = (
                                                                                                                     ),
                                                                                                                   ),
                                                                                                                 ),
+                                                                                                                refl,
                                                                                                               ),
-                                                                                                              (161, refl, refl),
                                                                                                             ),
-                                                                                                            refl,
+                                                                                                          ),
+                                                                                                        ),
+                                                                                                        (161, refl, refl),
+                                                                                                      ),
+                                                                                                      refl,
+                                                                                                    ),
+                                                                                                  ),
+                                                                                                ),
+                                                                                              ),
+                                                                                              (164, refl, refl),
+                                                                                            ),
+                                                                                            (
+                                                                                              (begins_at 34 (omega arith) refl),
+                                                                                              (
+                                                                                                165,
+                                                                                                (at_once 165),
+                                                                                                (
+                                                                                                  173,
+                                                                                                  (
+                                                                                                    166,
+                                                                                                    (at_seek (instr.Local (record { 0 = 1 })) refl (λ ss. refl)),
+                                                                                                    (
+                                                                                                      167,
+                                                                                                      (at_seek (instr.Local (record { 0 = 2 })) refl (λ ss. refl)),
+                                                                                                      (
+                                                                                                        170,
+                                                                                                        (
+                                                                                                          168,
+                                                                                                          (at_seek (instr.Local (record { 0 = 3 })) refl (λ ss. refl)),
+                                                                                                          (
+                                                                                                            169,
+                                                                                                            (at_cell (instr.PushCell (record { 0 = 0 })) refl (λ ss. refl)),
+                                                                                                            (of_both (instr.MakeFunction (record { 0 = 1 }) 1 (record { 0 = 0 })) refl (λ ss. refl)),
+                                                                                                          ),
+                                                                                                        ),
+                                                                                                        (
+                                                                                                          171,
+                                                                                                          (of_values (instr.Call 1) refl (λ ss. refl)),
+                                                                                                          (
+                                                                                                            172,
+                                                                                                            (of_values (instr.Call 1) refl (λ ss. refl)),
+                                                                                                            (at_store (instr.SetLocal (record { 0 = 9 })) refl (λ v ss. refl)),
                                                                                                           ),
                                                                                                         ),
                                                                                                       ),
                                                                                                     ),
-                                                                                                    (164, refl, refl),
                                                                                                   ),
                                                                                                   (
                                                                                                     (begins_at 35 (omega arith) refl),
                                                                                                     (
-                                                                                                      165,
-                                                                                                      (at_once 165),
+                                                                                                      173,
+                                                                                                      (at_once 173),
                                                                                                       (
-                                                                                                        173,
+                                                                                                        177,
                                                                                                         (
-                                                                                                          166,
-                                                                                                          (at_seek (instr.Local (record { 0 = 1 })) refl (λ ss. refl)),
+                                                                                                          174,
+                                                                                                          (at_null (instr.Const (record { 0 = 3 })) refl (λ ss. refl)),
                                                                                                           (
-                                                                                                            167,
-                                                                                                            (at_seek (instr.Local (record { 0 = 2 })) refl (λ ss. refl)),
+                                                                                                            176,
                                                                                                             (
-                                                                                                              170,
-                                                                                                              (
-                                                                                                                168,
-                                                                                                                (at_seek (instr.Local (record { 0 = 3 })) refl (λ ss. refl)),
-                                                                                                                (
-                                                                                                                  169,
-                                                                                                                  (at_cell (instr.PushCell (record { 0 = 0 })) refl (λ ss. refl)),
-                                                                                                                  (of_both (instr.MakeFunction (record { 0 = 1 }) 1 (record { 0 = 0 })) refl (λ ss. refl)),
-                                                                                                                ),
-                                                                                                              ),
-                                                                                                              (
-                                                                                                                171,
-                                                                                                                (of_values (instr.Call 1) refl (λ ss. refl)),
-                                                                                                                (
-                                                                                                                  172,
-                                                                                                                  (of_values (instr.Call 1) refl (λ ss. refl)),
-                                                                                                                  (at_store (instr.SetLocal (record { 0 = 9 })) refl (λ v ss. refl)),
-                                                                                                                ),
-                                                                                                              ),
+                                                                                                              175,
+                                                                                                              (at_cell (instr.PushCell (record { 0 = 0 })) refl (λ ss. refl)),
+                                                                                                              (of_class (instr.MakeClass (record { 0 = 2 })) refl (λ ss. refl)),
                                                                                                             ),
+                                                                                                            (at_store (instr.SetLocal (record { 0 = 10 })) refl (λ v ss. refl)),
                                                                                                           ),
                                                                                                         ),
                                                                                                         (
                                                                                                           (begins_at 36 (omega arith) refl),
                                                                                                           (
-                                                                                                            173,
-                                                                                                            (at_once 173),
+                                                                                                            177,
+                                                                                                            (at_once 177),
                                                                                                             (
-                                                                                                              177,
+                                                                                                              183,
                                                                                                               (
-                                                                                                                174,
-                                                                                                                (at_null (instr.Const (record { 0 = 3 })) refl (λ ss. refl)),
+                                                                                                                178,
+                                                                                                                (at_seek (instr.Local (record { 0 = 1 })) refl (λ ss. refl)),
                                                                                                                 (
-                                                                                                                  176,
+                                                                                                                  179,
+                                                                                                                  (at_seek (instr.Local (record { 0 = 2 })) refl (λ ss. refl)),
                                                                                                                   (
-                                                                                                                    175,
-                                                                                                                    (at_cell (instr.PushCell (record { 0 = 0 })) refl (λ ss. refl)),
-                                                                                                                    (of_class (instr.MakeClass (record { 0 = 2 })) refl (λ ss. refl)),
-                                                                                                                  ),
-                                                                                                                  (at_store (instr.SetLocal (record { 0 = 10 })) refl (λ v ss. refl)),
-                                                                                                                ),
-                                                                                                              ),
-                                                                                                              (
-                                                                                                                (begins_at 37 (omega arith) refl),
-                                                                                                                (
-                                                                                                                  177,
-                                                                                                                  (at_once 177),
-                                                                                                                  (
-                                                                                                                    183,
+                                                                                                                    181,
                                                                                                                     (
-                                                                                                                      178,
-                                                                                                                      (at_seek (instr.Local (record { 0 = 1 })) refl (λ ss. refl)),
-                                                                                                                      (
-                                                                                                                        179,
-                                                                                                                        (at_seek (instr.Local (record { 0 = 2 })) refl (λ ss. refl)),
-                                                                                                                        (
-                                                                                                                          181,
-                                                                                                                          (
-                                                                                                                            180,
-                                                                                                                            (at_cell (instr.PushCell (record { 0 = 0 })) refl (λ ss. refl)),
-                                                                                                                            (of_class (instr.MakeClass (record { 0 = 3 })) refl (λ ss. refl)),
-                                                                                                                          ),
-                                                                                                                          (
-                                                                                                                            182,
-                                                                                                                            (of_values (instr.Call 1) refl (λ ss. refl)),
-                                                                                                                            (at_store (instr.SetLocal (record { 0 = 11 })) refl (λ v ss. refl)),
-                                                                                                                          ),
-                                                                                                                        ),
-                                                                                                                      ),
+                                                                                                                      180,
+                                                                                                                      (at_cell (instr.PushCell (record { 0 = 0 })) refl (λ ss. refl)),
+                                                                                                                      (of_class (instr.MakeClass (record { 0 = 3 })) refl (λ ss. refl)),
                                                                                                                     ),
-                                                                                                                    refl,
+                                                                                                                    (
+                                                                                                                      182,
+                                                                                                                      (of_values (instr.Call 1) refl (λ ss. refl)),
+                                                                                                                      (at_store (instr.SetLocal (record { 0 = 11 })) refl (λ v ss. refl)),
+                                                                                                                    ),
                                                                                                                   ),
                                                                                                                 ),
                                                                                                               ),
+                                                                                                              ((begins_at 37 (omega arith) refl), (184, (behind_nop 183 184 refl), (184, refl, refl))),
                                                                                                             ),
                                                                                                           ),
                                                                                                         ),
@@ -1051,5 +1040,5 @@ stands = (
       ),
     ),
   ),
-  (184, (at_null (instr.Const (record { 0 = 3 })) refl (λ ss. refl)), refl),
+  (185, (at_null (instr.Const (record { 0 = 3 })) refl (λ ss. refl)), refl),
 )

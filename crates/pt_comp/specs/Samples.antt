@@ -25,7 +25,7 @@ use Rattle.pt_comp_expr.specs.Samples.{cell}
 -- del a, b.x, c[d]
 -- import m, n as o
 -- from m import p, q as r
--- global a
+--
 -- if a:
 --     pass
 -- elif b:
@@ -68,6 +68,7 @@ use Rattle.pt_comp_expr.specs.Samples.{cell}
 -- @a
 -- class L(b):
 --     pass
+-- global a
 abbrev pub every_statement : Stms
 every_statement =
     (S.more (S.assign 1 (S.more_targets (S.single (S.attribute_at 1 (S.name 1 (codes "a")) (codes "x"))) (S.more_targets (S.several 1 S.as_tuple
@@ -87,7 +88,7 @@ every_statement =
       name =
           codes "q";
       alias = (Some (codes "r"));
-    }) ∷ []))) (S.more (S.global 12 ((codes "a") ∷ [])) (S.more (S.choice 13 (S.branch 13 (S.name 13 (codes
+    }) ∷ []))) (S.more (S.choice 13 (S.branch 13 (S.name 13 (codes
     "a")) (S.more (S.pass 14) S.none) (S.branch 15 (S.name 15 (codes "b")) (S.more (S.raise_again 16) S.none) S.no_branches)) (S.more (S.raise 18
     (S.name 18 (codes "a")) (S.given (S.name 18 (codes "b")))) S.none)) (S.more (S.while 19 (S.name 19 (codes "a")) (S.more (S.choice 20 (S.branch 20
     (S.name 20 (codes "b")) (S.more (S.break 21) S.none) S.no_branches) S.none) (S.more (S.continue 22) S.none)) (S.more (S.raise 24 (S.name 24 (codes
@@ -102,7 +103,7 @@ every_statement =
     (codes "b")) S.no_decorators)) 48 1 (codes "f") (S.parameters (S.formal 48 (codes "x") S.absent S.absent (S.formal 48 (codes "y") S.absent
     (S.given (S.name 48 (codes "c"))) S.no_formals)) None S.no_formals None) S.absent (S.more (S.pass 49) S.none)) (S.more (S.class 50 S.no_decorators
     50 2 (codes "K") S.absent (S.more (S.pass 51) S.none)) (S.more (S.class 52 (S.decorator 52 (S.name 52 (codes "a")) S.no_decorators) 53 3 (codes
-    "L") (S.given (S.name 53 (codes "b"))) (S.more (S.pass 54) S.none)) S.none)))))))))))))))))))
+    "L") (S.given (S.name 53 (codes "b"))) (S.more (S.pass 54) S.none)) (S.more (S.global 55 ((codes "a") ∷ [])) S.none)))))))))))))))))))
 
 abbrev pub row_0 : Handler
 row_0 = record { from = record { 0 = 94 }; to = record { 0 = 97 }; target = record { 0 = 99 }; depth = 1; always = false }
@@ -182,7 +183,7 @@ placed =
     moves (instr.Const (record { 0 = 3 })) ∷ moves (instr.PushCell (record { 0 = 0 })) ∷ acts 108 50 (instr.MakeClass (record { 0 = 2 })) ∷
     acts 109 50 (instr.SetLocal (record { 0 = 10 })) ∷ acts 110 52 (instr.Local (record { 0 = 1 })) ∷ acts 111 53 (instr.Local (record { 0 = 2 })) ∷
     moves (instr.PushCell (record { 0 = 0 })) ∷ acts 112 53 (instr.MakeClass (record { 0 = 3 })) ∷ acts 113 52 (instr.Call 1) ∷
-    acts 114 53 (instr.SetLocal (record { 0 = 11 })) ∷ moves (instr.Const (record { 0 = 3 })) ∷ moves instr.Return ∷ []
+    acts 114 53 (instr.SetLocal (record { 0 = 11 })) ∷ moves instr.Nop ∷ moves (instr.Const (record { 0 = 3 })) ∷ moves instr.Return ∷ []
 
 abbrev constants : List Constant
 constants = (constant.Int (pos 0)) ∷ (constant.Int (pos 1)) ∷ (constant.Bool true) ∷ constant.None ∷ []
@@ -202,9 +203,9 @@ start p l = record { pc = record { 0 = p }; line = record { 0 = l } }
 abbrev pub every_statement_starts : List Start
 every_statement_starts =
     start 0 1 ∷ start 11 2 ∷ start 15 3 ∷ start 22 4 ∷ start 30 5 ∷ start 31 6 ∷ start 33 7 ∷ start 36 8 ∷ start 40 9 ∷ start 46 10 ∷ start 50 11 ∷
-    start 56 12 ∷ start 56 13 ∷ start 58 14 ∷ start 62 16 ∷ start 66 18 ∷ start 71 19 ∷ start 73 20 ∷ start 75 21 ∷ start 79 22 ∷ start 84 24 ∷
+    start 56 13 ∷ start 58 14 ∷ start 62 16 ∷ start 66 18 ∷ start 71 19 ∷ start 73 20 ∷ start 75 21 ∷ start 79 22 ∷ start 84 24 ∷
     start 88 25 ∷ start 92 26 ∷ start 93 27 ∷ start 94 28 ∷ start 97 36 ∷ start 104 30 ∷ start 119 32 ∷ start 130 34 ∷ start 136 38 ∷ start 141 40 ∷
-    start 142 41 ∷ start 150 42 ∷ start 151 43 ∷ start 154 45 ∷ start 165 46 ∷ start 173 50 ∷ start 177 52 ∷ []
+    start 142 41 ∷ start 150 42 ∷ start 151 43 ∷ start 154 45 ∷ start 165 46 ∷ start 173 50 ∷ start 177 52 ∷ start 183 55 ∷ []
 
 -- how many slots lie where loops go on and end
 abbrev depths : List ℕ

@@ -161,15 +161,17 @@ judged false false true e = absurd cc
 judged false false false e = (refl, refl)
 
 module _ {V : Type 0} (block : Around V) (code : CodeObject V) where
-  landed : (c : Code) (table : List Start) (sh : Shape) (xs : List Surroundings) (place : Nest V) (σ τ : Slots V) (line : ℕ) (k : Way V)
-      → (l : Landing block code c table line k) → xs ≡ l.stands.endings → Filled code sh xs place σ → Above σ τ
-      → Level (parts place) (parts place) → Level (parts place) (parts l.target.within) → verdict (parts place) (parts l.target.within) ≡ permitted
-      → at_target l.target (filled l.target.within (kept place)) ≡ lands k
-      → Comes block code (go block k) (on l.stands.place (cut (length (parts l.target.within)) τ))
-  landed c table sh xs place σ τ line k l same_endings f a up us ok e =
-      let t = l.target in
-      let r = jump_lands c line place t l.first ok in
-      let is : F.stms t.n t.ss r.nest ≡ k = let x : lands (F.stms t.n t.ss r.nest) ≡ lands k = ap (at_target t) (sym r.filled_so) ∙ e in cc in
+  -- the slots of the place, cut, are those of the target's nest, where what the left parts hold is no completion
+  pub record Cut_at (t : Target) (place : Nest V) (xs : List Surroundings) (τ : Slots V) (r : jumps.Landing t place) : Type 0 where
+    pub left : List (Part × Held V)
+    pub outer : kept place ≡ left ++ kept r.nest
+    pub no_finally : NoFinally left
+    pub same_parts : parts t.within ≡ parts r.nest
+    pub fills : Filled code t.within xs r.nest (cut (length (parts t.within)) τ)
+
+  pub cut_at : (t : Target) (sh : Shape) (xs : List Surroundings) (place : Nest V) (σ τ : Slots V) (r : jumps.Landing t place) → Filled code sh xs place σ → Above σ τ
+      → Level (parts place) (parts place) → Level (parts place) (parts t.within) → verdict (parts place) (parts t.within) ≡ permitted → Cut_at t place xs τ r
+  cut_at t sh xs place σ τ r f a up us ok =
       let sp : parts t.within ≡ parts r.nest = ap parts (sym r.shaped) ∙ shape_parts r.nest in
       let v = judged _ _ _ ok in
       let held = subst (λ ps. list_any (λ q. is_final q && not (has ps q)) (parts place) ≡ false) sp v.0 in
@@ -181,8 +183,24 @@ module _ {V : Type 0} (block : Around V) (code : CodeObject V) where
       let o = outer_parts place r.nest held up us' ut r.keeps in
       let cuts : Filled code (shape r.nest) xs r.nest (cut (length (kept r.nest)) τ) = slots_are_cut code sh xs place r.nest σ τ f a o.0 o.1 o.2 in
       let n : length (kept r.nest) ≡ length (parts t.within) = sym (length-map (kept r.nest) (λ k. k.0)) ∙ ap length (sym sp) in
-      let shaped : Filled code t.within xs r.nest (cut (length (parts t.within)) τ) =
-      subst (λ d. Filled code t.within xs r.nest (cut d τ)) n (subst (λ h. Filled code h xs r.nest (cut (length (kept r.nest)) τ)) r.shaped cuts) in
+      record {
+        left = o.0;
+        outer = o.1;
+        no_finally = o.2;
+        same_parts = sp;
+        fills = subst (λ d. Filled code t.within xs r.nest (cut d τ)) n (subst (λ h. Filled code h xs r.nest (cut (length (kept r.nest)) τ)) r.shaped cuts);
+      }
+
+  landed : (c : Code) (table : List Start) (sh : Shape) (xs : List Surroundings) (place : Nest V) (σ τ : Slots V) (line : ℕ) (k : Way V)
+      → (l : Landing block code c table line k) → xs ≡ l.stands.endings → Filled code sh xs place σ → Above σ τ
+      → Level (parts place) (parts place) → Level (parts place) (parts l.target.within) → verdict (parts place) (parts l.target.within) ≡ permitted
+      → at_target l.target (filled l.target.within (kept place)) ≡ lands k
+      → Comes block code (go block k) (on l.stands.place (cut (length (parts l.target.within)) τ))
+  landed c table sh xs place σ τ line k l same_endings f a up us ok e =
+      let t = l.target in
+      let r = jump_lands c line place t l.first ok in
+      let is : F.stms t.n t.ss r.nest ≡ k = let x : lands (F.stms t.n t.ss r.nest) ≡ lands k = ap (at_target t) (sym r.filled_so) ∙ e in cc in
+      let shaped = (cut_at t sh xs place σ τ r f a up us ok).fills in
       let ended : Filled code t.within l.stands.endings r.nest (cut (length (parts t.within)) τ) =
       subst (λ ys. Filled code t.within ys r.nest (cut (length (parts t.within)) τ)) same_endings shaped in
       l.comes _ (subst (λ (w : Way V). Filled code t.within l.stands.endings (way_base w) (cut (length (parts t.within)) τ)) is ended)

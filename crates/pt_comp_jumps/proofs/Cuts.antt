@@ -3,14 +3,14 @@ use Rattle.std.proofs.Common.{◌≡◌, ℕ, suc, ◌-◌, List, [], ◌∷◌,
 use Rattle.std.proofs.lemmas.List.{length-append}
 use Rattle.pt_control.specs.Frames as F
 use Rattle.pt_control.specs.Frames.{Nest}
-use Rattle.pt_control.specs.Jump.{Part, for_part, with_part, handler_part, finally_part, Held, iterator, exception, completion, exit, kept, shape}
+use Rattle.pt_control.specs.Jump.{Part, for_part, with_part, tests_part, handler_part, finally_part, Held, iterator, exception, completion, exit, kept, shape}
 use Rattle.pt_slots.specs.Slots as S
 use Rattle.pt_slots.specs.Slots.{Slots}
 use Rattle.pt_slots.specs.CodeObject.{CodeObject}
 use Rattle.pt_slots.specs.Landing.{cut}
 use Rattle.pt_comp.specs.Surroundings.{Surroundings, held_as, May_hold}
 use Rattle.pt_comp.specs.Law.{Above, level, raised_by}
-use Rattle.pt_comp_jumps.specs.Filled.{Filled, of_none, of_rest, of_looping, of_iterating, of_guarded, of_handling, of_naming, of_ensuring, of_ending, of_withing}
+use Rattle.pt_comp_jumps.specs.Filled.{Filled, of_none, of_rest, of_looping, of_iterating, of_guarded, of_testing, of_handling, of_naming, of_ensuring, of_ending, of_withing}
 use Rattle.pt_comp_jumps.specs.Law.{NoFinally, SlotsAreCut}
 
 module _ {A : Type 0} where
@@ -28,6 +28,7 @@ module _ {V : Type 0} (code : CodeObject V) where
   abbrev Keeps : Part → Held V → (List Surroundings → Type 0) → List Surroundings → Type 0
   Keeps (for_part n) (iterator i) f xs = f xs
   Keeps (with_part n) (exit w) f xs = f xs
+  Keeps (tests_part n) (exception e) f xs = f xs
   Keeps (handler_part n) (exception e) f xs = f xs
   Keeps (finally_part n) (completion c) f (x ∷ xs) = May_hold code c x × f xs
   Keeps q h f xs = ⊥
@@ -40,6 +41,7 @@ module _ {V : Type 0} (code : CodeObject V) where
   abbrev slot_above : Part → Held V → (List Surroundings → Slots V) → List Surroundings → Slots V
   slot_above (for_part n) (iterator i) f xs = S.iterator i ∷ f xs
   slot_above (with_part n) (exit w) f xs = S.exit w ∷ f xs
+  slot_above (tests_part n) (exception e) f xs = S.exception e ∷ f xs
   slot_above (handler_part n) (exception e) f xs = S.exception e ∷ f xs
   slot_above (finally_part n) (completion c) f (x ∷ xs) = S.pending (held_as c x) ∷ f xs
   slot_above q h f xs = []
@@ -55,6 +57,7 @@ module _ {V : Type 0} (code : CodeObject V) where
   filled_keeps (of_looping l n c body els sh xs s σ f) = filled_keeps f
   filled_keeps (of_iterating l n i t body els sh xs s σ f) = let r = filled_keeps f in (ap (λ τ. S.iterator i ∷ τ) r.0, r.1)
   filled_keeps (of_guarded n hs els sh xs s σ f) = filled_keeps f
+  filled_keeps (of_testing n e sh xs s σ f) = let r = filled_keeps f in (ap (λ τ. S.exception e ∷ τ) r.0, r.1)
   filled_keeps (of_handling n e sh xs s σ f) = let r = filled_keeps f in (ap (λ τ. S.exception e ∷ τ) r.0, r.1)
   filled_keeps (of_naming y sh xs s σ f) = filled_keeps f
   filled_keeps (of_ensuring t n fin sh xs s σ f) = filled_keeps f
@@ -68,7 +71,7 @@ module _ {V : Type 0} (code : CodeObject V) where
   fill (F.looping l n c body els ∷ s) xs m = of_looping l n c body els (shape s) xs s _ (fill s xs m)
   fill (F.iterating l n i t body els ∷ s) xs m = of_iterating l n i t body els (shape s) xs s _ (fill s xs m)
   fill (F.guarded n hs els ∷ s) xs m = of_guarded n hs els (shape s) xs s _ (fill s xs m)
-  fill (F.testing n e ∷ s) xs m = absurd m
+  fill (F.testing n e ∷ s) xs m = of_testing n e (shape s) xs s _ (fill s xs m)
   fill (F.handling n e ∷ s) xs m = of_handling n e (shape s) xs s _ (fill s xs m)
   fill (F.naming y ∷ s) xs m = of_naming y (shape s) xs s _ (fill s xs m)
   fill (F.ensuring t n fin ∷ s) xs m = of_ensuring t n fin (shape s) xs s _ (fill s xs m)
@@ -82,6 +85,7 @@ module _ {V : Type 0} (code : CodeObject V) where
   count [] xs m = refl
   count ((for_part n, iterator i) ∷ ks) xs m = ap suc (count ks xs m)
   count ((with_part n, exit w) ∷ ks) xs m = ap suc (count ks xs m)
+  count ((tests_part n, exception e) ∷ ks) xs m = ap suc (count ks xs m)
   count ((handler_part n, exception e) ∷ ks) xs m = ap suc (count ks xs m)
   count ((finally_part n, completion c) ∷ ks) (x ∷ xs) m = ap suc (count ks xs m.1)
   count (k ∷ ks) xs m = absurd m
@@ -92,6 +96,7 @@ module _ {V : Type 0} (code : CodeObject V) where
   outer [] ks xs u m = (m, ([], refl))
   outer ((for_part n, iterator i) ∷ left) ks xs u m = let r = outer left ks xs u m in (r.0, (S.iterator i ∷ r.1.0, ap (λ τ. S.iterator i ∷ τ) r.1.1))
   outer ((with_part n, exit w) ∷ left) ks xs u m = let r = outer left ks xs u m in (r.0, (S.exit w ∷ r.1.0, ap (λ τ. S.exit w ∷ τ) r.1.1))
+  outer ((tests_part n, exception e) ∷ left) ks xs u m = let r = outer left ks xs u m in (r.0, (S.exception e ∷ r.1.0, ap (λ τ. S.exception e ∷ τ) r.1.1))
   outer ((handler_part n, exception e) ∷ left) ks xs u m = let r = outer left ks xs u m in (r.0, (S.exception e ∷ r.1.0, ap (λ τ. S.exception e ∷ τ) r.1.1))
   outer ((finally_part n, completion c) ∷ left) ks xs u m = absurd cc
   outer (k ∷ left) ks xs u m = absurd m

@@ -29,6 +29,8 @@ module _ {V : Type 0} (code : CodeObject V) where
     of_guarded : (n : ℕ) (hs : Handlers) (els : Stms) (sh : Shape) (xs : List Surroundings)
         (s : Nest V) (σ : Slots V) → Filled sh xs s σ
         → Filled (F.guarded n hs els ∷ sh) xs (F.guarded n hs els ∷ s) σ
+    of_testing : (n : ℕ) (e : V) (sh : Shape) (xs : List Surroundings) (s : Nest V) (σ : Slots V)
+        → Filled sh xs s σ → Filled (F.testing n tt ∷ sh) xs (F.testing n e ∷ s) (exception e ∷ σ)
     of_handling : (n : ℕ) (e : V) (sh : Shape) (xs : List Surroundings) (s : Nest V) (σ : Slots V)
         → Filled sh xs s σ → Filled (F.handling n tt ∷ sh) xs (F.handling n e ∷ s) (exception e ∷ σ)
     of_naming : (y : Name) (sh : Shape) (xs : List Surroundings) (s : Nest V) (σ : Slots V)

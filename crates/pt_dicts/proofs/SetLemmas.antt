@@ -9,6 +9,7 @@ use Rattle.pt_heap.specs.declared.value.Value.{Value}
 use Rattle.pt_heap.specs.declared.dict.DictErr.{DictErr}
 use Rattle.pt_heap.specs.declared.dict.DictErr.TheVariants.{Length, Memory}
 use Rattle.pt_heap.specs.Entries.{Entry, found, HaveDistinctKeys}
+use Rattle.pt_heap.specs.Limits.{entry_limit}
 use Rattle.pt_heap.proofs.HoleLemmas.{bytes_eq_equiv}
 use Rattle.pt_dicts.specs.declared.sets.Choice.{Choice}
 use Rattle.pt_dicts.specs.declared.sets.Choice.TheVariants.{All}
@@ -16,28 +17,28 @@ use Rattle.pt_dicts.specs.Combine.{has, difference, limited}
 use Rattle.pt_dicts.specs.Adding.{is_chosen, chosen, AreNew, Adds}
 
 -- where there are few enough, and where there are too many
-pub limited-ok : (es : List Entry) → length es ≤ 4194304 → limited es ≡ Ok es
-limited-ok es h = ap (λ b. cond b (Err Length) (Ok es)) (by (nat_lt 4194304 (length es)) refl)
+pub limited-ok : (es : List Entry) → length es ≤ entry_limit → limited es ≡ Ok es
+limited-ok es h = ap (λ b. cond b (Err Length) (Ok es)) (by (nat_lt entry_limit (length es)) refl)
   where
-    by : (b : Bool) → nat_lt 4194304 (length es) ≡ b → nat_lt 4194304 (length es) ≡ false
-    by true e = absurd (omega (arith, ltb-true 4194304 (length es) e, h))
+    by : (b : Bool) → nat_lt entry_limit (length es) ≡ b → nat_lt entry_limit (length es) ≡ false
+    by true e = absurd (omega (arith, ltb-true entry_limit (length es) e, h))
     by false e = e
 
-pub limited-err : (es : List Entry) → 4194304 < length es → limited es ≡ Err Length
-limited-err es h = ap (λ b. cond b (Err Length) (Ok es)) (lt-ltb 4194304 (length es) h)
+pub limited-err : (es : List Entry) → entry_limit < length es → limited es ≡ Err Length
+limited-err es h = ap (λ b. cond b (Err Length) (Ok es)) (lt-ltb entry_limit (length es) h)
 
-pub limited-within : (es new : List Entry) → limited es ≡ Ok new → (new ≡ es) × (length es ≤ 4194304)
-limited-within es new e = by (nat_lt 4194304 (length es)) refl e
+pub limited-within : (es new : List Entry) → limited es ≡ Ok new → (new ≡ es) × (length es ≤ entry_limit)
+limited-within es new e = by (nat_lt entry_limit (length es)) refl e
   where
-    by : (b : Bool) → nat_lt 4194304 (length es) ≡ b → cond b (Err Length) (Ok es) ≡ Ok new → (new ≡ es) × (length es ≤ 4194304)
+    by : (b : Bool) → nat_lt entry_limit (length es) ≡ b → cond b (Err Length) (Ok es) ≡ Ok new → (new ≡ es) × (length es ≤ entry_limit)
     by true f e = absurd cc
-    by false f e = (let same : new ≡ es = cc in same, ltb-false 4194304 (length es) f)
+    by false f e = (let same : new ≡ es = cc in same, ltb-false entry_limit (length es) f)
 
-limited-beyond : (es : List Entry) → limited es ≡ Err Length → 4194304 < length es
-limited-beyond es e = by (nat_lt 4194304 (length es)) refl e
+limited-beyond : (es : List Entry) → limited es ≡ Err Length → entry_limit < length es
+limited-beyond es e = by (nat_lt entry_limit (length es)) refl e
   where
-    by : (b : Bool) → nat_lt 4194304 (length es) ≡ b → cond b (Err Length) (Ok es) ≡ Err Length → 4194304 < length es
-    by true f e = ltb-true 4194304 (length es) f
+    by : (b : Bool) → nat_lt entry_limit (length es) ≡ b → cond b (Err Length) (Ok es) ≡ Err Length → entry_limit < length es
+    by true f e = ltb-true entry_limit (length es) f
     by false f e = absurd cc
 
 -- a key that isn't there, and isn't that of one entry more
@@ -63,7 +64,7 @@ pub record IsAdding (c : Choice) (other total to left : List Entry) : Type 0 whe
   pub whole : total ≡ to ++ chosen c other left
   pub new : AreNew to (chosen c other left)
   pub keys : HaveDistinctKeys left
-  pub room : length to ≤ 4194304
+  pub room : length to ≤ entry_limit
 
 module _ (c : Choice) (other total to : List Entry) (e : Entry) (rest : List Entry) (inv : IsAdding c other total to (e ∷ rest)) where
   taken-new : is_chosen c (has other e) ≡ true → AreNew to (e ∷ chosen c other rest)
@@ -82,7 +83,7 @@ module _ (c : Choice) (other total to : List Entry) (e : Entry) (rest : List Ent
         whole = taken-whole t ∙ ap (λ l. l ++ chosen c other rest) (sym fact.0);
         new = subst (λ l. AreNew l (chosen c other rest)) (sym fact.0) (new-push (λ x. is_chosen c (has other x)) to e rest (taken-new t).1 (IsDistinct-head bytes_eq e.key (map (λ (x : Entry). x.key) rest) inv.keys));
         keys = IsDistinct-tail bytes_eq e.key (map (λ (x : Entry). x.key) rest) inv.keys;
-        room = subst (λ l. length l ≤ 4194304) (sym fact.0) fact.1;
+        room = subst (λ l. length l ≤ entry_limit) (sym fact.0) fact.1;
       }
 
   pub passed : is_chosen c (has other e) ≡ false → IsAdding c other total to rest
@@ -141,8 +142,8 @@ new-difference c other a (e ∷ es) = by (found e.key a) refl (new-difference c 
 pub both-added : (first more now : List Entry) (r : Result (Unit {0}) DictErr) (wanted : List Entry) → limited first ≡ Ok now → Adds more r (limited (now ++ wanted)) → Adds more r (limited (first ++ wanted))
 both-added first more now r wanted ok a = let fact = limited-within first now ok in subst (λ l. Adds more r (limited (l ++ wanted))) fact.0 a
 
-pub within-limit : (es now : List Entry) → limited es ≡ Ok now → length now ≤ 4194304
-within-limit es now ok = let fact = limited-within es now ok in subst (λ l. length l ≤ 4194304) (sym fact.0) fact.1
+pub within-limit : (es now : List Entry) → limited es ≡ Ok now → length now ≤ entry_limit
+within-limit es now ok = let fact = limited-within es now ok in subst (λ l. length l ≤ entry_limit) (sym fact.0) fact.1
 
 -- too many in the first half
 pub first-too-many : (first now more : List Entry) (e : DictErr) → Adds now (Err e) (limited first) → Adds now (Err e) (limited (first ++ more))

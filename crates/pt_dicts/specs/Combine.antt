@@ -4,6 +4,7 @@ use Rattle.std.specs.List.{filter}
 use Rattle.pt_base.specs.declared.operators.BinOp.{BinOp}
 use Rattle.pt_base.specs.declared.operators.BinOp.TheVariants.{Sub, BitAnd, BitOr, BitXor}
 use Rattle.pt_heap.specs.Entries.{Entry, found}
+use Rattle.pt_heap.specs.Limits.{entry_limit}
 use Rattle.pt_heap.specs.declared.dict.DictErr.{DictErr}
 use Rattle.pt_heap.specs.declared.dict.DictErr.TheVariants.{Length, Memory}
 
@@ -36,7 +37,7 @@ is_set_operator _ = false
 
 -- a set, unless it has more items than it may have
 abbrev pub limited : List Entry → Result (List Entry) DictErr
-limited es = if nat_lt 4194304 (length es) then Err Length else Ok es
+limited es = if nat_lt entry_limit (length es) then Err Length else Ok es
 
 -- what is answered is this, unless memory ran out
 abbrev pub Answers : Result (List Entry) DictErr → Result (List Entry) DictErr → Type 0

@@ -1,5 +1,6 @@
 ghost use Rattle.std.specs.Prelude.{◌≡◌, ◌++◌, ◌∷◌, ◌≤◌, [], None, is_some, length, IsTrue};
 ghost use Rattle.pt_heap.specs.Entries.{entry, found};
+ghost use Rattle.pt_heap.specs.Limits.{entry_limit};
 ghost use Rattle.pt_dicts.specs.Adding.{chosen, is_chosen, Adds, AreNew};
 ghost use Rattle.pt_dicts.specs.Combine.{combined, difference, is_set_operator, limited, Answers};
 
@@ -38,7 +39,7 @@ fn add_item(
     value: Value,
 ) -> Result<(), DictErr>
     requires new { found key.now to.old ≡ None }
-    requires room { length to.old ≤ 4194304 }
+    requires room { length to.old ≤ entry_limit }
     ensures { Adds to.new result (limited (to.old ++ entry key.now first value ∷ [])) }
 {
     let key = key.dup(alloc)?;
@@ -57,7 +58,7 @@ fn add_chosen(
     other: &Dict,
 ) -> Result<(), DictErr>
     requires new { AreNew to.old (chosen choice other.now from.now) }
-    requires room { length to.old ≤ 4194304 }
+    requires room { length to.old ≤ entry_limit }
     ensures { Adds to.new result (limited (to.old ++ chosen choice other.now from.now)) }
 {
     let mut left = from.entries();

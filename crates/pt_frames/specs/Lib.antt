@@ -1,3 +1,4 @@
 pub mod Slots
 pub mod Activations
 pub mod Lending
+pub mod Limits

@@ -2,6 +2,7 @@ ghost use Rattle.std.specs.Prelude.{◌≡◌, ◌∷◌, [], ◌<◌, ◌≤◌
 ghost use Rattle.std.specs.Borrow.{sem};
 ghost use Rattle.pt_frames.specs.Activations.{active_exception};
 ghost use Rattle.pt_frames.specs.Lending.{LendsNewest};
+ghost use Rattle.pt_frames.specs.Limits.{activation_limit};
 
 use crate::{Activation, Purpose};
 use pt_base::{Dup, Memory};
@@ -24,13 +25,14 @@ pub struct Activations {
 
 impl Model for Activations {
     ghost use Rattle.std.specs.Prelude.{List, reverse, length, ◌≤◌};
+    ghost use Rattle.pt_frames.specs.Limits.{activation_limit};
     ghost use Rattle.pt_frames.specs.declared.activations.OpenActivation.{OpenActivation};
 
     ghost Value = { List OpenActivation };
 
     ghost view = { λ a. reverse a.items.items };
 
-    ghost invariant = { λ a. length a.items.items ≤ 1000 };
+    ghost invariant = { λ a. length a.items.items ≤ activation_limit };
 }
 
 impl Activations {
@@ -44,13 +46,13 @@ impl Activations {
 
     pub fn len(&self) -> usize
         ensures value { result ≡ length self.now }
-        ensures within { result ≤ 1000 }
+        ensures within { result ≤ activation_limit }
     {
         self.items.len()
     }
 
     pub fn push(&mut self, newest: OpenActivation) -> Result<(), Memory>
-        requires { length self.old < 1000 }
+        requires { length self.old < activation_limit }
         ensures ok { OnOk result (self.new ≡ newest ∷ self.old) }
         ensures err { OnErr result (self.new ≡ self.old) }
     {

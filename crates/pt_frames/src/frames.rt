@@ -10,6 +10,7 @@ ghost use Rattle.pt_frames.specs.Activations.{active_exception, next_activation,
 ghost use Rattle.pt_frames.specs.Activations.{value_at, with_activation, with_cell, with_cell_at};
 ghost use Rattle.pt_frames.specs.Activations.{with_depth, with_global, with_name, with_new_cell};
 ghost use Rattle.pt_frames.specs.Activations.{with_next_number, with_slot, OnNewest};
+ghost use Rattle.pt_frames.specs.Limits.{activation_limit};
 
 use crate::activations::{Activations, OpenActivation};
 use crate::{Activation, Place, Purpose, Slot};
@@ -76,8 +77,8 @@ impl Frames {
 
     /// Whether as many activations are open as may be.
     pub fn is_full(&self) -> bool
-        ensures full { IsTrue result ↔ (length self.now.activations ≡ 1000) }
-        ensures room { result ≡ false → length self.now.activations < 1000 }
+        ensures full { IsTrue result ↔ (length self.now.activations ≡ activation_limit) }
+        ensures room { result ≡ false → length self.now.activations < activation_limit }
     {
         self.activations.len() == ACTIVATION_LIMIT
     }
@@ -85,7 +86,7 @@ impl Frames {
     /// How many activations are open.
     pub fn depth(&self) -> usize
         ensures value { result ≡ length self.now.activations }
-        ensures within { result ≤ 1000 }
+        ensures within { result ≤ activation_limit }
     {
         self.activations.len()
     }
@@ -125,7 +126,8 @@ impl Frames {
             ≡ with_activation (next_activation self.old block hidden locals) why
             (with_next_number self.old)) }
         ensures err { OnErr result (self.new ≡ self.old) }
-        ensures full { (result ≡ Err OpenErr.TooDeep) ↔ (length self.old.activations ≡ 1000) }
+        ensures full { (result ≡ Err OpenErr.TooDeep)
+            ↔ (length self.old.activations ≡ activation_limit) }
     {
         if self.is_full() {
             return Err(OpenErr::TooDeep);
@@ -142,7 +144,7 @@ impl Frames {
 
     /// Opens an activation that `fresh` has made or `leave` has taken out, as it is.
     pub fn enter(&mut self, activation: Activation, why: Purpose) -> Result<(), Memory>
-        requires { length self.old.activations < 1000 }
+        requires { length self.old.activations < activation_limit }
         ensures ok { OnOk result (self.new ≡ with_activation activation why self.old) }
         ensures err { OnErr result (self.new ≡ self.old) }
     {

@@ -4,6 +4,7 @@ use Rattle.std.specs.Prelude.{◌≡◌, ℕ, length, List, [], ◌∷◌, Optio
 use Rattle.std.specs.List.{IsDistinct}
 use Rattle.std.specs.Str.{bytes_eq}
 use Rattle.pt_heap.specs.declared.value.Value.{Value}
+use Rattle.pt_heap.specs.Limits.{entry_limit}
 
 -- a key, the value that it was first written as, and the value behind it
 pub record Entry : Type 0 where
@@ -31,7 +32,7 @@ without k (e ∷ es) = if bytes_eq k e.key then es else e ∷ without k es
 
 -- a new key, for which there is no room
 abbrev pub HasNoRoomFor : List Entry → List ℕ → Type 0
-HasNoRoomFor es k = (found k es ≡ None) × (length es ≡ 4194304)
+HasNoRoomFor es k = (found k es ≡ None) × (length es ≡ entry_limit)
 
 -- no two entries have the same key
 abbrev pub HaveDistinctKeys : List Entry → Type 0

@@ -5,6 +5,7 @@ use Rattle.std.specs.Map.{keys_of}
 use Rattle.std.specs.Str.{bytes_eq}
 use Rattle.pt_heap.specs.declared.items.Item.{Item}
 use Rattle.pt_heap.specs.Entries.{Entry}
+use Rattle.pt_heap.specs.Limits.{entry_limit}
 
 -- the entry of a key with an item
 abbrev pub entry_of : List ℕ → Item → Entry
@@ -56,4 +57,4 @@ AreHoles (suc n) ((k, Some item) ∷ es) = ⊥
 
 -- a dictionary of so many entries, with at least so many holes in front of them
 abbrev pub IsKept : (count start : ℕ) → List (List ℕ × Option Item) → Type 0
-IsKept count start es = (count ≡ length (entries_of es)) × (count ≤ 4194304) × AreHoles start es × IsDistinct bytes_eq (keys_of es)
+IsKept count start es = (count ≡ length (entries_of es)) × (count ≤ entry_limit) × AreHoles start es × IsDistinct bytes_eq (keys_of es)

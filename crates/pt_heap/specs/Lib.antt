@@ -1,4 +1,5 @@
 pub mod Entries
 pub mod Holes
+pub mod Limits
 pub mod Seeds
 pub mod Sound

@@ -4,6 +4,7 @@ ghost use Rattle.std.specs.Option.{option_map, option_copied};
 ghost use Rattle.indexmap.specs.IndexMap.{get, IsUnique};
 ghost use Rattle.pt_heap.specs.Entries.{found, put, without, HasNoRoomFor, HaveDistinctKeys};
 ghost use Rattle.pt_heap.specs.Holes.{entries_of, entry_of, AreHoles};
+ghost use Rattle.pt_heap.specs.Limits.{entry_limit};
 ghost use Rattle.pt_heap.specs.declared.dict.DictErr.TheVariants.{Memory as out_of_memory};
 
 use crate::items::{self, Item, Items};
@@ -73,7 +74,7 @@ impl Dict {
     /// The number of entries, of which no two have the same key.
     pub fn len(&self) -> u32
         ensures count { result ≡ length self.now }
-        ensures limit { length self.now ≤ 4194304 }
+        ensures limit { length self.now ≤ entry_limit }
         ensures keys { HaveDistinctKeys self.now }
     {
         self.count as u32
@@ -118,7 +119,7 @@ impl Dict {
         requires { found key self.old ≡ None }
         ensures ok { OnOk result (self.new ≡ self.old ++ entry_of key item ∷ []) }
         ensures err { OnErr result (self.new ≡ self.old) }
-        ensures full { (result ≡ Err DictErr.Length) ↔ (length self.old ≡ 4194304) }
+        ensures full { (result ≡ Err DictErr.Length) ↔ (length self.old ≡ entry_limit) }
     {
         if self.count == ENTRY_LIMIT {
             return Err(DictErr::Length);

@@ -1,3 +1,4 @@
+ghost use Rattle.pt_heap.specs.Limits.{object_limit};
 ghost use Rattle.pt_heap.specs.Sound.{FitsLast, MayReplace, IsClosedBelow, StaysSound};
 ghost use Rattle.pt_heap.specs.declared.heap.HeapErr.TheVariants.{Memory as out_of_memory};
 ghost use Rattle.std.specs.Prelude.{◌≡◌, [], ◌∷◌, ◌++◌, ◌<◌, ◌↔◌, Some, Err, length, take, slice_get, slice_set, OnOk, OnErr, IfOk};
@@ -40,13 +41,14 @@ pub struct Heap {
 
 impl Model for Heap {
     ghost use Rattle.std.specs.Prelude.{◌≤◌, List, length};
+    ghost use Rattle.pt_heap.specs.Limits.{object_limit};
     ghost use Rattle.pt_heap.specs.declared.object.Object.{Object};
 
     ghost Value = { List Object };
 
     ghost view = { λ h. h.objects.items };
 
-    ghost invariant = { λ h. length h.objects.items ≤ 16777216 };
+    ghost invariant = { λ h. length h.objects.items ≤ object_limit };
 }
 
 /// Puts an object behind the last.
@@ -87,7 +89,7 @@ impl Heap {
         ensures ok { OnOk result (self.new ≡ self.old ++ object ∷ []) }
         ensures place { IfOk result (λ id. id.0 ≡ length self.old) }
         ensures err { OnErr result (self.new ≡ self.old) }
-        ensures full { (result ≡ Err HeapErr.HeapFull) ↔ (length self.old ≡ 16777216) }
+        ensures full { (result ≡ Err HeapErr.HeapFull) ↔ (length self.old ≡ object_limit) }
         ensures sound { OnOk result (StaysSound self.old self.new (λ _. FitsLast self.old object)) }
     {
         let place = self.objects.len();

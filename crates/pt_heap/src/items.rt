@@ -1,6 +1,7 @@
 //! How a dictionary is kept. A key that is taken out leaves a hole at its place, so that the others
-//! keep theirs with nothing moved; holes are dropped all at once when they are more than three
-//! times the entries.
+//! keep theirs with nothing moved; holes are dropped all at once when they are more than seven
+//! times the entries. Then room is given back too: dropping takes time linear in the room, so that
+//! each removal pays for a part of it that doesn't grow.
 
 ghost use Rattle.std.specs.Prelude.{◌≡◌, ◌+◌, ◌<◌, ◌≤◌, ◌++◌, ◌↔◌, [], ◌∷◌, Some, None, IsSome, IsTrue, OnOk, OnErr, filter, is_some, length, slice_get, take, IfOk, ◌^◌};
 ghost use Rattle.std.specs.Option.{option_map};
@@ -46,7 +47,7 @@ pub fn write(items: &mut Items, key: &Key, item: Option<Item>)
     }
 }
 
-/// Drops the holes.
+/// Drops the holes, and leaves room for twice the entries at most.
 pub fn drop_holes(items: &mut Items)
     ensures entries { items.new.entries ≡ filter has_item items.old.entries }
     ensures unique { IsUnique bytes_eq items.new }
@@ -56,6 +57,7 @@ pub fn drop_holes(items: &mut Items)
             ensures { (result ≡ is_some item.old) × (item.new ≡ item.old) }
         { item.is_some() },
     );
+    items.shrink_to(items.len().saturating_mul(2));
 }
 
 /// The key and the item of a place that has one.
@@ -174,7 +176,7 @@ pub fn make_new(
     vacate(items, key, filler)
 }
 
-/// Drops the holes where they are more than three times the entries. Else it passes those at the
+/// Drops the holes where they are more than seven times the entries. Else it passes those at the
 /// start over, and answers how many these are.
 pub fn settle(items: &mut Items, start: usize, count: usize) -> usize
     requires { AreHoles start items.old.entries }
@@ -182,7 +184,7 @@ pub fn settle(items: &mut Items, start: usize, count: usize) -> usize
     ensures holes { AreHoles result items.new.entries }
     ensures unique { IsUnique bytes_eq items.old → IsUnique bytes_eq items.new }
 {
-    if items.len() / 4 > count {
+    if items.len() / 8 > count {
         drop_holes(items);
         return 0;
     }

@@ -29,7 +29,8 @@ use Rattle.pt_prims.specs.Arithmetic.{integer_content, truths_binary, both_joine
 use Rattle.pt_prims.specs.Comparisons.{turned, equality_by, order_by, comparison_content}
 use Rattle.pt_prims.specs.Truths.{truth_by}
 use Rattle.pt_prims.specs.Printing.{has_instance, has_compound, print_content, printed}
-use Rattle.pt_prims.specs.Operations.{content_of, object_limit, next_object, new_text, raised_with, placed, grown}
+use Rattle.pt_heap.specs.Limits.{object_limit}
+use Rattle.pt_prims.specs.Operations.{content_of, next_object, new_text, raised_with, placed, grown}
 use Rattle.pt_run.specs.Host.{Here}
 use Rattle.pt_host.specs.World.{Stores, with_objects}
 use Rattle.pt_host.specs.Calls.{of_prim, by_prim}

@@ -14,7 +14,8 @@ use Rattle.pt_heap.specs.Sound.{place_of, place_in, places_in, IsClassAt, Fits, 
 use Rattle.pt_heap.proofs.SoundLemmas.{sound-add}
 use Rattle.pt_start.specs.Start.{start_objects}
 use Rattle.pt_names.specs.Names.{Named}
-use Rattle.pt_prims.specs.Operations.{object_limit, next_object}
+use Rattle.pt_heap.specs.Limits.{object_limit}
+use Rattle.pt_prims.specs.Operations.{next_object}
 use Rattle.pt_run.specs.Host as H
 use Rattle.pt_run.specs.Host.{Here, made, beyond}
 use Rattle.pt_host.specs.declared.places.TheConstants.{GENERATOR_EXIT, RECURSION_ERROR, RUNTIME_ERROR, VALUE_ERROR}

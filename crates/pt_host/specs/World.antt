@@ -10,7 +10,8 @@ use Rattle.pt_heap.specs.declared.object.Object.TheVariants.{Str}
 use Rattle.pt_start.specs.Start.{start_objects}
 use Rattle.pt_names.specs.Names.{Named}
 use Rattle.pt_bind.specs.declared.arguments.Params.{Params}
-use Rattle.pt_prims.specs.Operations.{object_limit, next_object}
+use Rattle.pt_heap.specs.Limits.{object_limit}
+use Rattle.pt_prims.specs.Operations.{next_object}
 use Rattle.pt_run.specs.Machine.{BlockId}
 use Rattle.pt_run.specs.Host.{Store, Made, made, beyond}
 

@@ -76,25 +76,3 @@ pub fn error_saying(
         None => Ok(None),
     }
 }
-
-#[cfg(test)]
-mod tests {
-    use super::*;
-    use crate::VALUE_ERROR;
-    use pt_heap::Seed;
-    use std::test::Fail;
-
-    #[test]
-    fn an_exception_stands_behind_its_text(rt: HostRuntime) -> Result<(), Fail> {
-        let alloc = rt.alloc();
-        let mut heap = Heap::new(alloc, Seed::of(b"errors"));
-        let text = Text::from_str(alloc, "no")?;
-        let first = error_saying(alloc, &mut heap, VALUE_ERROR, text, None, None)?;
-        assert_eq!(rt; first, Some(Value::Obj(ObjId(1))));
-        let text = Text::from_str(alloc, "again")?;
-        let second = error_saying(alloc, &mut heap, VALUE_ERROR, text, first, first)?;
-        assert_eq!(rt; second, Some(Value::Obj(ObjId(3))));
-        assert_eq!(rt; heap.len(), 4);
-        Ok(())
-    }
-}

@@ -86,39 +86,3 @@ pub fn binding_text(alloc: Global, function: &str, error: &BindErr) -> Result<Te
         BindErr::Memory => Err(Memory),
     }
 }
-
-#[cfg(test)]
-mod tests {
-    use super::*;
-    use std::test::Fail;
-
-    #[test]
-    fn texts_tell_names(rt: HostRuntime) -> Result<(), Fail> {
-        let alloc = rt.alloc();
-        let local = "cannot access local variable 'x' where it is not associated with a value";
-        assert!(rt; local_text(alloc, "x")?.is(local));
-        let free =
-            "cannot access free variable 'x' where it is not associated with a value in enclosing scope";
-        assert!(rt; free_text(alloc, "x")?.is(free));
-        assert!(rt; name_text(alloc, "x")?.is("name 'x' is not defined"));
-        assert!(rt; not_callable_text(alloc, "int")?.is("'int' object is not callable"));
-        Ok(())
-    }
-
-    #[test]
-    fn texts_tell_arguments(rt: HostRuntime) -> Result<(), Fail> {
-        let alloc = rt.alloc();
-        let name = Text::from_str(alloc, "b")?;
-        let missing = binding_text(alloc, "f", &BindErr::Missing { name })?;
-        assert!(rt; missing.is("f() misses argument 'b'"));
-        let many = binding_text(alloc, "f", &BindErr::TooMany { given: 2 })?;
-        assert!(rt; many.is("f() got too many arguments"));
-        let name = Text::from_str(alloc, "b")?;
-        let unexpected = binding_text(alloc, "f", &BindErr::Unexpected { name })?;
-        assert!(rt; unexpected.is("f() got an unexpected argument 'b'"));
-        let name = Text::from_str(alloc, "b")?;
-        let double = binding_text(alloc, "f", &BindErr::Double { name })?;
-        assert!(rt; double.is("f() got argument 'b' twice"));
-        Ok(())
-    }
-}

@@ -8,12 +8,12 @@ use Rattle.pt_scopes.specs.declared.region.Region.{Region}
 use Rattle.pt_scopes.specs.declared.scope.Scope.TheVariants as scope
 use Rattle.pt_scopes.specs.Places.{Places}
 use Rattle.pt_scopes.specs.Scope.{bound_scope, facts, function_scope, is_captured as is_captured_in, scope_at, scope_in, unbound_scope}
-use Rattle.pt_tree.specs.Blocks.{Block}
 use Rattle.pt_tree.specs.Syntax.{Name}
 use Rattle.pt_control.specs.Turn as T
-use Rattle.pt_naming.specs.Around.{around_in}
+use Rattle.pt_naming.specs.Around.{around_by}
 use Rattle.pt_naming.specs.Laws.{IsClassBody, kind_at, kind_of}
-use Rattle.pt_naming.specs.Naming.{as_control, cell_or_local, is_captured, of_owner, owned, scope_or_global, spelled_in, variable, variable_in}
+use Rattle.pt_naming.specs.Naming.{as_control, cell_or_local, comprehension_in, is_captured, of_owner, owned, scope_or_global, seen_if, variable, variable_in}
+use Rattle.pt_naming.specs.Script.{Naming, spelled_in}
 
 not_global : {X : Type 0} → T.global ≡ T.of_class → X
 not_global is = absurd (let same : T.global ≡ T.of_class = is in cc)
@@ -63,12 +63,16 @@ not_seen : {X : Type 0} (g : Places) (h : ℕ) (x : Name) (o : Option ℕ) → (
 not_seen g h x None is = not_global is
 not_seen g h x (Some q) is = not_owned g q x _ is
 
-of_variable : (g : Places) (k : Block) (b h : ℕ) (within : List ℕ) (x : Name) → (variable_in g k b h within x).scope ≡ T.of_class → (within ≡ []) × IsClassBody g b
-of_variable g k b h [] x is = (refl, in_block g.regions (facts g.mentions) (is_captured_in g.regions (facts g.mentions) g.mentions) x (slice_get g.blocks b) is)
-of_variable g k b h (n ∷ ns) x is = not_seen g _ x _ is
+not_seen_if : {X : Type 0} (g : Places) (r : Option ℕ) (x : Name) → (seen_if g r x).scope ≡ T.of_class → X
+not_seen_if g None x is = not_global is
+not_seen_if g (Some r) x is = not_seen g _ x _ is
 
-pub names_of_class : {V : Type 0} (v : V) (g : Places) (fs : List ℕ) (b : ℕ) (k : Option Block) (region : Option ℕ) (within : List ℕ) (x : Name)
-    → ((around_in v g fs b k region).variable within x).scope ≡ T.of_class → (within ≡ []) × IsClassBody g b
-names_of_class v g fs b (Some k) (Some h) within x is = of_variable g k b h within (spelled_in k x) is
-names_of_class v g fs b None region within x is = not_global is
-names_of_class v g fs b (Some k) None within x is = not_global is
+of_variable : (g : Naming) (b : ℕ) (within : List ℕ) (x : Name) → (variable_in g b within x).scope ≡ T.of_class → (within ≡ []) × IsClassBody g.places b
+of_variable g b [] x is =
+    let p = g.places in
+    (refl, in_block p.regions (facts p.mentions) (is_captured_in p.regions (facts p.mentions) p.mentions) x (slice_get p.blocks b) is)
+of_variable g b (n ∷ ns) x is = not_seen_if g.places (comprehension_in g (slice_get g.places.blocks b) n) x is
+
+pub names_of_class : {V : Type 0} (v : V) (g : Naming) (b : ℕ) (within : List ℕ) (x : Name)
+    → ((around_by v g b).variable within x).scope ≡ T.of_class → (within ≡ []) × IsClassBody g.places b
+names_of_class v g b within x is = of_variable g b within (spelled_in g b x) is

@@ -1,5 +1,5 @@
 -- The names that a block has in code: parameters and other local names, cell names, and free names, each list in an order that is defined.
-use Rattle.std.specs.Prelude.{ℕ, Bool, true, false, not, ◌&&◌, ◌==◌, List, [], ◌∷◌, ◌++◌, map, filter, bytes_eq, slice_get, Option, Some, None, codes, if◌then◌else◌}
+use Rattle.std.specs.Prelude.{ℕ, Bool, true, false, ◌&&◌, ◌||◌, ◌==◌, List, [], ◌∷◌, ◌++◌, map, filter, bytes_eq, slice_get, Option, Some, None, codes, if◌then◌else◌}
 use Rattle.std.specs.List.{list_any}
 use Rattle.pt_scopes.specs.declared.region.Kind.{Kind}
 use Rattle.pt_scopes.specs.declared.region.Mention.{Mention}
@@ -7,18 +7,25 @@ use Rattle.pt_scopes.specs.declared.region.Region.{Region}
 use Rattle.pt_scopes.specs.Places.{Places}
 use Rattle.pt_scopes.specs.Scope.{home_of, is_class}
 use Rattle.pt_tree.specs.declared.expression.NamedParameter.{NamedParameter}
-use Rattle.pt_tree.specs.Blocks.{Block, Code, of_module, of_function, of_class, of_lambda, of_generator}
 use Rattle.pt_tree.specs.Syntax as S
 use Rattle.pt_tree.specs.Syntax.{Name, Params, Formals}
 use Rattle.pt_control.specs.Turn as T
 use Rattle.pt_control.specs.Turn.{Variable}
-use Rattle.pt_naming.specs.Naming.{variable, spelled_in, seen, own, is_free_at}
-use Rattle.pt_naming.specs.Regions.{is_inside, class_of}
+use Rattle.pt_naming.specs.Naming.{variable, seen, own, is_free_at}
+use Rattle.pt_naming.specs.Regions.{class_of, is_among, left_behind}
+use Rattle.pt_naming.specs.Script.{Naming, spelled_in}
+
+-- a name behind others, if it is none of them
+abbrev pub with_name : List Name → Name → List Name
+with_name xs x = if list_any (λ y. bytes_eq y x) xs then xs else xs ++ x ∷ []
 
 -- each name once, where it comes first
+abbrev pub distinct_behind : List Name → List Name → List Name
+distinct_behind ys [] = ys
+distinct_behind ys (x ∷ xs) = distinct_behind (with_name ys x) xs
+
 abbrev pub distinct : List Name → List Name
-distinct [] = []
-distinct (x ∷ xs) = x ∷ filter (λ y. not (bytes_eq x y)) (distinct xs)
+distinct xs = distinct_behind [] xs
 
 abbrev pub formal_names : Formals → List Name
 formal_names S.no_formals = []
@@ -61,25 +68,14 @@ read_free g h = distinct (map (λ m. m.name) (filter (is_free_at g h) g.mentions
 abbrev pub class_name : Name
 class_name = codes ".class"
 
-abbrev pub is_function : Code → Bool
-is_function (of_module ss) = false
-is_function (of_function ss) = true
-is_function (of_class ss) = false
-is_function (of_lambda l e) = true
-is_function (of_generator l e fl t cs) = false
-
--- the regions of the functions among blocks
-abbrev pub functions_of : List Block → (regions : List ℕ) → List ℕ
-functions_of (b ∷ bs) (r ∷ rs) = if is_function b.code then r ∷ functions_of bs rs else functions_of bs rs
-functions_of bs rs = []
-
-abbrev pub is_in_class : List Region → (block : ℕ) → (class : Option ℕ) → Bool
-is_in_class rs h None = false
-is_in_class rs h (Some q) = is_inside rs q h
+-- a region is a class, or stands in one behind which another one stands
+abbrev pub is_up_to : List Region → (region : ℕ) → (class : Option ℕ) → (inner : ℕ) → Bool
+is_up_to rs h None r = false
+is_up_to rs h (Some q) r = (q == h) || is_among (left_behind rs q r) h
 
 -- a function within the block, or the block itself, is in the body of a class in which the block is too, or which it is
 abbrev pub has_class : List Region → (functions : List ℕ) → (block : ℕ) → Bool
-has_class rs fs h = list_any (λ f. is_inside rs h f && is_in_class rs h (class_of rs f)) fs
+has_class rs fs h = list_any (λ f. is_up_to rs h (class_of rs f) f) fs
 
 abbrev pub is_class_of : List Region → (maker : ℕ) → Option Region → Bool
 is_class_of rs h None = false
@@ -94,8 +90,8 @@ class_if b = if b then class_name ∷ [] else []
 
 -- parameters first, and then names as the block has them first, those of its comprehensions too; a parameter in a cell is among the local names
 -- all the same, since it is bound there first
-abbrev pub local_names : Places → Block → (block region : ℕ) → List Name
-local_names g k b h = distinct (map (spelled_in k) (param_names k.params) ++ names_in is_local (variables_of g b h))
+abbrev pub local_names : Naming → Params → (block region : ℕ) → List Name
+local_names g ps b h = distinct (map (spelled_in g b) (param_names ps) ++ names_in is_local (variables_of g.places b h))
 
 abbrev pub cell_names : Places → (functions : List ℕ) → (block region : ℕ) → List Name
 cell_names g fs b h = distinct (names_in is_cell (variables_of g b h)) ++ class_if (makes_class g fs h)

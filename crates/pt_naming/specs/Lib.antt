@@ -1,5 +1,6 @@
 pub mod Nexts
 pub mod Regions
+pub mod Script
 pub mod Naming
 pub mod BlockNames
 pub mod Around

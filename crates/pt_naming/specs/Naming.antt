@@ -1,20 +1,18 @@
 -- Which variable a name is that is read or bound in a region of a block (Language Reference 4.2.2, 6.2.1, 6.2.4).
-use Rattle.std.specs.Prelude.{ℕ, zero, suc, Bool, true, false, not, ◌&&◌, ◌==◌, List, [], ◌∷◌, bytes_eq, Option, Some, None, if◌then◌else◌}
+use Rattle.std.specs.Prelude.{ℕ, zero, suc, Bool, true, false, ◌&&◌, ◌==◌, List, [], ◌∷◌, bytes_eq, slice_get, Option, Some, None, if◌then◌else◌}
 use Rattle.std.specs.List.{list_any}
 use Rattle.std.specs.Option.{unwrap_or}
 use Rattle.pt_scopes.specs.declared.region.Mention.{Mention}
 use Rattle.pt_scopes.specs.declared.region.Region.{Region}
 use Rattle.pt_scopes.specs.declared.scope.Scope.{Scope}
 use Rattle.pt_scopes.specs.declared.scope.Scope.TheVariants as scope
-use Rattle.pt_scopes.specs.Names.{mangled}
 use Rattle.pt_scopes.specs.Places.{Places}
 use Rattle.pt_scopes.specs.Scope.{facts, home_of, is_just, meant, owner_from, scope_of}
 use Rattle.pt_tree.specs.Syntax.{Name}
-use Rattle.pt_tree.specs.Blocks.{Block}
 use Rattle.pt_control.specs.Turn as T
 use Rattle.pt_control.specs.Turn.{Variable}
-use Rattle.pt_naming.specs.Nexts.{nexts_of}
-use Rattle.pt_naming.specs.Regions.{comprehensions_of, depth_of, is_inside}
+use Rattle.pt_naming.specs.Regions.{depth_of, is_among, left_behind, numbered}
+use Rattle.pt_naming.specs.Script.{Naming}
 
 abbrev pub variable : T.Scope → Name → Variable
 variable s x = record { scope = s; name = x }
@@ -27,10 +25,6 @@ as_control scope.Free = T.free
 as_control scope.Global = T.global
 as_control scope.Class = T.of_class
 
--- a private name has the name of the innermost class around its block
-abbrev pub spelled_in : Block → Name → Name
-spelled_in b x = mangled (unwrap_or b.class []) x
-
 -- the byte of `.`, which no name of a script has
 abbrev pub dot : ℕ
 dot = 46
@@ -39,20 +33,28 @@ abbrev pub dotted : (depth : ℕ) → Name → Name
 dotted zero x = x
 dotted (suc d) x = dot ∷ dotted d x
 
-abbrev pub is_outside : List Region → (block : ℕ) → (owner : Option ℕ) → Bool
-is_outside rs h None = false
-is_outside rs h (Some q) = not (is_inside rs h q)
+-- a block stands between the region that has a name, if any, and a region in which it is mentioned
+abbrev pub is_between : List Region → (block : ℕ) → (owner : Option ℕ) → (region : ℕ) → Bool
+is_between rs h None r = false
+is_between rs h (Some q) r = is_among (left_behind rs q r) h
 
 -- a name in the block or in a block within it, which a function or comprehension around the block has
 abbrev pub is_free_at : Places → (block : ℕ) → Mention → Bool
-is_free_at g h m = is_inside g.regions h m.region && is_outside g.regions h (meant g.regions (facts g.mentions m.name) m.region)
+is_free_at g h m = is_between g.regions h (meant g.regions (facts g.mentions m.name) m.region) m.region
 
-abbrev pub is_free_of : Places → (owner : ℕ) → Name → (block : ℕ) → Mention → Bool
-is_free_of g q x h m = bytes_eq m.name x && is_just (meant g.regions (facts g.mentions m.name) m.region) q && is_free_at g h m
+abbrev pub is_block : Places → (region : ℕ) → Bool
+is_block g r = is_among g.blocks r
+
+-- a name of a region comes to another one through some block
+abbrev pub comes_through : Places → (owner region : ℕ) → Bool
+comes_through g q r = list_any (is_block g) (left_behind g.regions q r)
+
+abbrev pub is_captured_by : Places → (owner : ℕ) → Name → Mention → Bool
+is_captured_by g q x m = bytes_eq m.name x && is_just (meant g.regions (facts g.mentions m.name) m.region) q && comes_through g q m.region
 
 -- some block has the name free
 abbrev pub is_captured : Places → (owner : ℕ) → Name → Bool
-is_captured g q x = list_any (λ h. list_any (is_free_of g q x h) g.mentions) g.blocks
+is_captured g q x = list_any (is_captured_by g q x) g.mentions
 
 abbrev pub cell_or_local : (captured : Bool) → T.Scope
 cell_or_local true = T.cell
@@ -80,13 +82,16 @@ scope_or_global (Some s) = as_control s
 abbrev pub own : Places → (block : ℕ) → Name → Variable
 own g b x = variable (scope_or_global (scope_of g b x)) x
 
--- the comprehension that has a number
-abbrev pub numbered : (nexts : List (Option ℕ)) → (regions : List ℕ) → (next : ℕ) → Option ℕ
-numbered (None ∷ ns) (r ∷ rs) n = numbered ns rs n
-numbered (Some m ∷ ns) (r ∷ rs) n = if m == n then Some r else numbered ns rs n
-numbered ns rs n = None
+-- the comprehension of a block that has a number, and else the block
+abbrev pub comprehension_in : Naming → (block : Option ℕ) → (next : ℕ) → Option ℕ
+comprehension_in g None n = None
+comprehension_in g (Some h) n = Some (unwrap_or (numbered g.places.regions g.nexts h n) h)
+
+abbrev pub seen_if : Places → (region : Option ℕ) → Name → Variable
+seen_if g None x = variable T.global x
+seen_if g (Some r) x = seen g r x
 
 -- what a name is within comprehensions of a block, the innermost first; the innermost tells the others
-abbrev pub variable_in : Places → Block → (block region : ℕ) → (within : List ℕ) → Name → Variable
-variable_in g k b h [] x = own g b x
-variable_in g k b h (n ∷ ns) x = seen g (unwrap_or (numbered (nexts_of k.code) (comprehensions_of g.regions h) n) h) x
+abbrev pub variable_in : Naming → (block : ℕ) → (within : List ℕ) → Name → Variable
+variable_in g b [] x = own g.places b x
+variable_in g b (n ∷ ns) x = seen_if g.places (comprehension_in g (slice_get g.places.blocks b) n) x

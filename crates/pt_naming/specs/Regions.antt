@@ -1,28 +1,35 @@
 -- How the regions of a script stand in one another.
-use Rattle.std.specs.Prelude.{ℕ, zero, suc, ◌+◌, Bool, true, false, ◌&&◌, ◌==◌, List, [], ◌∷◌, length, slice_get, Option, Some, None, if◌then◌else◌}
+use Rattle.std.specs.Prelude.{ℕ, zero, suc, Bool, true, false, ◌&&◌, ◌==◌, List, [], ◌∷◌, length, slice_get, Option, Some, None, if◌then◌else◌}
 use Rattle.std.specs.List.{list_any}
 use Rattle.pt_scopes.specs.declared.region.Kind.{Kind}
 use Rattle.pt_scopes.specs.declared.region.Kind.TheVariants as kind
 use Rattle.pt_scopes.specs.declared.region.Region.{Region}
 
-abbrev pub beyond : (around : ℕ) → Kind → (onwards : ℕ → List ℕ) → List ℕ
-beyond a kind.Module onwards = []
-beyond a kind.Function onwards = onwards a
-beyond a kind.Class onwards = onwards a
-beyond a kind.Comprehension onwards = onwards a
+abbrev pub around_in : (around : ℕ) → Kind → Option ℕ
+around_in a kind.Module = None
+around_in a kind.Function = Some a
+around_in a kind.Class = Some a
+around_in a kind.Comprehension = Some a
 
-abbrev pub further : Option Region → (onwards : ℕ → List ℕ) → List ℕ
+-- the region in which one stands; the module stands in none
+abbrev pub outside : Option Region → Option ℕ
+outside None = None
+outside (Some here) = around_in here.around here.kind
+
+abbrev pub further : (around : Option ℕ) → (onwards : ℕ → List ℕ) → List ℕ
 further None onwards = []
-further (Some here) onwards = beyond here.around here.kind onwards
+further (Some a) onwards = onwards a
 
--- a region and those around it, the module last; there are no more of them than regions
-abbrev pub outwards : (steps : ℕ) → List Region → (region : ℕ) → List ℕ
-outwards zero rs r = []
-outwards (suc n) rs r = r ∷ further (slice_get rs r) (λ q. outwards n rs q)
+-- the regions from one on outwards that are left before another one is reached
+abbrev pub before : (steps : ℕ) → List Region → (end region : ℕ) → List ℕ
+before zero rs e r = []
+before (suc n) rs e r = if r == e then [] else r ∷ further (outside (slice_get rs r)) (λ q. before n rs e q)
 
--- a region stands in another one, or is it
-abbrev pub is_inside : List Region → (outer region : ℕ) → Bool
-is_inside rs o r = list_any (λ q. q == o) (outwards (length rs) rs r)
+abbrev pub left_behind : List Region → (end region : ℕ) → List ℕ
+left_behind rs e r = before (length rs) rs e r
+
+abbrev pub is_among : List ℕ → (region : ℕ) → Bool
+is_among rs r = list_any (λ q. q == r) rs
 
 abbrev pub is_comprehension : Kind → Bool
 is_comprehension kind.Module = false
@@ -30,26 +37,34 @@ is_comprehension kind.Function = false
 is_comprehension kind.Class = false
 is_comprehension kind.Comprehension = true
 
-abbrev pub deeper : Option Region → (onwards : ℕ → ℕ) → ℕ
+-- the region in which a comprehension stands
+abbrev pub outside_comprehension : Option Region → Option ℕ
+outside_comprehension None = None
+outside_comprehension (Some here) = if is_comprehension here.kind then Some here.around else None
+
+abbrev pub deeper : (around : Option ℕ) → (onwards : ℕ → ℕ) → ℕ
 deeper None onwards = 0
-deeper (Some here) onwards = if is_comprehension here.kind then onwards here.around + 1 else 0
+deeper (Some a) onwards = suc (onwards a)
 
 -- how many comprehensions of its block a region stands in, itself among them
 abbrev pub depth : (steps : ℕ) → List Region → (region : ℕ) → ℕ
 depth zero rs r = 0
-depth (suc n) rs r = deeper (slice_get rs r) (λ q. depth n rs q)
+depth (suc n) rs r = deeper (outside_comprehension (slice_get rs r)) (λ q. depth n rs q)
 
 abbrev pub depth_of : List Region → (region : ℕ) → ℕ
 depth_of rs r = depth (length rs) rs r
 
--- the comprehensions of a block, in the order in which they start, where n regions start before
-abbrev pub comprehensions_behind : (n : ℕ) → List Region → (block : ℕ) → List ℕ
-comprehensions_behind n [] h = []
-comprehensions_behind n (r ∷ rs) h =
-    if is_comprehension r.kind && (r.home == h) then n ∷ comprehensions_behind (n + 1) rs h else comprehensions_behind (n + 1) rs h
+abbrev pub is_number : Option ℕ → ℕ → Bool
+is_number None n = false
+is_number (Some m) n = m == n
 
-abbrev pub comprehensions_of : List Region → (block : ℕ) → List ℕ
-comprehensions_of rs h = comprehensions_behind 0 rs h
+-- The region of a block whose first Next has a number, where so many regions start before. The numbers of Nexts come by region.
+abbrev pub numbered_behind : (before : ℕ) → List Region → (nexts : List (Option ℕ)) → (block next : ℕ) → Option ℕ
+numbered_behind k (r ∷ rs) (m ∷ ms) h n = if (r.home == h) && is_number m n then Some k else numbered_behind (suc k) rs ms h n
+numbered_behind k rs ms h n = None
+
+abbrev pub numbered : List Region → (nexts : List (Option ℕ)) → (block next : ℕ) → Option ℕ
+numbered rs ms h n = numbered_behind 0 rs ms h n
 
 abbrev pub class_or : (region around : ℕ) → Kind → (onwards : ℕ → Option ℕ) → Option ℕ
 class_or r a kind.Module onwards = None

@@ -2,7 +2,9 @@
 
 ghost use Rattle.std.specs.Prelude.{◌≡◌, ◌⊎◌, ℕ, List, [], ◌∷◌, length, slice_get, Some, codes};
 ghost use Rattle.pt_scopes.specs.declared.region.Region.{Region};
+ghost use Rattle.std.specs.Option.{unwrap_or};
 ghost use Rattle.pt_scopes.specs.Mentions.{places_script};
+ghost use Rattle.pt_scopes.specs.Names.{mangled};
 ghost use Rattle.pt_scopes.specs.Places.{Places};
 ghost use Rattle.pt_scopes.specs.Rows as row;
 ghost use Rattle.pt_tree.specs.Blocks.{Block, blocks_script};
@@ -11,7 +13,7 @@ ghost use Rattle.pt_control.specs.Turn as T;
 ghost use Rattle.pt_naming.specs.Around.{around_of, names_of};
 ghost use Rattle.pt_naming.specs.BlockNames.{captured_at, free_names};
 ghost use Rattle.pt_naming.specs.Laws.{HaveCells, IsClassBody};
-ghost use Rattle.pt_naming.specs.Naming.{own, owned, spelled_in, variable};
+ghost use Rattle.pt_naming.specs.Naming.{own, owned, variable};
 
 /// A name of a comprehension, as one of a function, is local in its block or in a cell.
 pub fn what_is_owned_is_local_or_a_cell()
@@ -19,16 +21,16 @@ pub fn what_is_owned_is_local_or_a_cell()
         → ((owned g q x).scope ≡ T.local) ⊎ ((owned g q x).scope ≡ T.cell) }
 {}
 
-/// Outside of comprehensions a name has its scope, by its spelling.
+/// Outside of comprehensions a name has its scope, by its spelling: with the innermost class around
+/// its block.
 pub fn names_have_their_scopes<V>()
-    ensures { (v : V) (ss : Stms) (b h : ℕ) (k : Block) (x : Name)
+    ensures { (v : V) (ss : Stms) (b : ℕ) (k : Block) (x : Name)
         → slice_get (blocks_script ss) b ≡ Some k
-        → slice_get (places_script ss).blocks b ≡ Some h
-        → (around_of v ss b).variable [] x ≡ own (places_script ss) b (spelled_in k x) }
+        → (around_of v ss b).variable [] x
+        ≡ own (places_script ss) b (mangled (unwrap_or k.class []) x) }
 {}
 
 /// Names of a class are those of its body alone, outside of comprehensions.
-#[tactic(auto, using(crate::proofs::ClassLemmas::names_of_class))]
 pub fn names_of_a_class_are_in_its_body<V>()
     ensures { (v : V) (ss : Stms) (b : ℕ) (within : List ℕ) (x : Name)
         → ((around_of v ss b).variable within x).scope ≡ T.of_class
@@ -36,7 +38,6 @@ pub fn names_of_a_class_are_in_its_body<V>()
 {}
 
 /// What a block takes along is in a cell of its maker: the maker's own, or one that it has from around.
-#[tactic(auto, using(crate::proofs::TakenLemmas::cells_of_maker))]
 pub fn what_is_taken_along_is_in_a_cell<V>()
     ensures { (v : V) (ss : Stms) (b c : ℕ) → HaveCells ((around_of v ss b).captured c) }
 {}

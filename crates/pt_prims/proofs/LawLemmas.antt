@@ -2,11 +2,12 @@
 use Rattle.std.proofs.Common.{◌≡◌, ◌∙◌, ℕ, Bool, true, false, List, [], ◌∷◌, ◌++◌, length, take, nat_eq, if◌then◌else◌, arith}
 use Rattle.std.proofs.Math.Seq.{take-length}
 use Rattle.std.proofs.lemmas.List.{take-append-le}
+use Rattle.pt_heap.specs.Limits.{object_limit}
 use Rattle.pt_heap.specs.declared.object.Object.{Object}
 use Rattle.pt_heap.specs.declared.object.Object.TheVariants.{Str}
 use Rattle.pt_prims.specs.declared.content.Content.{Content}
 use Rattle.pt_prims.specs.declared.content.Content.TheVariants as content
-use Rattle.pt_prims.specs.Operations.{object_limit, with_text, grown}
+use Rattle.pt_prims.specs.Operations.{with_text, grown}
 use Rattle.pt_prims.specs.Laws.{Stay}
 
 front-stays : (h more : List Object) → take (length h) (h ++ more) ≡ h

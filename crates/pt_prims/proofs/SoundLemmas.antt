@@ -1,6 +1,7 @@
 -- A text more keeps a heap sound.
 use Rattle.std.proofs.Common.{◌≡◌, ℕ, Bool, true, false, List, [], ◌∷◌, ◌++◌, length, nat_eq, if◌then◌else◌, Result, Ok, Err, OnOk, OnErr, sym, subst, arith}
 use Rattle.pt_base.specs.declared.memory.Memory.{Memory}
+use Rattle.pt_heap.specs.Limits.{object_limit}
 use Rattle.pt_heap.specs.declared.object.Object.{Object}
 use Rattle.pt_heap.specs.declared.object.Object.TheVariants.{Str}
 use Rattle.pt_heap.specs.Sound.{Fits, IsSound, StaysSound}
@@ -8,7 +9,7 @@ use Rattle.pt_heap.proofs.SoundLemmas.{sound-add}
 use Rattle.pt_prims.specs.declared.answer.PrimAns.{PrimAns}
 use Rattle.pt_prims.specs.declared.content.Content.{Content}
 use Rattle.pt_prims.specs.declared.content.Content.TheVariants as content
-use Rattle.pt_prims.specs.Operations.{object_limit, with_text, grown}
+use Rattle.pt_prims.specs.Operations.{with_text, grown}
 
 abbrev RemainsSound : (old new : List Object) → Type 0
 RemainsSound old new = StaysSound old new (λ _. Unit {0})

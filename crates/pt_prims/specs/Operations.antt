@@ -4,6 +4,7 @@ use Rattle.pt_base.specs.declared.numbers.ObjId.{ObjId}
 use Rattle.pt_base.specs.declared.what.What.TheVariants.{Feature, Heap}
 use Rattle.pt_heap.specs.declared.value.Value.{Value}
 use Rattle.pt_heap.specs.declared.value.Value.TheVariants as value
+use Rattle.pt_heap.specs.Limits.{object_limit}
 use Rattle.pt_heap.specs.declared.object.Object.{Object}
 use Rattle.pt_heap.specs.declared.object.Object.TheVariants.{Str}
 use Rattle.pt_prims.specs.declared.op.Op.{Op}
@@ -32,10 +33,6 @@ content_of op vs h = content.Outside Feature
 abbrev pub of_function : (number : ℕ) → Option Op
 of_function zero = Some Print
 of_function _ = None
-
--- the most objects that a heap may have
-abbrev pub object_limit : ℕ
-object_limit = 16777216
 
 abbrev pub next_object : List Object → Value
 next_object h = value.Obj (record { 0 = length h })

@@ -1,4 +1,5 @@
 pub mod RunLemmas
+pub mod Lines
 pub mod Relation
 pub mod Following
 pub mod Runs

@@ -11,16 +11,17 @@ use Rattle.pt_run.specs.Step.{step}
 use Rattle.pt_run.specs.Run.{Debugger, Session, Move, moves, stops, halts, move, move_by, move_by_advice, consult, view_of, Outcome, outcome_behind, Comes, ends_so, goes_on}
 use Rattle.pt_run.specs.Laws.{HaveTheSameRuns}
 use Rattle.pt_run.specs.Follows.{Follows}
+use Rattle.pt_run.proofs.Lines.{alone}
 use Rattle.pt_run.proofs.Relation.{SameState, SameStep, same_goes, same_consults, same_ends, Pair, left, right, in_phase, same_tells, same_starting, same_frames, no_openers, no_generators}
 use Rattle.pt_run.proofs.Following.{Catches, in_step, behind_one_step, catches, same_advice}
 
-module _ {D S R N V W : Type 0} (first : Machine S V) (second : Machine R V) (host : Host N V W) (At Stands : BlockId → S → R → Type 0) (law : Follows first second At Stands)
+module _ {D S R N V W : Type 0} (first : Machine S V) (second : Machine R V) (host : Host N V W) (At Stands Lands : BlockId → S → R → Type 0) (law : Follows first second At Stands Lands)
     (ask : Debugger D N V W) (m : ℕ) where
   abbrev Same : State S N V W → State R N V W → Type 0
-  Same s t = SameState first second At Stands s t
+  Same s t = SameState first second At Stands Lands s t
 
   abbrev Catch : State S N V W → State R N V W → Type 0
-  Catch s t = Catches first second host At Stands law m s t
+  Catch s t = Catches first second host At Stands Lands law m s t
 
   -- moves that are the same
   data SameMove : Move D S N V W → Move D R N V W → Type 0 where
@@ -28,23 +29,23 @@ module _ {D S R N V W : Type 0} (first : Machine S V) (second : Machine R V) (ho
     same_stops : (os : List (Output V)) (d : D) (e : Ending N V W) → SameMove (stops os d e) (stops os d e)
     same_halts : SameMove halts halts
 
-  same_by_advice : (os : List (Output V)) (d : D) (x : Step S N V W) (y : Step R N V W) → SameStep first second At Stands x y →
+  same_by_advice : (os : List (Output V)) (d : D) (x : Step S N V W) (y : Step R N V W) → SameStep first second At Stands Lands x y →
       SameMove (move_by_advice first host ask os d x) (move_by_advice second host ask os d y)
   same_by_advice os d _ _ (same_goes ps s t h) = same_moves _ d s t h
   same_by_advice os d _ _ (same_consults q p h x y u u' i) = same_halts
   same_by_advice os d _ _ (same_ends e) = same_stops os d e
 
-  same_views : (p : Pair N W first second At Stands) (x : Phase S N V W) (y : Phase R N V W) →
-      view_of first host ask (left first second At Stands p x) ≡ view_of second host ask (right first second At Stands p y)
-  same_views p x y = ap (λ fs. record { frames = view_frames host.first_line (visible (p.frame ∷ fs)); world = p.world }) (same_frames first second At Stands p.openers p.other_openers p.same_openers)
+  same_views : (p : Pair N W first second At Stands Lands) (x : Phase S N V W) (y : Phase R N V W) →
+      view_of first host ask (left first second At Stands Lands p x) ≡ view_of second host ask (right first second At Stands Lands p y)
+  same_views p x y = ap (λ fs. record { frames = view_frames host.first_line (visible (p.frame ∷ fs)); world = p.world }) (same_frames first second At Stands Lands p.openers p.other_openers p.same_openers)
 
-  same_move_by : (d : D) (x : Step S N V W) (y : Step R N V W) → SameStep first second At Stands x y → SameMove (move_by first host ask d x) (move_by second host ask d y)
+  same_move_by : (d : D) (x : Step S N V W) (y : Step R N V W) → SameStep first second At Stands Lands x y → SameMove (move_by first host ask d x) (move_by second host ask d y)
   same_move_by d _ _ (same_goes os s t h) = same_moves os d s t h
   same_move_by d _ _ (same_ends e) = same_stops [] d e
   same_move_by d _ _ (same_consults q p h x y u u' i) =
-      subst (λ v. SameMove (consult first host ask (ask q (view_of first host ask (left first second At Stands p x)) d) u (left first second At Stands p x))
-      (consult second host ask (ask q v d) u' (right first second At Stands p y))) (same_views p x y)
-      (same_by_advice _ _ _ _ (same_advice first second host At Stands law p h x y _ u u' i))
+      subst (λ v. SameMove (consult first host ask (ask q (view_of first host ask (left first second At Stands Lands p x)) d) u (left first second At Stands Lands p x))
+      (consult second host ask (ask q v d) u' (right first second At Stands Lands p y))) (same_views p x y)
+      (same_by_advice _ _ _ _ (same_advice first second host At Stands Lands law p h x y _ u u' i))
 
   -- the second run has what the first comes to, and the other way round
   abbrev First : ℕ → Move D S N V W → Outcome D N V W → Type 0
@@ -62,11 +63,11 @@ module _ {D S R N V W : Type 0} (first : Machine S V) (second : Machine R V) (ho
   forward : (u : ℕ) (x : Move D S N V W) (o : Outcome D N V W) → First u x o → (y : Move D R N V W) → SameMove x y → Second u y o
   forward u _ _ (ends_so _ os d e) _ (same_stops _ _ _) = ends_so u os d e
   forward u _ _ (goes_on _ os _ o c) _ (same_moves _ d s t h) =
-      goes_on u os (record { debugger = d; state = t }) o (reach d s o (λ y i. forward s.units _ o c y i) t (catches first second host At Stands law m s t h))
+      goes_on u os (record { debugger = d; state = t }) o (reach d s o (λ y i. forward s.units _ o c y i) t (catches first second host At Stands Lands law m s t h))
 
   pub follows_forward : (d : D) (s : State S N V W) (t : State R N V W) → Same s t → (o : Outcome D N V W) →
       First s.units (move_by first host ask d (step first host m s)) o → Second t.units (move_by second host ask d (step second host m t)) o
-  follows_forward d s t h o c = reach d s o (λ y i. forward s.units _ o c y i) t (catches first second host At Stands law m s t h)
+  follows_forward d s t h o c = reach d s o (λ y i. forward s.units _ o c y i) t (catches first second host At Stands Lands law m s t h)
 
   -- where the second run goes on
   go_same : (x : Move D S N V W) (y : Move D R N V W) → SameMove x y → (os : List (Output V)) (z : Session D R N V W) (o : Outcome D N V W) → moves os z ≡ y →
@@ -76,7 +77,7 @@ module _ {D S R N V W : Type 0} (first : Machine S V) (second : Machine R V) (ho
       let a : os ≡ ps = cc in
       let b : z ≡ record { debugger = d; state = t } = cc in
       subst (λ k. First u (moves ps (record { debugger = d; state = s })) (outcome_behind k o)) (sym a)
-      (goes_on u ps (record { debugger = d; state = s }) o (f d s t (catches first second host At Stands law m s t h) b))
+      (goes_on u ps (record { debugger = d; state = s }) o (f d s t (catches first second host At Stands Lands law m s t h) b))
   go_same _ _ (same_stops ps d e) os z o q f u = absurd cc
   go_same _ _ same_halts os z o q f u = absurd cc
 
@@ -112,11 +113,11 @@ module _ {D S R N V W : Type 0} (first : Machine S V) (second : Machine R V) (ho
 
   pub follows_backward : (d : D) (s : State S N V W) (t : State R N V W) → Same s t → (o : Outcome D N V W) →
       Second t.units (move_by second host ask d (step second host m t)) o → First s.units (move_by first host ask d (step first host m s)) o
-  follows_backward d s t h o c = backward t.units _ o c d s t (catches first second host At Stands law m s t h) refl refl
+  follows_backward d s t h o c = backward t.units _ o c d s t (catches first second host At Stands Lands law m s t h) refl refl
 
-module _ {D S R N V W : Type 0} (first : Machine S V) (second : Machine R V) (At Stands : BlockId → S → R → Type 0) (law : Follows first second At Stands)
+module _ {D S R N V W : Type 0} (first : Machine S V) (second : Machine R V) (At Stands Lands : BlockId → S → R → Type 0) (law : Follows first second At Stands Lands)
     (host : Host N V W) (ask : Debugger D N V W) where
-  start_pair : (b : BlockId) (names : N) (w : W) → Pair N W first second At Stands
+  start_pair : (b : BlockId) (names : N) (w : W) → Pair N W first second At Stands Lands
   start_pair b names w = record {
     frame = record { number = 0; block = b; names = names; line = None; trace = None; traces_lines = true; of_generator = false };
     one = first.start b None;
@@ -137,10 +138,10 @@ module _ {D S R N V W : Type 0} (first : Machine S V) (second : Machine R V) (At
     frames = 1;
   }
 
-  same_start : (b : BlockId) (names : N) (w : W) → SameState first second At Stands (start first b names w) (start second b names w)
+  same_start : (b : BlockId) (names : N) (w : W) → SameState first second At Stands Lands (start first b names w) (start second b names w)
   unfolding start_pair
-  same_start b names w = in_phase (start_pair b names w) (law.starts b None) _ _ (same_tells (starts ∷ []) _ _ (same_starting _ _ (law.begins b None)))
+  same_start b names w = in_phase (start_pair b names w) (law.starts b None) _ _ (same_tells (starts ∷ []) _ _ (same_starting _ _ (law.begins b None)) (alone {V = V} _ starts refl))
 
   pub have_the_same_runs : (n : ℕ) (b : BlockId) (names : N) (w : W) (d : D) → HaveTheSameRuns first second host ask n b names w d
   have_the_same_runs n b names w d o =
-      (follows_forward first second host At Stands law ask n d _ _ (same_start b names w) o, follows_backward first second host At Stands law ask n d _ _ (same_start b names w) o)
+      (follows_forward first second host At Stands Lands law ask n d _ _ (same_start b names w) o, follows_backward first second host At Stands Lands law ask n d _ _ (same_start b names w) o)

@@ -1,12 +1,12 @@
 -- A machine is followed by the one that moves silently before each of its turns.
-use Rattle.std.proofs.Common.{◌≡◌, ℕ, refl, subst}
+use Rattle.std.proofs.Common.{◌≡◌, ℕ, refl}
 use Rattle.pt_control.specs.Turn as T
 use Rattle.pt_control.specs.Turn.{Turn}
 use Rattle.pt_run.specs.Machine.{BlockId, Machine, Jump, refuses, lands, turn_in, jump_in}
 use Rattle.pt_run.specs.Host.{Host}
 use Rattle.pt_run.specs.Run.{Debugger}
 use Rattle.pt_run.specs.Laws.{HaveTheSameRuns}
-use Rattle.pt_run.specs.Follows.{Nears, there, moves, SameTurn, same_act, same_note, same_end, SameJump, same_refusal, same_landing, Follows, Slow, before, at, state_of, turn_of, slowly, NeverMoves}
+use Rattle.pt_run.specs.Follows.{Nears, there, moves, SameTurn, same_act, same_note, same_end, SameJump, same_refusal, same_landing, AtLine, at_act, at_landing, Follows, Slow, before, at, state_of, turn_of, slowly, NeverMoves}
 use Rattle.pt_run.proofs.Runs.{have_the_same_runs}
 
 module _ {S : Type 0} where
@@ -25,7 +25,7 @@ module _ {S V : Type 0} (machine : Machine S V) (never : NeverMoves machine) whe
   comes b c = moves _ (at c) refl (there _ is_at)
 
   same : (b : BlockId) (t : Turn S V) → ((d : S) → t ≡ T.move d → ⊥) → (t ≡ T.stuck → ⊥) → SameTurn machine (slowly machine) IsAt b t (turn_in before t)
-  same b (T.act m a k) f g = same_act m a k _ (λ r. comes b (k r))
+  same b (T.act m a k) f g = same_act m a k _ (λ r. record { nears = comes b (k r); same_next = refl })
   same b (T.note a k) f g = same_note a k _ (λ r. comes b (k r))
   same b (T.move c) f g = absurd (f c refl)
   same b (T.over e) f g = same_end e
@@ -41,46 +41,30 @@ module _ {S V : Type 0} (machine : Machine S V) (never : NeverMoves machine) whe
   jump b (refuses r) = same_refusal r
   jump b (lands to c f) = same_landing to c (before to) (before c) f _ near_before (comes b c) (λ v. comes b (f v))
 
-  jumps : (b : BlockId) (c : S) (t : Slow S) (l : ℕ) → IsNear b c t → SameJump machine (slowly machine) IsAt IsNear b (machine.jump b c l) (jump_in before (machine.jump b (state_of t) l))
-  jumps b c _ l near_before = jump b (machine.jump b c l)
-  jumps b c _ l near_at = jump b (machine.jump b c l)
+  near_jump : (b : BlockId) (c : S) (t : Slow S) (l : ℕ) → IsNear b c t → SameJump machine (slowly machine) IsAt IsNear b (machine.jump b c l) (jump_in before (machine.jump b (state_of t) l))
+  near_jump b c _ l near_before = jump b (machine.jump b c l)
+  near_jump b c _ l near_at = jump b (machine.jump b c l)
+
+  jumps : (b : BlockId) (c : S) (t : Slow S) (l : ℕ) → AtLine machine (slowly machine) IsAt IsNear b c t
+      → SameJump machine (slowly machine) IsAt IsNear b (machine.jump b c l) (jump_in before (machine.jump b (state_of t) l))
+  jumps b _ _ l (at_act c t h e) = near_jump b c t l (stands b c t h)
+  jumps b _ _ l (at_landing c t h) = near_jump b c t l h
 
   active : (b : BlockId) (c : S) (t : Slow S) → IsNear b c t → machine.active c ≡ machine.active (state_of t)
   active b c _ near_before = refl
   active b c _ near_at = refl
 
-  -- only the state before a turn moves
-  still : (t : Turn S V) → ((d : S) → t ≡ T.move d → ⊥) → (u : Slow S) → turn_in before t ≡ T.move u → ⊥
-  still (T.act m a k) f u e = absurd cc
-  still (T.note a k) f u e = absurd cc
-  still (T.move c) f u e = f c refl
-  still (T.over r) f u e = absurd cc
-  still T.stuck f u e = absurd cc
-
-  at_same : (b : BlockId) (c d : S) → IsNear b c (at d) → IsNear b c (before d)
-  at_same b c _ near_at = near_before
-
-  is_near : (b : BlockId) (c : S) (t : Slow S) → Near b c t → IsNear b c t
-  is_near b c _ (there _ is_at) = near_at
-  is_near b c _ (moves (before d) u e k) =
-      let f : u ≡ at d = cc in at_same b c d (subst (IsNear b c) f (is_near b c u k))
-  is_near b c _ (moves (at d) u e k) = absurd (still (machine.turn b d) (never.moves b d) u e)
-
-  destination : (b : BlockId) (c : S) (t : Slow S) → IsNear b c t → machine.destination b c ≡ machine.destination b (state_of t)
-  destination b c _ near_before = refl
-  destination b c _ near_at = refl
-
-  follows : Follows machine (slowly machine) IsAt IsNear
+  follows : Follows machine (slowly machine) IsAt IsNear IsNear
   follows = record {
     turns = turns;
     stands = stands;
+    landings = λ b c t h. h;
     starts = λ b i. near_before;
     begins = λ b i. comes b (machine.start b i);
     active = active;
     jumps = jumps;
-    destination = λ b c t k. destination b c t (is_near b c t k);
   }
 
 module _ {D S N V W : Type 0} (machine : Machine S V) (host : Host N V W) (ask : Debugger D N V W) where
   pub runs_slowly : NeverMoves machine → (n : ℕ) (b : BlockId) (names : N) (w : W) (d : D) → HaveTheSameRuns machine (slowly machine) host ask n b names w d
-  runs_slowly never n b names w d = have_the_same_runs machine (slowly machine) IsAt IsNear (follows machine never) host ask n b names w d
+  runs_slowly never n b names w d = have_the_same_runs machine (slowly machine) IsAt IsNear IsNear (follows machine never) host ask n b names w d

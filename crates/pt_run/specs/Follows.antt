@@ -1,9 +1,9 @@
 -- When one machine follows another: from states that stand for each other each turn, each jump and each reply leads to such
 -- states again (simulation). The machine that follows may move silently before its turn; the other one doesn't.
-use Rattle.std.specs.Prelude.{◌≡◌, ℕ, Option}
+use Rattle.std.specs.Prelude.{◌≡◌, ℕ, true, Option}
 use Rattle.pt_control.specs.Turn as T
 use Rattle.pt_control.specs.Turn.{Mark, Ask, Answer, Reply, Note, End, Turn}
-use Rattle.pt_run.specs.Machine.{BlockId, Machine, Reason, Jump, refuses, lands, turn_in, jump_in}
+use Rattle.pt_run.specs.Machine.{BlockId, Machine, Reason, Jump, refuses, lands, is_act, turn_in, jump_in}
 
 -- states of two machines, in a block
 pub record Related (S R : Type 0) : Type 0 where
@@ -21,30 +21,40 @@ module _ {S R V : Type 0} (first : Machine S V) (second : Machine R V) (At : Blo
     there : (t : R) → At b c t → Nears b c t
     moves : (t t' : R) → second.turn b t ≡ T.move t' → Nears b c t' → Nears b c t
 
+  -- behind a reply it comes so to a state that stands for the first one's, and the same act comes next
+  pub record BehindReply (b : BlockId) (c : S) (t : R) : Type 0 where
+    pub nears : Nears b c t
+    pub same_next : first.destination b c ≡ second.destination b t
+
   -- the same ask with the same mark, the same note, or the same end, and whatever the reply is, the states behind it
   pub data SameTurn (b : BlockId) : Turn S V → Turn R V → Type 0 where
     same_act : (m : Option Mark) (a : Ask V) (k : Reply V (Answer V a) → S) (k' : Reply V (Answer V a) → R) →
-        ((r : Reply V (Answer V a)) → Nears b (k r) (k' r)) → SameTurn b (T.act m a k) (T.act m a k')
+        ((r : Reply V (Answer V a)) → BehindReply b (k r) (k' r)) → SameTurn b (T.act m a k) (T.act m a k')
     same_note : (a : Note V) (k : Reply V (Unit {0}) → S) (k' : Reply V (Unit {0}) → R) →
         ((r : Reply V (Unit {0})) → Nears b (k r) (k' r)) → SameTurn b (T.note a k) (T.note a k')
     same_end : (e : End V) → SameTurn b (T.over e) (T.over e)
 
-  -- the same verdict, and where it lands states that hooks may look at, and from which the block goes on alike
-  pub data SameJump (Stands : BlockId → S → R → Type 0) (b : BlockId) : Jump S V → Jump R V → Type 0 where
-    same_refusal : (r : Reason) → SameJump Stands b (refuses r) (refuses r)
-    same_landing : (to on : S) (to' on' : R) (f : V → S) (f' : V → R) → Stands b to to' → Nears b on on' →
-        ((v : V) → Nears b (f v) (f' v)) → SameJump Stands b (lands to on f) (lands to' on' f')
+  -- the same verdict, and where it lands states that stand for each other there, and from which the block goes on alike
+  pub data SameJump (Lands : BlockId → S → R → Type 0) (b : BlockId) : Jump S V → Jump R V → Type 0 where
+    same_refusal : (r : Reason) → SameJump Lands b (refuses r) (refuses r)
+    same_landing : (to on : S) (to' on' : R) (f : V → S) (f' : V → R) → Lands b to to' → Nears b on on' →
+        ((v : V) → Nears b (f v) (f' v)) → SameJump Lands b (lands to on f) (lands to' on' f')
 
-  -- At relates states whose turns are alike; Stands those that hooks may look at: the starts of blocks, the places of acts and
-  -- notes, and where jumps land
-  pub record Follows (Stands : BlockId → S → R → Type 0) : Type 0 where
+  -- a jump is asked for at a line event: where an act begins with its mark, and where a jump has landed
+  pub data AtLine (Lands : BlockId → S → R → Type 0) (b : BlockId) : S → R → Type 0 where
+    at_act : (c : S) (t : R) → At b c t → is_act (first.turn b c) ≡ true → AtLine Lands b c t
+    at_landing : (c : S) (t : R) → Lands b c t → AtLine Lands b c t
+
+  -- At relates states whose turns are alike; Lands those where jumps have landed; Stands all that hooks may look at: these, the
+  -- starts of blocks, and the places of acts and notes
+  pub record Follows (Stands Lands : BlockId → S → R → Type 0) : Type 0 where
     pub turns : (b : BlockId) (c : S) (t : R) → At b c t → SameTurn b (first.turn b c) (second.turn b t)
     pub stands : (b : BlockId) (c : S) (t : R) → At b c t → Stands b c t
+    pub landings : (b : BlockId) (c : S) (t : R) → Lands b c t → Stands b c t
     pub starts : (b : BlockId) (i : Option V) → Stands b (first.start b i) (second.start b i)
     pub begins : (b : BlockId) (i : Option V) → Nears b (first.start b i) (second.start b i)
     pub active : (b : BlockId) (c : S) (t : R) → Stands b c t → first.active c ≡ second.active t
-    pub jumps : (b : BlockId) (c : S) (t : R) (l : ℕ) → Stands b c t → SameJump Stands b (first.jump b c l) (second.jump b t l)
-    pub destination : (b : BlockId) (c : S) (t : R) → Nears b c t → first.destination b c ≡ second.destination b t
+    pub jumps : (b : BlockId) (c : S) (t : R) (l : ℕ) → AtLine Lands b c t → SameJump Lands b (first.jump b c l) (second.jump b t l)
 
 -- a machine that moves silently before each turn, as code does
 pub data Slow (S : Type 0) : Type 0 where

@@ -1,6 +1,6 @@
 -- A machine: it gives the turns of a block's activation. Control of a script's tree is one, code on slots is another; nothing
 -- else of a run knows which it is.
-use Rattle.std.specs.Prelude.{ℕ, ◌==◌, Bool, not, ◌&&◌, Option, if◌then◌else◌}
+use Rattle.std.specs.Prelude.{ℕ, ◌==◌, Bool, true, false, not, ◌&&◌, Option, Some, if◌then◌else◌}
 use Rattle.pt_control.specs.Turn as T
 use Rattle.pt_control.specs.Turn.{Turn}
 
@@ -25,6 +25,11 @@ pub data Reason : Type 0 where
 pub data Jump (S V : Type 0) : Type 0 where
   refuses : Reason → Jump S V
   lands : (to onward : S) (instead : V → S) → Jump S V
+
+-- an act begins with its mark, so that a line may be told
+abbrev pub is_act : {S V : Type 0} → Turn S V → Bool
+is_act (T.act (Some m) a k) = true
+is_act t = false
 
 -- turns and jumps of states that are parts of others
 abbrev pub turn_in : {S R V : Type 0} → (S → R) → Turn S V → Turn R V

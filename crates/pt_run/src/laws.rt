@@ -68,9 +68,10 @@ pub fn a_debugger_that_only_looks_changes_nothing<D, S, N, V, W>()
 /// Two machines that follow each other have the same runs: for each host, debugger and bound the
 /// one comes to an outcome exactly where the other does.
 #[tactic(auto, using(crate::proofs::Runs::have_the_same_runs))]
-pub fn machines_that_follow_each_other_have_the_same_runs<D, S, R, N, V, W, P, Q>()
+pub fn machines_that_follow_each_other_have_the_same_runs<D, S, R, N, V, W, P, Q, L>()
     ensures { (first : Machine S V) (second : Machine R V) (at : P → Related S R)
-        (stands : Q → Related S R) → Follows first second (By at) (By stands)
+        (stands : Q → Related S R) (lands : L → Related S R)
+        → Follows first second (By at) (By stands) (By lands)
         → (host : Host N V W) (ask : Debugger D N V W) (n : ℕ) (block : BlockId) (names : N)
         (world : W) (d : D) → HaveTheSameRuns first second host ask n block names world d }
 {}
@@ -87,10 +88,11 @@ pub fn silent_moves_change_nothing<D, S, N, V, W>()
 
 /// Where two machines follow each other for the blocks of a script, and a third one runs those of
 /// the prelude for both, the two so made have the same runs.
-pub fn hidden_blocks_may_have_a_machine_of_their_own<D, H, S, R, N, V, W, P, Q>()
+pub fn hidden_blocks_may_have_a_machine_of_their_own<D, H, S, R, N, V, W, P, Q, L>()
     ensures { (prelude : Machine H V) → NeverMoves prelude
         → (first : Machine S V) (second : Machine R V) (at : P → Related S R)
-        (stands : Q → Related S R) → Follows first second (By at) (By stands)
+        (stands : Q → Related S R) (lands : L → Related S R)
+        → Follows first second (By at) (By stands) (By lands)
         → (host : Host N V W) (ask : Debugger D N V W) (n : ℕ) (block : BlockId) (names : N)
         (world : W) (d : D)
         → HaveTheSameRuns (both_sides prelude first) (both_sides prelude second) host ask n block names world d }

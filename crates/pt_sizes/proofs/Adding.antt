@@ -9,7 +9,7 @@ use Rattle.std.proofs.lemmas.Option.{same_Some}
 use Rattle.std.proofs.Math.Nat.{le-max_left, le-max_right, max-eq_left, max-eq_right, min-le_left, min-le_right, le-min}
 use Rattle.pt_ranges.specs.declared.handlers.Handler.{Handler}
 use Rattle.pt_sizes.specs.Flow.{is_under}
-use Rattle.pt_sizes.specs.Waiting.{Level, up, stretch_of, stretch, Waits, Descends, Rises, AllUnder, put, at_low, at_high, placed, first_depth, DeepestBelow, Empty, Adding, Added, Ready, Building, Index, IsDeepest, AreDeepest, BareTo, level_of, levels_of}
+use Rattle.pt_sizes.specs.Waiting.{Level, up, stretch_of, stretch, Waits, Descends, Rises, AllUnder, put, at_low, at_high, placed, first_depth, DeepestBelow, Empty, Adding, Added, Ready, WaitingSoFar, Index, IsDeepest, AreDeepest, BareTo, level_of, levels_of}
 use Rattle.pt_sizes.proofs.Tables.{below_or, none_in_empty}
 use Rattle.pt_sizes.proofs.Landings.{contains_get, get_left, get_last, set_relates, same_or, read_items, no_more}
 
@@ -79,20 +79,20 @@ module _ (level : Level) (node : ℕ) (row : Handler) where
       → (v : ℕ) (r : Handler) → Contains (stretch_of (put t level node row) v) r → row.depth ≤ r.depth
   put_deeper t h lower v r c = elim (put_new t h v r c) [ inl a ↦ lower v r a | inr (e, x) ↦ subst (λ z. row.depth ≤ z.depth) (sym e) (omega arith) ]
 
-low_is : (low high : ℕ) → at_low low high ≡ true → (low < high) × (low % 2 ≡ 1)
+pub low_is : (low high : ℕ) → at_low low high ≡ true → (low < high) × (low % 2 ≡ 1)
 low_is low high h = grind (arith, nat_tests)
 
-high_is : (low high : ℕ) → at_high low high ≡ true → (low < high) × (high % 2 ≡ 1)
+pub high_is : (low high : ℕ) → at_high low high ≡ true → (low < high) × (high % 2 ≡ 1)
 high_is low high h = grind (arith, nat_tests)
 
-is_low : (low high : ℕ) → low < high → low % 2 ≡ 1 → at_low low high ≡ true
+pub is_low : (low high : ℕ) → low < high → low % 2 ≡ 1 → at_low low high ≡ true
 is_low low high h k = grind (arith, nat_tests)
 
-is_high : (low high : ℕ) → low < high → high % 2 ≡ 1 → at_high low high ≡ true
+pub is_high : (low high : ℕ) → low < high → high % 2 ≡ 1 → at_high low high ≡ true
 is_high low high h k = grind (arith, nat_tests)
 
 -- a number within is one of the ends, or its half is within the halves
-data Half (x low high : ℕ) : Type 0 where
+pub data Half (x low high : ℕ) : Type 0 where
   lowest : x ≡ low → low < high → low % 2 ≡ 1 → Half x low high
   highest : x ≡ high - 1 → low < high → high % 2 ≡ 1 → Half x low high
   within : (low + 1) / 2 ≤ x / 2 → x / 2 < high / 2 → Half x low high
@@ -105,7 +105,7 @@ odd_or n = by_rest (n % 2) (omega arith)
     by_rest (suc zero) h = inl refl
     by_rest (suc (suc r)) h = absurd (omega arith)
 
-halve : (x low high : ℕ) → low ≤ x → x < high → Half x low high
+pub halve : (x low high : ℕ) → low ≤ x → x < high → Half x low high
 halve x low high h k = by_low (odd_or low) (same_or x low)
   where
     by_high : (low + 1) / 2 ≤ x / 2 → (high % 2 ≡ 1) ⊎ (high % 2 ≡ 0) → (x ≡ high - 1) ⊎ (x ≡ high - 1 → ⊥) → Half x low high
@@ -125,7 +125,7 @@ halve x low high h k = by_low (odd_or low) (same_or x low)
     by_low (inr o) e = by_high (omega (arith, o, h)) (odd_or high) (same_or x (high - 1))
 
 -- what halves are within is within
-unhalve : (x low high : ℕ) → (low + 1) / 2 ≤ x / 2 → x / 2 < high / 2 → (low ≤ x) × (x < high)
+pub unhalve : (x low high : ℕ) → (low + 1) / 2 ≤ x / 2 → x / 2 < high / 2 → (low ≤ x) × (x < high)
 unhalve x low high h k = (omega (arith, h), omega (arith, k))
 
 module _ (level : Level) (low high : ℕ) (row : Handler) (room : high < length level + 1) where
@@ -167,7 +167,7 @@ module _ (level : Level) (low high : ℕ) (row : Handler) (room : high < length 
   placed_long = put_long first (high - 1) row (at_high low high) ∙ put_long level low row (at_low low high)
 
 -- above a level with one stretch there is one
-up_zero : (m k n : ℕ) → k ≤ m → up k n ≡ 0 → up m n ≡ 0
+pub up_zero : (m k n : ℕ) → k ≤ m → up k n ≡ 0 → up m n ≡ 0
 up_zero zero k n h e = subst (λ j. up j n ≡ 0) (let z : k ≡ 0 = omega (arith, h) in z) e
 up_zero (suc m) k n h e = elim (below_or k (suc m) (omega (arith, h)))
     [ inl a ↦ ap (λ x. x / 2) (up_zero m k n (omega (arith, a)) e) | inr a ↦ subst (λ j. up j n ≡ 0) a e ]
@@ -263,7 +263,7 @@ module _ (count : ℕ) (row : Handler) (levels : List Level) where
 
 module _ (rows : List Handler) (count : ℕ) where
   pub building_start : (left : List Handler) (levels : List Level) → Rises left → ((r : Handler) → Contains rows r → Contains left r) → ((r : Handler) → Contains left r → Contains rows r)
-      → Empty count 0 levels → Building rows left count levels
+      → Empty count 0 levels → WaitingSoFar rows left count levels
   building_start left levels rises into from e = record {
     known = λ k v r c. absurd (e.none k v r c);
     whole = λ r c. inl (into r c);
@@ -274,11 +274,11 @@ module _ (rows : List Handler) (count : ℕ) where
     tall = record { tall = sym e.size_is; wide = e.wide };
   }
 
-  module _ (left : List Handler) (row : Handler) (levels : List Level) (b : Building rows (left ++ row ∷ []) count levels) where
+  module _ (left : List Handler) (row : Handler) (levels : List Level) (b : WaitingSoFar rows (left ++ row ∷ []) count levels) where
     pub building_ready : Ready count row levels
     building_ready = record { sorted = b.sorted; deeper = λ k v r c. b.deeper k v r row c (Contains-push left row); tall = b.tall }
 
-    pub building_more : (levels' : List Level) → Added count row levels levels' → Building rows left count levels'
+    pub building_more : (levels' : List Level) → Added count row levels levels' → WaitingSoFar rows left count levels'
     building_more levels' a = record {
       known = λ k v r c. elim (a.new k v r c) [ inl x ↦ b.known k v r x | inr (e, u) ↦ (subst (λ x. Contains rows x) (sym e) (b.from row (Contains-push left row)), subst (λ x. AllUnder k v x) (sym e) u) ];
       whole = λ r c. elim (b.whole r c) [
@@ -295,7 +295,7 @@ module _ (rows : List Handler) (count : ℕ) where
       tall = a.tall;
     }
 
-  pub building_end : (levels : List Level) → Building rows [] count levels → Index rows count levels
+  pub building_end : (levels : List Level) → WaitingSoFar rows [] count levels → Index rows count levels
   building_end levels b = record {
     known = λ pc row w. let x = b.known w.level (up w.level pc) row w.among in (x.0, x.1 pc refl);
     whole = λ pc row lt c u. elim (b.whole row c) [ inl x ↦ absurd (none_in_empty row x) | inr w ↦ w pc lt u ];
@@ -337,16 +337,16 @@ module _ (levels : List Level) (q : ℕ) where
 
 -- an element comes behind a list
 
-push_last : {X : Type 0} (xs : List X) (x d : X) → get_or (xs ++ x ∷ []) (length xs) d ≡ x
+pub push_last : {X : Type 0} (xs : List X) (x d : X) → get_or (xs ++ x ∷ []) (length xs) d ≡ x
 push_last [] x d = refl
 push_last (y ∷ xs) x d = push_last xs x d
 
-push_left : {X : Type 0} (xs : List X) (x d : X) (j : ℕ) → j < length xs → get_or (xs ++ x ∷ []) j d ≡ get_or xs j d
+pub push_left : {X : Type 0} (xs : List X) (x d : X) (j : ℕ) → j < length xs → get_or (xs ++ x ∷ []) j d ≡ get_or xs j d
 push_left [] x d j h = absurd (omega arith)
 push_left (y ∷ xs) x d zero h = refl
 push_left (y ∷ xs) x d (suc j) h = push_left xs x d j (omega arith)
 
-push_cases : {X : Type 0} (xs : List X) (x d : X) (j : ℕ) → (get_or (xs ++ x ∷ []) j d ≡ x) ⊎ (get_or (xs ++ x ∷ []) j d ≡ get_or xs j d)
+pub push_cases : {X : Type 0} (xs : List X) (x d : X) (j : ℕ) → (get_or (xs ++ x ∷ []) j d ≡ x) ⊎ (get_or (xs ++ x ∷ []) j d ≡ get_or xs j d)
 push_cases [] x d zero = inl refl
 push_cases [] x d (suc j) = inr refl
 push_cases (y ∷ xs) x d zero = inr refl
@@ -405,7 +405,7 @@ pub empty_push : {X Y Z : Type 0} (count size : ℕ) (levels levels' : Vec (Vec 
 empty_push count size levels levels' level e b same = subst (λ xs. Empty count (size / 2) xs) (sym (ap (λ xs. map level_of xs) same ∙ map-append level_of levels.items (level ∷ [])))
     (empty_more count size (levels_of levels) (level_of level) e b)
 
-order : (x y : ℕ) → (x < y) ⊎ (y ≤ x)
+pub order : (x y : ℕ) → (x < y) ⊎ (y ≤ x)
 order zero zero = inr (omega arith)
 order zero (suc y) = inl (omega arith)
 order (suc x) zero = inr (omega arith)
@@ -445,8 +445,8 @@ add_start count high row levels r e = adding_start count row levels row.from.0 h
     is_over : (q : ℕ) → is_under row q ≡ true → (row.from.0 ≤ q) × (q < row.to.0)
     is_over q u = grind (arith, nat_tests)
 
-pub building_none : (rows : List Handler) (count : ℕ) (left left' : List Handler) (levels : List Level) → Building rows left count levels → left ≡ left' ++ [] → length left' ≡ 0 → Index rows count levels
-building_none rows count left left' levels b e h = building_end rows count levels (subst (λ xs. Building rows xs count levels) (no_more left left' e h) b)
+pub building_none : (rows : List Handler) (count : ℕ) (left left' : List Handler) (levels : List Level) → WaitingSoFar rows left count levels → left ≡ left' ++ [] → length left' ≡ 0 → Index rows count levels
+building_none rows count left left' levels b e h = building_end rows count levels (subst (λ xs. WaitingSoFar rows xs count levels) (no_more left left' e h) b)
 
 pub half_up : (n : ℕ) → (n + 1) / 2 ≡ n / 2 + n % 2
 half_up n = omega arith

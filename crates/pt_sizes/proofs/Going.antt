@@ -9,7 +9,7 @@ use Rattle.pt_sizes.specs.declared.places.Place.{Place}
 use Rattle.pt_sizes.specs.declared.places.SizeStep.{SizeStep}
 use Rattle.pt_sizes.specs.Flow.{Body, entry, left, own_steps, step_to, step_again, is_under}
 use Rattle.pt_sizes.specs.Waiting.{Level, Waits, AllDescend, levels_size, IsDeepest}
-use Rattle.pt_sizes.specs.Search.{Open, Landed, LandedAll, Went, WentOn, Stepped, AfterStep, weight, nones}
+use Rattle.pt_sizes.specs.Search.{Open, RowsLanding, SearchLanding, Expansion, SearchExpansion, Stepped, AfterStep, weight, nones}
 use Rattle.pt_sizes.proofs.Tables.{some_or_none, entry_in}
 use Rattle.pt_sizes.proofs.Theory.{open_seen, open_above, open_below, meets}
 
@@ -58,15 +58,15 @@ few_steps place q n = by_test (nat_le place.needs n)
         omega (arith, a, c, d, e, f)
     by_test false = omega arith
 
-module _ (b : Body) (q n : ℕ) (place : Place) (T : List (Option ℕ)) (W W1 W2 : List SizeStep) (levels levels' : List Level) (d f : Bool) (deepest : ℕ)
-    (own : W1 ≡ W ++ own_steps place q n) (all : LandedAll levels levels' q (left place n) W1 W2) (is : IsDeepest b.rows q deepest) where
-  abbrev L : Landed (Waits levels) (Waits levels') q (left place n) W1 W2
+module _ (b : Body) (q n : ℕ) (place : Place) (T : List (Option ℕ)) (W before after : List SizeStep) (levels levels' : List Level) (d f : Bool) (deepest : ℕ)
+    (own : before ≡ W ++ own_steps place q n) (all : SearchLanding levels levels' q (left place n) before after) (is : IsDeepest b.rows q deepest) where
+  abbrev L : RowsLanding (Waits levels) (Waits levels') q (left place n) before after
   L = all.landed
 
-  into : (s : SizeStep) → Contains (W ++ own_steps place q n) s → Contains W2 s
+  into : (s : SizeStep) → Contains (W ++ own_steps place q n) s → Contains after s
   into s c = L.kept s (subst (λ w. Contains w s) (sym own) c)
 
-  from : (s : SizeStep) → Contains W1 s → Contains W s ⊎ Contains (own_steps place q n) s
+  from : (s : SizeStep) → Contains before s → Contains W s ⊎ Contains (own_steps place q n) s
   from s c = Contains-append_cases W (own_steps place q n) s (subst (λ w. Contains w s) own c)
 
   deepest_found : (row : Handler) → Contains b.rows row → is_under row q ≡ true → left place n < row.depth → (d || nat_lt (left place n) deepest) ≡ true
@@ -75,7 +75,7 @@ module _ (b : Body) (q n : ℕ) (place : Place) (T : List (Option ℕ)) (W W1 W2
   deepest_came : (left place n < deepest) → (row : Handler) × (Contains b.rows row × ((is_under row q ≡ true) × (left place n < row.depth)))
   deepest_came lt = let (row, (c, (u, e))) = is.one (omega (arith, lt)) in (row, (c, (u, (omega (arith, e, lt)))))
 
-  went : Went b q n place W W2 (Waits levels) (Waits levels') d (d || nat_lt (left place n) deepest) f (f || nat_lt n place.needs)
+  went : Expansion b q n place W after (Waits levels) (Waits levels') d (d || nat_lt (left place n) deepest) f (f || nat_lt n place.needs)
   went = record {
     kept = λ s c. into s (Contains-append_left W (own_steps place q n) s c);
     came = λ s c. elim (L.came s c) [ inl a ↦ elim (from s a) [ inl x ↦ inl x | inr x ↦ inr (inl x) ] | inr x ↦ inr (inr x) ];
@@ -91,12 +91,12 @@ module _ (b : Body) (q n : ℕ) (place : Place) (T : List (Option ℕ)) (W W1 W2
     few_found = or_second f n place.needs;
   }
 
-  pub went_on : WentOn b q n place T T W W2 levels levels' d (d || nat_lt (left place n) deepest) f (f || nat_lt n place.needs)
+  pub went_on : SearchExpansion b q n place T T W after levels levels' d (d || nat_lt (left place n) deepest) f (f || nat_lt n place.needs)
   went_on = record {
     went = went;
     same = refl;
     sorted = all.sorted;
-    lighter = (let e : length W1 ≡ length W + length (own_steps place q n) = ap (λ w. length w) own ∙ length-append W (own_steps place q n) in
+    lighter = (let e : length before ≡ length W + length (own_steps place q n) = ap (λ w. length w) own ∙ length-append W (own_steps place q n) in
         let h = all.lighter in let k = few_steps place q n in omega (arith, e, h, k));
   }
 
@@ -132,7 +132,7 @@ module _ (b : Body) (limit : ℕ) (T : List (Option ℕ)) (W : List SizeStep) (l
     }
 
     pub step_below : s.to < limit → (T' : List (Option ℕ)) (W' : List SizeStep) (levels' : List Level) (d' f' : Bool)
-        → WentOn b s.to s.size place (set T s.to (Some s.size)) T' W W' levels levels' d d' f f' → Stepped b limit Most T' W' levels' d' f'
+        → SearchExpansion b s.to s.size place (set T s.to (Some s.size)) T' W W' levels levels' d d' f f' → Stepped b limit Most T' W' levels' d' f'
     step_below h T' W' levels' d' f' w = subst (λ t. Stepped b limit Most t W' levels' d' f') (sym w.same) (record {
       opens = open_below b limit T W (Waits levels) d f s o place is none h W' (Waits levels') d' f' w.went;
       sorted = w.sorted;

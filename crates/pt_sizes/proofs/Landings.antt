@@ -6,8 +6,8 @@ use Rattle.std.proofs.lemmas.List.Elements.{Contains-push, Contains-push_cases, 
 use Rattle.pt_ranges.specs.declared.handlers.Handler.{Handler}
 use Rattle.pt_sizes.specs.declared.places.SizeStep.{SizeStep}
 use Rattle.pt_sizes.specs.Flow.{landing}
-use Rattle.pt_sizes.specs.Search.{LandedAll}
-use Rattle.pt_sizes.specs.Waiting.{Level, level_of, up, stretch_of, stretch, Descends, AllDescend, level_size, levels_size, LandedSome, LandingSome, LandedOn, LandingAll}
+use Rattle.pt_sizes.specs.Search.{SearchLanding}
+use Rattle.pt_sizes.specs.Waiting.{Level, level_of, up, stretch_of, stretch, Descends, AllDescend, level_size, levels_size, StretchLanding, StretchLandingSoFar, LevelLanding, LevelsLandingSoFar}
 use Rattle.pt_sizes.proofs.Tables.{below_or, none_in_empty}
 
 pub contains_get : {X : Type 0} (xs : List X) (x : X) → Contains xs x → (i : ℕ) × ((i < length xs) × (slice_get xs i ≡ Some x))
@@ -31,11 +31,11 @@ descends_none : Descends []
 descends_none i j r s le e g = absurd (cc)
 
 module _ (rows0 rows : List Handler) (row : Handler) (below : ℕ) (work0 work : List SizeStep) where
-  pub some_start : Descends rows0 → LandingSome rows0 rows0 below work0 work0
+  pub some_start : Descends rows0 → StretchLandingSoFar rows0 rows0 below work0 work0
   some_start d = record { kept = λ s c. c; came = λ s c. inl c; fewer = λ r c. c; on = λ r c. inl c; sorted = d; lighter = omega arith }
 
-  module _ (l : LandingSome rows0 (rows ++ row ∷ []) below work0 work) where
-    pub some_more : row.depth ≤ below → LandingSome rows0 rows below work0 (work ++ landing row ∷ [])
+  module _ (l : StretchLandingSoFar rows0 (rows ++ row ∷ []) below work0 work) where
+    pub some_more : row.depth ≤ below → StretchLandingSoFar rows0 rows below work0 (work ++ landing row ∷ [])
     some_more le = record {
       kept = λ s c. Contains-append_left work (landing row ∷ []) s (l.kept s c);
       came = λ s c. elim (Contains-push_cases work (landing row) s c) [ inl a ↦ l.came s a | inr e ↦ inr (row, (l.fewer row (Contains-push rows row), (le, e))) ];
@@ -50,7 +50,7 @@ module _ (rows0 rows : List Handler) (row : Handler) (below : ℕ) (work0 work :
         by_row r (inl a) = inl a
         by_row r (inr e) = inr (subst (λ x. Contains (work ++ landing row ∷ []) (landing x)) e (Contains-push work (landing row)))
 
-    pub some_end : below < row.depth → LandedSome rows0 (rows ++ row ∷ []) below work0 work
+    pub some_end : below < row.depth → StretchLanding rows0 (rows ++ row ∷ []) below work0 work
     some_end lt = record { kept = l.kept; came = l.came; fewer = l.fewer; on = l.on; sorted = l.sorted; lighter = l.lighter; clear = λ r c le. deeper r (contains_get (rows ++ row ∷ []) r c) le }
       where
         deeper : (r : Handler) → (i : ℕ) × ((i < length (rows ++ row ∷ [])) × (slice_get (rows ++ row ∷ []) i ≡ Some r)) → r.depth ≤ below → ⊥
@@ -65,12 +65,12 @@ pub is_empty : {X : Type 0} (xs : List X) → length xs ≡ 0 → xs ≡ []
 is_empty [] h = refl
 is_empty (x ∷ xs) h = absurd (omega arith)
 
-pub some_none : (rows0 rows rows' : List Handler) (below : ℕ) (work0 work : List SizeStep) → LandingSome rows0 rows below work0 work → rows ≡ rows' ++ [] → length rows' ≡ 0
-    → LandedSome rows0 rows' below work0 work
-some_none rows0 rows rows' below work0 work l e h = subst (λ r. LandedSome rows0 r below work0 work) (sym (is_empty rows' h))
-    (none (subst (λ r. LandingSome rows0 r below work0 work) (no_more rows rows' e h) l))
+pub some_none : (rows0 rows rows' : List Handler) (below : ℕ) (work0 work : List SizeStep) → StretchLandingSoFar rows0 rows below work0 work → rows ≡ rows' ++ [] → length rows' ≡ 0
+    → StretchLanding rows0 rows' below work0 work
+some_none rows0 rows rows' below work0 work l e h = subst (λ r. StretchLanding rows0 r below work0 work) (sym (is_empty rows' h))
+    (none (subst (λ r. StretchLandingSoFar rows0 r below work0 work) (no_more rows rows' e h) l))
   where
-    none : LandingSome rows0 [] below work0 work → LandedSome rows0 [] below work0 work
+    none : StretchLandingSoFar rows0 [] below work0 work → StretchLanding rows0 [] below work0 work
     none l = record { kept = l.kept; came = l.came; fewer = l.fewer; on = l.on; sorted = l.sorted; lighter = l.lighter; clear = λ r c le. none_in_empty r c }
 
 pub in_map : {X Y : Type 0} (f : X → Y) (xs : List X) (i : ℕ) → i < length xs → i < length (map f xs)
@@ -113,7 +113,7 @@ set_relates P xs i y d same here lt j = elim (same_or j i) [
 ]
 
 module _ (level : Level) (node below : ℕ) (work : List SizeStep) (sorted : (v : ℕ) → Descends (stretch_of level v)) where
-  pub on_set : (rows : List Handler) (work' : List SizeStep) → node < length level → LandedSome (stretch_of level node) rows below work work' → LandedOn level (set level node rows) node below work work'
+  pub on_set : (rows : List Handler) (work' : List SizeStep) → node < length level → StretchLanding (stretch_of level node) rows below work work' → LevelLanding level (set level node rows) node below work work'
   on_set rows work' lt l = record {
     kept = l.kept;
     came = l.came;
@@ -124,7 +124,7 @@ module _ (level : Level) (node below : ℕ) (work : List SizeStep) (sorted : (v 
     lighter = (let e = level_size-set level node rows lt in let h = l.lighter in omega (arith, e, h));
   }
 
-  pub on_same : length level ≤ node → LandedOn level level node below work work
+  pub on_same : length level ≤ node → LevelLanding level level node below work work
   on_same le = record {
     kept = λ s c. c;
     came = λ s c. inl c;
@@ -141,12 +141,12 @@ module _ (level : Level) (node below : ℕ) (work : List SizeStep) (sorted : (v 
       beyond (x ∷ xs) (suc i) h = beyond xs i (omega arith)
 
 module _ (levels : List Level) (q below : ℕ) (work : List SizeStep) where
-  pub all_start : AllDescend levels → LandingAll levels levels 0 q below work work
+  pub all_start : AllDescend levels → LevelsLandingSoFar levels levels 0 q below work work
   all_start d = record { kept = λ s c. c; came = λ s c. inl c; fewer = λ k v row c. c; on = λ k v row c. inl c; clear = λ k row lt. absurd (omega arith); sorted = d; long = refl; lighter = omega arith }
 
-  module _ (levels1 : List Level) (k : ℕ) (work1 : List SizeStep) (l : LandingAll levels levels1 k q below work work1) where
-    pub all_more : (level : Level) (work2 : List SizeStep) → k < length levels1 → LandedOn (get_or levels1 k []) level (up k q) below work1 work2
-        → LandingAll levels (set levels1 k level) (k + 1) q below work work2
+  module _ (levels1 : List Level) (k : ℕ) (work1 : List SizeStep) (l : LevelsLandingSoFar levels levels1 k q below work work1) where
+    pub all_more : (level : Level) (work2 : List SizeStep) → k < length levels1 → LevelLanding (get_or levels1 k []) level (up k q) below work1 work2
+        → LevelsLandingSoFar levels (set levels1 k level) (k + 1) q below work work2
     all_more level work2 lt o = record {
       kept = λ s c. o.kept s (l.kept s c);
       came = λ s c. elim (o.came s c) [
@@ -171,7 +171,7 @@ module _ (levels : List Level) (q below : ℕ) (work : List SizeStep) where
         clear_here : (j : ℕ) (row : Handler) → j ≡ k → Contains (stretch (set levels1 k level) j (up j q)) row → row.depth ≤ below → ⊥
         clear_here j row e c = o.clear row (subst (λ y. Contains (stretch_of y (up k q)) row) (get_or-set_same levels1 k level [] lt) (subst (λ n. Contains (stretch (set levels1 k level) n (up n q)) row) e c))
 
-    pub all_end : length levels1 ≤ k → LandedAll levels levels1 q below work work1
+    pub all_end : length levels1 ≤ k → SearchLanding levels levels1 q below work work1
     all_end le = record {
       landed = record {
         kept = l.kept;

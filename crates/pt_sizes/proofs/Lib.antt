@@ -4,3 +4,4 @@ mod Landings
 mod Going
 mod Adding
 mod Telling
+mod LowLemmas

@@ -10,7 +10,7 @@ use Rattle.pt_sizes.specs.declared.places.Place.{Place}
 use Rattle.pt_sizes.specs.declared.places.SizeStep.{SizeStep}
 use Rattle.pt_sizes.specs.Flow as F
 use Rattle.pt_sizes.specs.Flow.{Body, entry, left, own_steps, landing, is_under, sized, Lands, Leads, Gets, Stands, SizesMeet, TooDeep, Lacks, Disagrees, Agrees, RowTooDeep, IsFirst, IsTable, IsMeeting, IsDeepRow, IsLack}
-use Rattle.pt_sizes.specs.Search.{Seen, Led, AnyDeep, Open, Went}
+use Rattle.pt_sizes.specs.Search.{Seen, Consequences, AnyDeep, Open, Expansion}
 use Rattle.pt_sizes.proofs.Tables.{below_or, none_in_empty, some_or_none, entry_in, entry_after, entry_grow, entry_here}
 
 module _ (b : Body) where
@@ -39,13 +39,13 @@ module _ (b : Body) where
       (deep_kept : d ≡ true → d' ≡ true) (few_kept : f ≡ true → f' ≡ true)
       (deep_is : d' ≡ true → AnyDeep b m) (few_is : f' ≡ true → Lacks b m)
       (new : (q n : ℕ) (place : Place) → q < m → entry T' q ≡ Some n → entry b.places q ≡ Some place
-      → ((q < l) × (entry T q ≡ Some n)) ⊎ Led b T' W' d' f' q n place) where
+      → ((q < l) × (entry T q ≡ Some n)) ⊎ Consequences b T' W' d' f' q n place) where
     seen_on : (s : SizeStep) → Seen b T W s → Seen b T' W' s
     seen_on s (inl h) = inl (grow s.to s.size h)
     seen_on s (inr (inl h)) = inr (inl h)
     seen_on s (inr (inr c)) = keep s c
 
-    led_on : (q n : ℕ) (place : Place) → Led b T W d f q n place → Led b T' W' d' f' q n place
+    led_on : (q n : ℕ) (place : Place) → Consequences b T W d f q n place → Consequences b T' W' d' f' q n place
     led_on q n place r = record {
       own = λ s c. seen_on s (r.own s c);
       lands = λ row c u h. seen_on (landing row) (r.lands row c u h);
@@ -82,7 +82,7 @@ module _ (b : Body) where
       → ((r : SizeStep) → Contains V r → Seen b T' W' r)
       → q < m → entry b.places q ≡ Some place → entry T' q ≡ Some n
       → ((r k : ℕ) (p : Place) → r < m → entry T' r ≡ Some k → entry b.places r ≡ Some p → ((r < l) × (entry T r ≡ Some k)) ⊎ ((r ≡ q) × (k ≡ n)))
-      → Went b q n place W W' w w' d d' f f' → Open b m T' W' w' d' f'
+      → Expansion b q n place W W' w w' d d' f f' → Open b m T' W' w' d' f'
   went_on l m le T T' V W W' w w' d d' f f' q n place o long grow sound stands due keep low is here new went =
       open_next l m le T T' V W' w w' d d' f f' o long grow sound stands due' keep went.fewer went.on went.deep_kept went.few_kept deep_is few_is new'
     where
@@ -119,14 +119,14 @@ module _ (b : Body) where
         | inr k ↦ seen_on (landing row) k
       ]
 
-      led : Led b T' W' d' f' q n place
+      led : Consequences b T' W' d' f' q n place
       led = record { own = λ s c. inr (inr (went.own s c)); lands = lands; deeper = went.deep_found; fewer = went.few_found }
 
-      led_at : (r k : ℕ) (p : Place) → entry b.places r ≡ Some p → r ≡ q → k ≡ n → Led b T' W' d' f' r k p
-      led_at r k p e a c = subst (λ y. Led b T' W' d' f' y k p) (sym a) (subst (λ y. Led b T' W' d' f' q y p) (sym c)
-          (subst (λ y. Led b T' W' d' f' q n y) (same_Some _ _ (sym is ∙ subst (λ y. entry b.places y ≡ Some p) a e)) led))
+      led_at : (r k : ℕ) (p : Place) → entry b.places r ≡ Some p → r ≡ q → k ≡ n → Consequences b T' W' d' f' r k p
+      led_at r k p e a c = subst (λ y. Consequences b T' W' d' f' y k p) (sym a) (subst (λ y. Consequences b T' W' d' f' q y p) (sym c)
+          (subst (λ y. Consequences b T' W' d' f' q n y) (same_Some _ _ (sym is ∙ subst (λ y. entry b.places y ≡ Some p) a e)) led))
 
-      new' : (r k : ℕ) (p : Place) → r < m → entry T' r ≡ Some k → entry b.places r ≡ Some p → ((r < l) × (entry T r ≡ Some k)) ⊎ Led b T' W' d' f' r k p
+      new' : (r k : ℕ) (p : Place) → r < m → entry T' r ≡ Some k → entry b.places r ≡ Some p → ((r < l) × (entry T r ≡ Some k)) ⊎ Consequences b T' W' d' f' r k p
       new' r k p lt h e = elim (new r k p lt h e) [ inl a ↦ inl a | inr (a, c) ↦ inr (led_at r k p e a c) ]
 
   -- the edge that is due
@@ -175,7 +175,7 @@ module _ (b : Body) where
           (keep_left T' (inl here_set)) (λ pc row k. k) (λ pc row k. inl k) (λ k. k) (λ k. k) o.deep_is o.few_is
           (λ q n p lt k e. elim (entry_after T s.to s.size q n k) [ inl a ↦ inl (lt, a) | inr (a, c) ↦ absurd (omega (arith, a, lt, h)) ])
 
-      pub open_below : s.to < l → (W' : List SizeStep) (w' : ℕ → Handler → Type 0) (d' f' : Bool) → Went b s.to s.size place W W' w w' d d' f f' → Open b l T' W' w' d' f'
+      pub open_below : s.to < l → (W' : List SizeStep) (w' : ℕ → Handler → Type 0) (d' f' : Bool) → Expansion b s.to s.size place W W' w w' d d' f f' → Open b l T' W' w' d' f'
       open_below lt W' w' d' f' went = went_on l l (omega arith) T T' (W ++ s ∷ []) W W' w w' d d' f f' s.to s.size place o long_set grow_set sound_set stands_set
           due_left (λ r c. elim (Contains-push_cases W s r c) [ inl a ↦ inr (inr (went.kept r a)) | inr same ↦ subst (λ (x : SizeStep). Seen b T' W' x) same (inl here_set) ])
           lt is here_set (λ q n p lq k e. elim (entry_after T s.to s.size q n k) [ inl a ↦ inl (lq, a) | inr a ↦ inr a ]) went
@@ -187,7 +187,7 @@ module _ (b : Body) where
     known_now s there e (inr (inl h)) = absurd (some_or_none there (sym e ∙ h))
     known_now s there e (inr (inr c)) = absurd (none_in_empty s c)
 
-    by_way : (q n : ℕ) (place : Place) {s : SizeStep} → Led b T [] d f q n place → Leads b q n place s → Seen b T [] s
+    by_way : (q n : ℕ) (place : Place) {s : SizeStep} → Consequences b T [] d f q n place → Leads b q n place s → Seen b T [] s
     by_way q n place led (F.own c) = led.own _ c
     by_way q n place led (F.lands {row} r) = led.lands row r.among r.under r.within
 
@@ -223,7 +223,7 @@ module _ (b : Body) where
         (λ q n place lt k e. elim (below_or q l lt) [ inl a ↦ inl (a, k) | inr a ↦ absurd (some_or_none n (sym (subst (λ x. entry T x ≡ Some n) a k) ∙ none)) ])
 
     pub stage_some : (n : ℕ) (place : Place) → entry T l ≡ Some n → entry b.places l ≡ Some place → (W' : List SizeStep) (w' : ℕ → Handler → Type 0) (d' f' : Bool)
-        → Went b l n place [] W' w w' false d' false f' → Open b (l + 1) T W' w' d' f'
+        → Expansion b l n place [] W' w w' false d' false f' → Open b (l + 1) T W' w' d' f'
     stage_some n place h is W' w' d' f' went = went_on l (l + 1) (omega arith) T T [] [] W' w w' false d' false f' l n place o o.long (λ q n k. k) sound_more o.stands
         nothing_due (λ s c. absurd (none_in_empty s c)) (omega arith) is h
         (λ q k p lt e i. elim (below_or q l lt) [ inl a ↦ inl (a, e) | inr a ↦ inr (a, same_Some _ _ (sym (subst (λ x. entry T x ≡ Some k) a e) ∙ h)) ]) went

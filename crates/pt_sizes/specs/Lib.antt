@@ -1,3 +1,4 @@
 pub mod Flow
 pub mod Search
 pub mod Waiting
+pub mod Lows

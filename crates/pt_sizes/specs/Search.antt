@@ -13,8 +13,8 @@ Seen b table work s = (entry table s.to ≡ Some s.size)
     ⊎ ((entry b.places s.to ≡ None) ⊎ Contains work s)
 
 -- all that a place leads to is seen, and where it fails that is known
-pub record Led (b : Body) (table : List (Option ℕ)) (work : List SizeStep) (deep few : Bool)
-    (q n : ℕ) (place : Place) : Type 0 where
+pub record Consequences (b : Body) (table : List (Option ℕ)) (work : List SizeStep)
+    (deep few : Bool) (q n : ℕ) (place : Place) : Type 0 where
   pub own : (s : SizeStep) → Contains (own_steps place q n) s → Seen b table work s
   pub lands : (row : Handler) → Contains b.rows row → is_under row q ≡ true
       → row.depth ≤ left place n → Seen b table work (landing row)
@@ -41,10 +41,10 @@ pub record Open (b : Body) (limit : ℕ) (table : List (Option ℕ)) (work : Lis
   pub deep_is : deep ≡ true → AnyDeep b limit
   pub few_is : few ≡ true → Lacks b limit
   pub goes_on : (q n : ℕ) (place : Place) → q < limit → entry table q ≡ Some n
-      → entry b.places q ≡ Some place → Led b table work deep few q n place
+      → entry b.places q ≡ Some place → Consequences b table work deep few q n place
 
 -- what landing the rows adds that wait at a place for so many slots
-pub record Landed (waits waits' : ℕ → Handler → Type 0) (q below : ℕ)
+pub record RowsLanding (waits waits' : ℕ → Handler → Type 0) (q below : ℕ)
     (work work' : List SizeStep) : Type 0 where
   pub kept : (s : SizeStep) → Contains work s → Contains work' s
   pub came : (s : SizeStep) → Contains work' s → Contains work s
@@ -54,7 +54,7 @@ pub record Landed (waits waits' : ℕ → Handler → Type 0) (q below : ℕ)
   pub clear : (row : Handler) → waits' q row → row.depth ≤ below → ⊥
 
 -- what a place adds when it is gone on from
-pub record Went (b : Body) (q n : ℕ) (place : Place) (work work' : List SizeStep)
+pub record Expansion (b : Body) (q n : ℕ) (place : Place) (work work' : List SizeStep)
     (waits waits' : ℕ → Handler → Type 0) (deep deep' few few' : Bool) : Type 0 where
   pub kept : (s : SizeStep) → Contains work s → Contains work' s
   pub came : (s : SizeStep) → Contains work' s → Contains work s
@@ -116,17 +116,17 @@ abbrev pub AfterSettle : Bool → (b : Body) (limit : ℕ) (table : List (Option
 AfterSettle true b limit table levels deep few = OpenNow b limit table [] levels deep few
 AfterSettle false b limit table levels deep few = SizesMeet b limit
 
-pub record WentOn (b : Body) (q n : ℕ) (place : Place) (table table' : List (Option ℕ))
+pub record SearchExpansion (b : Body) (q n : ℕ) (place : Place) (table table' : List (Option ℕ))
     (work work' : List SizeStep) (levels levels' : List Level)
     (deep deep' few few' : Bool) : Type 0 where
-  pub went : Went b q n place work work' (Waits levels) (Waits levels') deep deep' few few'
+  pub went : Expansion b q n place work work' (Waits levels) (Waits levels') deep deep' few few'
   pub same : table' ≡ table
   pub sorted : AllDescend levels'
   pub lighter : length work' + levels_size levels' ≤ length work + levels_size levels + 3
 
-pub record LandedAll (levels levels' : List Level) (q below : ℕ)
+pub record SearchLanding (levels levels' : List Level) (q below : ℕ)
     (work work' : List SizeStep) : Type 0 where
-  pub landed : Landed (Waits levels) (Waits levels') q below work work'
+  pub landed : RowsLanding (Waits levels) (Waits levels') q below work work'
   pub sorted : AllDescend levels'
   pub lighter : levels_size levels' + length work' ≤ levels_size levels + length work
 

@@ -63,7 +63,7 @@ abbrev pub AreDeepest : (rows : List Handler) (table : List ℕ) → (count : �
 AreDeepest rows table count = (pc : ℕ) → pc < count → IsDeepest rows pc (slice_index_or table pc 0)
 
 -- what landing some rows of a stretch comes to
-pub record LandedSome (rows rows' : List Handler) (below : ℕ)
+pub record StretchLanding (rows rows' : List Handler) (below : ℕ)
     (work work' : List SizeStep) : Type 0 where
   pub kept : (s : SizeStep) → Contains work s → Contains work' s
   pub came : (s : SizeStep) → Contains work' s → Contains work s
@@ -75,7 +75,7 @@ pub record LandedSome (rows rows' : List Handler) (below : ℕ)
   pub lighter : length rows' + length work' ≤ length rows + length work
 
 -- the same while it goes on
-pub record LandingSome (rows rows' : List Handler) (below : ℕ)
+pub record StretchLandingSoFar (rows rows' : List Handler) (below : ℕ)
     (work work' : List SizeStep) : Type 0 where
   pub kept : (s : SizeStep) → Contains work s → Contains work' s
   pub came : (s : SizeStep) → Contains work' s → Contains work s
@@ -86,7 +86,7 @@ pub record LandingSome (rows rows' : List Handler) (below : ℕ)
   pub lighter : length rows' + length work' ≤ length rows + length work
 
 -- a stretch of a level is landed, and the others stay
-pub record LandedOn (level level' : Level) (node below : ℕ)
+pub record LevelLanding (level level' : Level) (node below : ℕ)
     (work work' : List SizeStep) : Type 0 where
   pub kept : (s : SizeStep) → Contains work s → Contains work' s
   pub came : (s : SizeStep) → Contains work' s → Contains work s
@@ -101,7 +101,7 @@ pub record LandedOn (level level' : Level) (node below : ℕ)
   pub lighter : level_size level' + length work' ≤ level_size level + length work
 
 -- the levels up to one are landed at a place
-pub record LandingAll (levels levels' : List Level) (done q below : ℕ)
+pub record LevelsLandingSoFar (levels levels' : List Level) (done q below : ℕ)
     (work work' : List SizeStep) : Type 0 where
   pub kept : (s : SizeStep) → Contains work s → Contains work' s
   pub came : (s : SizeStep) → Contains work' s → Contains work s
@@ -192,7 +192,7 @@ pub record Ready (count : ℕ) (row : Handler) (levels : List Level) : Type 0 wh
   pub tall : IsTall count levels
 
 -- rows are put of which some are left, the deepest last
-pub record Building (rows left : List Handler) (count : ℕ) (levels : List Level) : Type 0 where
+pub record WaitingSoFar (rows left : List Handler) (count : ℕ) (levels : List Level) : Type 0 where
   pub known : (k v : ℕ) (r : Handler) → Contains (stretch levels k v) r → Contains rows r
       × AllUnder k v r
   pub whole : (r : Handler) → Contains rows r → Contains left r

@@ -1,10 +1,13 @@
 //! The sizes of all places, or the least place up to which they disagree.
-ghost use Rattle.std.specs.Prelude.{Contains, MatchBool, ◌≡◌, ◌||◌, nat_lt, ◌<◌, ◌≤◌, ◌+◌, ◌++◌, ◌∷◌, [], length, false, map, Some, IfOk};
+ghost use Rattle.std.specs.Prelude.{Contains, MatchBool, ℕ, List, Option, ◌≡◌, ◌||◌, nat_lt, ◌<◌, ◌≤◌, ◌+◌, ◌++◌, ◌∷◌, [], length, false, map, Some, IfOk};
 ghost use Rattle.pt_ranges.specs.declared.handlers.Handler.{Handler};
+ghost use Rattle.pt_sizes.specs.declared.places.Place.{Place};
 ghost use Rattle.pt_sizes.specs.Flow.{Tells};
+ghost use Rattle.pt_sizes.specs.Lows.{AreAllLows, below};
 ghost use Rattle.pt_sizes.specs.Waiting.{AllDescend, Waits, levels_of, levels_size};
-ghost use Rattle.pt_sizes.specs.Search.{AfterSettle, AfterStep, DeepBelow, DeepHere, IsFirstTable, IsLeastDeep, Open, OpenNow, WentOn, HasDeepest, body, body_of, weight};
+ghost use Rattle.pt_sizes.specs.Search.{AfterSettle, AfterStep, DeepBelow, IsFirstTable, IsLeastDeep, Open, OpenNow, SearchExpansion, HasDeepest, body, body_of, weight};
 
+use crate::lows::Lows;
 use crate::places::{Place, SizeStep, add_own};
 use crate::waiting::Waiting;
 use pt_base::Memory;
@@ -57,7 +60,7 @@ impl Search {
         requires inside { at < length asked.now.deepest.items }
         requires deepest { HasDeepest asked.now }
         requires sorted { AllDescend (levels_of self.old.waiting.levels) }
-        ensures { IfOk result (λ _. WentOn (body asked.now) at size place
+        ensures { IfOk result (λ _. SearchExpansion (body asked.now) at size place
             self.old.table.items self.new.table.items self.old.work.items self.new.work.items
             (levels_of self.old.waiting.levels) (levels_of self.new.waiting.levels)
             self.old.deep self.new.deep self.old.few self.new.few) }
@@ -162,50 +165,38 @@ fn first_table(
     Ok(table)
 }
 
-/// Whether fewer slots lie below those that the instruction of a place takes than the row leaves.
-fn is_deep_at(asked: &Asked, table: &[Option<u64>], at: usize, row: &Handler) -> bool
-    requires place { at < length asked.now.places.items }
-    requires size { at < length table.now }
-    ensures { MatchBool result (DeepHere asked.now.places.items table.now at row.now)
-        (DeepHere asked.now.places.items table.now at row.now → ⊥) }
+/// Whether fewer slots lie at a place that the row covers, up to a limit, than it is to leave.
+fn is_deep(lows: &Lows, limit: usize, row: &Handler) -> bool
+    ensures { (places : List (Option Place)) (table : List (Option ℕ))
+        → AreAllLows (below places table limit) limit
+        (map (λ level. level.items) lows.now.levels.items)
+        → MatchBool result (DeepBelow places table limit row.now)
+        (DeepBelow places table limit row.now → ⊥) }
 {
-    let Some(place) = asked.places[at] else {
-        return false;
-    };
-    match table[at] {
-        None => false,
-        Some(size) => size.saturating_sub(place.takes) < row.depth as u64,
-    }
-}
-
-fn is_deep(asked: &Asked, table: &[Option<u64>], limit: usize, row: &Handler) -> bool
-    requires places { limit ≤ length asked.now.places.items }
-    requires sizes { limit ≤ length table.now }
-    ensures { MatchBool result (DeepBelow asked.now.places.items table.now limit row.now)
-        (DeepBelow asked.now.places.items table.now limit row.now → ⊥) }
-{
-    for at in row.from.0 as usize..limit.min(row.to.0 as usize) {
-        if is_deep_at(asked, table, at, row) {
-            return true;
-        }
-    }
-    false
+    lows.fewest(row.from.0 as usize, limit.min(row.to.0 as usize)) < row.depth as u64
 }
 
 /// The first row that is to leave more slots than lie there.
-fn deep_row(asked: &Asked, table: &[Option<u64>], limit: usize) -> usize
+fn deep_row(
+    alloc: Global,
+    asked: &Asked,
+    table: &[Option<u64>],
+    limit: usize,
+) -> Result<usize, Memory>
     requires places { limit ≤ length asked.now.places.items }
     requires sizes { limit ≤ length table.now }
     requires some { (row : Handler) × (Contains asked.now.rows.items row
         × DeepBelow asked.now.places.items table.now limit row) }
-    ensures { IsLeastDeep asked.now.places.items asked.now.rows.items table.now limit result }
+    ensures { IfOk result (λ number. IsLeastDeep asked.now.places.items asked.now.rows.items
+        table.now limit number) }
 {
+    let lows = Lows::build(alloc, &asked.places, table, limit)?;
     for (number, row) in asked.rows.iter().enumerate() {
-        if is_deep(asked, table, limit, row) {
-            return number;
+        if is_deep(&lows, limit, row) {
+            return Ok(number);
         }
     }
-    0
+    Ok(0)
 }
 
 /// The sizes that places get, where the first gets so many, or the least place up to which they
@@ -244,7 +235,8 @@ pub fn sizes_of(
             return Ok(Sizes::Meet(at));
         }
         if search.deep {
-            return Ok(Sizes::TooDeep(at, deep_row(&asked, &search.table, at + 1)));
+            let row = deep_row(alloc, &asked, &search.table, at + 1)?;
+            return Ok(Sizes::TooDeep(at, row));
         }
         if search.few {
             return Ok(Sizes::TooFew(at));

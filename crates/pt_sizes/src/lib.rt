@@ -2,6 +2,7 @@
 #![tactic(auto)]
 
 mod flow;
+mod lows;
 mod places;
 mod waiting;
 

@@ -2,8 +2,8 @@
 //! covers.
 ghost use Rattle.std.specs.Prelude.{◌≡◌, ◌+◌, ◌<◌, ◌-◌, ℕ, List, length, map, true, IfOk};
 ghost use Rattle.pt_ranges.specs.declared.handlers.Handler.{Handler};
-ghost use Rattle.pt_sizes.specs.Waiting.{Added, AllDescend, AreDeepest, BareTo, DeepestBelow, Descends, Empty, Index, IsByDepth, Ready, at_high, at_low, first_depth, placed, put, LandedOn, LandedSome, level_of, levels_of, stretch_of};
-ghost use Rattle.pt_sizes.specs.Search.{LandedAll};
+ghost use Rattle.pt_sizes.specs.Waiting.{Added, AllDescend, AreDeepest, BareTo, DeepestBelow, Descends, Empty, Index, IsByDepth, Ready, at_high, at_low, first_depth, placed, put, LevelLanding, StretchLanding, level_of, levels_of, stretch_of};
+ghost use Rattle.pt_sizes.specs.Search.{SearchLanding};
 
 use crate::places::SizeStep;
 use pt_base::Memory;
@@ -21,7 +21,7 @@ pub struct Waiting {
 /// Lands the rows of a stretch that leave no more than so many slots.
 fn land_some(rows: &mut Vec<Handler>, below: u64, work: &mut Vec<SizeStep>) -> Result<(), Memory>
     requires { Descends rows.old.items }
-    ensures { IfOk result (λ _. LandedSome rows.old.items rows.new.items below work.old.items
+    ensures { IfOk result (λ _. StretchLanding rows.old.items rows.new.items below work.old.items
         work.new.items) }
 {
     while let Some(row) = rows.pop() {
@@ -44,7 +44,7 @@ fn land_on(
     work: &mut Vec<SizeStep>,
 ) -> Result<(), Memory>
     requires { (v : ℕ) → Descends (stretch_of (level_of level.old) v) }
-    ensures { IfOk result (λ _. LandedOn (level_of level.old)
+    ensures { IfOk result (λ _. LevelLanding (level_of level.old)
         (level_of level.new) node below work.old.items work.new.items) }
 {
     if node < level.len() {
@@ -65,13 +65,13 @@ fn put(level: &mut Vec<Vec<Handler>>, test: bool, node: usize, row: Handler) -> 
     Ok(())
 }
 
-fn at_low(low: usize, high: usize) -> bool
+pub fn at_low(low: usize, high: usize) -> bool
     ensures { result ≡ at_low low high }
 {
     low < high && low % 2 == 1
 }
 
-fn at_high(low: usize, high: usize) -> bool
+pub fn at_high(low: usize, high: usize) -> bool
     ensures { result ≡ at_high low high }
 {
     low < high && high % 2 == 1
@@ -142,7 +142,7 @@ impl Waiting {
     /// Lands the rows that cover a place and leave no more than so many slots.
     pub fn land(&mut self, at: usize, below: u64, work: &mut Vec<SizeStep>) -> Result<(), Memory>
         requires { AllDescend (levels_of self.old.levels) }
-        ensures { IfOk result (λ _. LandedAll (levels_of self.old.levels)
+        ensures { IfOk result (λ _. SearchLanding (levels_of self.old.levels)
             (levels_of self.new.levels) at below work.old.items work.new.items) }
     {
         let mut node = at;

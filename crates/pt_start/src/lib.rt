@@ -3,6 +3,7 @@
 
 ghost use Rattle.std.specs.Prelude.{◌≡◌, ◌+◌, ◌++◌, ◌≤◌, IfErr, IfOk, OnOk, length, map};
 ghost use Rattle.pt_start.specs.Start.{object_of, objects_of, start_objects};
+ghost use Rattle.pt_heap.specs.Limits.{object_limit};
 ghost use Rattle.pt_heap.specs.Sound.{IsSound};
 
 use pt_base::{Memory, ObjId, Text};
@@ -152,7 +153,7 @@ fn made(alloc: Global, seed: Seed, name: &str, kind: Kind) -> Result<Object, Mem
 
 /// Puts the objects of names behind those of a heap.
 fn add_all(alloc: Global, seed: Seed, rows: &[(&str, Kind)], heap: &mut Heap) -> Result<(), HeapErr>
-    requires { length heap.old + length rows.now ≤ 16777216 }
+    requires { length heap.old + length rows.now ≤ object_limit }
     ensures ok { OnOk result (heap.new ≡ heap.old ++ objects_of (map (λ r. (r.0.now, r.1)) rows.now)) }
     ensures err { IfErr result (λ error. error ≡ HeapErr.Memory) }
 {

@@ -3,3 +3,5 @@ pub mod Laws
 pub mod Objects
 pub mod PlaceTable
 pub mod PlacesUpTo
+pub mod Refusals
+pub mod Views

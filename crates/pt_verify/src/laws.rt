@@ -2,10 +2,13 @@
 
 ghost use Rattle.std.specs.Prelude.{ℕ};
 ghost use Rattle.pt_ranges.specs.declared.handlers.Handler.{Handler};
+ghost use Rattle.pt_code.specs.declared.Code.{Code};
 ghost use Rattle.pt_fits.specs.Block.{Block};
 ghost use Rattle.pt_verify.specs.Objects.{ObjectRuns};
 ghost use Rattle.pt_verify.specs.PlaceTable.{TablesTell};
 ghost use Rattle.pt_verify.specs.Laws.{AsDeep, AsFew, AsLengths, KindsHaveSizes, SizesHaveKinds};
+ghost use Rattle.pt_verify.specs.Refusals.{RefusedFirst, SizesRefuse};
+ghost use Rattle.pt_verify.specs.Views.{BlocksAreSeen};
 
 /// The sizes of places are the lengths of their kinds, whatever these are.
 #[tactic(auto, using(crate::proofs::SizeLemmas::kinds_have_sizes, crate::proofs::SizeLemmas::sizes_have_kinds))]
@@ -27,6 +30,20 @@ pub fn sizes_decide()
 #[tactic(auto, using(crate::proofs::PlaceTable::tables_tell))]
 pub fn a_table_tells_of_its_block()
     ensures { (b : Block) → TablesTell b }
+{}
+
+/// What is told of the sizes of a block is told of its refusals: below the place that is told a
+/// block fails by nothing but what needs kinds, and there it is refused as sizes say, two lengths
+/// before a handler row and this before too few slots; only the cuts under a row come between. And
+/// whatever fails by lengths where the block first fails is told.
+pub fn sizes_tell_refusals()
+    ensures told { (b : Block) → SizesRefuse b }
+    ensures first { (b : Block) → RefusedFirst b }
+{}
+
+/// Each block of a code that has a file has a view, so that what is told by any view is told of it.
+pub fn blocks_that_are_read_are_seen()
+    ensures { (c : Code) → BlocksAreSeen c }
 {}
 
 /// The code object of a block that fits runs it.

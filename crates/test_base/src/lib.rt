@@ -1,6 +1,8 @@
-//! Tests of the base types and of the tables over the places of code.
+//! Tests of the base types, of the tables over the places of code and of lists of kinds.
 #![tactic(auto)]
 
+#[cfg(test)]
+mod lists;
 #[cfg(test)]
 mod objects;
 #[cfg(test)]

@@ -35,9 +35,9 @@ returns-then-search c =
     let b = body_of c.args.places.items c.args.rows.items c.args.first in
     let s = c.stage.new.self in
     let o : OpenNow b (c.loop-at.at + 1) s.table.items [] (levels_of s.waiting.levels) s.deep s.few = rw c.if-not-branch.false at c.in_ok-stage.ensures in
-    let least = subst (λ t. IsLeastDeep c.args.places.items c.args.rows.items t (c.loop-at.at + 1) c.deep_row.result) c.deref-then-search.ensures.value c.deep_row.ensures in
+    let least = subst (λ t. IsLeastDeep c.args.places.items c.args.rows.items t (c.loop-at.at + 1) c.in_ok-row.row) c.deref-then-search.ensures.value c.in_ok-row.ensures in
     tell_deep b c.loop-at.at c.loop-at.search.table.items (levels_of c.loop-at.search.waiting.levels) c.loop-at.invariant s.table.items (levels_of s.waiting.levels) s.deep s.few o
-    (omega (arith, c.loop-at-test.true, c.len-at-end.ensures)) c.deep_row.result least
+    (omega (arith, c.loop-at-test.true, c.len-at-end.ensures)) c.in_ok-row.row least
 
 pub returns-then-search-2 : goal.returns-then-search-2
 returns-then-search-2 c =

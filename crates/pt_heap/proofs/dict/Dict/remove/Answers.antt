@@ -3,6 +3,7 @@ use Rattle.std.specs.Str.{bytes_eq}
 use Rattle.std.specs.Map.{lookup}
 use Rattle.pt_heap.specs.Entries.{found, without}
 use Rattle.pt_heap.specs.Holes.{entries_of, AreHoles}
+use Rattle.pt_heap.specs.Limits.{entry_limit}
 use Rattle.pt_heap.proofs.HoleLemmas.{value-from, none-from, joined-some, length-without, without-missing, AreHoles-write, entries_of-without}
 use Rattle.pt_heap.proofs.dict.Dict.remove.Goals as goal
 
@@ -25,7 +26,7 @@ invariant_of-self c =
     c.settle-self-inside.ensures.entries ∙ ap entries_of c.write.ensures.entries ∙ entries_of-without c.args.key.now c.in-Some.item es there in
     let less = length-without c.args.key.now (entries_of es) c.in-Some.item.value value in
     let count : c.self.inside.count - 1 ≡ length (without c.args.key.now (entries_of es)) = omega (arith, c.self.invariant.0, less) in
-    let within : c.self.inside.count - 1 ≤ 4194304 = omega (arith, c.self.invariant.1) in
+    let within : c.self.inside.count - 1 ≤ entry_limit = omega (arith, c.self.invariant.1) in
     (count ∙ ap length (sym left), within, c.settle-self-inside.ensures.holes, c.settle-self-inside.ensures.unique (c.write.ensures.unique c.self.invariant.3))
 
 pub returns-in-Some-clause-value : goal.returns-in-Some-clause-value

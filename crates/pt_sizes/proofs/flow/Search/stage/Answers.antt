@@ -1,6 +1,6 @@
 use Rattle.std.proofs.Common.{◌+◌, Some, None, sym, subst, arith, false}
 use Rattle.pt_sizes.specs.Waiting.{Waits, levels_of}
-use Rattle.pt_sizes.specs.Search.{Open, Went, body_of}
+use Rattle.pt_sizes.specs.Search.{Open, Expansion, body_of}
 use Rattle.pt_sizes.proofs.Tables.{entry_is}
 use Rattle.pt_sizes.proofs.Theory.{stage_some}
 use Rattle.pt_sizes.proofs.Telling.{pass_none, pass_no_place}
@@ -20,7 +20,7 @@ settle-requires-clause-open c =
     let size = c.in-Some-index.size in
     let place = c.in-Some.place in
     let w = c.in_ok-go_on-in-Some-index.ensures in
-    let went = subst (λ x. Went b c.args.at size place x new.work.items (Waits (levels_of s.waiting.levels)) (Waits (levels_of new.waiting.levels)) false new.deep false new.few)
+    let went = subst (λ x. Expansion b c.args.at size place x new.work.items (Waits (levels_of s.waiting.levels)) (Waits (levels_of new.waiting.levels)) false new.deep false new.few)
     c.clear.ensures.items w.went in
     subst (λ t. Open b (c.args.at + 1) t new.work.items (Waits (levels_of new.waiting.levels)) new.deep new.few) (sym w.same)
     (stage_some b c.args.at s.table.items (Waits (levels_of s.waiting.levels)) c.requires.open.opens size place

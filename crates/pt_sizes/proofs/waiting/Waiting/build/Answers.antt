@@ -1,5 +1,5 @@
 use Rattle.std.proofs.Common.{subst, arith}
-use Rattle.pt_sizes.specs.Waiting.{Building, levels_of}
+use Rattle.pt_sizes.specs.Waiting.{WaitingSoFar, levels_of}
 use Rattle.pt_sizes.proofs.Adding.{building_start, building_ready, building_more, building_none}
 use Rattle.pt_sizes.proofs.waiting.Waiting.build.Goals as goal
 
@@ -9,11 +9,11 @@ loop-row-init c = building_start c.args.rows.now c.args.count c.in_ok-left.left.
 
 pub add-requires : goal.add-requires
 add-requires c = building_ready c.args.rows.now c.args.count c.pop.new.self.items c.in-Some.row (levels_of c.loop-row.waiting.levels)
-    (subst (λ xs. Building c.args.rows.now xs c.args.count (levels_of c.loop-row.waiting.levels)) c.in-Some.ensures.items c.loop-row.invariant)
+    (subst (λ xs. WaitingSoFar c.args.rows.now xs c.args.count (levels_of c.loop-row.waiting.levels)) c.in-Some.ensures.items c.loop-row.invariant)
 
 pub loop-row-preserved : goal.loop-row-preserved
 loop-row-preserved c = building_more c.args.rows.now c.args.count c.pop.new.self.items c.in-Some.row (levels_of c.loop-row.waiting.levels)
-    (subst (λ xs. Building c.args.rows.now xs c.args.count (levels_of c.loop-row.waiting.levels)) c.in-Some.ensures.items c.loop-row.invariant)
+    (subst (λ xs. WaitingSoFar c.args.rows.now xs c.args.count (levels_of c.loop-row.waiting.levels)) c.in-Some.ensures.items c.loop-row.invariant)
     (levels_of c.add.new.self.levels) c.in_ok-add.ensures
 
 pub returns : goal.returns

@@ -1,0 +1,4 @@
+mod KnownLemmas
+mod RunLemmas
+mod ForestLemmas
+mod WayLemmas

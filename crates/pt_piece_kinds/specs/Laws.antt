@@ -1,0 +1,46 @@
+-- What laws say of the walk over pieces.
+use Rattle.std.specs.Prelude.{◌≡◌, ℕ, List, [], length, Some, None}
+use Rattle.pt_code.specs.declared.Start.{Start}
+use Rattle.pt_slots.specs.CodeObject.{CodeObject}
+use Rattle.pt_assembler.specs.Piece.{Piece}
+use Rattle.pt_assembler.specs.PieceAt.{Piece_at}
+use Rattle.pt_instr.specs.Effects.{Kinds}
+use Rattle.pt_fits.specs.Block.{Block}
+use Rattle.pt_fits.specs.Places.{Gets}
+use Rattle.pt_fits.specs.Leaves.{Common}
+use Rattle.pt_piece_kinds.specs.Walk.{StackMap, kinds_of, Setting, behind, slots_at}
+use Rattle.pt_piece_kinds.specs.Typed.{Typed}
+use Rattle.pt_piece_kinds.specs.Table.{next_of, Rises, Table, AgreesWith, slot_of, WasMadeAt, IsTableOf}
+
+abbrev pub outermost : Setting
+outermost = record { labels = []; loop = None }
+
+-- the table of a block whose code is one piece, from these slots at its start
+abbrev pub table_of : Block → Piece → (start : StackMap) → Table
+table_of b p ks = λ pc. slots_at b.links (next_of b) p outermost ks 0 (Some ks) pc
+
+abbrev pub IsTyped : Block → Piece → (start : StackMap) → Type 0
+IsTyped b p ks = Typed b.links (next_of b) p outermost [] ks 0 (Some ks)
+
+-- of a piece that is typed, which stands in a block and ends in nothing that goes on
+abbrev pub WalkIsRight : (V : Type 0) → Type 0
+WalkIsRight V = (code : CodeObject V) (b : Block) (starts : List Start) (p : Piece) (ks : StackMap) → ((pc : ℕ) → code.at pc ≡ b.at pc) → Rises b
+    → Piece_at code starts p [] (record { rows = []; depth = length ks; around = None }) 0 b.size → IsTyped b p ks
+    → behind b.links (next_of b) p outermost ks 0 (Some ks) ≡ None → AgreesWith b (table_of b p ks)
+
+-- a place gets the kinds that a table has there, and no others
+pub record HasKinds (b : Block) (at : Table) (pc : ℕ) (ks : Kinds) : Type 0 where
+  pub slots : StackMap
+  pub there : at pc ≡ Some slots
+  pub kinds : kinds_of slots ≡ ks
+
+abbrev pub TableHasKinds : Block → Type 0
+TableHasKinds b = (at : Table) → IsTableOf b at → (q : ℕ) (ks : Kinds) → Gets b b.size q ks → HasKinds b at q ks
+
+-- a slot in common was made at one place
+abbrev pub CommonIsOfOneOrigin : Block → Type 0
+CommonIsOfOneOrigin b = (at : Table) → IsTableOf b at → (d q r : ℕ) → Common b b.size d q r → slot_of (at q) d ≡ slot_of (at r) d
+
+-- and what was made at one place is in common
+abbrev pub OneOriginIsCommon : Block → Type 0
+OneOriginIsCommon b = (at : Table) → IsTableOf b at → (d q r o : ℕ) → WasMadeAt o (slot_of (at q) d) → WasMadeAt o (slot_of (at r) d) → Common b b.size d q r

@@ -1,0 +1,4 @@
+pub mod Walk
+pub mod Typed
+pub mod Table
+pub mod Laws

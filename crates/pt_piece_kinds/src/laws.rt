@@ -1,0 +1,24 @@
+//! Laws of the walk over pieces, each the contract of a function that does nothing.
+
+ghost use Rattle.pt_fits.specs.Block.{Block};
+ghost use Rattle.pt_piece_kinds.specs.Laws.{
+  CommonIsOfOneOrigin,
+  OneOriginIsCommon,
+  TableHasKinds,
+  WalkIsRight,
+};
+
+/// Where a piece that is typed is the code of a block, each step from a place leads to the slots
+/// that the walk has there: of the same kinds, the lowest as they were, and others made there.
+pub fn the_walk_over_a_piece_is_right<V>()
+    ensures { WalkIsRight V }
+{}
+
+/// In a block that has a table of slots with which its steps agree, each place gets the kinds of
+/// the table alone; a slot that two places have in common was made at one place, and slots that
+/// were made at one place are in common.
+pub fn slots_in_common_are_of_one_origin()
+    ensures kinds { (b : Block) → TableHasKinds b }
+    ensures common { (b : Block) → CommonIsOfOneOrigin b }
+    ensures origin { (b : Block) → OneOriginIsCommon b }
+{}

@@ -1,0 +1,6 @@
+try:
+    a()
+except b as c:
+    d
+finally:
+    e
