@@ -1,0 +1,62 @@
+//! Functions: the defaults of their parameters, and what makes them (Language Reference 6.14, 8.7).
+
+ghost use Rattle.std.specs.Prelude.{◌≡◌, map, IfOk, OnOk};
+ghost use Rattle.pt_tree.specs.Syntax.{lambda, no_formals};
+ghost use Rattle.pt_tree.specs.Fold.{chained, formal_of, parameters_of};
+ghost use Rattle.pt_write_expr.specs.Behind.{behind_defaults, behind_exp, defaults_count};
+
+use crate::expressions::expression;
+use crate::leaves::push_captured;
+use crate::parameters::defaulted_names;
+use crate::surroundings::{Surroundings, still_due};
+use pt_assembler::Writer;
+use pt_base::{BlockId, Line, Memory};
+use pt_tree::{Parameter, Parameters};
+
+/// Makes a function of a block.
+#[cycle(expressions)]
+pub fn function(
+    w: &mut Writer,
+    at: &Surroundings,
+    line: Line,
+    block: BlockId,
+    parameters: &Parameters,
+    again: bool,
+) -> Result<(), Memory>
+    ensures { OnOk result ((e : _) → w.new ≡ behind_exp at.now.names.now at.now.within.now
+        (lambda line.0 block.0 (parameters_of parameters.now) e) again w.old) }
+{
+    let first = defaults(w, at, parameters.positional.as_slice(), again)?;
+    let due = still_due(again, first);
+    let named = defaults(w, at, parameters.keyword_only.as_slice(), due)?;
+    let count = first.checked_add(named).ok_or(Memory)?;
+    let names = defaulted_names(at.names, parameters)?;
+    push_captured(w, at, block)?;
+    let last = still_due(due, named);
+    pt_write_ops::function(w, block, count, names.as_slice(), line, last)
+}
+
+/// The defaults of parameters, and how many there are.
+#[cycle(expressions)]
+fn defaults(
+    w: &mut Writer,
+    at: &Surroundings,
+    parameters: &[Parameter],
+    again: bool,
+) -> Result<u32, Memory>
+    ensures { IfOk result (λ count.
+        (count ≡ defaults_count (chained no_formals (map formal_of parameters.now)))
+        × (w.new ≡ behind_defaults at.now.names.now at.now.within.now
+        (chained no_formals (map formal_of parameters.now)) again w.old)) }
+{
+    let mut count: u32 = 0;
+    let mut due = again;
+    for parameter in parameters {
+        if let Some(default) = &parameter.default {
+            expression(w, at, default.get(), due)?;
+            due = false;
+            count = count.checked_add(1).ok_or(Memory)?;
+        }
+    }
+    Ok(count)
+}
