@@ -1,9 +1,8 @@
 -- The code of a script: its blocks in their order, each laid out from its piece, over texts, constants and lists that go on from block to
 -- block (Language Reference 4.1; Library Reference, "inspect": code objects).
-use Rattle.std.specs.Prelude.{ℕ, ◌+◌, List, [], ◌∷◌, map, Bool, true, false, Option, Some, None, if◌then◌else◌}
-use Rattle.pt_tree.specs.declared.expression.NamedParameter.{NamedParameter}
+use Rattle.std.specs.Prelude.{ℕ, ◌+◌, List, [], ◌∷◌, length, map, is_some, if◌then◌else◌}
 use Rattle.pt_tree.specs.Syntax as S
-use Rattle.pt_tree.specs.Syntax.{Name, Params, Formals, Stms}
+use Rattle.pt_tree.specs.Syntax.{Name, Params, Stms}
 use Rattle.pt_tree.specs.Blocks as B
 use Rattle.pt_tree.specs.Blocks.{Block, Code as BlockCode, blocks_script, yields}
 use Rattle.pt_instr.specs.declared.TextNo.{TextNo}
@@ -15,6 +14,7 @@ use Rattle.pt_code.specs.declared.Code.{Code}
 use Rattle.pt_code.specs.declared.CodeBlock.{CodeBlock}
 use Rattle.pt_control.specs.Turn.{Around}
 use Rattle.pt_naming.specs.Around.{Names, around_of, names_of}
+use Rattle.pt_naming.specs.BlockNames.{formal_names}
 use Rattle.pt_assembler.specs.declared.image.Heading.{Heading}
 use Rattle.pt_assembler.specs.Layout.{Written, begun, with_text, with_local, with_cell, with_free, number_of_text, layout, block_of}
 use Rattle.pt_stm_pieces.specs.Laws.{slots_of}
@@ -42,22 +42,14 @@ kind_of (B.of_class ss) = kind.Class
 kind_of (B.of_lambda l e) = if yields (B.of_lambda l e) then kind.Generator else kind.Function
 kind_of (B.of_generator l e k t cs) = kind.GeneratorExpression
 
-abbrev pub formal_count : Formals → ℕ
-formal_count S.no_formals = 0
-formal_count (S.formal l x a d r) = formal_count r + 1
-
-abbrev pub is_given : Option NamedParameter → Bool
-is_given None = false
-is_given (Some p) = true
-
 abbrev pub rest_of : Params → Rest
-rest_of (S.parameters ps s ks d) = record { positional = is_given s; named = is_given d }
+rest_of (S.parameters ps s ks d) = record { positional = is_some s; named = is_some d }
 
 abbrev pub plain_count : Params → ℕ
-plain_count (S.parameters ps s ks d) = formal_count ps
+plain_count (S.parameters ps s ks d) = length (formal_names ps)
 
 abbrev pub keyword_only_count : Params → ℕ
-keyword_only_count (S.parameters ps s ks d) = formal_count ks
+keyword_only_count (S.parameters ps s ks d) = length (formal_names ks)
 
 abbrev pub heading : TextNo → Block → Heading
 heading t k = record {

@@ -21,7 +21,8 @@ use Rattle.pt_assembler.specs.Piece.{Op, Piece, pick}
 use Rattle.pt_assembler.specs.PieceAt.{instr_to, instr_of_free, target, start_of, Is, Exits, Context, in_loop, under, over, row_of, Exit_at, Piece_at}
 use Rattle.pt_fits.specs.Block.{Links, Block, effect}
 use Rattle.pt_fits.specs.Steps.{Step, steps, target_of}
-use Rattle.pt_piece_kinds.specs.Walk.{StackMap, kinds_of, made, or_else, instr_of, given_at, onward, behind_op, aside_op, to_one, is_empty, deepened, Setting, with_label, with_none, with_loop, end_of, flow, behind, slots_at}
+use Rattle.pt_slots.specs.Slots.{or_else}
+use Rattle.pt_piece_kinds.specs.Walk.{StackMap, kinds_of, made, instr_of, given_at, onward, behind_op, aside_op, to_one, is_empty, deepened, Setting, with_label, with_none, with_loop, end_of, flow, behind, slots_at}
 use Rattle.pt_piece_kinds.specs.Typed.{Over, Takes, IsUniform, Lands, Fires, Typed}
 use Rattle.pt_piece_kinds.specs.Typed as typed
 use Rattle.pt_piece_kinds.specs.Table.{next_in, next_of, Rises, Table, Follows}

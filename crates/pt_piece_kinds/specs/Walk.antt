@@ -6,6 +6,7 @@ use Rattle.pt_instr.specs.declared.effects.Effect.{Effect}
 use Rattle.pt_instr.specs.declared.kinds.Kind.{Kind}
 use Rattle.pt_instr.specs.declared.kinds.Kind.TheVariants as kind
 use Rattle.pt_instr.specs.Effects.{Kinds}
+use Rattle.pt_slots.specs.Slots.{or_else}
 use Rattle.pt_assembler.specs.Piece.{Op, plain, never, const, with_local, with_cell, with_free, with_text, with_list, to, Piece, empty, act, move, seq, block, headed, closed, looped, leave, ensured, caught, deeper, started, numbered, pick}
 use Rattle.pt_assembler.specs.PieceAt.{instr_to, instr_of_free}
 use Rattle.pt_fits.specs.Block.{Links, effect}
@@ -42,10 +43,6 @@ made p x k = record { kind = k; origin = Some p; loop = None }
 
 abbrev pub lowest : {A : Type 0} → (count : ℕ) → List A → List A
 lowest n ks = drop (length ks - n) ks
-
-abbrev pub or_else : {A : Type 0} → Option A → Option A → Option A
-or_else (Some a) o = Some a
-or_else None o = o
 
 -- an instruction that may stand for an operation, with some operand
 abbrev pub instr_of : Op → Instr
