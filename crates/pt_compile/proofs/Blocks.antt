@@ -1,18 +1,15 @@
 -- Blocks that are laid out one after the other, over tables that only grow.
-use Rattle.std.proofs.Common.{◌≡◌, ℕ, zero, suc, ◌+◌, List, [], ◌∷◌, map, length, slice_get, Option, Some, None, refl, sym, ap, ◌∙◌, subst, arith}
+use Rattle.std.proofs.Common.{◌≡◌, ℕ, zero, suc, ◌+◌, List, [], ◌∷◌, map, length, slice_get, Some, None, refl, sym, ap, ◌∙◌, subst, arith}
 use Rattle.pt_tree.specs.Syntax.{Name, Stms}
 use Rattle.pt_tree.specs.Blocks.{Block, blocks_script}
 use Rattle.pt_naming.specs.Around.{Names, around_of, names_of}
-use Rattle.pt_code.specs.declared.CodeBlock.{CodeBlock}
-use Rattle.pt_code.specs.declared.Code.{Code}
 use Rattle.pt_assembler.specs.Tables.{Begins}
 use Rattle.pt_assembler.specs.Layout.{Written, with_text, with_local, with_cell, with_free, number_of_text, layout}
-use Rattle.pt_assembler.specs.Laws.{IsBlockOf}
 use Rattle.pt_assembler.proofs.TableLemmas.{begins_same, begins_then}
-use Rattle.pt_assembler.proofs.Growth.{Tabled, tabled_same, tabled_then, OnlyTables, only_then, text_only, local_only, cell_only, free_only, Grows, grows}
+use Rattle.pt_assembler.proofs.Growth.{Tabled, tabled_same, tabled_then, only_then, text_only, local_only, cell_only, free_only, grows}
 use Rattle.pt_stm_pieces.specs.StmPiece.{code_piece}
-use Rattle.pt_compile.specs.ScriptCode.{Tables, no_tables, tables_of, with_all, empty_block, with_names, begun_block, BlockLayout, layout_of, layouts, script_layouts, tables_behind, code_block, code_with, code_of}
-use Rattle.pt_compile.specs.Laws.{IsLayoutIn, BlocksAreLaidOut, AsManyBlocks}
+use Rattle.pt_compile.specs.ScriptCode.{Tables, no_tables, tables_of, with_all, empty_block, with_names, BlockLayout, layout_of, layouts, tables_behind, code_block}
+use Rattle.pt_compile.specs.Laws.{BlocksAreLaidOut, AsManyBlocks}
 
 -- tables of a code that only grow
 record Grown (s t : Tables) : Type 0 where

@@ -1,18 +1,9 @@
 -- What laws say of the code of a script.
 use Rattle.std.specs.Prelude.{◌≡◌, ℕ, length, slice_get, Some}
-use Rattle.std.specs.List.{AllByRecursion}
-use Rattle.pt_instr.specs.Encoding.{Fits}
 use Rattle.pt_tree.specs.Syntax.{Stms}
 use Rattle.pt_tree.specs.Blocks.{Block, blocks_script}
-use Rattle.pt_code.specs.declared.CodeBlock.{CodeBlock}
-use Rattle.pt_assembler.specs.Layout.{Written, instrs_of}
 use Rattle.pt_assembler.specs.Laws.{IsBlockOf}
-use Rattle.pt_slots.specs.CodeObject.{CodeObject}
-use Rattle.pt_slots.specs.BlockObject.{IsBlockObject}
 use Rattle.pt_naming.specs.Around.{around_of, names_of}
-use Rattle.pt_emitter.specs.Laws.{Agrees}
-use Rattle.pt_stm_pieces.specs.Names.{TakesCells, Code_named}
-use Rattle.pt_stm_pieces.specs.Laws.{Code_at, KnowsTruths, StandsInLoops}
 use Rattle.pt_compile.specs.ScriptCode.{Tables, BlockLayout, layout_of, script_layouts, code_block, code_of}
 
 -- the layout of a block of a script, over some tables

@@ -1,7 +1,6 @@
 -- What blocks take along is in cells.
-use Rattle.std.proofs.Common.{◌≡◌, ℕ, List, [], ◌∷◌, inl, inr, sym, subst}
-use Rattle.pt_control.specs.Turn as T
-use Rattle.pt_control.specs.Turn.{Scope, Variable}
+use Rattle.std.proofs.Common.{ℕ, List, [], ◌∷◌, inl, inr, sym, subst}
+use Rattle.pt_control.specs.Turn.{Variable}
 use Rattle.pt_tree.specs.Syntax.{Stms}
 use Rattle.pt_naming.specs.Around.{around_of}
 use Rattle.pt_naming.specs.Laws.{HasCell, HaveCells}

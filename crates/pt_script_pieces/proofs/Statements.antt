@@ -1,9 +1,9 @@
 -- In statements whose mentions are in their places, exits of loops stand in loops of their blocks.
-use Rattle.std.proofs.Common.{◌≡◌, ℕ, zero, suc, Bool, true, false, cond, List, [], ◌∷◌, ◌++◌, map, Option, Some, None, refl, ap, subst, ◌∙◌}
+use Rattle.std.proofs.Common.{◌≡◌, ℕ, zero, suc, Bool, true, false, cond, List, [], ◌∷◌, map, Some, None, refl, ap, subst, ◌∙◌}
 use Rattle.std.specs.Prelude.{◌||◌, slice_get}
 use Rattle.pt_scopes.specs.declared.region.Context.{Context}
 use Rattle.pt_scopes.specs.declared.region.Role.TheVariants.{Bind}
-use Rattle.pt_scopes.specs.Mentions.{places_branches, places_decorators, places_exp, places_handlers, places_items, places_named, places_opt, places_params, places_place, places_script, places_stm, places_stms, places_target, places_targets, tells}
+use Rattle.pt_scopes.specs.Mentions.{places_branches, places_decorators, places_exp, places_handlers, places_items, places_named, places_opt, places_params, places_script, places_stm, places_stms, places_target, tells}
 use Rattle.pt_scopes.specs.Places.{Part, ◌⨾◌, class_context, function_context, in_class, in_function, loop_context, module_context}
 use Rattle.pt_scopes.specs.Refusals.{fault_of}
 use Rattle.pt_scopes.specs.Scope.{facts}
