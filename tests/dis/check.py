@@ -1,14 +1,17 @@
 """Reads the listing of each script's code back, and checks it against the acts of the script, which come from CPython's ast.
 
-  check.py [SCRIPT ..]
+  check.py [--definitions] [SCRIPT ..]
 
-Checked are: the blocks with their names; places that rise, and targets that are places of the block; that each act begins once, and the
-acts with which a loop tests again twice; its line; that the instruction at an act is one that does what the act says; that the code of a
-block has the names that the block is said to have, and no other; and the listings of `expected`, which were written by hand.
+The listings are those of the program, by the command PT. With --definitions they are also those of the definitions of code and listing, and
+the code of a block has the names that the block is said to have, and no other. Checked are: the blocks with their names; places that rise, and targets that are places of the block; that each act begins once, and the
+acts with which a loop tests again twice; its line; that the instruction at an act is one that does what the act says; and the listings of
+`expected`, which were written by hand.
 """
 import ast
 import glob
 import os
+import shlex
+import subprocess
 import sys
 import threading
 
@@ -133,18 +136,38 @@ def by_hand(script):
         return f.read()
 
 
+def by_program(script):
+    """What the program lists."""
+    command = os.environ.get("PT", os.path.join(HERE, "..", "..", "pt") + " --only-proved")
+    run = subprocess.run([*shlex.split(command), "dis", script], capture_output=True)
+    if run.returncode != 0:
+        raise Differs(f"the program ends with status {run.returncode}")
+    return run.stdout.decode()
+
+
+def check_definitions(listings, script, listing):
+    """The definitions have the same listing, and the names that they say of each block."""
+    with open(script, encoding="utf-8") as f:
+        said, others = listings.of(f.read())
+    if others:
+        raise Differs(f"the code of the blocks {others} has other names")
+    if said != listing:
+        raise Differs("the listing isn't that of the definitions")
+
+
 def main():
     mark_tests()
-    scripts = sys.argv[1:] or sorted(glob.glob(os.path.join(HERE, "scripts", "*.py")))
-    listings, wrong, blocks, marks, written = Listings(), 0, 0, 0, 0
+    words = sys.argv[1:]
+    listings = Listings() if "--definitions" in words else None
+    scripts = [word for word in words if word != "--definitions"] or sorted(glob.glob(os.path.join(HERE, "scripts", "*.py")))
+    wrong, blocks, marks, written = 0, 0, 0, 0
     for script in scripts:
         try:
-            with open(script, encoding="utf-8") as f:
-                listing, others = listings.of(f.read())
+            listing = by_program(script)
             b, n = check(script, listing)
             blocks, marks = blocks + b, marks + n
-            if others:
-                raise Differs(f"the code of the blocks {others} has other names")
+            if listings:
+                check_definitions(listings, script, listing)
             expected = by_hand(script)
             written += expected is not None
             if expected not in (None, listing):

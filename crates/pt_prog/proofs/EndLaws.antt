@@ -12,7 +12,9 @@ use Rattle.pt_front.specs.declared.refusal.Refusal.{Refusal}
 use Rattle.pt_front.proofs.Once.{one_script, one_refusal, never_both}
 use Rattle.pt_prog.specs.declared.end.End.{End}
 use Rattle.pt_prog.specs.declared.end.End.TheVariants as end
-use Rattle.pt_prog.specs.Answer.{meaning_of, IsEndOf, IsUnbuilt, Ends, IsEndFor}
+use Rattle.pt_prog.specs.declared.command.Command.{Command}
+use Rattle.pt_prog.specs.declared.command.Command.TheVariants.{Run, Dis}
+use Rattle.pt_prog.specs.Answer.{meaning_of, IsEndOf, IsUnbuilt, Ends, HasRunEnd, HasListingEnd, IsEndFor}
 
 -- what an end says of the text
 data Says (text : List ℕ) (e : End) : Type 0 where
@@ -20,7 +22,7 @@ data Says (text : List ℕ) (e : End) : Type 0 where
   unbuilt : (line : Line) → IsUnbuilt text line.0 → e ≡ end.Unbuilt line → Says text e
   ends : Ends text e → Says text e
 
-says : (text : List ℕ) (e : End) → IsEndFor text e → Says text e
+says : (text : List ℕ) (e : End) → HasRunEnd text e → Says text e
 says text (end.Refused r) i = refused r i refl
 says text (end.Unbuilt line) i = unbuilt line i refl
 says text end.Done i = ends i
@@ -64,5 +66,42 @@ module _ (text : List ℕ) where
       let same = one_script text q.script r.script q.is.is_script r.is.is_script in
       one_end (meaning_of r.script).ending e f (subst (λ s. IsEndOf (meaning_of s).ending e) same q.is_end) r.is_end
 
-  pub once : (e f : End) → IsEndFor text e → IsEndFor text f → e ≡ f
-  once e f i j = said_once e f (says text e i) (says text f j)
+  run_once : (e f : End) → HasRunEnd text e → HasRunEnd text f → e ≡ f
+  run_once e f i j = said_once e f (says text e i) (says text f j)
+
+  listed_once : (e f : End) → HasListingEnd text e → HasListingEnd text f → e ≡ f
+  listed_once (end.Refused q) (end.Refused r) i j = ap (λ r. end.Refused r) (one_refusal text q r i j)
+  listed_once (end.Refused q) end.Done i j = absurd (never_both text j.script q j.is_script i)
+  listed_once end.Done (end.Refused r) i j = absurd (never_both text i.script r i.is_script j)
+  listed_once end.Done end.Done i j = refl
+  listed_once (end.Unbuilt line) f i j = absurd i
+  listed_once end.Raised f i j = absurd i
+  listed_once (end.Spent acts) f i j = absurd i
+  listed_once (end.Outside what line) f i j = absurd i
+  listed_once end.Usage f i j = absurd i
+  listed_once (end.TooLong which) f i j = absurd i
+  listed_once end.ReadFault f i j = absurd i
+  listed_once (end.WriteFault which) f i j = absurd i
+  listed_once end.Memory f i j = absurd i
+  listed_once (end.Refused q) (end.Unbuilt line) i j = absurd j
+  listed_once (end.Refused q) end.Raised i j = absurd j
+  listed_once (end.Refused q) (end.Spent acts) i j = absurd j
+  listed_once (end.Refused q) (end.Outside what line) i j = absurd j
+  listed_once (end.Refused q) end.Usage i j = absurd j
+  listed_once (end.Refused q) (end.TooLong which) i j = absurd j
+  listed_once (end.Refused q) end.ReadFault i j = absurd j
+  listed_once (end.Refused q) (end.WriteFault which) i j = absurd j
+  listed_once (end.Refused q) end.Memory i j = absurd j
+  listed_once end.Done (end.Unbuilt line) i j = absurd j
+  listed_once end.Done end.Raised i j = absurd j
+  listed_once end.Done (end.Spent acts) i j = absurd j
+  listed_once end.Done (end.Outside what line) i j = absurd j
+  listed_once end.Done end.Usage i j = absurd j
+  listed_once end.Done (end.TooLong which) i j = absurd j
+  listed_once end.Done end.ReadFault i j = absurd j
+  listed_once end.Done (end.WriteFault which) i j = absurd j
+  listed_once end.Done end.Memory i j = absurd j
+
+  pub once : (c : Command) (e f : End) → IsEndFor c text e → IsEndFor c text f → e ≡ f
+  once Run e f i j = run_once e f i j
+  once Dis e f i j = listed_once e f i j

@@ -2,6 +2,8 @@
 //! how it ends.
 #![tactic(auto)]
 
+mod command;
+mod dis;
 mod end;
 mod laws;
 mod program;

@@ -1,14 +1,15 @@
 ghost use Rattle.std.specs.Prelude.{◌≡◌, ◌≢◌, ◌≤◌, ◌⊎◌, ◌↔◌, [], None, Some, length, Err, IfOk, MatchResult, OnErr};
-ghost use Rattle.std.specs.Option.{option_copied};
 ghost use Rattle.pt_base.specs.Faults.{Rose};
 ghost use Rattle.pt_base.specs.Taken.{Takes, TakesFront};
 ghost use Rattle.pt_base.specs.Told.{IsLacked, IsLonger};
 ghost use Rattle.pt_base.specs.Told.Told.{Holds};
-ghost use Rattle.pt_prog.specs.Answer.{script_named, OfNamed, IsBuilt, IsUnrun, IsEndFor, IsAnsweredFor, IsAnswered};
+ghost use Rattle.pt_prog.specs.Answer.{command_of, script_named, OfNamed, IsBuilt, IsUnrun, IsRunFor, IsEndFor, IsAnsweredFor, IsAnswered};
 ghost use Rattle.pt_prog.specs.Limits.{script_limit};
 ghost use Rattle.pt_prog.specs.RunEnds.{end_of_run};
 ghost use Rattle.pt_tree.specs.StatementFold.{script_of};
 
+use crate::command::{Command, leading_command, script_name};
+use crate::dis::list_text;
 use crate::end::{End, File, Out};
 use pt_base::{Budget, Failure, Shelf, ShelfErr, Sink};
 use pt_front::front;
@@ -21,20 +22,6 @@ pub const SCRIPT_LIMIT: u64 = 1_048_576;
 
 /// How many acts a run may take.
 const ACT_LIMIT: u64 = 10_000_000;
-
-/// The name of the script, where the words are `run` and a name.
-fn script_name(words: &[String]) -> Option<&str>
-    ensures { option_copied result ≡ script_named words.now }
-{
-    let [command, name] = words else {
-        return None;
-    };
-    if command.as_str() == "run" && !name.is_empty() && !name.as_str().starts_with('-') {
-        Some(name.as_str())
-    } else {
-        None
-    }
-}
 
 /// The end of a run that was not broken off.
 fn end_of(end: RunEnd) -> End
@@ -67,7 +54,7 @@ fn built_script(alloc: Global, text: &[u8]) -> Result<Script, End>
 /// Answers for the text of a script.
 fn run_text<O: Sink>(alloc: Global, text: &[u8], out: &mut O) -> End
     requires { length text.now ≤ script_limit }
-    ensures answer { IsAnsweredFor text.now (O.taken out.old) (O.taken out.new) result }
+    ensures answer { IsRunFor text.now (O.taken out.old) (O.taken out.new) result }
     ensures cause { result ≡ End.WriteFault Out.Out → Rose (O.faults out.old) (O.faults out.new) × (O.faults out.new ≤ O.most out.new) }
     ensures most { O.most out.new ≡ O.most out.old }
     ensures later { O.faults out.old ≤ O.faults out.new }
@@ -84,10 +71,27 @@ fn run_text<O: Sink>(alloc: Global, text: &[u8], out: &mut O) -> End
     }
 }
 
-/// All that the program does: reads the words, the script that they name, and runs it.
+/// Answers for the text of a script, by the command.
+fn answer_text<O: Sink>(alloc: Global, command: Command, text: &[u8], out: &mut O) -> End
+    requires { length text.now ≤ script_limit }
+    ensures answer { IsAnsweredFor command text.now (O.taken out.old) (O.taken out.new) result }
+    ensures end { (Rose (O.faults out.old) (O.faults out.new) → ⊥)
+        → IsEndFor command text.now result ⊎ (result ≡ End.Memory) }
+    ensures cause { result ≡ End.WriteFault Out.Out → Rose (O.faults out.old) (O.faults out.new) × (O.faults out.new ≤ O.most out.new) }
+    ensures most { O.most out.new ≡ O.most out.old }
+    ensures later { O.faults out.old ≤ O.faults out.new }
+{
+    match command {
+        Command::Run => run_text(alloc, text, out),
+        Command::Dis => list_text(alloc, text, out),
+    }
+}
+
+/// All that the program does: reads the words and the script that they name, and runs it, or lists
+/// its code.
 ///
-/// The order of answers is Usage, ReadFault, TooLong, Refused, Unbuilt, and then those of the run.
-/// After a write that failed nothing more is written. Nothing is written to the log.
+/// The order of answers is Usage, ReadFault, TooLong, Refused, for a run Unbuilt, and then those of
+/// the run. After a write that failed nothing more is written. Nothing is written to the log.
 pub fn top<F: Shelf, O: Sink, L: Sink>(
     alloc: Global,
     words: &[String],
@@ -104,19 +108,19 @@ pub fn top<F: Shelf, O: Sink, L: Sink>(
     ensures no_read_fault { F.most shelf.old ≡ 0 → result ≡ End.ReadFault → OfNamed (script_named words.now) (F.told shelf.old) IsLacked }
     ensures no_write_fault { O.most out.old ≡ 0 → result ≢ End.WriteFault Out.Out }
 
-    // What was written to out, for every answer, and the text and script that it is the meaning of.
-    ensures writes { IsAnswered (script_named words.now) (F.told shelf.old) (O.taken out.old) (O.taken out.new) result }
+    // What was written to out, for every answer, and the text and script whose meaning or code it is.
+    ensures writes { IsAnswered (command_of words.now) (script_named words.now) (F.told shelf.old) (O.taken out.old) (O.taken out.new) result }
     ensures log { Takes (L.taken log.old) (L.taken log.new) [] × (L.faults log.new ≡ L.faults log.old) }
     ensures kept { F.told shelf.new ≡ F.told shelf.old }
 
     // Where no count of faults rose, the end of a text that is told is the one that the text says.
-    ensures complete { (text : _) → OfNamed (script_named words.now) (F.told shelf.old) (λ t. t ≡ Holds text) → length text ≤ script_limit → (Rose (F.faults shelf.old) (F.faults shelf.new) → ⊥) → (Rose (O.faults out.old) (O.faults out.new) → ⊥) → IsEndFor text result ⊎ (result ≡ End.Memory) }
+    ensures complete { (text : _) → OfNamed (script_named words.now) (F.told shelf.old) (λ t. t ≡ Holds text) → length text ≤ script_limit → (Rose (F.faults shelf.old) (F.faults shelf.new) → ⊥) → (Rose (O.faults out.old) (O.faults out.new) → ⊥) → IsEndFor (command_of words.now) text result ⊎ (result ≡ End.Memory) }
 {
     let Some(name) = script_name(words) else {
         return End::Usage;
     };
     match shelf.read(alloc, name, SCRIPT_LIMIT) {
-        Ok(text) => run_text(alloc, text.as_slice(), out),
+        Ok(text) => answer_text(alloc, leading_command(words), text.as_slice(), out),
         Err(ShelfErr::Failed) => End::ReadFault,
         Err(ShelfErr::TooLong) => End::TooLong { which: File::First },
         Err(ShelfErr::Memory) => End::Memory,

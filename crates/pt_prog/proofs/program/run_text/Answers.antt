@@ -1,7 +1,7 @@
 use Rattle.std.proofs.Common.{inr, sym, subst}
 use Rattle.pt_base.proofs.TakenLemmas.{takes_nothing}
 use Rattle.pt_tree.specs.StatementFold.{script_of}
-use Rattle.pt_prog.specs.Answer.{IsAnsweredFor}
+use Rattle.pt_prog.specs.Answer.{IsRunFor}
 use Rattle.pt_prog.proofs.AnswerLemmas.{answered, unrun, unrun_cause, wrote_front}
 use Rattle.pt_prog.proofs.program.run_text.Goals as goal
 
@@ -16,7 +16,7 @@ returns-in-Err-clause-cause g c fails = absurd (unrun_cause c.args.text.now c.in
 
 pub returns-in-Ok-run-clause-answer : goal.returns-in-Ok-run-clause-answer
 returns-in-Ok-run-clause-answer g c =
-    subst (IsAnsweredFor c.args.text.now (g.O.Sink.taken c.args.out.now) (g.O.Sink.taken c.run.new.out)) (sym c.end_of.ensures)
+    subst (IsRunFor c.args.text.now (g.O.Sink.taken c.args.out.now) (g.O.Sink.taken c.run.new.out)) (sym c.end_of.ensures)
     (answered c.args.text.now (script_of c.in-Ok.script) c.in-Ok.ensures c.new-budget.result.limit c.new-budget.ensures.limit (g.O.Sink.taken c.args.out.now) (g.O.Sink.taken c.run.new.out)
     c.in-Ok-run.end c.in-Ok-run.ensures.ok)
 
