@@ -1,0 +1,4 @@
+pub mod Views
+pub mod Leads
+pub mod Laws
+pub mod Told

@@ -1,0 +1,23 @@
+use pt_base::{ObjId, Pc, Text, What};
+use pt_heap::{Completion, Value};
+
+/// What an instruction comes to.
+#[derive(Debug, Drop)]
+pub enum Progress {
+    /// The place behind it is next.
+    Next,
+    /// This place is next.
+    Goto { pc: Pc },
+    /// A completion leaves the place.
+    Leaves { how: Completion },
+    /// The text is printed, and the place behind is next.
+    Print { text: Text },
+    /// An exception of this class arises, with this argument.
+    Fails { class: ObjId, arg: Option<Value> },
+    /// An exception of this class arises, with this text.
+    FailsSaying { class: ObjId, text: Text },
+    /// The run leaves the profile of the language.
+    Outside { what: What },
+    /// The slots lack what the instruction takes.
+    Lacks,
+}
