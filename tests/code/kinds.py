@@ -47,7 +47,7 @@ class Walk:
         def next_of(pc):
             return after[pc]
         start = ("Some", listed([{"kind": ("Iter",), "origin": NONE, "loop": NONE}] if b.kind == 4 else []))
-        base, outermost = start[1], {"labels": (), "loop": NONE}
+        base, outermost = listed([]), {"labels": (), "loop": NONE}
         slots_at = d.get("pt_piece_kinds", "Walk", "slots_at")
         self.slots = {}
         for pc in checked.at:
@@ -59,8 +59,8 @@ class Walk:
 
     @staticmethod
     def known(k):
-        """The kind, the origin, and the places of the exits that it may hold."""
-        x = () if k["loop"] == NONE else (k["loop"][1]["break_to"], k["loop"][1]["continue_to"])
+        """The kind, the origin, and the loop whose exits it may hold: their places, and how many slots lie below its body."""
+        x = None if k["loop"] == NONE else tuple(k["loop"][1][f] for f in ("break_to", "continue_to", "depth"))
         return TEXT[k["kind"][0]], k["origin"][1] if k["origin"] != NONE else None, x
 
 
@@ -102,8 +102,10 @@ def check(specs, script, b):
         raise Differs("slots in common of two origins")
     for t, q, d in holds:
         k, o, x = w.slots[q][d]
-        if k != "P" or t not in x or w.slots[t] is None or w.slots[q][:d][:len(w.slots[t])] != w.slots[t]:
+        if k != "P" or x is None or t not in x[:2] or w.slots[t] is None or w.slots[q][:d][:len(w.slots[t])] != w.slots[t]:
             raise Differs(f"slot {d} at {q} may hold a jump to {t}: {w.slots[q][d]}")
+        if not len(w.slots[t]) <= x[2] <= d:
+            raise Differs(f"slot {d} at {q} may hold a jump to {t} with {len(w.slots[t])} slots, out of a loop above {x[2]}")
     return len(w.slots), tracked, w
 
 
@@ -147,7 +149,9 @@ WRONG = [
     Error("an iterator that isn't swapped", "then kind.Value ∷ kind.Iter ∷ [] else g", "then g else g"),
     Error("labels that are counted from the outermost", "flow q (with_label p c) base p s in record { behind = f.behind; sent = λ k. f.sent (suc k) }",
           "flow q (with_label p c) base p s in record { behind = f.behind; sent = λ k. f.sent k }"),
-    Error("a loop that has the exits of the loop around", "let f = flow q (with_loop b (end_of next q p) c) base p s in", "let f = flow q (with_none c) base p s in"),
+    Error("a loop that has the exits of the loop around", "slots_at (looped b q) c base p s pc = slots_at q (with_loop b (end_of next q p) (length base) c)",
+          "slots_at (looped b q) c base p s pc = slots_at q (with_none c)"),
+    Error("a loop above nothing", "continue_to = e; depth = d })", "continue_to = e; depth = 0 })"),
     Error("an exit that is left for the end of its own block", "with_label p c = record c { labels = p ∷ c.labels }", "with_label p c = record c { labels = c.labels }"),
     Error("a completion that holds no exit", "origin = Some p; loop = x }", "origin = Some p; loop = None }"),
     Error("an exception that stays where it was made", "made p x k = record { kind = k; origin = Some p; loop = None }", "made p x k = some k"),

@@ -9,6 +9,7 @@ mod statement_blocks;
 mod statement_rows;
 mod table;
 
+pub use block_acts::BlockActs;
 pub use forms::{
     blocks_stand_in_source_order, each_compound_statement_has_its_acts,
     each_expression_has_its_acts, each_simple_statement_has_its_acts,

@@ -1,12 +1,15 @@
-//! How a block names its variables: the scope of each name, the names that its comprehensions have
-//! of their own, private names, and the variables whose cells the blocks in it take along.
+//! How the blocks of a script name their variables: the scope of each name, the names that
+//! comprehensions have of their own, private names, the variables whose cells blocks take along, and the
+//! names that each block has in code.
 #![tactic(auto)]
 
 mod block_names;
-mod mangling;
-#[cfg(test)]
-mod tests;
+mod lists;
+mod script_names;
+mod tables;
 mod variable;
 
-pub use block_names::{BlockNames, ComprehensionNames};
+pub use block_names::BlockNames;
+pub use lists::NameLists;
+pub use script_names::ScriptNames;
 pub use variable::Variable;

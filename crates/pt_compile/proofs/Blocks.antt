@@ -33,17 +33,17 @@ grown_by v w (t, (k, (l, r))) = record { texts = t; constants = k; lists = l }
 local_tabled : (x : Name) (w : Written) → Tabled w (with_local x w)
 local_tabled x w = (only_then w (with_text x w) (with_local x w) (text_only x w) (local_only (number_of_text x w) (with_text x w))).tables
 
-cell_tabled : (x : Name) (w : Written) → Tabled w (with_cell x w)
+pub cell_tabled : (x : Name) (w : Written) → Tabled w (with_cell x w)
 cell_tabled x w = (only_then w (with_text x w) (with_cell x w) (text_only x w) (cell_only (number_of_text x w) (with_text x w))).tables
 
-free_tabled : (x : Name) (w : Written) → Tabled w (with_free x w)
+pub free_tabled : (x : Name) (w : Written) → Tabled w (with_free x w)
 free_tabled x w = (only_then w (with_text x w) (with_free x w) (text_only x w) (free_only (number_of_text x w) (with_text x w))).tables
 
-all_tabled : (f : Name → Written → Written) → ((x : Name) (w : Written) → Tabled w (f x w)) → (xs : List Name) (w : Written) → Tabled w (with_all f xs w)
+pub all_tabled : (f : Name → Written → Written) → ((x : Name) (w : Written) → Tabled w (f x w)) → (xs : List Name) (w : Written) → Tabled w (with_all f xs w)
 all_tabled f g [] w = tabled_same w
 all_tabled f g (x ∷ xs) w = tabled_then w (f x w) (with_all f xs (f x w)) (g x w) (all_tabled f g xs (f x w))
 
-names_tabled : (ns : Names) (w : Written) → Tabled w (with_names ns w)
+pub names_tabled : (ns : Names) (w : Written) → Tabled w (with_names ns w)
 names_tabled ns w =
     let a = with_all with_local ns.locals w in
     let b = with_all with_cell ns.cells a in

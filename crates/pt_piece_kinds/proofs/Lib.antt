@@ -3,3 +3,7 @@ pub mod EffectLemmas
 pub mod StepLemmas
 pub mod PieceLaw
 pub mod OriginLaw
+pub mod Finds
+pub mod Reached
+pub mod LeaveLaw
+pub mod TableLaw

@@ -3,18 +3,18 @@ use Rattle.std.proofs.Common.{◌≡◌, ◌⊎◌, ⊎_elim, ℕ, ◌-◌, ◌�
 use Rattle.std.proofs.lemmas.Bool.{cases_lt}
 use Rattle.pt_instr.specs.Effects.{Kinds}
 use Rattle.pt_code.specs.View.{Ins}
-use Rattle.pt_fits.specs.Block.{Block}
+use Rattle.pt_fits.specs.Block.{Block, kinds_at_start}
 use Rattle.pt_fits.specs.Steps.{step, steps}
 use Rattle.pt_fits.specs.Places as places
 use Rattle.pt_fits.specs.Places.{Gets}
 use Rattle.pt_fits.specs.Leaves as L
 use Rattle.pt_fits.specs.Leaves.{Goes, Common}
-use Rattle.pt_piece_kinds.specs.Walk.{Known, StackMap}
-use Rattle.pt_piece_kinds.specs.Table.{Table, IsOf, AllOf, Follows, slot_of, WasMadeAt, IsTableOf}
+use Rattle.pt_piece_kinds.specs.Walk.{Known, StackMap, kinds_of}
+use Rattle.pt_piece_kinds.specs.Table.{Table, IsOf, AllOf, Follows, AgreesWith, slot_of, WasMadeAt, IsTableOf}
 use Rattle.pt_piece_kinds.specs.Laws.{HasKinds, TableHasKinds, CommonIsOfOneOrigin, OneOriginIsCommon}
 
 module _ {A : Type 0} where
-  get_taken : (n d : ℕ) (xs : List A) → d < n → slice_get (take n xs) d ≡ slice_get xs d
+  pub get_taken : (n d : ℕ) (xs : List A) → d < n → slice_get (take n xs) d ≡ slice_get xs d
   get_taken zero d xs l = absurd (let h : ⊥ = omega (arith, l) in h)
   get_taken (suc n) d [] l = refl
   get_taken (suc n) zero (x ∷ xs) l = refl
@@ -39,42 +39,47 @@ place_of : {b : Block} {p q : ℕ} {ks : Kinds} → Gets b p q ks → (i : Ins) 
 place_of (places.start i e) = (i, e)
 place_of (places.onward g l c i e) = (i, e)
 
-module _ (b : Block) (at : Table) (table : IsTableOf b at) where
+module _ (b : Block) (at : Table) (first : StackMap) (start : at 0 ≡ Some first) (begins : kinds_of first ≡ kinds_at_start b.kind) (agrees : AgreesWith b at) where
   -- a step from a place that gets kinds, as the table has it
-  record Led (q r kept : ℕ) (ls : Kinds) : Type 0 where
-    before : StackMap
-    from : at q ≡ Some before
-    follows : Follows at before (step r ls kept)
+  pub record Led (q r kept : ℕ) (ls : Kinds) : Type 0 where
+    pub before : StackMap
+    pub from : at q ≡ Some before
+    pub follows : Follows at before (step r ls kept)
 
   led_from : {q r kept : ℕ} {ks ls : Kinds} → HasKinds b at q ks → Contains (steps b q ks) (step r ls kept) → Led q r kept ls
   led_from {q} {r} {kept} {ks} {ls} h c = record {
     before = h.slots;
     from = h.there;
-    follows = table.agrees q h.slots h.there (step r ls kept) (subst (λ z. Contains (steps b q z) (step r ls kept)) (sym h.kinds) c);
+    follows = agrees q h.slots h.there (step r ls kept) (subst (λ z. Contains (steps b q z) (step r ls kept)) (sym h.kinds) c);
   }
 
-  has_kinds : {q : ℕ} {ks : Kinds} → Gets b b.size q ks → HasKinds b at q ks
-  has_kinds (places.start j e) = record { slots = table.first; there = table.start; kinds = table.kinds }
+  pub has_kinds : {q : ℕ} {ks : Kinds} → Gets b b.size q ks → HasKinds b at q ks
+  has_kinds (places.start j e) = record { slots = first; there = start; kinds = begins }
   has_kinds (places.onward g l c j e) =
       let u = led_from (has_kinds g) c in let f = u.follows in record { slots = f.slots; there = f.there; kinds = f.kinds }
 
-  led : {q r kept : ℕ} {ks ls : Kinds} → Gets b b.size q ks → Contains (steps b q ks) (step r ls kept) → Led q r kept ls
+  pub led : {q r kept : ℕ} {ks ls : Kinds} → Gets b b.size q ks → Contains (steps b q ks) (step r ls kept) → Led q r kept ls
   led g c = led_from (has_kinds g) c
 
-  slot_kept : {q r kept : ℕ} {ls : Kinds} (d : ℕ) → Led q r kept ls → d < kept → slot_of (at q) d ≡ slot_of (at r) d
+  pub slot_kept : {q r kept : ℕ} {ls : Kinds} (d : ℕ) → Led q r kept ls → d < kept → slot_of (at q) d ≡ slot_of (at r) d
   slot_kept {q} {r} {kept} d u l =
       let f = u.follows in
       ap (λ o. slot_of o d) u.from ∙ (sym (get_taken kept d (reverse u.before) l) ∙ (ap (λ xs. slice_get xs d) (sym f.kept)
       ∙ (get_taken kept d (reverse f.slots) l ∙ ap (λ o. slot_of o d) (sym f.there))))
 
-  slot_made : {q r kept : ℕ} {ls : Kinds} (d o : ℕ) → Led q r kept ls → kept ≤ d → WasMadeAt o (slot_of (at r) d) → o ≡ r
+  pub slot_made : {q r kept : ℕ} {ls : Kinds} (d o : ℕ) → Led q r kept ls → kept ≤ d → WasMadeAt o (slot_of (at r) d) → o ≡ r
   slot_made {q} {r} {kept} d o u l m =
       let f = u.follows in
       made_there r o (drop kept (reverse f.slots)) (d - kept) f.made
       (subst (WasMadeAt o) (ap (λ z. slot_of z d) f.there ∙ get_dropped kept d (reverse f.slots) l) m)
 
+module _ (b : Block) (at : Table) (table : IsTableOf b at) where
+  leads : {q r kept : ℕ} {ks ls : Kinds} → Gets b b.size q ks → Contains (steps b q ks) (step r ls kept)
+      → Led b at table.first table.start table.kinds table.agrees q r kept ls
+  leads g c = led b at table.first table.start table.kinds table.agrees g c
+
   goes_kept : {q r k : ℕ} (d : ℕ) → Goes b b.size q r k → d < k → slot_of (at q) d ≡ slot_of (at r) d
-  goes_kept d (L.by_row u c e) l = slot_kept d (led u.gets c) l
+  goes_kept d (L.by_row u c e) l = slot_kept b at table.first table.start table.kinds table.agrees d (leads u.gets c) l
   goes_kept d (L.by_leave {q = q} {t = t} {rows = rows} {ks = ks} {ls = ls} h g) l = table.leaves t q d rows ks ls h g l
 
   common_kept : {d q r : ℕ} → Common b b.size d q r → slot_of (at q) d ≡ slot_of (at r) d
@@ -87,17 +92,17 @@ module _ (b : Block) (at : Table) (table : IsTableOf b at) where
   to_origin d o (places.start j e) m = absurd (table.begins d o (subst (WasMadeAt o) (ap (λ z. slot_of z d) table.start) m))
   to_origin d o (places.onward {q = q} {r = r} {kept = kept} {ks = ks} {ls = ls} g l c j e) m =
       let i = place_of g in
-      let v = led g c in
+      let v = leads g c in
       ⊎_elim (λ u. L.along (L.back (L.kept (L.by_row (record { gets = g; low = l; stands = i.1 }) c e) u))
-      (to_origin d o g (subst (WasMadeAt o) (sym (slot_kept d v u)) m)))
-      (λ u. subst (Common b b.size d r) (sym (slot_made d o v u m)) L.same) (cases_lt d kept)
+      (to_origin d o g (subst (WasMadeAt o) (sym (slot_kept b at table.first table.start table.kinds table.agrees d v u)) m)))
+      (λ u. subst (Common b b.size d r) (sym (slot_made b at table.first table.start table.kinds table.agrees d o v u m)) L.same) (cases_lt d kept)
 
   there : (q d o : ℕ) (z : Option StackMap) → at q ≡ z → WasMadeAt o (slot_of z d) → Common b b.size d q o
   there q d o None e m = absurd m
   there q d o (Some ks) e m = to_origin d o (table.reached q ks e) (subst (λ z. WasMadeAt o (slot_of z d)) (sym e) m)
 
 pub table_has_kinds : (b : Block) → TableHasKinds b
-table_has_kinds b at table q ks g = has_kinds b at table g
+table_has_kinds b at table q ks g = has_kinds b at table.first table.start table.kinds table.agrees g
 
 pub common_is_of_one_origin : (b : Block) → CommonIsOfOneOrigin b
 common_is_of_one_origin b at table d q r c = common_kept b at table c

@@ -1,6 +1,6 @@
 -- The walk over a piece that is laid out is right: each step from a place in it leads to the slots of its place.
 use Rattle.std.proofs.Common.{◌≡◌, ◌⊎◌, inl, inr, ⊎_elim, ℕ, ◌+◌, ◌-◌, ◌≤◌, ◌<◌, zero, suc, Bool, true, false, ◌&&◌, if◌then◌else◌, nat_eq, nat_lt, List, [], ◌∷◌, ◌++◌, length, Contains, Option, Some, None, refl, sym, ap, ◌∙◌, subst, arith, eq-eqb, eqb-true, lt-ltb, le-ltb}
-use Rattle.std.proofs.lemmas.Bool.{false≢true, cases_lt}
+use Rattle.std.proofs.lemmas.Bool.{false≢true, true≢false, cases_lt}
 use Rattle.pt_instr.specs.declared.Instr.{Instr}
 use Rattle.pt_instr.specs.declared.Instr.TheVariants as instr
 use Rattle.pt_instr.specs.declared.kinds.Kind.TheVariants as kinds
@@ -62,13 +62,13 @@ same_effect links pool L (P.with_text g x) j (t, e, f) u = ap (effect links) e �
 same_effect links pool L (P.with_list g xs) j (l, e, f) u = ap (effect links) e ∙ u l
 same_effect links pool L (P.to k l) j e u = ap (effect links) e ∙ to_same links k (pick start_of L l).pc.0
 
-not_both : {A : Type 0} {C : Type 0} {a : A} → Some a ≡ None → C
+pub not_both : {A : Type 0} {C : Type 0} {a : A} → Some a ≡ None → C
 not_both e = absurd (let h : ⊥ = cc in h)
 
-is_some_of : {A : Type 0} {a c : A} → Some a ≡ Some c → a ≡ c
+pub is_some_of : {A : Type 0} {a c : A} → Some a ≡ Some c → a ≡ c
 is_some_of e = cc
 
-target_to : (k : Jump) (p t : ℕ) → target_of (instr_to k p) ≡ Some t → t ≡ p
+pub target_to : (k : Jump) (p t : ℕ) → target_of (instr_to k p) ≡ Some t → t ≡ p
 target_to AtEnd p t e = sym (is_some_of e)
 target_to Always p t e = sym (is_some_of e)
 target_to IfTrue p t e = sym (is_some_of e)
@@ -90,16 +90,16 @@ landed_label at pool L Ls (P.with_free w x) j t slots f e h tg = absurd h
 landed_label at pool L Ls (P.with_text g x) j t slots f e h tg = absurd h
 landed_label at pool L Ls (P.with_list g xs) j t slots f e h tg = absurd h
 
-if_lt : {A : Type 0} (q e m : ℕ) (u v : A) → e ≡ m → q < m → (if nat_lt q e then u else v) ≡ u
+pub if_lt : {A : Type 0} (q e m : ℕ) (u v : A) → e ≡ m → q < m → (if nat_lt q e then u else v) ≡ u
 if_lt q e m u v same l = ap (λ t. if t then u else v) (ap (nat_lt q) same ∙ lt-ltb q m l)
 
-if_ge : {A : Type 0} (q e m : ℕ) (u v : A) → e ≡ m → m ≤ q → (if nat_lt q e then u else v) ≡ v
+pub if_ge : {A : Type 0} (q e m : ℕ) (u v : A) → e ≡ m → m ≤ q → (if nat_lt q e then u else v) ≡ v
 if_ge q e m u v same l = ap (λ t. if t then u else v) (ap (nat_lt q) same ∙ le-ltb q m l)
 
-if_eq : {A : Type 0} (q e m : ℕ) (u v : A) → e ≡ m → q ≡ m → (if nat_eq q e then u else v) ≡ u
+pub if_eq : {A : Type 0} (q e m : ℕ) (u v : A) → e ≡ m → q ≡ m → (if nat_eq q e then u else v) ≡ u
 if_eq q e m u v same l = ap (λ t. if t then u else v) (ap (nat_eq q) same ∙ eq-eqb q m l)
 
-if_none : (t : Bool) (u v : Option StackMap) → u ≡ None → v ≡ None → (if t then u else v) ≡ None
+pub if_none : (t : Bool) (u v : Option StackMap) → u ≡ None → v ≡ None → (if t then u else v) ≡ None
 if_none true u v e f = e
 if_none false u v e f = f
 
@@ -139,7 +139,7 @@ module _ (links : Links) (next : ℕ → ℕ) where
       }
   nothing (P.headed q) c base p = let u = nothing q (with_label p c) base p in record { behind = u.behind; sent = λ k. u.sent (suc k) }
   nothing (P.closed q) c base p = let u = nothing q (with_none c) base p in record { behind = u.behind; sent = λ k. refl }
-  nothing (P.looped b q) c base p = let u = nothing q (with_loop b (end_of next q p) c) base p in record { behind = u.behind; sent = λ k. refl }
+  nothing (P.looped b q) c base p = let u = nothing q (with_loop b (end_of next q p) (length base) c) base p in record { behind = u.behind; sent = λ k. refl }
   nothing (P.leave e n l) c base p = record { behind = refl; sent = λ k. refl }
   nothing (P.ensured q) c base p = record { behind = refl; sent = λ k. refl }
   nothing (P.caught q r) c base p =
@@ -163,7 +163,7 @@ module _ (links : Links) (next : ℕ → ℕ) where
   nothing_at (P.block q) c base p pc = nothing_at q (with_label (end_of next q p) c) base p pc
   nothing_at (P.headed q) c base p pc = nothing_at q (with_label p c) base p pc
   nothing_at (P.closed q) c base p pc = nothing_at q (with_none c) base p pc
-  nothing_at (P.looped b q) c base p pc = nothing_at q (with_loop b (end_of next q p) c) base p pc
+  nothing_at (P.looped b q) c base p pc = nothing_at q (with_loop b (end_of next q p) (length base) c) base p pc
   nothing_at (P.leave e n l) c base p pc = if_none (nat_eq pc p) None None refl refl
   nothing_at (P.ensured q) c base p pc =
       let u = nothing q (with_none c) base p in
@@ -180,16 +180,16 @@ module _ {V : Type 0} (code : CodeObject V) (starts : List Start) (b : Block) (s
   abbrev next : ℕ → ℕ
   next = next_of b
 
-  stands_at : (rows : List Handler) (j : Instr) (m : Option ActMark) (from to : ℕ) → Stands code rows j m from to → b.at from ≡ Some (ins j m to rows)
+  pub stands_at : (rows : List Handler) (j : Instr) (m : Option ActMark) (from to : ℕ) → Stands code rows j m from to → b.at from ≡ Some (ins j m to rows)
   stands_at rows j m from to h = sym (same from) ∙ h
 
-  next_is : (rows : List Handler) (j : Instr) (m : Option ActMark) (from to : ℕ) → Stands code rows j m from to → next_of b from ≡ to
+  pub next_is : (rows : List Handler) (j : Instr) (m : Option ActMark) (from to : ℕ) → Stands code rows j m from to → next_of b from ≡ to
   next_is rows j m from to h = ap (λ o. next_in o from) (stands_at rows j m from to h)
 
-  rises_to : (rows : List Handler) (j : Instr) (m : Option ActMark) (from to : ℕ) → Stands code rows j m from to → from < to
+  pub rises_to : (rows : List Handler) (j : Instr) (m : Option ActMark) (from to : ℕ) → Stands code rows j m from to → from < to
   rises_to rows j m from to h = rises from (ins j m to rows) (stands_at rows j m from to h)
 
-  leave_stands : (o : Option Exits) (e : Exit) (n l : ℕ) (rows : List Handler) (from to : ℕ) → Exit_at code starts o e n l rows from to
+  pub leave_stands : (o : Option Exits) (e : Exit) (n l : ℕ) (rows : List Handler) (from to : ℕ) → Exit_at code starts o e n l rows from to
       → (t : ℕ) × Stands code rows (instr.Leave (record { 0 = t })) (act_mark from n l false) from to
   leave_stands None e n l rows from to h = absurd h
   leave_stands (Some x) e n l rows from to h = (_, h.1)
@@ -236,7 +236,7 @@ module _ {V : Type 0} (code : CodeObject V) (starts : List Start) (b : Block) (s
   both_true false t e = absurd (false≢true e)
 
   -- a piece without instructions has no place
-  empty_is : (p : Piece) (L : List Target) (x : Context) (from to : ℕ) → Piece_at code starts p L x from to → is_empty p ≡ true → from ≡ to
+  pub empty_is : (p : Piece) (L : List Target) (x : Context) (from to : ℕ) → Piece_at code starts p L x from to → is_empty p ≡ true → from ≡ to
   empty_is P.empty L x from to h e = h
   empty_is (P.act op n l g) L x from to h e = absurd (false≢true e)
   empty_is (P.move op) L x from to h e = absurd (false≢true e)
@@ -254,12 +254,43 @@ module _ {V : Type 0} (code : CodeObject V) (starts : List Start) (b : Block) (s
   empty_is (P.numbered n q) L x from to h e = empty_is q L x from to h e
 
   -- a piece in which a place lies has instructions
-  not_empty : (p : Piece) (L : List Target) (x : Context) (from to : ℕ) → Piece_at code starts p L x from to → (q : ℕ) → from ≤ q → q < to → is_empty p ≡ false
+  pub not_empty : (p : Piece) (L : List Target) (x : Context) (from to : ℕ) → Piece_at code starts p L x from to → (q : ℕ) → from ≤ q → q < to → is_empty p ≡ false
   not_empty p L x from to h q u v = by (is_empty p) refl
     where
       by : (t : Bool) → is_empty p ≡ t → t ≡ false
       by true e = absurd (let f = empty_is p L x from to h e in let g : ⊥ = omega (arith, f, u, v) in g)
       by false e = refl
+
+  -- a piece that isn't empty has a place
+  pub has_place : (p : Piece) (L : List Target) (x : Context) (from to : ℕ) → Piece_at code starts p L x from to → is_empty p ≡ false → from < to
+  has_place P.empty L x from to h e = absurd (true≢false e)
+  has_place (P.act op n l g) L x from to (j, i, h) e = rises_to x.rows j _ from to h
+  has_place (P.move op) L x from to (j, i, h) e = rises_to x.rows j _ from to h
+  has_place (P.seq a d) L x from to (m, ha, hd) e = by (λ f. has_place a L x from m ha f) (λ f. has_place d L x m to hd f) (is_empty a) refl
+    where
+      by : (is_empty a ≡ false → from < m) → (is_empty d ≡ false → m < to) → (t : Bool) → is_empty a ≡ t → from < to
+      by u w true f = let g = w (ap (λ t. t && is_empty d) (sym f) ∙ e) in let r = ordered a L x from m ha in omega (arith, g, r)
+      by u w false f = let g = u f in let r = ordered d L x m to hd in omega (arith, g, r)
+  has_place (P.block q) L x from to h e = has_place q (target to x.depth ∷ L) x from to h e
+  has_place (P.headed q) L x from to h e = has_place q (target from x.depth ∷ L) x from to h e
+  has_place (P.closed q) L x from to h e = has_place q [] x from to h e
+  has_place (P.looped k q) L x from to (u, v, h) e = has_place q [] (in_loop (pick start_of L k) to x) from to h e
+  has_place (P.leave y n l) L x from to h e =
+      let (t, s) = leave_stands x.around y n l x.rows from to h in rises_to x.rows _ _ from to s
+  has_place (P.ensured q) L x from to (u, (m, h, s)) e =
+      let r = ordered q [] (under (row_of from to to x.depth true) x) from m h in
+      let t = rises_to (row_of from to to x.depth true ∷ x.rows) _ None m to s in omega (arith, r, t)
+  has_place (P.caught q r) L x from to (m, h, g) e =
+      by (λ f. has_place q [] (under (row_of from m to x.depth false) x) from m h f) (λ f. has_place r L x m to g f) (is_empty q) refl
+    where
+      by : (is_empty q ≡ false → from < m) → (is_empty r ≡ false → m < to) → (t : Bool) → is_empty q ≡ t → from < to
+      by u w true f =
+          let z = w (ap (λ t. t && is_empty r) (sym f) ∙ e) in
+          let y = ordered q [] (under (row_of from m to x.depth false) x) from m h in omega (arith, z, y)
+      by u w false f = let z = u f in let y = ordered r L x m to g in omega (arith, z, y)
+  has_place (P.deeper k q) L x from to h e = has_place q L (over k x) from to h e
+  has_place (P.started l q) L x from to (u, h) e = has_place q L x from to h e
+  has_place (P.numbered n q) L x from to h e = has_place q L x from to h e
 
   away : (q from to : ℕ) (o : Option StackMap) → from < to → to ≤ q → (if nat_eq q from then o else None) ≡ None
   away q from to o u v = by (nat_eq q from) refl
@@ -282,7 +313,7 @@ module _ {V : Type 0} (code : CodeObject V) (starts : List Start) (b : Block) (s
   nowhere (P.headed p) L x c base from to s h q v = nowhere p (target from x.depth ∷ L) x (with_label from c) base from to s h q v
   nowhere (P.closed p) L x c base from to s h q v = nowhere p [] x (with_none c) base from to s h q v
   nowhere (P.looped k p) L x c base from to s (u, w, h) q v =
-      nowhere p [] (in_loop (pick start_of L k) to x) (with_loop k (end_of next p from) c) base from to s h q v
+      nowhere p [] (in_loop (pick start_of L k) to x) (with_loop k (end_of next p from) (length base) c) base from to s h q v
   nowhere (P.leave e n l) L x c base from to s h q v =
       let (t, g) = leave_stands x.around e n l x.rows from to h in away q from to s (rises_to x.rows _ _ from to g) v
   nowhere (P.ensured p) L x c base from to s (u, (m, h, g)) q v =
@@ -310,10 +341,10 @@ module _ {V : Type 0} (code : CodeObject V) (starts : List Start) (b : Block) (s
       pub after : (ks : StackMap) → behind b.links next p c base from s ≡ Some ks → at to ≡ Some ks
 
     module _ (L : List Target) (x : Context) (c : Setting) (Ls : List (Option StackMap)) (base : StackMap) (from to : ℕ) (ks : StackMap) where
-      abbrev After : ℕ → Option StackMap → Type 0
+      abbrev pub After : ℕ → Option StackMap → Type 0
       After m o = (ls : StackMap) → o ≡ Some ls → at m ≡ Some ls
 
-      first : (a d : Piece) (l : Laid (P.seq a d) L x c Ls base from to (Some ks))
+      pub first : (a d : Piece) (l : Laid (P.seq a d) L x c Ls base from to (Some ks))
           → After (l.stands).0 (behind b.links next a c base from (Some ks)) → Laid a L x c Ls base from (l.stands).0 (Some ks)
       first a d l f =
           let h = l.stands in record {
@@ -323,7 +354,7 @@ module _ {V : Type 0} (code : CodeObject V) (starts : List Start) (b : Block) (s
             after = f;
           }
 
-      second : (a d : Piece) (l : Laid (P.seq a d) L x c Ls base from to (Some ks))
+      pub second : (a d : Piece) (l : Laid (P.seq a d) L x c Ls base from to (Some ks))
           → Laid d L x c Ls base (l.stands).0 to (behind b.links next a c base from (Some ks))
       second a d l =
           let h = l.stands in
@@ -335,7 +366,7 @@ module _ {V : Type 0} (code : CodeObject V) (starts : List Start) (b : Block) (s
             after = λ ls g. l.after ls (ap (λ m. behind b.links next d c base m (behind b.links next a c base from (Some ks))) e ∙ g);
           }
 
-      in_block : (q : Piece) → Laid (P.block q) L x c Ls base from to (Some ks)
+      pub in_block : (q : Piece) → Laid (P.block q) L x c Ls base from to (Some ks)
           → Laid q (target to x.depth ∷ L) x (with_label (end_of next q from) c) (behind b.links next (P.block q) c base from (Some ks) ∷ Ls) base from to (Some ks)
       in_block q l = record {
         stands = l.stands;
@@ -344,66 +375,66 @@ module _ {V : Type 0} (code : CodeObject V) (starts : List Start) (b : Block) (s
         after = λ ls e. l.after ls (ap (λ o. or_else o (let f = flow b.links next q (with_label (end_of next q from) c) base from (Some ks) in f.sent 0)) e);
       }
 
-      in_head : (q : Piece) → Laid (P.headed q) L x c Ls base from to (Some ks)
+      pub in_head : (q : Piece) → Laid (P.headed q) L x c Ls base from to (Some ks)
           → Laid q (target from x.depth ∷ L) x (with_label from c) (Some ks ∷ Ls) base from to (Some ks)
       in_head q l = record { stands = l.stands; typed = l.typed; agrees = l.agrees; after = l.after }
 
-      in_closed : (q : Piece) → Laid (P.closed q) L x c Ls base from to (Some ks) → Laid q [] x (with_none c) [] base from to (Some ks)
+      pub in_closed : (q : Piece) → Laid (P.closed q) L x c Ls base from to (Some ks) → Laid q [] x (with_none c) [] base from to (Some ks)
       in_closed q l = record { stands = l.stands; typed = l.typed; agrees = l.agrees; after = l.after }
 
-      in_a_loop : (k : ℕ) (q : Piece) → Laid (P.looped k q) L x c Ls base from to (Some ks)
-          → Laid q [] (in_loop (pick start_of L k) to x) (with_loop k (end_of next q from) c) [] base from to (Some ks)
+      pub in_a_loop : (k : ℕ) (q : Piece) → Laid (P.looped k q) L x c Ls base from to (Some ks)
+          → Laid q [] (in_loop (pick start_of L k) to x) (with_loop k (end_of next q from) (length base) c) [] base from to (Some ks)
       in_a_loop k q l = record { stands = (l.stands).2; typed = l.typed; agrees = l.agrees; after = l.after }
 
-      deep : (k : ℕ) (q : Piece) → Laid (P.deeper k q) L x c Ls base from to (Some ks)
+      pub deep : (k : ℕ) (q : Piece) → Laid (P.deeper k q) L x c Ls base from to (Some ks)
           → Laid q L (over k x) c Ls (deepened k base (Some ks)) from to (Some ks)
       deep k q l = record { stands = l.stands; typed = (l.typed).3; agrees = l.agrees; after = l.after }
 
-      at_start : (k : ℕ) (q : Piece) → Laid (P.started k q) L x c Ls base from to (Some ks) → Laid q L x c Ls base from to (Some ks)
+      pub at_start : (k : ℕ) (q : Piece) → Laid (P.started k q) L x c Ls base from to (Some ks) → Laid q L x c Ls base from to (Some ks)
       at_start k q l = record { stands = (l.stands).1; typed = l.typed; agrees = l.agrees; after = l.after }
 
-      in_count : (k : ℕ) (q : Piece) → Laid (P.numbered k q) L x c Ls base from to (Some ks) → Laid q L x c Ls base from to (Some ks)
+      pub in_count : (k : ℕ) (q : Piece) → Laid (P.numbered k q) L x c Ls base from to (Some ks) → Laid q L x c Ls base from to (Some ks)
       in_count k q l = record { stands = l.stands; typed = l.typed; agrees = l.agrees; after = l.after }
 
       -- under an always row
       module _ (q : Piece) (l : Laid (P.ensured q) L x c Ls base from to (Some ks)) where
-        abbrev normal : ℕ
+        abbrev pub normal : ℕ
         normal = ((l.stands).1).0
 
-        abbrev row : Handler
+        abbrev pub row : Handler
         row = row_of from to to x.depth true
 
-        end_is : end_of next q from ≡ normal
+        pub end_is : end_of next q from ≡ normal
         end_is = ends q [] (under row x) from normal ((l.stands).1).1
 
-        normal_next : next normal ≡ to
+        pub normal_next : next normal ≡ to
         normal_next = next_is (row ∷ x.rows) instr.Normal None normal to ((l.stands).1).2
 
-        normal_less : normal < to
+        pub normal_less : normal < to
         normal_less = rises_to (row ∷ x.rows) instr.Normal None normal to ((l.stands).1).2
 
-        target_there : at to ≡ Some (made to c.loop kinds.Pending ∷ base)
+        pub target_there : at to ≡ Some (made to c.loop kinds.Pending ∷ base)
         target_there = l.after (made to c.loop kinds.Pending ∷ base)
             (ap (λ m. Some (made m c.loop kinds.Pending ∷ base)) (ap next end_is ∙ normal_next))
 
-        row_right : x.depth ≡ length base → RowRight at base row
+        pub row_right : x.depth ≡ length base → RowRight at base row
         row_right d = record {
           loop = c.loop;
           there = target_there ∙ ap (λ zs. Some (made to c.loop kinds.Pending ∷ zs)) (sym (lowest_all x.depth base d));
           within = omega (arith, d);
         }
 
-        normal_there : at normal ≡ behind b.links next q (with_none c) base from (Some ks)
+        pub normal_there : at normal ≡ behind b.links next q (with_none c) base from (Some ks)
         normal_there = l.agrees normal (ordered q [] (under row x) from normal ((l.stands).1).1) normal_less
             ∙ (if_ge normal (end_of next q from) normal _ _ end_is (omega arith) ∙ if_eq normal (end_of next q from) normal _ _ end_is refl)
 
         -- no other place stands behind it
-        normal_alone : (p : ℕ) → normal ≤ p → p < to → at p ≡ (if nat_eq p normal then behind b.links next q (with_none c) base from (Some ks) else None)
+        pub normal_alone : (p : ℕ) → normal ≤ p → p < to → at p ≡ (if nat_eq p normal then behind b.links next q (with_none c) base from (Some ks) else None)
         normal_alone p u v = l.agrees p (let r = ordered q [] (under row x) from normal ((l.stands).1).1 in omega (arith, u, r)) v
             ∙ (if_ge p (end_of next q from) normal _ _ end_is u
             ∙ ap (λ m. if nat_eq p m then behind b.links next q (with_none c) base from (Some ks) else None) end_is)
 
-        under_row : Laid q [] (under row x) (with_none c) [] base from normal (Some ks)
+        pub under_row : Laid q [] (under row x) (with_none c) [] base from normal (Some ks)
         under_row = record {
           stands = ((l.stands).1).1;
           typed = (l.typed).1;
@@ -413,16 +444,16 @@ module _ {V : Type 0} (code : CodeObject V) (starts : List Start) (b : Block) (s
 
       -- under an except row
       module _ (q r : Piece) (l : Laid (P.caught q r) L x c Ls base from to (Some ks)) where
-        abbrev mid : ℕ
+        abbrev pub mid : ℕ
         mid = (l.stands).0
 
-        abbrev except : Handler
+        abbrev pub except : Handler
         except = row_of from mid to x.depth false
 
-        mid_is : end_of next q from ≡ mid
+        pub mid_is : end_of next q from ≡ mid
         mid_is = ends q [] (under except x) from mid (l.stands).1
 
-        behind_row : Laid r L x c Ls base mid to (behind b.links next q (with_none c) base from (Some ks))
+        pub behind_row : Laid r L x c Ls base mid to (behind b.links next q (with_none c) base from (Some ks))
         behind_row = record {
           stands = (l.stands).2;
           typed = subst (λ m. Typed b.links next r c Ls base m (behind b.links next q (with_none c) base from (Some ks))) mid_is (l.typed).2;
@@ -431,7 +462,7 @@ module _ {V : Type 0} (code : CodeObject V) (starts : List Start) (b : Block) (s
           after = λ ls e. not_both (sym e ∙ (ap (λ m. behind b.links next r c base m (behind b.links next q (with_none c) base from (Some ks))) (sym mid_is) ∙ (l.typed).3));
         }
 
-        except_right : x.depth ≡ length base → is_empty q ≡ false → RowRight at base except
+        pub except_right : x.depth ≡ length base → is_empty q ≡ false → RowRight at base except
         except_right d e =
             let end : end_of next r (end_of next q from) ≡ to = ap (end_of next r) mid_is ∙ ends r L x mid to (l.stands).2 in record {
               loop = c.loop;
@@ -440,7 +471,7 @@ module _ {V : Type 0} (code : CodeObject V) (starts : List Start) (b : Block) (s
               within = omega (arith, d);
             }
 
-        under_except : After mid (behind b.links next q (with_none c) base from (Some ks)) → Laid q [] (under except x) (with_none c) [] base from mid (Some ks)
+        pub under_except : After mid (behind b.links next q (with_none c) base from (Some ks)) → Laid q [] (under except x) (with_none c) [] base from mid (Some ks)
         under_except f = record {
           stands = (l.stands).1;
           typed = (l.typed).1;
@@ -467,7 +498,7 @@ module _ {V : Type 0} (code : CodeObject V) (starts : List Start) (b : Block) (s
         begins q (target from x.depth ∷ L) x (with_label from c) (Some ks ∷ Ls) base from to ks (in_head L x c Ls base from to ks q l)
     begins (P.closed q) L x c Ls base from to ks l = begins q [] x (with_none c) [] base from to ks (in_closed L x c Ls base from to ks q l)
     begins (P.looped k q) L x c Ls base from to ks l =
-        begins q [] (in_loop (pick start_of L k) to x) (with_loop k (end_of next q from) c) [] base from to ks
+        begins q [] (in_loop (pick start_of L k) to x) (with_loop k (end_of next q from) (length base) c) [] base from to ks
         (in_a_loop L x c Ls base from to ks k q l)
     begins (P.leave e n k) L x c Ls base from to ks l =
         let (t, s) = leave_stands x.around e n k x.rows from to l.stands in at_first from to ks (rises_to x.rows _ _ from to s) l.agrees
@@ -486,10 +517,10 @@ module _ {V : Type 0} (code : CodeObject V) (starts : List Start) (b : Block) (s
       pub rows : RowsRight at base x.rows
       pub depth : x.depth ≡ length base
 
-    no_labels : (y : Context) (base : StackMap) → RowsRight at base y.rows → y.depth ≡ length base → Env [] [] y base
+    pub no_labels : (y : Context) (base : StackMap) → RowsRight at base y.rows → y.depth ≡ length base → Env [] [] y base
     no_labels y base r d = record { labels = λ k ls e. not_both (sym e); rows = r; depth = d }
 
-    one_label : (L : List Target) (Ls : List (Option StackMap)) (x : Context) (base : StackMap) (t : Target) (o : Option StackMap) → Env L Ls x base
+    pub one_label : (L : List Target) (Ls : List (Option StackMap)) (x : Context) (base : StackMap) (t : Target) (o : Option StackMap) → Env L Ls x base
         → ((ls : StackMap) → o ≡ Some ls → at t.pc.0 ≡ Some ls) → Env (t ∷ L) (o ∷ Ls) x base
     one_label L Ls x base t o v f = record { labels = labels; rows = v.rows; depth = v.depth }
       where
@@ -497,10 +528,10 @@ module _ {V : Type 0} (code : CodeObject V) (starts : List Start) (b : Block) (s
         labels zero ls e = f ls e
         labels (suc k) ls e = v.labels k ls e
 
-    abbrev Right : ℕ → Type 0
+    abbrev pub Right : ℕ → Type 0
     Right q = (ks : StackMap) → at q ≡ Some ks → (s : Step) → Contains (steps b q (kinds_of ks)) s → Follows at ks s
 
-    abbrev Each : ℕ → StackMap → Type 0
+    abbrev pub Each : ℕ → StackMap → Type 0
     Each q ks = (s : Step) → Contains (steps b q (kinds_of ks)) s → Follows at ks s
 
     right_here : (q : ℕ) (ks : StackMap) → at q ≡ Some ks → Each q ks → Right q
@@ -586,7 +617,7 @@ module _ {V : Type 0} (code : CodeObject V) (starts : List Start) (b : Block) (s
     right (P.closed q) L x c Ls base from to (Some ks) l v p y z =
         right q [] x (with_none c) [] base from to (Some ks) (in_closed L x c Ls base from to ks q l) (no_labels x base v.rows v.depth) p y z
     right (P.looped k q) L x c Ls base from to (Some ks) l v p y z =
-        right q [] (in_loop (pick start_of L k) to x) (with_loop k (end_of next q from) c) [] base from to (Some ks)
+        right q [] (in_loop (pick start_of L k) to x) (with_loop k (end_of next q from) (length base) c) [] base from to (Some ks)
         (in_a_loop L x c Ls base from to ks k q l) (no_labels (in_loop (pick start_of L k) to x) base v.rows v.depth) p y z
     right (P.leave e n k) L x c Ls base from to (Some ks) l v q y z =
         let (t, s) = leave_stands x.around e n k x.rows from to l.stands in
@@ -620,10 +651,10 @@ walk_is_right {V} code b starts p ks same rises stands typed ends_none q ls h s 
     at : Table
     at = table_of b p ks
 
-    whole : Laid code starts b same rises at p [] (record { rows = []; depth = length ks; around = None }) outermost [] ks 0 b.size (Some ks)
+    whole : Laid code starts b same rises at p [] (record { rows = []; depth = 0; around = None }) outermost [] [] 0 b.size (Some ks)
     whole = record { stands = stands; typed = typed; agrees = λ r u v. refl; after = λ ms e. not_both (sym e ∙ ends_none) }
 
     by : (q < b.size) ⊎ (b.size ≤ q) → Follows at ls s
-    by (inl u) = right code starts b same rises at p [] (record { rows = []; depth = length ks; around = None }) outermost [] ks 0 b.size (Some ks) whole
-        (no_labels code starts b same rises at (record { rows = []; depth = length ks; around = None }) ks tt refl) q (omega arith) u ls h s c
-    by (inr u) = not_both (sym h ∙ nowhere code starts b same rises p [] (record { rows = []; depth = length ks; around = None }) outermost ks 0 b.size (Some ks) stands q u)
+    by (inl u) = right code starts b same rises at p [] (record { rows = []; depth = 0; around = None }) outermost [] [] 0 b.size (Some ks) whole
+        (no_labels code starts b same rises at (record { rows = []; depth = 0; around = None }) [] tt refl) q (omega arith) u ls h s c
+    by (inr u) = not_both (sym h ∙ nowhere code starts b same rises p [] (record { rows = []; depth = 0; around = None }) outermost [] 0 b.size (Some ks) stands q u)

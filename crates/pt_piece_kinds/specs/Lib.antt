@@ -1,4 +1,5 @@
 pub mod Walk
 pub mod Typed
 pub mod Table
+pub mod Exits
 pub mod Laws

@@ -78,7 +78,7 @@ module _ (links : Links) (next : ℕ → ℕ) where
       Typed q (with_label (end_of next q p) c) (behind links next (block q) c base p (Some ks) ∷ Ls) base p (Some ks)
   Typed (headed q) c Ls base p (Some ks) = Typed q (with_label p c) (Some ks ∷ Ls) base p (Some ks)
   Typed (closed q) c Ls base p (Some ks) = Typed q (with_none c) [] base p (Some ks)
-  Typed (looped b q) c Ls base p (Some ks) = Typed q (with_loop b (end_of next q p) c) [] base p (Some ks)
+  Typed (looped b q) c Ls base p (Some ks) = Typed q (with_loop b (end_of next q p) (length base) c) [] base p (Some ks)
   Typed (leave e n l) c Ls base p (Some ks) = Over base ks
   Typed (ensured q) c Ls base p (Some ks) =
       Over base ks × Typed q (with_none c) [] base p (Some ks) × EndsAt base (behind links next q (with_none c) base p (Some ks))

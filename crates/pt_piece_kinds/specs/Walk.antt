@@ -12,10 +12,11 @@ use Rattle.pt_assembler.specs.PieceAt.{instr_to, instr_of_free}
 use Rattle.pt_fits.specs.Block.{Links, effect}
 use Rattle.pt_fits.specs.Steps.{are_kinds}
 
--- the places to which a `break` and a `continue` of a loop go (7.9, 7.10)
+-- the places to which a `break` and a `continue` of a loop go (7.9, 7.10), and how many slots lie below its body
 pub record Loop : Type 0 where
   pub break_to : ℕ
   pub continue_to : ℕ
+  pub depth : ℕ
 
 -- what is known of a slot: its kind; the place at which it was made, if it isn't a value or a cell; and of a completion that is held the loop around
 -- its `finally` part or exit
@@ -129,8 +130,8 @@ with_label p c = record c { labels = p ∷ c.labels }
 abbrev pub with_none : Setting → Setting
 with_none c = record c { labels = [] }
 
-abbrev pub with_loop : (label end : ℕ) → Setting → Setting
-with_loop b e c = record { labels = []; loop = Some (record { break_to = pick 0 c.labels b; continue_to = e }) }
+abbrev pub with_loop : (label end depth : ℕ) → Setting → Setting
+with_loop b e d c = record { labels = []; loop = Some (record { break_to = pick 0 c.labels b; continue_to = e; depth = d }) }
 
 module _ (next : ℕ → ℕ) where
   -- the place behind a piece that stands at a place
@@ -163,7 +164,7 @@ module _ (links : Links) (next : ℕ → ℕ) where
       let f = flow q (with_label (end_of next q p) c) base p s in record { behind = or_else f.behind (f.sent 0); sent = λ k. f.sent (suc k) }
   flow (headed q) c base p s = let f = flow q (with_label p c) base p s in record { behind = f.behind; sent = λ k. f.sent (suc k) }
   flow (closed q) c base p s = let f = flow q (with_none c) base p s in record { behind = f.behind; sent = to_none }
-  flow (looped b q) c base p s = let f = flow q (with_loop b (end_of next q p) c) base p s in record { behind = f.behind; sent = to_none }
+  flow (looped b q) c base p s = let f = flow q (with_loop b (end_of next q p) (length base) c) base p s in record { behind = f.behind; sent = to_none }
   flow (leave e n l) c base p s = record { behind = None; sent = to_none }
   flow (ensured q) c base p s = record { behind = held kind.Pending (next (end_of next q p)) c.loop base s; sent = to_none }
   flow (caught q r) c base p s =
@@ -187,7 +188,7 @@ module _ (links : Links) (next : ℕ → ℕ) where
   slots_at (block q) c base p s pc = slots_at q (with_label (end_of next q p) c) base p s pc
   slots_at (headed q) c base p s pc = slots_at q (with_label p c) base p s pc
   slots_at (closed q) c base p s pc = slots_at q (with_none c) base p s pc
-  slots_at (looped b q) c base p s pc = slots_at q (with_loop b (end_of next q p) c) base p s pc
+  slots_at (looped b q) c base p s pc = slots_at q (with_loop b (end_of next q p) (length base) c) base p s pc
   slots_at (leave e n l) c base p s pc = if nat_eq pc p then s else None
   slots_at (ensured q) c base p s pc =
       if nat_lt pc (end_of next q p) then slots_at q (with_none c) base p s pc

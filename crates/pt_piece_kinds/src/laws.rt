@@ -6,12 +6,20 @@ ghost use Rattle.pt_piece_kinds.specs.Laws.{
   OneOriginIsCommon,
   TableHasKinds,
   WalkIsRight,
+  WalkIsTable,
 };
 
 /// Where a piece that is typed is the code of a block, each step from a place leads to the slots
 /// that the walk has there: of the same kinds, the lowest as they were, and others made there.
 pub fn the_walk_over_a_piece_is_right<V>()
     ensures { WalkIsRight V }
+{}
+
+/// Where moreover each exit of a loop leads to slots that lie below the loop, these slots are a table
+/// of the block: it has the kinds with which the block starts, each step and each jump out of a loop
+/// agrees with it, and some way comes to each place that has slots.
+pub fn the_walk_over_a_piece_gives_a_table<V>()
+    ensures { WalkIsTable V }
 {}
 
 /// In a block that has a table of slots with which its steps agree, each place gets the kinds of

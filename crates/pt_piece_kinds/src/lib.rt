@@ -3,4 +3,7 @@
 
 mod laws;
 
-pub use laws::{slots_in_common_are_of_one_origin, the_walk_over_a_piece_is_right};
+pub use laws::{
+    slots_in_common_are_of_one_origin, the_walk_over_a_piece_gives_a_table,
+    the_walk_over_a_piece_is_right,
+};

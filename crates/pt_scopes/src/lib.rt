@@ -13,5 +13,11 @@ mod scopes;
 mod statements;
 mod table;
 
+pub use gatherer::Gatherer;
+pub use name_set::NameSet;
+pub use names::read_in;
+pub use region::{Kind, Mention, Region};
 pub use scope::{Scope, ScopeErr};
 pub use scopes::{Scopes, resolve};
+pub use statements::gathered;
+pub use table::{Names, Table};

@@ -1,4 +1,4 @@
 mod Expressions
 mod Placed
-mod Statements
+pub mod Statements
 pub mod Cells

@@ -6,7 +6,7 @@ ghost use Rattle.pt_tree.specs.Syntax.{no_args};
 ghost use Rattle.pt_tree.specs.Fold.{argument_of, chained, target_of, targets_of};
 ghost use Rattle.pt_control.specs.Expressions.{roles as roles_in};
 ghost use Rattle.pt_control.specs.Statements.{count as count_of, star_of};
-ghost use Rattle.pt_scopes.specs.Names.{mangled};
+ghost use Rattle.pt_block_names.specs.Named.{around};
 ghost use Rattle.pt_assembler.specs.Piece.{plain as plain_op};
 ghost use Rattle.pt_emitter.specs.ExpPiece.{unpack_op};
 ghost use Rattle.pt_emitter.specs.Ops.{formatting_of};
@@ -22,10 +22,10 @@ use pt_tree::{Argument, Conversion, Target, TargetNode};
 
 /// How arguments are passed, their names as the block spells them.
 pub fn roles(names: &BlockNames, arguments: &[Argument]) -> Result<Seq<Role>, Memory>
-    ensures { IfOk result (λ rs. map role_of rs ≡ roles_in (mangled names.now.class)
+    ensures { IfOk result (λ rs. map role_of rs ≡ roles_in ((around (tt {0}) names.now).spelled)
         (chained no_args (map argument_of arguments.now))) }
 {
-    let mut roles = Seq::new(names.alloc);
+    let mut roles = Seq::new(names.alloc());
     for argument in arguments {
         roles.push(role(names, argument)?)?;
     }
@@ -35,8 +35,8 @@ pub fn roles(names: &BlockNames, arguments: &[Argument]) -> Result<Seq<Role>, Me
 #[tactic(auto, using(pt_tree::proofs::Folds::expressions))]
 fn role(names: &BlockNames, argument: &Argument) -> Result<Role, Memory>
     ensures { IfOk result (λ r. (rest : _)
-        → roles_in (mangled names.now.class) (argument_of argument.now rest)
-        ≡ role_of r ∷ roles_in (mangled names.now.class) rest) }
+        → roles_in ((around (tt {0}) names.now).spelled) (argument_of argument.now rest)
+        ≡ role_of r ∷ roles_in ((around (tt {0}) names.now).spelled) rest) }
 {
     match argument {
         Argument::Positional(_) => Ok(Role::Positional),

@@ -1,0 +1,8 @@
+use Rattle.std.proofs.Common.{arith}
+use Rattle.std.proofs.lemmas.Grind.{common_steps}
+use Rattle.pt_blocks.proofs.Walk.{behind_blocks-append}
+use Rattle.pt_blocks.proofs.statements.visit_decorators.Goals as goal
+
+pub loop-decorator-preserved : goal.loop-decorator-preserved
+loop-decorator-preserved g c =
+    grind (arith, common_steps, behind_blocks-append)

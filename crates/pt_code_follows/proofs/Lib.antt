@@ -1,0 +1,4 @@
+mod SameExpressions
+pub mod SameStatements
+mod Agreement
+pub mod Objects

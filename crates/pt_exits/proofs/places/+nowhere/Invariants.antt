@@ -1,0 +1,9 @@
+use Rattle.std.proofs.Common.{◌≡◌, drop, map}
+use Rattle.pt_tree.specs.Fold.{target_of, targets_of}
+use Rattle.pt_control.specs.Statements.{all_places}
+use Rattle.pt_stm_pieces.specs.Needed.{is_nowhere}
+use Rattle.pt_exits.proofs.places.+nowhere.Given as goal
+
+abbrev pub invariant-is_nowhere-loop-target : goal.invariant-is_nowhere-loop-target
+invariant-is_nowhere-loop-target l = is_nowhere (all_places (targets_of (map target_of l.targets)))
+    ≡ is_nowhere (all_places (targets_of (map target_of (drop l.target-index l.targets))))

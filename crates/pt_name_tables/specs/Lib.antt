@@ -1,0 +1,2 @@
+pub mod RegionSets
+pub mod Tables

@@ -1,0 +1,5 @@
+pub mod Claims
+mod Regions
+pub mod Expressions
+pub mod Statements
+pub mod Found

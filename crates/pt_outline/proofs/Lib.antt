@@ -1,0 +1,3 @@
+pub mod Docstrings
+pub mod BodyLemmas
+pub mod StatementLaws

@@ -1,0 +1,218 @@
+-- The table of places is made instruction by instruction, and that of marks from the last one on.
+use Rattle.std.proofs.Common.{◌≡◌, ℕ, ◌+◌, ◌-◌, ◌<◌, ◌≤◌, zero, suc, true, false, if◌then◌else◌, List, [], ◌∷◌, ◌++◌, length, Option, Some, None, refl, sym, ap, ◌∙◌, subst, arith, ◌⊎◌, inl, inr, set, length-append, replicate}
+use Rattle.std.specs.Prelude.{nat_eq, drop, get_or, slice_set}
+use Rattle.std.specs.List.{flat_map, AllByRecursion}
+use Rattle.std.proofs.lemmas.Bool.Decides.{nat_tests}
+use Rattle.std.proofs.lemmas.List.{get_or-set_other, get_or-set_same, length-replicate, length-set}
+use Rattle.std.proofs.lemmas.Option.{same_Some}
+use Rattle.pt_instr.specs.declared.Instr.{Instr}
+use Rattle.pt_instr.specs.Encoding.{encoding, Fits, StandsAt}
+use Rattle.pt_ranges.specs.declared.lines.ActMark.{ActMark}
+use Rattle.pt_code.specs.declared.CodeBlock.{CodeBlock}
+use Rattle.pt_code.specs.View.{Ins, ins_at, laid_from, IsView}
+use Rattle.pt_places.specs.declared.places.Place.{Place}
+use Rattle.pt_places.specs.PlaceTable.{HasPlaces, entry, mark_at, place_at, place_of}
+use Rattle.pt_places.specs.PlacesUpTo.{MarksFrom, PlacesUpTo}
+
+other : (q r : ℕ) → r < q → nat_eq r q ≡ false
+other q r h = grind (arith, nat_tests)
+
+pub entry_none : {X : Type 0} (n q : ℕ) → entry (replicate {A = Option X} n None) q ≡ None
+entry_none zero q = refl
+entry_none (suc n) zero = refl
+entry_none (suc n) (suc q) = entry_none n q
+
+pub trichotomy : (x y : ℕ) → (x < y) ⊎ ((x ≡ y) ⊎ (y < x))
+trichotomy zero zero = inr (inl refl)
+trichotomy zero (suc y) = inl (omega arith)
+trichotomy (suc x) zero = inr (inr (omega arith))
+trichotomy (suc x) (suc y) = elim (trichotomy x y) [ inl a ↦ inl (omega arith) | inr z ↦ elim z [ inl a ↦ inr (inl (ap (λ n. suc n) a)) | inr a ↦ inr (inr (omega arith)) ] ]
+
+-- marks
+
+pub no_marks_left : (marks : List ActMark) (count : ℕ) (table : List (Option ActMark)) → table ≡ replicate {A = Option ActMark} count None → MarksFrom marks (length marks) count table
+no_marks_left marks count table e = record {
+  long = ap (λ xs. length xs) e ∙ length-replicate {A = Option ActMark} count None;
+  each = λ pc lt. subst (λ xs. entry xs pc ≡ None) (sym e) (entry_none count pc) ∙ sym (ap (λ ms. mark_at ms pc) (drop_all marks));
+}
+  where
+    drop_all : (ms : List ActMark) → drop (length ms) ms ≡ []
+    drop_all [] = refl
+    drop_all (m ∷ ms) = drop_all ms
+
+mark_first : (m : ActMark) (ms : List ActMark) (pc : ℕ) → m.pc.0 ≡ pc → mark_at (m ∷ ms) pc ≡ Some m
+mark_first m ms pc e = ap (λ t. if t then Some m else mark_at ms pc) (let h : nat_eq m.pc.0 pc ≡ true = grind (arith, nat_tests) in h)
+
+mark_behind : (m : ActMark) (ms : List ActMark) (pc : ℕ) → (m.pc.0 ≡ pc → ⊥) → mark_at (m ∷ ms) pc ≡ mark_at ms pc
+mark_behind m ms pc n = ap (λ t. if t then Some m else mark_at ms pc) (let h : nat_eq m.pc.0 pc ≡ false = grind (arith, nat_tests) in h)
+
+module _ (marks : List ActMark) (count : ℕ) (table : List (Option ActMark)) (n : ℕ) (m : ActMark) (t : MarksFrom marks (suc n) count table) where
+  mark_is_put : drop n marks ≡ m ∷ drop (suc n) marks → MarksFrom marks n count (set table m.pc.0 (Some m))
+  mark_is_put same = record { long = length-set table m.pc.0 (Some m) ∙ t.long; each = λ pc h. at_place pc h (trichotomy pc m.pc.0) }
+    where
+      apart : (pc : ℕ) → pc < count → (m.pc.0 ≡ pc → ⊥) → (pc ≡ m.pc.0 → ⊥) → entry (set table m.pc.0 (Some m)) pc ≡ mark_at (drop n marks) pc
+      apart pc h d e = get_or-set_other table m.pc.0 pc (Some m) None e ∙ (t.each pc h ∙ sym (ap (λ ms. mark_at ms pc) same ∙ mark_behind m (drop (suc n) marks) pc d))
+
+      at_place : (pc : ℕ) → pc < count → (pc < m.pc.0) ⊎ ((pc ≡ m.pc.0) ⊎ (m.pc.0 < pc)) → entry (set table m.pc.0 (Some m)) pc ≡ mark_at (drop n marks) pc
+      at_place pc h (inl a) = apart pc h (λ e. omega (arith, e, a)) (λ e. omega (arith, e, a))
+      at_place pc h (inr (inl a)) = subst (λ q. entry (set table m.pc.0 (Some m)) q ≡ mark_at (drop n marks) q) (sym a)
+          (get_or-set_same table m.pc.0 (Some m) None (let l = t.long in omega (arith, l, h, a)) ∙ sym (ap (λ ms. mark_at ms m.pc.0) same ∙ mark_first m (drop (suc n) marks) m.pc.0 refl))
+      at_place pc h (inr (inr a)) = apart pc h (λ e. omega (arith, e, a)) (λ e. omega (arith, e, a))
+
+  mark_put_at : n < length marks → m ≡ get_or marks n m → MarksFrom marks n count (set table m.pc.0 (Some m))
+  mark_put_at lt is = mark_is_put (drop_at marks n lt ∙ ap (λ x. x ∷ drop (suc n) marks) (sym is))
+    where
+      drop_at : (ms : List ActMark) (k : ℕ) → k < length ms → drop k ms ≡ get_or ms k m ∷ drop (suc k) ms
+      drop_at [] k h = absurd (omega arith)
+      drop_at (x ∷ ms) zero h = refl
+      drop_at (x ∷ ms) (suc k) h = drop_at ms k (omega arith)
+
+pub mark_put : (marks : List ActMark) (count : ℕ) (table new : List (Option ActMark)) (left : ℕ) (m : ActMark) → 0 < left → left ≤ length marks
+    → MarksFrom marks left count table → m ≡ get_or marks (left - 1) m → new ≡ slice_set table m.pc.0 (Some m) → MarksFrom marks (left - 1) count new
+mark_put marks count table new zero m lt le t is e = absurd (omega arith)
+mark_put marks count table new (suc n) m lt le t is e = subst (λ k. MarksFrom marks k count new) down
+    (subst (λ xs. MarksFrom marks n count xs) (sym e) (mark_put_at marks count table n m t (omega (arith, le)) (subst (λ k. m ≡ get_or marks k m) (sym down) is)))
+  where
+    down : n ≡ suc n - 1
+    down = omega arith
+
+-- places
+
+laid_here : (b : CodeBlock) (pc : ℕ) (i : Instr) (is : List Instr) → laid_from b pc (i ∷ is) pc ≡ Some (ins_at b pc i)
+laid_here b pc i is = ap (λ t. if t then Some (ins_at b pc i) else laid_from b (pc + length (encoding i)) is pc) (let e : nat_eq pc pc ≡ true = grind (arith, nat_tests) in e)
+
+laid_behind : (b : CodeBlock) (pc : ℕ) (i : Instr) (is : List Instr) (q : ℕ) → pc < q → laid_from b pc (i ∷ is) q ≡ laid_from b (pc + length (encoding i)) is q
+laid_behind b pc i is q h = ap (λ t. if t then Some (ins_at b q i) else laid_from b (pc + length (encoding i)) is q) (other q pc h)
+
+laid_before : (b : CodeBlock) (pc : ℕ) (is : List Instr) (q : ℕ) → q < pc → laid_from b pc is q ≡ None
+laid_before b pc [] q h = refl
+laid_before b pc (i ∷ is) q h = ap (λ t. if t then Some (ins_at b q i) else laid_from b (pc + length (encoding i)) is q) (let e : nat_eq pc q ≡ false = grind (arith, nat_tests) in e)
+    ∙ laid_before b (pc + length (encoding i)) is q (omega arith)
+
+drop_past : (n : ℕ) (xs ys zs : List ℕ) → drop n xs ≡ ys ++ zs → drop (n + length ys) xs ≡ zs
+drop_past n xs [] zs e = subst (λ m. drop m xs ≡ zs) (let z : n ≡ n + 0 = omega arith in z) e
+drop_past n xs (y ∷ ys) zs e = subst (λ m. drop m xs ≡ zs) (let z : suc n + length ys ≡ n + suc (length ys) = omega arith in z) (drop_past (suc n) xs ys zs (drop_one n xs (ys ++ zs) e))
+  where
+    drop_one : (n : ℕ) (xs ws : List ℕ) → drop n xs ≡ y ∷ ws → drop (suc n) xs ≡ ws
+    drop_one n [] ws e = absurd (let h : [] ≡ y ∷ ws = no_drop n e in cc)
+      where
+        no_drop : (n : ℕ) → drop n [] ≡ y ∷ ws → [] ≡ y ∷ ws
+        no_drop zero e = e
+        no_drop (suc n) e = e
+    drop_one zero (x ∷ xs) ws e = ap (λ vs. drop 1 vs) e
+    drop_one (suc n) (x ∷ xs) ws e = drop_one n xs ws e
+
+drop_long : (n : ℕ) (xs : List ℕ) → length xs ≤ n → drop n xs ≡ []
+drop_long zero [] h = refl
+drop_long zero (x ∷ xs) h = absurd (omega arith)
+drop_long (suc n) [] h = refl
+drop_long (suc n) (x ∷ xs) h = drop_long n xs (omega arith)
+
+drop_short : (n : ℕ) (xs : List ℕ) → drop n xs ≡ [] → length xs ≤ n
+drop_short zero [] h = omega arith
+drop_short zero (x ∷ xs) h = absurd (cc)
+drop_short (suc n) [] h = omega arith
+drop_short (suc n) (x ∷ xs) h = let k = drop_short n xs h in omega (arith, k)
+
+module _ (b : CodeBlock) (instrs : List Instr) where
+  up_to_start : (table : List (Option Place)) → AllByRecursion Fits instrs → b.instructions ≡ flat_map encoding instrs
+      → ((q : ℕ) → entry table q ≡ None) → PlacesUpTo b instrs 0 table
+  up_to_start table fit e none = record { left = instrs; fit = fit; spelled = e; low = omega arith; behind = λ q h. refl; done = λ q h. absurd (omega arith); ahead = λ q h. none q }
+
+  module _ (pc : ℕ) (table : List (Option Place)) (t : PlacesUpTo b instrs pc table) where
+    pub up_to_next : length table ≡ length b.instructions → pc < length b.instructions → (i : Instr) (next : ℕ)
+        → ((j : Instr) (end : ℕ) → Fits j → StandsAt b.instructions j pc end → ◌≡◌ {A = Option (Instr × ℕ)} (Some (i, next)) (Some (j, end))) → pc < next → next ≤ length b.instructions
+        → (m : Option ActMark) → m ≡ mark_at b.marks pc → (place : Place) → place ≡ place_of i m next → PlacesUpTo b instrs next (set table pc (Some place))
+    up_to_next long lt i next only up low m marked place is = by_left t.left t.fit t.spelled t.behind
+      where
+        by_left : (left : List Instr) → AllByRecursion Fits left → drop pc b.instructions ≡ flat_map encoding left → ((q : ℕ) → pc ≤ q → laid_from b 0 instrs q ≡ laid_from b pc left q)
+            → PlacesUpTo b instrs next (set table pc (Some place))
+        by_left [] fit e behind = absurd (let h = drop_short pc b.instructions e in omega (arith, h, lt))
+        by_left (j ∷ rest) (fit, fits) e behind = record {
+          left = rest;
+          fit = fits;
+          spelled = subst (λ n. drop n b.instructions ≡ flat_map encoding rest) (sym to) (drop_past pc b.instructions (encoding j) (flat_map encoding rest) e);
+          low = low;
+          behind = λ q h. behind q (omega (arith, h, up)) ∙ (laid_behind b pc j rest q (omega (arith, h, up)) ∙ ap (λ n. laid_from b n rest q) (sym to));
+          done = λ q h. by_place q h;
+          ahead = λ q h. get_or-set_other table pc q (Some place) None (λ k. omega (arith, k, h, up)) ∙ t.ahead q (omega (arith, h, up));
+        }
+          where
+            found : ◌≡◌ {A = Instr × ℕ} (i, next) (j, pc + length (encoding j))
+            found = same_Some _ _ (only j (pc + length (encoding j)) fit (length (encoding j), (flat_map encoding rest, e, refl), refl))
+
+            same : i ≡ j
+            same = ap (λ x. x.0) found
+
+            to : next ≡ pc + length (encoding j)
+            to = ap (λ x. x.1) found
+
+            at_pc : entry (set table pc (Some place)) pc ≡ place_at (laid_from b 0 instrs pc)
+            at_pc = get_or-set_same table pc (Some place) None (omega (arith, long, lt))
+                ∙ (ap (λ x. Some x) (is ∙ (ap (λ x. place_of x m next) same ∙ (ap (λ x. place_of j x next) marked ∙ ap (λ n. place_of j (mark_at b.marks pc) n) to)))
+                ∙ sym (ap place_at (behind pc (omega arith) ∙ laid_here b pc j rest)))
+
+            inner : (q : ℕ) → pc < q → q < next → entry (set table pc (Some place)) q ≡ place_at (laid_from b 0 instrs q)
+            inner q h k = get_or-set_other table pc q (Some place) None (λ e. omega (arith, e, h))
+                ∙ (t.ahead q (omega (arith, h)) ∙ sym (ap place_at (behind q (omega (arith, h)) ∙ (laid_behind b pc j rest q h ∙ laid_before b (pc + length (encoding j)) rest q (omega (arith, k, to))))))
+
+            before : (q : ℕ) → q < pc → entry (set table pc (Some place)) q ≡ place_at (laid_from b 0 instrs q)
+            before q h = get_or-set_other table pc q (Some place) None (λ e. omega (arith, e, h)) ∙ t.done q h
+
+            by_place : (q : ℕ) → q < next → entry (set table pc (Some place)) q ≡ place_at (laid_from b 0 instrs q)
+            by_place q h = cases (trichotomy q pc)
+              where
+                cases : (q < pc) ⊎ ((q ≡ pc) ⊎ (pc < q)) → entry (set table pc (Some place)) q ≡ place_at (laid_from b 0 instrs q)
+                cases (inl a) = before q a
+                cases (inr (inl a)) = subst (λ n. entry (set table pc (Some place)) n ≡ place_at (laid_from b 0 instrs n)) (sym a) at_pc
+                cases (inr (inr a)) = inner q a h
+
+    up_to_end : length b.instructions ≤ pc → (q : ℕ) → entry table q ≡ place_at (laid_from b 0 instrs q)
+    up_to_end le q = at_q
+      where
+        nothing_left : (left : List Instr) → drop pc b.instructions ≡ flat_map encoding left → (q : ℕ) → laid_from b pc left q ≡ None
+        nothing_left [] e q = refl
+        nothing_left (j ∷ rest) e q = absurd (no_bytes (sym (drop_long pc b.instructions le) ∙ e))
+          where
+            no_bytes : [] ≡ flat_map encoding (j ∷ rest) → ⊥
+            no_bytes e = let n : 0 ≡ length (flat_map encoding (j ∷ rest)) = ap (λ xs. length xs) e in
+                let m : length (flat_map encoding (j ∷ rest)) ≡ length (encoding j) + length (flat_map encoding rest) = length-append (encoding j) (flat_map encoding rest) in omega (arith, n, m)
+
+        above : (q : ℕ) → pc ≤ q → entry table q ≡ place_at (laid_from b 0 instrs q)
+        above q h = t.ahead q h ∙ sym (ap place_at (t.behind q h ∙ nothing_left t.left t.spelled q))
+
+        by_order : (x y : ℕ) → (x < y) ⊎ (y ≤ x)
+        by_order zero zero = inr (omega arith)
+        by_order zero (suc y) = inl (omega arith)
+        by_order (suc x) zero = inr (omega arith)
+        by_order (suc x) (suc y) = elim (by_order x y) [ inl a ↦ inl (omega arith) | inr a ↦ inr (omega arith) ]
+
+        at_q : entry table q ≡ place_at (laid_from b 0 instrs q)
+        at_q = elim (by_order q pc) [ inl a ↦ t.done q a | inr a ↦ above q a ]
+
+    -- while bytes are left, an instruction stands there
+    something_stands : pc < length b.instructions → ((j : Instr) (end : ℕ) → Fits j → StandsAt b.instructions j pc end → ◌≡◌ {A = Option (Instr × ℕ)} None (Some (j, end))) → ⊥
+    something_stands lt only = by_left t.left t.fit t.spelled
+      where
+        by_left : (left : List Instr) → AllByRecursion Fits left → drop pc b.instructions ≡ flat_map encoding left → ⊥
+        by_left [] fit e = let h = drop_short pc b.instructions e in omega (arith, h, lt)
+        by_left (j ∷ rest) (fit, fits) e = absurd (none (only j (pc + length (encoding j)) fit (length (encoding j), (flat_map encoding rest, e, refl), refl)))
+          where
+            none : ◌≡◌ {A = Option (Instr × ℕ)} None (Some (j, pc + length (encoding j))) → ⊥
+            none h = cc
+
+module _ (b : CodeBlock) (pc : ℕ) (table : List (Option Place))
+    (all : (instrs : List Instr) → AllByRecursion Fits instrs → b.instructions ≡ flat_map encoding instrs → PlacesUpTo b instrs pc table) where
+  pub has_places : length b.instructions ≤ pc → (view : ℕ → Option Ins) → IsView b view → HasPlaces view table
+  has_places le view is = subst (λ v. HasPlaces v table) (sym is.view_is) (up_to_end b is.instrs pc table (all is.instrs is.fits is.spelled) le)
+
+  pub nothing_unread : pc < length b.instructions → ((j : Instr) (end : ℕ) → Fits j → StandsAt b.instructions j pc end → ◌≡◌ {A = Option (Instr × ℕ)} None (Some (j, end)))
+      → (view : ℕ → Option Ins) → IsView b view → HasPlaces view table
+  nothing_unread lt only view is = absurd (something_stands b is.instrs pc table (all is.instrs is.fits is.spelled) lt only)
+
+pub no_places_at_first : (b : CodeBlock) (table : List (Option Place)) → table ≡ replicate {A = Option Place} (length b.instructions) None
+    → (length table ≡ length b.instructions) × ((instrs : List Instr) → AllByRecursion Fits instrs → b.instructions ≡ flat_map encoding instrs → PlacesUpTo b instrs 0 table)
+no_places_at_first b table e = (
+  ap (λ xs. length xs) e ∙ length-replicate {A = Option Place} (length b.instructions) None,
+  λ instrs fit same. up_to_start b instrs table fit same (λ q. subst (λ xs. entry xs q ≡ None) (sym e) (entry_none (length b.instructions) q)),
+)

@@ -1,0 +1,3 @@
+pub mod PlaceTable
+pub mod PlacesUpTo
+pub mod Innermost

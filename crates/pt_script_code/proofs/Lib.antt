@@ -1,0 +1,3 @@
+pub mod SamePieces
+pub mod Begun
+pub mod Blocks

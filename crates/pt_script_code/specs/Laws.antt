@@ -1,0 +1,19 @@
+-- What laws say of the code of a script.
+use Rattle.std.specs.Prelude.{◌≡◌, ℕ, slice_get, Some, None}
+use Rattle.pt_tree.specs.Syntax.{Stms}
+use Rattle.pt_tree.specs.Blocks.{Block, blocks_script}
+use Rattle.pt_scopes.specs.Mentions.{places_script}
+use Rattle.pt_scopes.specs.Refusals.{fault_of}
+use Rattle.pt_slots.specs.CodeObject.{CodeObject}
+use Rattle.pt_assembler.specs.Laws.{Shows}
+use Rattle.pt_naming.specs.Around.{around_of}
+use Rattle.pt_emitter.specs.Laws.{Agrees}
+use Rattle.pt_stm_pieces.specs.Names.{Code_named}
+use Rattle.pt_stm_pieces.specs.Laws.{KnowsTruths, Code_at}
+use Rattle.pt_compile.specs.ScriptCode.{BlockLayout, script_layouts, code_block, code_of}
+
+abbrev pub ScriptIsCode : (V : Type 0) → Type 0
+ScriptIsCode V = (null : V) (ss : Stms) (n : ℕ) (k : Block) (b : BlockLayout) (object : CodeObject V) → fault_of (places_script ss) ≡ None
+    → slice_get (blocks_script ss) n ≡ Some k → slice_get (script_layouts ss) n ≡ Some b → Shows b.written (code_of ss) (code_block b) object
+    → Code_named (around_of null ss n) k.code → Agrees (around_of null ss n) object → KnowsTruths object
+    → Code_at (around_of null ss n) object (code_block b).starts k.code

@@ -1,0 +1,5 @@
+pub mod Counting
+pub mod Lengths
+pub mod Expressions
+pub mod Statements
+pub mod Scripts

@@ -1,0 +1,9 @@
+pub mod Combine
+pub mod Operations
+pub mod Expressions
+pub mod Plain
+pub mod Statements
+pub mod Blocks
+pub mod Leads
+pub mod LeadsForms
+pub mod Tables

@@ -1,0 +1,38 @@
+//! The code of expressions and targets in tables: the bytes that are written, and the marks of their
+//! acts.
+#![tactic(auto)]
+
+mod names;
+mod rows;
+
+use rows::answer;
+use std::process::ExitCode;
+use std::{env, fs, io};
+
+/// Prints what is answered of each row of a table; a comment stands as it is.
+fn table(rt: &HostRuntime, name: &str) -> io::Result<()> {
+    let text = fs::read_to_string(rt, name)?;
+    for row in text.as_str().lines() {
+        let mut line = String::new(rt.alloc());
+        if row.starts_with("#") {
+            line.push_str(row)?;
+        } else if answer(&mut line, rt.alloc(), row).is_err() {
+            line.push_str("no row")?;
+        }
+        println!(rt; "{line}")?;
+    }
+    Ok(())
+}
+
+/// The words are names of tables.
+fn main(rt: HostRuntime) -> ExitCode {
+    let Ok(args) = env::args(&rt) else {
+        return ExitCode::from(1);
+    };
+    for name in args.skip(1) {
+        if table(&rt, name.as_str()).is_err() {
+            return ExitCode::from(1);
+        }
+    }
+    ExitCode::from(0)
+}
