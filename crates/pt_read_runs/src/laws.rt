@@ -1,0 +1,12 @@
+//! The law of scripts that are read, the contract of a function that does nothing.
+
+ghost use Rattle.pt_read_runs.specs.Laws.{ReadScriptHasItsBareRuns, ReadScriptRunsAsItsCode};
+
+/// A script that is read, without a fault in its declarations, has the bare runs of the code objects
+/// of its code, over each host and under each bound: where they come to an outcome, the run of the
+/// script in which nobody is asked comes to one with the same writes, the same number of acts and the
+/// same ending.
+pub fn a_script_that_is_read_runs_as_its_code<N, V, W>()
+    ensures bare { ReadScriptHasItsBareRuns N V W }
+    ensures runs { ReadScriptRunsAsItsCode N V W }
+{}
