@@ -1,0 +1,11 @@
+use Rattle.std.proofs.Common.{◌∙◌, ap, sym}
+use Rattle.std.specs.Option.{option_copied}
+use Rattle.std.proofs.lemmas.Result.{IfOk-weaker}
+use Rattle.pt_call_rows.proofs.CallLemmas.{known_block}
+use Rattle.pt_call_rows.proofs.calls.call_function.Goals as goal
+
+pub returns-in-Some : goal.returns-in-Some
+returns-in-Some c = IfOk-weaker c.call_block.result _ _
+    (λ p h. λ slots heap. known_block c.args.blocks.now c.args.function.now c.args.args.now slots c.args.cells.now heap p c.call_block.new.cells c.in-Some.facts.now
+    (sym c.get.ensures ∙ ap option_copied c.in-Some.is) (h slots heap))
+    c.call_block.ensures

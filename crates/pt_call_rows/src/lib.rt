@@ -1,0 +1,6 @@
+//! What instructions do that call, up to the run of a block (Language Reference 6.3.4).
+#![tactic(auto)]
+
+mod calls;
+
+pub use calls::{call, call_with_names};

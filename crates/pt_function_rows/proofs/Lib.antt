@@ -1,0 +1,4 @@
+pub mod TakeLemmas
+pub mod ArgumentLemmas
+pub mod OpeningLemmas
+mod FunctionLemmas

@@ -1,0 +1,4 @@
+pub mod Operands
+pub mod Arguments
+pub mod Openings
+pub mod FunctionRows

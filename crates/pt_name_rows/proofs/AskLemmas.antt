@@ -1,0 +1,53 @@
+-- Where the host's answers about names lead, by what a name's value is.
+use Rattle.std.proofs.Common.{◌≡◌, ◌∙◌, ◌∷◌, Option, Some, None, refl, sym, ap}
+use Rattle.pt_tree.specs.Syntax.{Name}
+use Rattle.pt_control.specs.Turn as T
+use Rattle.pt_control.specs.Turn.{Scope, Variable}
+use Rattle.pt_heap.specs.declared.value.Value.{Value}
+use Rattle.pt_code.specs.View.{Ins}
+use Rattle.pt_slots.specs.Slots as S
+use Rattle.pt_slots.specs.Slots.{Slots, State, on}
+use Rattle.pt_slots.specs.CodeObject.{CodeObject, named}
+use Rattle.pt_slots.specs.Steps.{gives, does}
+use Rattle.pt_run.specs.Host.{Here, made, beyond}
+use Rattle.pt_host.specs.World.{Stores, Program, Allotted}
+use Rattle.pt_host.specs.Trees.{raise_with}
+use Rattle.pt_host.specs.Errors.{error_saying}
+use Rattle.pt_host.specs.Texts.{unbound_text, unbound_class}
+use Rattle.pt_host.specs.Variables.{readable_value, variable_value, load, load_by, unless_bound, raise_unbound, delete, delete_by, put, make_anew}
+use Rattle.pt_transitions.specs.Successors.{to}
+use Rattle.pt_heap_rows.specs.Leads.{Reached}
+use Rattle.pt_heap_rows.specs.Leads.{by_tree, giving, behind}
+use Rattle.pt_heap_rows.specs.Laws.{reached}
+use Rattle.pt_heap_rows.specs.Told.{told}
+use Rattle.pt_heap_rows.proofs.RowLemmas.{loads_lead, deeds_lead}
+use Rattle.pt_name_rows.specs.Names.{unbound}
+
+abbrev pub goes_to : State Value → Stores → Reached
+goes_to s st = to s st
+
+module _ (program : Program) (code : CodeObject Value) (i : Ins) (h : Here Value) (st : Stores) (ss : Slots Value) where
+  -- what arises arises alike, whatever would have been given
+  raised_alike : (o : Allotted) → by_tree code i (giving code i ss) ss (raise_with {A = Value} o st) ≡ by_tree code i (behind code i ss) ss (raise_with {A = Unit {0}} o st)
+  raised_alike (made v k) = refl
+  raised_alike (beyond what) = refl
+
+  pub loads : (x : Variable) (v : Value) → readable_value x.scope x.name st ≡ Some v → goes_to (on i.next (S.value v ∷ ss)) st ≡ reached program code i h st (gives code i (T.load x) ss)
+  loads x v e = sym (loads_lead program code i h st x ss ∙ ap (λ o. by_tree code i (giving code i ss) ss (load_by o x.scope x.name h st)) e)
+
+  pub loads_none : (x : Variable) → readable_value x.scope x.name st ≡ None
+      → by_tree code i (giving code i ss) ss (unless_bound x.scope x.name h st) ≡ reached program code i h st (gives code i (T.load x) ss)
+  loads_none x e = sym (loads_lead program code i h st x ss ∙ ap (λ o. by_tree code i (giving code i ss) ss (load_by o x.scope x.name h st)) e)
+
+  pub stores : (x : Variable) (v : Value) → goes_to (on i.next ss) (put x.scope x.name (Some v) st) ≡ reached program code i h st (does code i (T.store x v) ss)
+  stores x v = sym (deeds_lead program code i h st (T.store x v) ss)
+
+  pub deletes : (x : Variable) (v : Value) → variable_value x.scope x.name st ≡ Some v → goes_to (on i.next ss) (put x.scope x.name None st) ≡ reached program code i h st (does code i (T.delete x) ss)
+  deletes x v e = sym (deeds_lead program code i h st (T.delete x) ss ∙ ap (λ o. by_tree code i (behind code i ss) ss (delete_by o x.scope x.name h st)) e)
+
+  pub deletes_none : (x : Variable) → variable_value x.scope x.name st ≡ None → told program code i h (unbound x.scope x.name) ss st ≡ reached program code i h st (does code i (T.delete x) ss)
+  deletes_none x e = raised_alike (error_saying (unbound_class x.scope) (unbound_text x.scope x.name) None h.active st.world.heap)
+      ∙ sym (deeds_lead program code i h st (T.delete x) ss ∙ ap (λ o. by_tree code i (behind code i ss) ss (delete_by o x.scope x.name h st)) e)
+
+  pub makes_anew : (x : Variable) → goes_to (on i.next ss) (make_anew x.scope x.name st) ≡ reached program code i h st (does code i (T.fresh x) ss)
+  makes_anew x = sym (deeds_lead program code i h st (T.fresh x) ss)

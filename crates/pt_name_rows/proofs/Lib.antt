@@ -1,0 +1,6 @@
+mod DotLemmas
+mod AskLemmas
+mod LocalLemmas
+mod CellLemmas
+mod GlobalLemmas
+mod NameLemmas

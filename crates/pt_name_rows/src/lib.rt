@@ -1,0 +1,12 @@
+//! What instructions of names do: local names, cells, and names of the module (Language Reference
+//! 4.2.2, 7.2, 7.5).
+#![tactic(auto)]
+
+mod cells;
+mod globals;
+mod locals;
+mod unbound;
+
+pub use cells::{cell, delete_cell, fresh_cell, push_cell, set_cell};
+pub use globals::{delete_global, global, set_global};
+pub use locals::{delete_local, fresh_local, local, set_local};

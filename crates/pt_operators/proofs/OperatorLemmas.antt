@@ -1,0 +1,155 @@
+-- Rows of operators.
+use Rattle.std.proofs.Common.{◌≡◌, ◌∙◌, List, [], ◌∷◌, Some, None, refl, sym, ap, subst}
+use Rattle.std.specs.Prelude.{drop}
+use Rattle.pt_base.specs.declared.operators.BinOp.{BinOp}
+use Rattle.pt_base.specs.declared.operators.UnOp.{UnOp}
+use Rattle.pt_base.specs.declared.operators.CompareOp.{CompareOp}
+use Rattle.pt_instr.specs.declared.Instr.TheVariants as instr
+use Rattle.pt_heap.specs.declared.value.Value.{Value}
+use Rattle.pt_heap.specs.declared.object.Object.{Object}
+use Rattle.pt_frames.specs.declared.slot.Slot.{Slot}
+use Rattle.pt_frames.specs.declared.slot.Slot.TheVariants as slot
+use Rattle.pt_code.specs.View.{Ins}
+use Rattle.pt_control.specs.Turn as T
+use Rattle.pt_control.specs.Turn.{stuck}
+use Rattle.pt_slots.specs.CodeObject.{CodeObject}
+use Rattle.pt_slots.specs.Pops.{Next, values}
+use Rattle.pt_run.specs.Host.{Here}
+use Rattle.pt_prims.specs.declared.op.Op.{Op}
+use Rattle.pt_prims.specs.declared.op.Op.TheVariants as op
+use Rattle.pt_prims.specs.declared.answer.PrimAns.{PrimAns}
+use Rattle.pt_prims.specs.declared.answer.PrimAns.TheVariants as prim
+use Rattle.pt_prims.specs.Operations.{prim_answer, prim_heap}
+use Rattle.pt_host.specs.World.{Program, Stores, with_objects}
+use Rattle.pt_host.specs.Calls.{of_prim}
+use Rattle.pt_heap_rows.specs.declared.progress.Progress.{Progress}
+use Rattle.pt_heap_rows.specs.declared.progress.Progress.TheVariants as progress
+use Rattle.pt_heap_rows.specs.Leads.{by_tree, giving}
+use Rattle.pt_heap_rows.specs.Told.{told}
+use Rattle.pt_heap_rows.specs.Views.{slots_view}
+use Rattle.pt_heap_rows.proofs.RowLemmas.{operations_lead}
+use Rattle.pt_moves.specs.Operands.{one_value, two_values, RowsHeap}
+use Rattle.pt_moves.proofs.TakeLemmas.{one_on, two_on}
+use Rattle.pt_moves.proofs.MoveLemmas.{stuck_row}
+use Rattle.pt_operators.specs.Operates.{Operates, progress_of, slots_behind}
+
+answer_told : (a : PrimAns) (program : Program) (code : CodeObject Value) (i : Ins) (h : Here Value) (st : Stores) (slots : List Slot)
+    → told program code i h (progress_of a) (slots_view (slots_behind a slots)) st ≡ by_tree code i (giving code i (slots_view slots)) (slots_view slots) (of_prim a h st)
+answer_told (prim.Value v) program code i h st slots = refl
+answer_told (prim.Raise class arg) program code i h st slots = refl
+answer_told (prim.Help helper) program code i h st slots = refl
+answer_told (prim.Print t) program code i h st slots = refl
+answer_told (prim.Outside what) program code i h st slots = refl
+
+operates_of : (o : Op) (args : List Value) (old : List Slot) (heap : List Object)
+    → Operates o args old heap (progress_of (prim_answer o args heap)) (slots_behind (prim_answer o args heap) old) (prim_heap o args heap)
+unfolding Operates
+operates_of o args old heap program code i h st = answer_told (prim_answer o args heap) program code i h (with_objects (prim_heap o args heap) st) old
+
+-- what is done with the answer of an operation is what the host's answer leads to
+pub operates : (o : Op) (args : List Value) (old : List Slot) (heap : List Object) (p : Progress) (new : List Slot) (grown : List Object) (a : PrimAns)
+    → a ≡ prim_answer o args heap → grown ≡ prim_heap o args heap → p ≡ progress_of a → new ≡ slots_behind a old → Operates o args old heap p new grown
+operates o args old heap p new grown a is grows progresses stands =
+    subst (λ x. Operates o args old heap x new grown) (sym progresses)
+    (subst (λ x. Operates o args old heap (progress_of a) x grown) (sym stands)
+    (subst (λ x. Operates o args old heap (progress_of a) (slots_behind a old) x) (sym grows)
+    (subst (λ x. Operates o args old heap (progress_of x) (slots_behind x old) (prim_heap o args heap)) (sym is) (operates_of o args old heap))))
+
+module _ (below : List Slot) (heap : List Object) (p : Progress) (new : List Slot) (grown : List Object) where
+  unary_of : (o : UnOp) (v : Value) → Operates (op.Unary o) (v ∷ []) below heap p new grown → RowsHeap (instr.Unary o) (slot.Value v ∷ below) heap p new grown
+  unfolding Operates RowsHeap
+  unary_of o v done program code pc i h st known = done program code i h st ∙ sym (operations_lead program code i h (with_objects heap st) (T.unary o) (v ∷ []) (slots_view below))
+
+  not_of : (v : Value) → Operates op.Not (v ∷ []) below heap p new grown → RowsHeap instr.Not (slot.Value v ∷ below) heap p new grown
+  unfolding Operates RowsHeap
+  not_of v done program code pc i h st known = done program code i h st ∙ sym (operations_lead program code i h (with_objects heap st) T.inverted (v ∷ []) (slots_view below))
+
+  binary_of : (o : BinOp) (v w : Value) → Operates (op.Binary o) (v ∷ w ∷ []) below heap p new grown → RowsHeap (instr.Binary o) (slot.Value w ∷ (slot.Value v ∷ below)) heap p new grown
+  unfolding Operates RowsHeap
+  binary_of o v w done program code pc i h st known = done program code i h st ∙ sym (operations_lead program code i h (with_objects heap st) (T.binary o) (v ∷ w ∷ []) (slots_view below))
+
+  in_place_of : (o : BinOp) (v w : Value) → Operates (op.InPlace o) (v ∷ w ∷ []) below heap p new grown → RowsHeap (instr.InPlace o) (slot.Value w ∷ (slot.Value v ∷ below)) heap p new grown
+  unfolding Operates RowsHeap
+  in_place_of o v w done program code pc i h st known = done program code i h st ∙ sym (operations_lead program code i h (with_objects heap st) (T.in_place o) (v ∷ w ∷ []) (slots_view below))
+
+  compare_of : (o : CompareOp) (v w : Value) → Operates (op.Compare o) (v ∷ w ∷ []) below heap p new grown → RowsHeap (instr.Compare o) (slot.Value w ∷ (slot.Value v ∷ below)) heap p new grown
+  unfolding Operates RowsHeap
+  compare_of o v w done program code pc i h st known = done program code i h st ∙ sym (operations_lead program code i h (with_objects heap st) (T.compare o) (v ∷ w ∷ []) (slots_view below))
+
+-- the same by what was taken, for code
+
+module _ (old below : List Slot) (heap : List Object) (p : Progress) (new : List Slot) (grown : List Object) where
+  pub unary_row : (o : UnOp) (v : Value) → one_value old ≡ Some v → below ≡ drop 1 old → Operates (op.Unary o) (v ∷ []) below heap p new grown → RowsHeap (instr.Unary o) old heap p new grown
+  unary_row o v e f done = subst (λ x. RowsHeap (instr.Unary o) x heap p new grown) (sym (one_on old v e ∙ ap (λ ss. slot.Value v ∷ ss) (sym f))) (unary_of below heap p new grown o v done)
+
+  pub not_row : (v : Value) → one_value old ≡ Some v → below ≡ drop 1 old → Operates op.Not (v ∷ []) below heap p new grown → RowsHeap instr.Not old heap p new grown
+  not_row v e f done = subst (λ x. RowsHeap instr.Not x heap p new grown) (sym (one_on old v e ∙ ap (λ ss. slot.Value v ∷ ss) (sym f))) (not_of below heap p new grown v done)
+
+  module _ (q : Value × Value) (e : two_values old ≡ Some q) (f : below ≡ drop 2 old) where
+    stand : old ≡ slot.Value q.1 ∷ (slot.Value q.0 ∷ below)
+    stand = two_on old q.0 q.1 e ∙ ap (λ ss. slot.Value q.1 ∷ (slot.Value q.0 ∷ ss)) (sym f)
+
+    pub binary_row : (o : BinOp) → Operates (op.Binary o) (q.0 ∷ q.1 ∷ []) below heap p new grown → RowsHeap (instr.Binary o) old heap p new grown
+    binary_row o done = subst (λ x. RowsHeap (instr.Binary o) x heap p new grown) (sym stand) (binary_of below heap p new grown o q.0 q.1 done)
+
+    pub in_place_row : (o : BinOp) → Operates (op.InPlace o) (q.0 ∷ q.1 ∷ []) below heap p new grown → RowsHeap (instr.InPlace o) old heap p new grown
+    in_place_row o done = subst (λ x. RowsHeap (instr.InPlace o) x heap p new grown) (sym stand) (in_place_of below heap p new grown o q.0 q.1 done)
+
+    pub compare_row : (o : CompareOp) → Operates (op.Compare o) (q.0 ∷ q.1 ∷ []) below heap p new grown → RowsHeap (instr.Compare o) old heap p new grown
+    compare_row o done = subst (λ x. RowsHeap (instr.Compare o) x heap p new grown) (sym stand) (compare_of below heap p new grown o q.0 q.1 done)
+
+  pub binary_values : (o : BinOp) (v w : Value) → two_values old ≡ Some (v, w) → below ≡ drop 2 old → Operates (op.Binary o) (v ∷ w ∷ []) below heap p new grown → RowsHeap (instr.Binary o) old heap p new grown
+  binary_values o v w e f done = binary_row (v, w) e f o done
+
+  pub in_place_values : (o : BinOp) (v w : Value) → two_values old ≡ Some (v, w) → below ≡ drop 2 old → Operates (op.InPlace o) (v ∷ w ∷ []) below heap p new grown → RowsHeap (instr.InPlace o) old heap p new grown
+  in_place_values o v w e f done = in_place_row (v, w) e f o done
+
+  pub compare_values : (o : CompareOp) (v w : Value) → two_values old ≡ Some (v, w) → below ≡ drop 2 old → Operates (op.Compare o) (v ∷ w ∷ []) below heap p new grown → RowsHeap (instr.Compare o) old heap p new grown
+  compare_values o v w e f done = compare_row (v, w) e f o done
+
+-- where values are missing
+
+lacks_one_of : (slots : List Slot) → one_value slots ≡ None → (vs : List Value) (next : Next Value (List Value)) → values 1 vs (slots_view slots) next ≡ stuck
+lacks_one_of [] e vs next = refl
+lacks_one_of (slot.Value v ∷ slots) e vs next = absurd (cc)
+lacks_one_of (slot.Cell n ∷ slots) e vs next = refl
+lacks_one_of (slot.Iter v ∷ slots) e vs next = refl
+lacks_one_of (slot.Exc v ∷ slots) e vs next = refl
+lacks_one_of (slot.Pending c ∷ slots) e vs next = refl
+lacks_one_of (slot.With v ∷ slots) e vs next = refl
+
+lacks_two_of : (slots : List Slot) → two_values slots ≡ None → (vs : List Value) (next : Next Value (List Value)) → values 2 vs (slots_view slots) next ≡ stuck
+lacks_two_of [] e vs next = refl
+lacks_two_of (slot.Cell n ∷ slots) e vs next = refl
+lacks_two_of (slot.Iter v ∷ slots) e vs next = refl
+lacks_two_of (slot.Exc v ∷ slots) e vs next = refl
+lacks_two_of (slot.Pending c ∷ slots) e vs next = refl
+lacks_two_of (slot.With v ∷ slots) e vs next = refl
+lacks_two_of (slot.Value w ∷ []) e vs next = refl
+lacks_two_of (slot.Value w ∷ slot.Value v ∷ slots) e vs next = absurd (cc)
+lacks_two_of (slot.Value w ∷ slot.Cell n ∷ slots) e vs next = refl
+lacks_two_of (slot.Value w ∷ slot.Iter v ∷ slots) e vs next = refl
+lacks_two_of (slot.Value w ∷ slot.Exc v ∷ slots) e vs next = refl
+lacks_two_of (slot.Value w ∷ slot.Pending c ∷ slots) e vs next = refl
+lacks_two_of (slot.Value w ∷ slot.With v ∷ slots) e vs next = refl
+
+module _ (old : List Slot) (heap : List Object) (new : List Slot) (grown : List Object) where
+  pub unary_lacks : (o : UnOp) → one_value old ≡ None → RowsHeap (instr.Unary o) old heap progress.Lacks new grown
+  unfolding RowsHeap
+  unary_lacks o e program code pc i h st known = stuck_row program h (with_objects heap st) _ (lacks_one_of old e [] _)
+
+  pub not_lacks : one_value old ≡ None → RowsHeap instr.Not old heap progress.Lacks new grown
+  unfolding RowsHeap
+  not_lacks e program code pc i h st known = stuck_row program h (with_objects heap st) _ (lacks_one_of old e [] _)
+
+  pub binary_lacks : (o : BinOp) → two_values old ≡ None → RowsHeap (instr.Binary o) old heap progress.Lacks new grown
+  unfolding RowsHeap
+  binary_lacks o e program code pc i h st known = stuck_row program h (with_objects heap st) _ (lacks_two_of old e [] _)
+
+  pub in_place_lacks : (o : BinOp) → two_values old ≡ None → RowsHeap (instr.InPlace o) old heap progress.Lacks new grown
+  unfolding RowsHeap
+  in_place_lacks o e program code pc i h st known = stuck_row program h (with_objects heap st) _ (lacks_two_of old e [] _)
+
+  pub compare_lacks : (o : CompareOp) → two_values old ≡ None → RowsHeap (instr.Compare o) old heap progress.Lacks new grown
+  unfolding RowsHeap
+  compare_lacks o e program code pc i h st known = stuck_row program h (with_objects heap st) _ (lacks_two_of old e [] _)
