@@ -1,6 +1,6 @@
 -- The pieces of statements are typed: from the slots of the parts around a statement either these are behind it, or nothing goes on.
 use Rattle.std.proofs.Common.{◌≡◌, ℕ, ◌+◌, suc, Bool, true, false, ◌&&◌, ◌||◌, if◌then◌else◌, nat_eq, List, [], ◌∷◌, ◌++◌, length, replicate, Option, Some, None, refl, sym, ap, ◌∙◌, subst, arith}
-use Rattle.std.proofs.lemmas.Bool.{false≢true}
+use Rattle.std.proofs.lemmas.Bool.{false≢true, true≢false}
 use Rattle.std.proofs.lemmas.Bool.Decides.{nat_tests}
 use Rattle.pt_base.specs.declared.operators.BinOp.{BinOp}
 use Rattle.pt_tree.specs.declared.expression.Constant.TheVariants as constant
@@ -836,41 +836,61 @@ module _ {V : Type 0} (around : Around V) (links : Links) (next : ℕ → ℕ) (
       v : Handling rest c Ls base (end_of next first from) p
       v = g _ _ _ _ _
 
-  single : (st : Stm) (n : ℕ) (b : Behind) → HoldsNone st → Stm_named around st n → Outs (stm_piece around st n b)
+  -- a statement that holds no other and doesn't leave goes on
+  pub record Through (q : Piece) (c : Setting) (Ls : List (Option StackMap)) (base : StackMap) (from : ℕ) : Type 0 where
+    pub sent : ℕ → Option StackMap
+    pub goes : Goes links next q c Ls base from base (Some base) sent
+
+  through : {q : Piece} {c : Setting} {Ls : List (Option StackMap)} {base : StackMap} {from : ℕ} {τ : ℕ → Option StackMap} → Goes links next q c Ls base from base (Some base) τ
+      → Through q c Ls base from
+  through {τ = τ} g = record { sent = τ; goes = g }
+
+  pub simple : (st : Stm) (n : ℕ) (b : Behind) → HoldsNone st → leaves st ≡ false → Stm_named around st n → (c : Setting) (Ls : List (Option StackMap)) (base : StackMap) (from : ℕ)
+      → Through (stm_piece around st n b) c Ls base from
   unfolding effect_of
-  single (S.expr l e) n b w h c Ls base from =
-      on links next (next_to (val e n h base (over_itself base)) (act_of (takes_one refl tt base (over_itself base))))
-  single (S.assign l ts e) n b w h c Ls base from =
-      on links next (next_to (val e n h.0 base (over_itself base)) (assigned ts (n + size e) h.1 base (over_itself base)))
-  single (S.augmented l p y e) n b w h c Ls base from = on links next (augmented p y e l n h base (over_itself base))
-  single (S.annotated l p a S.absent) n b w h c Ls base from = on links next (act_of (takes_none refl tt base (over_itself base)))
-  single (S.annotated l p a (S.given e)) n b w h c Ls base from =
-      on links next (next_to (val e n h.0 base (over_itself base))
-      (assigned (S.more_targets (S.single p) S.no_targets) (n + size e) (h.1, tt) base (over_itself base)))
-  single (S.assert l e m) n b w h c Ls base from =
-      on links next (in_block {r = Some base} (both (val e n h.0 base (over_itself base)) (both (act_of (tests_true 0 base (over_itself base) refl))
+  simple (S.expr l e) n b w z h c Ls base from = through (next_to (val e n h base (over_itself base)) (act_of (takes_one refl tt base (over_itself base))))
+  simple (S.assign l ts e) n b w z h c Ls base from = through (next_to (val e n h.0 base (over_itself base)) (assigned ts (n + size e) h.1 base (over_itself base)))
+  simple (S.augmented l p y e) n b w z h c Ls base from = through (augmented p y e l n h base (over_itself base))
+  simple (S.annotated l p a S.absent) n b w z h c Ls base from = through (act_of (takes_none refl tt base (over_itself base)))
+  simple (S.annotated l p a (S.given e)) n b w z h c Ls base from =
+      through (next_to (val e n h.0 base (over_itself base)) (assigned (S.more_targets (S.single p) S.no_targets) (n + size e) (h.1, tt) base (over_itself base)))
+  simple (S.assert l e m) n b w z h c Ls base from =
+      through (in_block {r = Some base} (both (val e n h.0 base (over_itself base)) (both (act_of (tests_true 0 base (over_itself base) refl))
       (failed m l (n + size e + 1) h.1 base (over_itself base)))) refl)
-  single (S.pass l) n b w h c Ls base from = on links next (act_of (takes_none refl tt base (over_itself base)))
-  single (S.del l ts) n b w h c Ls base from = on links next (all_deleted (all_places ts) n h base (over_itself base))
+  simple (S.pass l) n b w z h c Ls base from = through (act_of (takes_none refl tt base (over_itself base)))
+  simple (S.del l ts) n b w z h c Ls base from = through (all_deleted (all_places ts) n h base (over_itself base))
+  simple (S.import l xs) n b w z h c Ls base from = through (imported xs l n base (over_itself base))
+  simple (S.import_from l m xs) n b w z h c Ls base from =
+      through (next_to (act_of (gives_one refl (λ t. refl) base (over_itself base))) (imported_from xs l (n + 1) base (over_itself base)))
+  simple (S.global l xs) n b w z h c Ls base from = through nothing_there
+  simple (S.nonlocal l xs) n b w z h c Ls base from = through nothing_there
+  simple (S.def l ds k b y ps a body) n q w z h c Ls base from = through (defined ds (a_function b ps) [] k n y h base (over_itself base))
+  simple (S.class l ds k b y base' body) n q w z h c Ls base from = through (defined ds (a_class b base') [] k n y h base (over_itself base))
+  simple (S.docstring l) n b w z h c Ls base from = through nothing_there
+  simple (S.return l e) n b w z h c Ls base from = absurd (true≢false z)
+  simple (S.raise l e d) n b w z h c Ls base from = absurd (true≢false z)
+  simple (S.raise_again l) n b w z h c Ls base from = absurd (true≢false z)
+  simple (S.break l) n b w z h c Ls base from = absurd (true≢false z)
+  simple (S.continue l) n b w z h c Ls base from = absurd (true≢false z)
+  simple (S.choice l bs els) n b w z h c Ls base from = absurd w
+  simple (S.while l e body els) n b w z h c Ls base from = absurd w
+  simple (S.for l t it body els) n b w z h c Ls base from = absurd w
+  simple (S.try l body hs els fin) n b w z h c Ls base from = absurd w
+  simple (S.with l is body) n b w z h c Ls base from = absurd w
+
+  single : (st : Stm) (n : ℕ) (b : Behind) → HoldsNone st → Stm_named around st n → Outs (stm_piece around st n b)
   single (S.return l e) n b w h c Ls base from = off links next (returned e l n h base (over_itself base))
   single (S.raise l e d) n b w h c Ls base from =
       off links next (next_to (val e n h.0 base (over_itself base)) (thrown d l (n + size e) h.1 base (over_itself base)))
   single (S.raise_again l) n b w h c Ls base from = off links next (act_of (raises_again base (over_itself base)))
   single (S.break l) n b w h c Ls base from = off links next (leaves_by (over_itself base))
   single (S.continue l) n b w h c Ls base from = off links next (leaves_by (over_itself base))
-  single (S.import l xs) n b w h c Ls base from = on links next (imported xs l n base (over_itself base))
-  single (S.import_from l m xs) n b w h c Ls base from =
-      on links next (next_to (act_of (gives_one refl (λ t. refl) base (over_itself base))) (imported_from xs l (n + 1) base (over_itself base)))
-  single (S.global l xs) n b w h c Ls base from = on links next nothing_there
-  single (S.nonlocal l xs) n b w h c Ls base from = on links next nothing_there
-  single (S.def l ds k b y ps a body) n q w h c Ls base from = on links next (defined ds (a_function b ps) [] k n y h base (over_itself base))
-  single (S.class l ds k b y base' body) n q w h c Ls base from = on links next (defined ds (a_class b base') [] k n y h base (over_itself base))
-  single (S.docstring l) n b w h c Ls base from = on links next nothing_there
   single (S.choice l bs els) n b w h c Ls base from = absurd w
   single (S.while l e body els) n b w h c Ls base from = absurd w
   single (S.for l t it body els) n b w h c Ls base from = absurd w
   single (S.try l body hs els fin) n b w h c Ls base from = absurd w
   single (S.with l is body) n b w h c Ls base from = absurd w
+  single st n b w h c Ls base from = let u : Through (stm_piece around st n b) c Ls base from = simple st n b tt refl h c Ls base from in on links next u.goes
 
   choice_out : (l n : ℕ) (bs : Branches) (els : Stms) (b : Behind)
       → Branchings (branches_piece around bs n (λ m. P.closed (all_piece around els m (behind_branches (some_branch_goes_on bs) b))))

@@ -1,0 +1,5 @@
+pub mod Slots
+pub mod Parts
+pub mod Text
+pub mod ActParts
+pub mod Laws
