@@ -1,7 +1,10 @@
 """Compares runs by the definitions of `pt_run` and `pt_host` with those of CPython 3.12.1: what is printed, the events in order, and the
 ending, over the written scripts below and over random ones.
 
-  check_objects.py [--crates FOLDER] [--from N] [--many N] [--show SEED]
+  check_objects.py [--crates FOLDER] [--from N] [--many N] [--show SEED] [--bare] [--coded]
+
+With --bare it compares runs that nothing hooks into, by `pt_bare_runs`, with runs by `pt_run` that nobody is asked in; with --coded
+those with the same of the script's code, of at most 2,000 acts.
 """
 import argparse
 import collections
@@ -11,7 +14,8 @@ import threading
 import warnings
 
 from check import EVENTS, RULES, TRACED, Plan, alike, first_difference, of_ended_iteration, of_one_line, of_spread_call
-from definitions import number
+from coded import CodedRunner
+from definitions import items, listed, number
 from objects import ObjectRunner, text_of
 from programs import program
 from record import CALLS, Recorder
@@ -42,8 +46,8 @@ class Check:
         self.runner = ObjectRunner(crates)
 
     def run(self, text, most=20000):
-        blocks, outputs, world, step = self.runner.run(text, most)
-        told, heap = Told(text), world["heap"]
+        blocks, outputs, state, step = self.runner.run(text, most)
+        told, heap = Told(text), state["world"]["heap"]
         for event in (o[1] for o in outputs if o[0] == "gives"):
             what = event["what"]
             where = (blocks[event["block"]["number"]].key, event["line"])
@@ -142,14 +146,85 @@ def written(check):
     return bad
 
 
+RAISED_OUT = """\
+def f(n):
+    if n: return f(n - 1)
+    return missing
+def g():
+    try:
+        return f(2)
+    finally:
+        print("out")
+g()
+"""
+# scripts whose runs go through functions, closures and handlers, and their bounds on acts
+CALLING = [
+    ("def f(): return 1\nprint(f() + f())\n", 99), ("f = lambda x, y=2: x - y\nprint(f(5), f(5, y=4))\n", 99), (RAISED_OUT, 999), (RAISED_OUT, 24),
+    ("def f(n): return 1 if n < 2 else n * f(n - 1)\nprint(f(20))\n", 999), ("def f(n): return 1 if n < 2 else n * f(n - 1)\nprint(f(20))\n", 55),
+    ("def adder(n):\n    def add(m): return n + m\n    return add\nx = adder(2)\ny = adder(3)\nprint(x(1), y(1))\n", 99),
+    ("def f():\n    n = 0\n    def g():\n        nonlocal n\n        n += 1\n        return n\n    while g() < 5: pass\n    return n\nprint(f())\n", 199),
+    ("def even(n): return n == 0 or odd(n - 1)\ndef odd(n): return n != 0 and even(n - 1)\nprint(even(10), odd(10))\n", 999),
+    ("def f():\n    try: return missing\n    except NameError: raise\ndef g(): f()\ng()\n", 99), ("def f():\n    try: return missing\n    except: raise\ndef g(): f()\ng()\n", 99),
+    ("def f():\n    try: return 1\n    finally: return 2\nprint(f())\n", 99), ("def f(): return f\nprint(f()() is f)\n", 99),
+]
+
+
+def without_frames(ending):
+    """An ending without the frames of its traceback, as a bare run has it."""
+    match ending:
+        case ("raised", error, view):
+            return ("raised", error, view["world"])
+        case ("outside", what, line):
+            return ("outside_at", what, line)
+    return ending
+
+
+def bare(check, scripts):
+    """Compares runs that nothing hooks into with runs where nobody is asked: what they write, their acts and their endings."""
+    bad, ends, acts, opened = 0, collections.Counter(), 0, 0
+    for text, most in scripts:
+        _, outputs, state, step = check.runner.run(text, most)
+        wanted = (items(check.runner.writes(True, listed(outputs))), state["units"], without_frames(step[1]))
+        if check.runner.bare_run(text, most) != wanted:
+            bad += 1
+            print(text, most, step[1][0], sep="\n    ")
+        ends[step[1][0]] += 1
+        acts, opened = acts + wanted[1], opened + state["frames"]
+    print(", ".join(f"{k} {n}" for k, n in sorted(ends.items())))
+    print(f"{len(scripts)} bare runs, {acts} acts, {opened} activations, {bad} with a difference")
+    return bad > 0
+
+
+def by_code(crates, scripts):
+    """Compares bare runs of scripts with those of their code."""
+    runner, bad, acts, ends = CodedRunner(crates), 0, 0, collections.Counter()
+    for text, most in scripts:
+        one, other = runner.both_outcomes(text, min(most, 2000))
+        if one != other:
+            bad += 1
+            print(text, one[1:], other[1:], sep="\n    ")
+        ends[one[2][0]] += 1
+        acts += one[1] or 0
+    print(", ".join(f"{k} {n}" for k, n in sorted(ends.items())))
+    print(f"{len(scripts)} bare runs beside their code's, {acts} acts, {bad} with a difference")
+    return bad > 0
+
+
 def main():
     p = argparse.ArgumentParser()
     p.add_argument("--crates", default="../../crates")
     p.add_argument("--from", type=int, default=0, dest="first")
     p.add_argument("--many", type=int, default=100)
     p.add_argument("--show", type=int)
+    p.add_argument("--bare", action="store_true")
+    p.add_argument("--coded", action="store_true")
     a = p.parse_args()
+    plain = CALLING + [w[:2] for w in WRITTEN] + [(program(s), 20000) for s in range(a.first, a.first + a.many)]
+    if a.coded:
+        return by_code(a.crates, plain)
     check = Check(a.crates)
+    if a.bare:
+        return bare(check, plain)
     bad = 0 if a.show is not None else written(check)
     ends, acts, events = collections.Counter(), 0, 0
     seeds = [a.show] if a.show is not None else range(a.first, a.first + a.many)

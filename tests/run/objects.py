@@ -44,6 +44,10 @@ class ObjectRunner(Runner):
         self.no_names = self.get("pt_host", "World", "no_names")
         self.texts_of = self.get("pt_host", "Constants", "texts_of")
         self.class_name = self.get("pt_prims", "Classes", "class_name")
+        self.writes = self.get("pt_run", "Run", "writes")
+        self.bare_start = self.get("pt_bare_runs", "Strides", "start")
+        self.first_logged = self.get("pt_bare_runs", "Strides", "logged")
+        self.stride = self.get("pt_bare_runs", "Strides", "stride")
 
     def around(self, blocks, block):
         plain = super().around(blocks, block)
@@ -58,8 +62,8 @@ class ObjectRunner(Runner):
             "captured": lambda number: listed(map(bytes_of, items(plain["captured"](number)))),
         }
 
-    def run(self, text, most=20000):
-        """The blocks, the outputs, the last state but one and the step that ends the run."""
+    def begin(self, text):
+        """The blocks of a script, it as a machine, its host, and how its module begins: block, names and world."""
         blocks = self.blocks(text)
         around = [self.around(blocks, b) for b in blocks]
         facts = [facts_of(b) for b in blocks]
@@ -68,9 +72,29 @@ class ObjectRunner(Runner):
             "code": lambda b: blocks[b["number"]].record["code"],
             "around": lambda b: around[b["number"]],
         })
-        state = self.start(machine, {"hidden": False, "number": 0}, self.no_names(), self.start_world(program))
-        outputs, state, step = self.follow(machine, self.heap_host(program), state, most)
-        return blocks, outputs, state["world"], step
+        return blocks, machine, self.heap_host(program), ({"hidden": False, "number": 0}, self.no_names(), self.start_world(program))
+
+    def run(self, text, most=20000):
+        """The blocks, the outputs, the last state but one and the step that ends the run."""
+        blocks, machine, host, module = self.begin(text)
+        outputs, state, step = self.follow(machine, host, self.start(machine, *module), most)
+        return blocks, outputs, state, step
+
+    def bare_run(self, text, most=20000):
+        """What a run that nothing hooks into writes, the units that it took and its ending, stride by stride."""
+        return self.bare_outcome(*self.begin(text)[1:], most)
+
+    def bare_outcome(self, machine, host, module, most):
+        state = self.bare_start(machine, host, *module)
+        written = items(self.first_logged(machine, host, ("starts",), state))
+        while True:
+            stride = self.stride(machine, host, most, state)
+            if stride[0] == "is_stuck":
+                return written, None, stride
+            written += items(stride[1])
+            if stride[0] == "ends":
+                return written, stride[2], stride[3]
+            state = stride[2]
 
     def describe(self, value, heap):
         """A value, in the words of `record.describe`."""

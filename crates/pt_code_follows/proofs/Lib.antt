@@ -1,4 +1,4 @@
 mod SameExpressions
 pub mod SameStatements
-mod Agreement
+pub mod Agreement
 pub mod Objects

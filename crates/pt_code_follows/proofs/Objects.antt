@@ -116,13 +116,13 @@ same_block : (j k : Block) (o : Option Block) → o ≡ Some j → o ≡ Some k 
 same_block j k o is as_well = let there : Some j ≡ Some k = sym is ∙ as_well in cc
 
 module _ {V : Type 0} (null : V) where
-  code_same : (ss : Stms) (n : ℕ) (c : BlockCode) → code_piece (around_of null ss n) c ≡ code_piece (around_of {V = Unit {0}} tt ss n) c
+  pub code_same : (ss : Stms) (n : ℕ) (c : BlockCode) → code_piece (around_of null ss n) c ≡ code_piece (around_of {V = Unit {0}} tt ss n) c
   code_same ss n c =
       let g = naming_script ss in
       same-code {W = Unit {0}} null tt (λ within x. variable_in g n within (spelled_in g n x)) (spelled_in g n) (captured_in g) c
 
   -- an object of a block that has bytes shows what was written
-  shows : (ss : Stms) (n : ℕ) (block : Block) (object : CodeObject V) → (h : HasObject null ss n block object)
+  pub shows : (ss : Stms) (n : ℕ) (block : Block) (object : CodeObject V) → (h : HasObject null ss n block object)
       → Shows h.layout.written (code_of ss) (code_block h.layout) object
   shows ss n block object h =
       let b = code_block h.layout in
@@ -160,7 +160,7 @@ blocks_have_their_code null ss n block object none keeps h =
     (has, blocks_begin (around_of null ss n) object (code_block h.layout).starts block.code has)
 
 -- what the code of a block is asked by a machine of code
-object_of : {V : Type 0} (around : Around V) (object : CodeObject V) (starts : List Start) (c : BlockCode) → object.null ≡ around.null
+pub object_of : {V : Type 0} (around : Around V) (object : CodeObject V) (starts : List Start) (c : BlockCode) → object.null ≡ around.null
     → Code_at around object starts c → Of around object (iterates c) c
 object_of around object starts (B.of_module ss) null at = (refl, starts, at)
 object_of around object starts (B.of_function ss) null at = (refl, starts, at)

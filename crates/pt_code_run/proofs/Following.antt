@@ -56,14 +56,14 @@ module _ {V : Type 0} (source : Source V) (code : CodeSource V) (knows : (b : Bl
   turns b _ _ (at_match c t m d) = same b c t d _ _ (steps.follows (source.around b) (code.object b) c t m) refl refl
 
 module _ {V : Type 0} (around : Around V) (object : CodeObject V) where
-  abbrev start_of : Bool → Option V → State V
+  abbrev pub start_of : Bool → Option V → State V
   start_of g i = if g then slots.start_generator (or_null object.null i) else slots.start
 
-  abbrev Begins : Control V → State V → Type 0
+  abbrev pub Begins : Control V → State V → Type 0
   Begins c t = comp.Comes around object c t
 
   -- a block begins in code as it does in control
-  begin_by : (g : Bool) (c : Code) (i : Option V) → Of around object g c → Begins (start_code around c (or_null around.null i)) (start_of g i)
+  pub begin_by : (g : Bool) (c : Code) (i : Option V) → Of around object g c → Begins (start_code around c (or_null around.null i)) (start_of g i)
   begin_by g (B.of_module ss) i (e, starts, h) =
       subst (λ z. Begins (control.start around ss) (start_of z i)) (sym e) (steps.blocks_begin around object starts ss h)
   begin_by g (B.of_function ss) i (e, starts, h) =

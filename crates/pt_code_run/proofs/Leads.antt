@@ -173,7 +173,7 @@ module _ {V : Type 0} (source : Source V) (code : CodeSource V) (b : BlockId) wh
 
   -- so the act that comes next, or the end, has the same number
   pub same_destination : KnowsActs source code b → (c : Control V) (t : State V) → Reached source code b c t → Comes (source.around b) (code.object b) c t
-      → number_or_all (length (acts_of_code (source.code b))) (E.destination (source.around b) c) ≡ number_or_all (code.acts b) (D.destination (code.object b) (code.most_turns b) t)
+      → number_or_all (length (acts_of_code (source.code b))) (E.destination (source.around b) c) ≡ number_or_all (code.acts b) (D.destination (code.object b) (code.most_turns b t) t)
   same_destination knows c t r h =
       ap (λ n. number_or_all n (E.destination (source.around b) c)) knows.same_count
-      ∙ ap (number_or_all (code.acts b)) (same_number (source.around b) (code.object b) (code.most_turns b) c t h (reached_acts c t r) (knows.enough c t r))
+      ∙ ap (number_or_all (code.acts b)) (same_number (source.around b) (code.object b) (code.most_turns b t) c t h (reached_acts c t r) (knows.enough c t r h))

@@ -2,4 +2,4 @@ mod Beginnings
 mod States
 mod Jumps
 mod Leads
-mod Following
+pub mod Following

@@ -27,9 +27,9 @@ pub record CodeSource (V : Type 0) : Type 0 where
   -- the block is that of a generator expression, and begins with its first iterator
   pub iterates : BlockId → Bool
   pub jump : BlockId → Place V → (line : ℕ) → CodeJump V
-  -- how many acts the block has, and how many turns may lead from one to the next
+  -- how many acts the block has, and how many turns may lead from a state to the next one
   pub acts : BlockId → ℕ
-  pub most_turns : BlockId → ℕ
+  pub most_turns : BlockId → State V → ℕ
 
 -- code is at what comes next, or at the statement where a jump has landed, before it goes on
 pub data Position (V : Type 0) : Type 0 where
@@ -87,5 +87,5 @@ module _ {V : Type 0} (code : CodeSource V) where
     turn = turn;
     jump = jump;
     active = context_of;
-    destination = λ b q. number_or_all (code.acts b) (destinations.destination (code.object b) (code.most_turns b) (state_of q));
+    destination = λ b q. number_or_all (code.acts b) (destinations.destination (code.object b) (code.most_turns b (state_of q)) (state_of q));
   }

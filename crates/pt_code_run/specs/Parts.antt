@@ -19,7 +19,7 @@ use Rattle.pt_fits.specs.Fits.{IsLeast}
 use Rattle.pt_fits.specs.Jumps as S
 use Rattle.pt_fits.specs.Jumps.{Starts, Answer, Jumps}
 use Rattle.pt_comp.specs.Surroundings.{Surroundings}
-use Rattle.pt_comp.specs.Law.{Above, Match}
+use Rattle.pt_comp.specs.Law.{Above, Match, Comes}
 use Rattle.pt_comp_jumps.specs.Filled.{Filled, Stands}
 use Rattle.pt_comp_jumps.specs.Parts.{Begins, Fills, Closed, Around_place}
 use Rattle.pt_run.specs.Machine.{BlockId, no_statement, out_of_finally, into_block, is_act}
@@ -84,8 +84,8 @@ module _ {V : Type 0} (source : Source V) (code : CodeSource V) where
     pub acts : (c : Control V) (t : State V) (p : Place V) → Reached source code b c t → Match (source.around b) (code.object b) c t
         → is_act (turn (source.around b) c) ≡ true → place_of t ≡ Some p → InParts source code b block part ending (nest_at c) p
 
-  -- the machine knows how many acts a block has, and how many turns lead at most from one act to the next or to the end
+  -- the machine knows how many acts a block has, and how many turns lead at most from a state that stands for one of control to an act or to the end
   pub record KnowsActs (b : BlockId) : Type 0 where
     pub same_count : length (acts_of_code (source.code b)) ≡ code.acts b
-    pub enough : (c : Control V) (t : State V) → Reached source code b c t
-        → IsActOrEnd (slots.turn (code.object b) (unhindered (code.object b) (code.most_turns b) t))
+    pub enough : (c : Control V) (t : State V) → Reached source code b c t → Comes (source.around b) (code.object b) c t
+        → IsActOrEnd (slots.turn (code.object b) (unhindered (code.object b) (code.most_turns b t) t))

@@ -1,6 +1,5 @@
 -- The targets of a comprehension are bound in its region.
-use Rattle.std.proofs.Common.{◌≡◌, ℕ, Bool, true, false, ◌&&◌, ◌||◌, ◌==◌, List, ◌++◌, refl, bytes_eq, eq-eqb}
-use Rattle.std.proofs.lemmas.Slice.Eq.{bytes_eq-Decides}
+use Rattle.std.proofs.Common.{ℕ, true, false, ◌&&◌, ◌||◌, List, ◌++◌, ap}
 use Rattle.pt_scopes.specs.declared.region.Context.{Context}
 use Rattle.pt_scopes.specs.Mentions.{places_clauses, places_exp, places_target, places_targets}
 use Rattle.pt_scopes.specs.Names.{mangled}
@@ -10,16 +9,11 @@ use Rattle.pt_tree.specs.Syntax as S
 use Rattle.pt_tree.specs.Syntax.{Name, Clauses, Tgt, Tgts}
 use Rattle.pt_control.specs.Expressions.{all_target_names, clause_names, target_names}
 use Rattle.pt_next_numbers.proofs.Claims.{Every, every_as, every_both}
-use Rattle.pt_piece_names.proofs.Standing.{Binds, binds_left, binds_right}
-
-hit : (b c : Bool) → b ≡ true → c ≡ true → (((b && c) && true) || false) ≡ true
-hit true true is as_well = refl
-hit true false is as_well = as_well
-hit false c is as_well = is
+use Rattle.pt_piece_names.proofs.Standing.{Binds, binds_left, binds_right, is_of_itself}
 
 bound_name : (a : Context) (x : Name) (l : ℕ) → Binds (mention Bind a x l) a.region x
 unfolding mention
-bound_name a x l B = hit (a.region == a.region) (bytes_eq x x) (eq-eqb a.region a.region refl) ((bytes_eq-Decides x x).1 refl)
+bound_name a x l B = ap (λ b. (b && true) || false) (is_of_itself a.region x)
 
 module _ (a : Context) (c : Name) where
   abbrev pub All_bound : Part → List Name → Type 0

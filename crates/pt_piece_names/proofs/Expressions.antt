@@ -1,29 +1,28 @@
 -- The names in expressions, and the blocks in them.
-use Rattle.std.proofs.Common.{◌≡◌, ℕ, ◌+◌, Bool, true, false, if◌then◌else◌, List, [], ◌∷◌, ◌++◌, Option, Some, None, refl, ap, ◌∙◌, subst, append-nil, arith, codes}
-use Rattle.std.specs.Prelude.{slice_get}
-use Rattle.std.specs.Option.{unwrap_or}
+use Rattle.std.proofs.Common.{◌≡◌, ℕ, ◌+◌, Bool, true, List, [], ◌∷◌, ◌++◌, Option, Some, None, refl, ap, ◌∙◌, subst, append-nil, arith, codes}
 use Rattle.pt_scopes.specs.declared.region.Context.{Context}
-use Rattle.pt_scopes.specs.Mentions.{places_all, places_args, places_clauses, places_entries, places_exp, places_formals, places_links, places_made, places_named_parameter, places_opt, places_params, places_pieces, places_place, places_target, places_targets}
+use Rattle.pt_scopes.specs.Mentions.{places_all, places_args, places_clauses, places_entries, places_exp, places_formals, places_links, places_made, places_opt, places_params, places_pieces, places_place, places_target, places_targets}
 use Rattle.pt_scopes.specs.Names.{mangled}
-use Rattle.pt_scopes.specs.Places.{Part, ◌⨾◌, comprehension_context, misplaced, nothing}
+use Rattle.pt_scopes.specs.Places.{Part, ◌⨾◌, comprehension_context}
 use Rattle.pt_scopes.specs.Scope.{has, is_binding}
 use Rattle.pt_tree.specs.declared.expression.NamedParameter.{NamedParameter}
 use Rattle.pt_tree.specs.Syntax as S
 use Rattle.pt_tree.specs.Syntax.{Name, Exp, Exps, Opt, Pieces, Entries, Links, Args, Made, Clauses, Place, Tgt, Tgts, Formals}
 use Rattle.pt_tree.specs.Blocks as B
-use Rattle.pt_tree.specs.Blocks.{Block, blocks_all, blocks_args, blocks_clauses, blocks_entries, blocks_exp, blocks_formals, blocks_links, blocks_made, blocks_opt, blocks_params, blocks_pieces, blocks_place, blocks_target, blocks_targets, no_params}
+use Rattle.pt_tree.specs.Blocks.{Block, Code, blocks_all, blocks_args, blocks_clauses, blocks_entries, blocks_exp, blocks_formals, blocks_links, blocks_made, blocks_opt, blocks_params, blocks_pieces, blocks_place, blocks_target, blocks_targets, no_params}
 use Rattle.pt_tree.specs.Sizes.{size, opt_size, pieces_size, joins, clauses_size, target_size, formals_size}
+use Rattle.pt_numbering.specs.Numbered.{numbers_all, numbers_args, numbers_clauses, numbers_entries, numbers_exp, numbers_formals, numbers_links, numbers_made, numbers_opt, numbers_params, numbers_pieces, numbers_place, numbers_target, numbers_targets}
 use Rattle.pt_control.specs.Turn.{Around}
 use Rattle.pt_control.specs.Expressions.{clause_names, target_names}
 use Rattle.pt_naming.specs.Around.{around_by}
 use Rattle.pt_naming.specs.Nexts.{next_if, nexts_all, nexts_args, nexts_clauses, nexts_entries, nexts_exp, nexts_formals, nexts_links, nexts_made, nexts_operands, nexts_opt, nexts_params, nexts_pieces, nexts_place, nexts_target, nexts_targets}
-use Rattle.pt_naming.specs.Script.{Naming, class_name_of, shape_in, spelled_in}
-use Rattle.pt_stm_pieces.specs.Names.{Args_named, Clauses_named, Entries_named, Exp_named, Exps_named, Formals_named, Links_named, Made_named, Operands_named, Part_named, Pieces_named, Place_named, Target_named, Targets_named}
+use Rattle.pt_naming.specs.Script.{Naming, spelled_in}
+use Rattle.pt_stm_pieces.specs.Names.{Args_named, Code_named, Clauses_named, Entries_named, Exp_named, Exps_named, Formals_named, Links_named, Made_named, Operands_named, Part_named, Pieces_named, Place_named, Target_named, Targets_named}
 use Rattle.pt_next_numbers.proofs.Claims.{Every}
 use Rattle.pt_piece_names.specs.Laws.{all_local}
 use Rattle.pt_piece_names.proofs.Arguments.{plain_roles}
 use Rattle.pt_piece_names.proofs.Bound.{All_bound, both_bound, bound_clauses, bound_target, left_bound, right_bound}
-use Rattle.pt_piece_names.proofs.Standing.{Held, IsAt, IsComprehension, Walked, comprehension_walked, function_walked, generator_walked, gives, leaf, left_four, regroup, same_blocks, same_numbers, told, two}
+use Rattle.pt_piece_names.proofs.Standing.{IsAt, IsComprehension, Walked, comprehension_walked, function_walked, generator_walked, gives, leaf, left_four, number_if, parameter_walked, placed, regroup, same_lists, spelled_at, told, two, two_of}
 use Rattle.pt_piece_names.proofs.Own.{Comprehends, own_names}
 
 -- an expression that may be there
@@ -82,10 +81,6 @@ every_at : (c : Name) (f : Part) (r B : ℕ) (xs : List Name) → Every (λ x. (
 every_at c f r B [] h = tt
 every_at c f r B (x ∷ xs) h = (h.0 B, every_at c f r B xs h.1)
 
-number_if : (u : Bool) (n : ℕ) → u ≡ true → next_if u n ≡ Some n
-number_if true n is = refl
-number_if false n is = absurd (let no : false ≡ true = is in cc)
-
 names_bound : (b : Context) (c : Name) (m : Made) (t : Tgt) (a : Context) (it : Exp) (cs : Clauses)
     → All_bound b c (places_made b c m ⨾ (places_target b c t ⨾ (places_exp a c it ⨾ places_clauses b c cs))) (target_names t ++ clause_names cs)
 names_bound b c m t a it cs =
@@ -97,56 +92,46 @@ names_bound b c m t a it cs =
     (right_bound b c f (p ⨾ (q ⨾ r)) (target_names t) (left_bound b c p (q ⨾ r) (target_names t) (bound_target b c t)))
     (right_bound b c f (p ⨾ (q ⨾ r)) (clause_names cs) (right_bound b c p (q ⨾ r) (clause_names cs) (right_bound b c q r (clause_names cs) (bound_clauses b c cs))))
 
-module _ {V : Type 0} (null : V) (g : Naming) (all : Comprehends g) where
-  abbrev pub Named : (u : Bool) → (h : ℕ) → (c : Name) → (P : Around V → Type 0) → Type 0
-  Named u h c P = Held null g u h c P
+-- names in a block's code are found as they may be where arguments are plain
+abbrev pub Found : {V : Type 0} → (null : V) → Naming → (block region : ℕ) → Code → Type 0
+Found null g b r k = Code_named (all_local null) k → Code_named (around_by null g b) k
 
-  abbrev pub In : (u : Bool) → Context → (c : Name) → (f : Part) → (ns : List (Option ℕ)) → (bs : List Block) → (P : Around V → Type 0) → Type 0
-  In u a c f ns bs P = Walked null g c f ns bs (Named u a.home c P)
+module _ {V : Type 0} (null : V) (g : Naming) (numbers : List ℕ) (all : Comprehends g) where
+  -- so they are in a part of a block
+  abbrev pub Named : (u : Bool) → (h : ℕ) → (c : Name) → (P : Around V → Type 0) → Type 0
+  Named u h c P = (b : ℕ) → IsAt g b h c → u ≡ true → P (all_local null) → P (around_by null g b)
+
+  abbrev pub Walk : (c : Name) → (f : Part) → (ns : List (Option ℕ)) → (xs : List ℕ) → (bs : List Block) → (P : Type 0) → Type 0
+  Walk c f ns xs bs P = Walked g numbers (Found null g) c f ns xs bs P
+
+  abbrev pub In : (u : Bool) → Context → (c : Name) → (f : Part) → (ns : List (Option ℕ)) → (xs : List ℕ) → (bs : List Block) → (P : Around V → Type 0) → Type 0
+  In u a c f ns xs bs P = Walk c f ns xs bs (Named u a.home c P)
 
   -- what is named in a part where what stands behind it is
-  abbrev pub Leads : (u : Bool) → Context → (c : Name) → (f : Part) → (ns : List (Option ℕ)) → (bs : List Block) → (behind P : Around V → Type 0) → Type 0
-  Leads u a c f ns bs F P = Walked null g c f ns bs (Named u a.home c F → Named u a.home c P)
+  abbrev pub Leads : (u : Bool) → Context → (c : Name) → (f : Part) → (ns : List (Option ℕ)) → (xs : List ℕ) → (bs : List Block) → (behind P : Around V → Type 0)
+      → Type 0
+  Leads u a c f ns xs bs F P = Walk c f ns xs bs (Named u a.home c F → Named u a.home c P)
 
   -- what is named from a number on is so from the same number
   pub moved : (u : Bool) (h : ℕ) (c : Name) (P : Around V → ℕ → Type 0) (m k : ℕ) → m ≡ k → Named u h c (λ r. P r m) → Named u h c (λ r. P r k)
   moved u h c P m k is f = subst (λ j. Named u h c (λ r. P r j)) is f
-
-  -- what a block of an expression runs, in the block itself
-  pub spelled_at : (b r : ℕ) (c : Name) (k : Block) → slice_get g.places.blocks b ≡ Some r → slice_get g.blocks b ≡ Some (shape_in c k) → k.class ≡ None → IsAt null g b r c
-  spelled_at b r c k at shape outside = record {
-    region = at;
-    spelled = λ x. ap (λ o. mangled (class_name_of o) x) shape ∙ ap (λ (o : Option Name). mangled (unwrap_or o c) x) outside;
-  }
-
-  pub placed : {c : Name} {P : Type 0} (b : Bool) (a : Context) (l : ℕ) → P → Walked null g c (if b then nothing else misplaced a l) [] [] P
-  placed true a l p = leaf p
-  placed false a l p = told _ a [] l p
-
-  parameter : (b : Context) (c : Name) (p : Option NamedParameter) → Walked null g c (places_named_parameter b c p) [] [] (Unit {0})
-  parameter b c None = leaf tt
-  parameter b c (Some p) = told _ b (mangled c p.name) p.line.0 tt
-
-  -- a part behind one that names nothing
-  pub two_of : {c : Name} {f h : Part} {ms : List (Option ℕ)} {ks : List Block} {P : Type 0}
-      → Walked null g c f [] [] (Unit {0}) → Walked null g c h ms ks P → Walked null g c (f ⨾ h) ms ks P
-  two_of v w = gives (λ s. s.1) (two v w)
 
   -- the defaults of parameters, which are names of the block b
   abbrev pub Defaults : Formals → Formals → (w : List ℕ) → Around V → ℕ → Type 0
   Defaults ps ks w r n = Formals_named r ps n w (λ m. Formals_named r ks m w (λ j. Unit {0}))
 
   params_walked : (u : Bool) (ps : Formals) (s : Option NamedParameter) (ks : Formals) (d : Option NamedParameter) (n : ℕ) (w : List ℕ) (a b : Context) (c : Name)
-      → In u a c (places_formals a b c ps) (nexts_formals u ps n) (blocks_formals ps) (λ r. Formals_named r ps n w (λ j. Unit {0}))
-      → In u a c (places_formals a b c ks) (nexts_formals u ks (n + formals_size ps)) (blocks_formals ks) (λ r. Formals_named r ks (n + formals_size ps) w (λ j. Unit {0}))
-      → In u a c (places_params a b c (S.parameters ps s ks d)) (nexts_params u (S.parameters ps s ks d) n) (blocks_params (S.parameters ps s ks d)) (λ r. Defaults ps ks w r n)
+      → In u a c (places_formals a b c ps) (nexts_formals u ps n) (numbers_formals ps) (blocks_formals ps) (λ r. Formals_named r ps n w (λ j. Unit {0}))
+      → In u a c (places_formals a b c ks) (nexts_formals u ks (n + formals_size ps)) (numbers_formals ks) (blocks_formals ks) (λ r. Formals_named r ks (n + formals_size ps) w (λ j. Unit {0}))
+      → In u a c (places_params a b c (S.parameters ps s ks d)) (nexts_params u (S.parameters ps s ks d) n) (numbers_params (S.parameters ps s ks d))
+      (blocks_params (S.parameters ps s ks d)) (λ r. Defaults ps ks w r n)
   params_walked u ps s ks d n w a b c first second =
-      same_numbers (ap (λ ms. nexts_formals u ps n ++ ms) (append-nil (nexts_formals u ks (n + formals_size ps))))
-      (same_blocks (ap (λ bs. blocks_formals ps ++ bs) (append-nil (blocks_formals ks)))
+      same_lists (ap (λ ms. nexts_formals u ps n ++ ms) (append-nil (nexts_formals u ks (n + formals_size ps))))
+      (ap (λ xs. numbers_formals ps ++ xs) (append-nil (numbers_formals ks))) (ap (λ bs. blocks_formals ps ++ bs) (append-nil (blocks_formals ks)))
       (gives (λ p i at is h.
       let parts = formals_split (all_local null) ps n w (λ m. Formals_named (all_local null) ks m w (λ j. Unit {0})) h in
       formals_join (around_by null g i) ps n w (λ m. Formals_named (around_by null g i) ks m w (λ j. Unit {0})) (p.0 i at is parts.0) (p.1.1.0 i at is parts.1))
-      (two first (two (parameter b c s) (two second (parameter b c d))))))
+      (two first (two (parameter_walked b c s) (two second (parameter_walked b c d)))))
 
   -- an item behind clauses
   clauses_lead : (u : Bool) (h : ℕ) (c : Name) (cs : Clauses) (n : ℕ) (w : List ℕ) (G : Around V → ℕ → Type 0) → Named u h c (λ q. Clauses_named q cs n w (λ j. Unit {0}))
@@ -162,7 +147,7 @@ module _ {V : Type 0} (null : V) (g : Naming) (all : Comprehends g) where
 
   mutual
     pub exp : (u : Bool) (e : Exp) (n : ℕ) (w : List ℕ) (a : Context) (c : Name)
-        → In u a c (places_exp a c e) (nexts_exp u e n) (blocks_exp e) (λ r. Exp_named r e n w)
+        → In u a c (places_exp a c e) (nexts_exp u e n) (numbers_exp e) (blocks_exp e) (λ r. Exp_named r e n w)
     exp u (S.constant l k) n w a c = leaf (λ b at is h. tt)
     exp u (S.name l x) n w a c = told _ a (mangled c x) l (λ b at is h. tt)
     exp u (S.joined l ps) n w a c = pieces u ps n w a c
@@ -196,11 +181,11 @@ module _ {V : Type 0} (null : V) (g : Naming) (all : Comprehends g) where
         (two (exp u f n w a c) (args u xs (n + size f) w a c))
     exp u (S.lambda l i (S.parameters ps s ks d) e) n w a c =
         let k : Block = record { name = codes "<lambda>"; first_line = l; class = None; params = S.parameters ps s ks d; code = B.of_lambda l e } in
-        function_walked a (λ b. places_params a b c (S.parameters ps s ks d) ⨾ places_exp b c e) k
-        (λ r. Named u a.home c (λ q. Defaults ps ks w q n) × Named true r c (λ q. Exp_named q e 0 []))
+        function_walked a (λ b. places_params a b c (S.parameters ps s ks d) ⨾ places_exp b c e) i k
+        (λ b. Named u a.home c (λ q. Defaults ps ks w q n) × Named true b.home c (λ q. Exp_named q e 0 []))
         refl (λ b. two (params_walked u ps s ks d n w a b c (formals u ps n w a b c) (formals u ks (n + formals_size ps) w a b c)) (exp true e 0 [] b c))
-        (λ r h b at shape q. h.1 b (spelled_at b r c k at shape refl) refl q)
-        (λ r h. h.0)
+        (λ r s h b at shape q. h.1 b (spelled_at g b r c k at shape refl) refl q)
+        (λ r s h. h.0)
     exp u (S.comprehension l m fl t it cs) n w a c =
         let v : List ℕ = (n + size it + 1 + 1) ∷ w in
         let second : n + size it + 2 ≡ n + size it + 1 + 1 = omega arith in
@@ -213,17 +198,18 @@ module _ {V : Type 0} (null : V) (g : Naming) (all : Comprehends g) where
         (λ r. Named u a.home c F × (Named u a.home c (λ q. Target_named q t (n + size it + 3) v) × (Named u a.home c (λ q. Exp_named q it n w)
         × Named u a.home c (λ q. Clauses_named q cs (n + size it + 3 + target_size t) v (λ j. Unit {0})))))
         (λ r. let b = comprehension_context a r in
-        same_numbers (left_four (nexts_made u m (n + size it + 3 + target_size t + clauses_size cs)) (nexts_target u t (n + size it + 3)) (nexts_exp u it n)
+        same_lists (left_four (nexts_made u m (n + size it + 3 + target_size t + clauses_size cs)) (nexts_target u t (n + size it + 3)) (nexts_exp u it n)
         (nexts_clauses u cs (n + size it + 3 + target_size t)))
-        (same_blocks (left_four (blocks_made m) (blocks_target t) (blocks_exp it) (blocks_clauses cs))
+        (left_four (numbers_made m) (numbers_target t) (numbers_exp it) (numbers_clauses cs))
+        (left_four (blocks_made m) (blocks_target t) (blocks_exp it) (blocks_clauses cs))
         (two (made u m (n + size it + 3 + target_size t + clauses_size cs) v b c) (two (target u t (n + size it + 3) v b c)
-        (two (exp u it n w a c) (clauses u cs (n + size it + 3 + target_size t) v b c))))))
+        (two (exp u it n w a c) (clauses u cs (n + size it + 3 + target_size t) v b c)))))
         (λ r B. let b = comprehension_context a r in every_at c (λ C. (places_made b c m ⨾ (places_target b c t ⨾ (places_exp a c it ⨾ places_clauses b c cs))) C) r B
         (target_names t ++ clause_names cs) (names_bound b c m t a it cs))
         (λ B k s b at is h. (
           s.1.1.0 b at is h.0,
           own_names null g all a c (n + size it + 1 + 1) (target_names t ++ clause_names cs) B
-              (subst (λ o. IsComprehension null g a c o (target_names t ++ clause_names cs) B) (number_if u (n + size it + 2) is ∙ ap (λ j. Some j) second) k) b at w
+              (subst (λ o. IsComprehension g a c o (target_names t ++ clause_names cs) B) (number_if u (n + size it + 2) is ∙ ap (λ j. Some j) second) k) b at w
               (target_names t ++ clause_names cs) k.binds,
           moved u a.home c (λ q j. Target_named q t j v) (n + size it + 3) (n + size it + 1 + 1 + 1) third s.1.0 b at is h.2,
           moved u a.home c (λ q j. Clauses_named q cs j v (G q)) (n + size it + 3 + target_size t) (n + size it + 1 + 1 + 1 + target_size t) behind
@@ -233,34 +219,35 @@ module _ {V : Type 0} (null : V) (g : Naming) (all : Comprehends g) where
         let k : Block = record { name = codes "<genexpr>"; first_line = l; class = None; params = no_params; code = B.of_generator l e fl t cs } in
         let F : Around V → Type 0 = λ r. Exp_named r e (1 + target_size t + clauses_size cs) [] in
         let G : Around V → ℕ → Type 0 = λ r j. Exp_named r e j [] in
-        generator_walked a (λ b. places_exp b c e ⨾ (places_target b c t ⨾ (places_exp a c it ⨾ places_clauses b c cs))) k
-        (λ r. Named true r c F × (Named true r c (λ q. Target_named q t 1 []) × (Named u a.home c (λ q. Exp_named q it n w)
-        × Named true r c (λ q. Clauses_named q cs (1 + target_size t) [] (λ j. Unit {0})))))
-        refl (λ b. same_numbers (left_four (nexts_exp true e (1 + target_size t + clauses_size cs)) (nexts_target true t 1) (nexts_exp u it n) (nexts_clauses true cs (1 + target_size t)))
-        (same_blocks (left_four (blocks_exp e) (blocks_target t) (blocks_exp it) (blocks_clauses cs))
-        (two (exp true e (1 + target_size t + clauses_size cs) [] b c) (two (target true t 1 [] b c) (two (exp u it n w a c) (clauses true cs (1 + target_size t) [] b c))))))
-        (λ r h b at shape q. let here = spelled_at b r c k at shape refl in (h.1.0 b here refl q.0, clauses_lead true r c cs (1 + target_size t) [] G h.1.1.1 h.0 b here refl q.1))
-        (λ r h. h.1.1.0)
+        generator_walked a (λ b. places_exp b c e ⨾ (places_target b c t ⨾ (places_exp a c it ⨾ places_clauses b c cs))) i k
+        (λ b. Named true b.home c F × (Named true b.home c (λ q. Target_named q t 1 []) × (Named u a.home c (λ q. Exp_named q it n w)
+        × Named true b.home c (λ q. Clauses_named q cs (1 + target_size t) [] (λ j. Unit {0})))))
+        refl (λ b. same_lists (left_four (nexts_exp true e (1 + target_size t + clauses_size cs)) (nexts_target true t 1) (nexts_exp u it n) (nexts_clauses true cs (1 + target_size t)))
+        (left_four (numbers_exp e) (numbers_target t) (numbers_exp it) (numbers_clauses cs))
+        (left_four (blocks_exp e) (blocks_target t) (blocks_exp it) (blocks_clauses cs))
+        (two (exp true e (1 + target_size t + clauses_size cs) [] b c) (two (target true t 1 [] b c) (two (exp u it n w a c) (clauses true cs (1 + target_size t) [] b c)))))
+        (λ r s h b at shape q. let here = spelled_at g b r c k at shape refl in (h.1.0 b here refl q.0, clauses_lead true r c cs (1 + target_size t) [] G h.1.1.1 h.0 b here refl q.1))
+        (λ r s h. h.1.1.0)
     exp u (S.yield l S.absent) n w a c = two_of (placed a.may_give a l tt) (leaf (λ b at is h. tt))
     exp u (S.yield l (S.given e)) n w a c = two_of (placed a.may_give a l tt) (exp u e n w a c)
     exp u (S.yield_from l e) n w a c = two_of (placed a.may_give a l tt) (exp u e n w a c)
 
-    exps : (u : Bool) (es : Exps) (n : ℕ) (w : List ℕ) (a : Context) (c : Name) → In u a c (places_all a c es) (nexts_all u es n) (blocks_all es) (λ r. Exps_named r es n w)
+    exps : (u : Bool) (es : Exps) (n : ℕ) (w : List ℕ) (a : Context) (c : Name) → In u a c (places_all a c es) (nexts_all u es n) (numbers_all es) (blocks_all es) (λ r. Exps_named r es n w)
     exps u S.no_exps n w a c = leaf (λ b at is h. tt)
     exps u (S.more_exps e es) n w a c = gives (λ s b at is h. (s.0 b at is h.0, s.1 b at is h.1)) (two (exp u e n w a c) (exps u es (n + size e) w a c))
 
     operands : (u : Bool) (es : Exps) (n : ℕ) (w : List ℕ) (a : Context) (c : Name)
-        → In u a c (places_all a c es) (nexts_operands u es n) (blocks_all es) (λ r. Operands_named r es n w)
+        → In u a c (places_all a c es) (nexts_operands u es n) (numbers_all es) (blocks_all es) (λ r. Operands_named r es n w)
     operands u S.no_exps n w a c = leaf (λ b at is h. tt)
     operands u (S.more_exps e es) n w a c =
         gives (λ s b at is h. (s.0 b at is h.0, s.1 b at is h.1)) (two (exp u e (n + 1) w a c) (operands u es (n + 1 + size e) w a c))
 
-    option : (u : Bool) (o : Opt) (n : ℕ) (w : List ℕ) (a : Context) (c : Name) → In u a c (places_opt a c o) (nexts_opt u o n) (blocks_opt o) (λ r. Given r o n w)
+    option : (u : Bool) (o : Opt) (n : ℕ) (w : List ℕ) (a : Context) (c : Name) → In u a c (places_opt a c o) (nexts_opt u o n) (numbers_opt o) (blocks_opt o) (λ r. Given r o n w)
     option u S.absent n w a c = leaf (λ b at is h. tt)
     option u (S.given e) n w a c = exp u e n w a c
 
     pieces : (u : Bool) (ps : Pieces) (n : ℕ) (w : List ℕ) (a : Context) (c : Name)
-        → In u a c (places_pieces a c ps) (nexts_pieces u ps n) (blocks_pieces ps) (λ r. Pieces_named r ps n w)
+        → In u a c (places_pieces a c ps) (nexts_pieces u ps n) (numbers_pieces ps) (blocks_pieces ps) (λ r. Pieces_named r ps n w)
     pieces u S.no_pieces n w a c = leaf (λ b at is h. tt)
     pieces u (S.literal l t r) n w a c = pieces u r (n + 1) w a c
     pieces u (S.field l e k ps r) n w a c = gives (λ s b at is h. (s.0.0 b at is h.0, s.0.1 b at is h.1, s.1 b at is h.2))
@@ -268,7 +255,7 @@ module _ {V : Type 0} (null : V) (g : Naming) (all : Comprehends g) where
         (two (two (exp u e n w a c) (pieces u ps (n + size e) w a c)) (pieces u r (n + size e + pieces_size ps + joins ps + 1) w a c)))
 
     entries : (u : Bool) (es : Entries) (n : ℕ) (w : List ℕ) (a : Context) (c : Name)
-        → In u a c (places_entries a c es) (nexts_entries u es n) (blocks_entries es) (λ r. Entries_named r es n w)
+        → In u a c (places_entries a c es) (nexts_entries u es n) (numbers_entries es) (blocks_entries es) (λ r. Entries_named r es n w)
     entries u S.no_entries n w a c = leaf (λ b at is h. tt)
     entries u (S.entry k v r) n w a c = gives (λ s b at is h. (s.0.0 b at is h.0, s.0.1 b at is h.1, s.1 b at is h.2))
         (regroup (places_exp a c k) (places_exp a c v) (places_entries a c r)
@@ -276,25 +263,25 @@ module _ {V : Type 0} (null : V) (g : Naming) (all : Comprehends g) where
 
     -- n numbers the decision before the first
     links : (u : Bool) (ls : Links) (n : ℕ) (w : List ℕ) (a : Context) (c : Name)
-        → In u a c (places_links a c ls) (nexts_links u ls (n + 1)) (blocks_links ls) (λ r. Links_named r ls n w)
+        → In u a c (places_links a c ls) (nexts_links u ls (n + 1)) (numbers_links ls) (blocks_links ls) (λ r. Links_named r ls n w)
     links u S.no_links n w a c = leaf (λ b at is h. tt)
     links u (S.link o e r) n w a c =
         gives (λ s b at is h. (s.0 b at is h.0, s.1 b at is h.1)) (two (exp u e (n + 1 + 1) w a c) (links u r (n + 1 + 1 + size e) w a c))
 
-    args : (u : Bool) (xs : Args) (n : ℕ) (w : List ℕ) (a : Context) (c : Name) → In u a c (places_args a c xs) (nexts_args u xs n) (blocks_args xs) (λ r. Args_named r xs n w)
+    args : (u : Bool) (xs : Args) (n : ℕ) (w : List ℕ) (a : Context) (c : Name) → In u a c (places_args a c xs) (nexts_args u xs n) (numbers_args xs) (blocks_args xs) (λ r. Args_named r xs n w)
     args u S.no_args n w a c = leaf (λ b at is h. tt)
     args u (S.positional e r) n w a c = gives (λ s b at is h. (s.0 b at is h.0, s.1 b at is h.1)) (two (exp u e n w a c) (args u r (n + size e) w a c))
     args u (S.named x e r) n w a c = gives (λ s b at is h. (s.0 b at is h.0, s.1 b at is h.1)) (two (exp u e n w a c) (args u r (n + size e) w a c))
     args u (S.spread e r) n w a c = gives (λ s b at is h. (s.0 b at is h.0, s.1 b at is h.1)) (two (exp u e n w a c) (args u r (n + size e + 1) w a c))
     args u (S.spread_named e r) n w a c = gives (λ s b at is h. (s.0 b at is h.0, s.1 b at is h.1)) (two (exp u e n w a c) (args u r (n + size e + 1) w a c))
 
-    made : (u : Bool) (m : Made) (n : ℕ) (w : List ℕ) (a : Context) (c : Name) → In u a c (places_made a c m) (nexts_made u m n) (blocks_made m) (λ r. Made_named r m n w)
+    made : (u : Bool) (m : Made) (n : ℕ) (w : List ℕ) (a : Context) (c : Name) → In u a c (places_made a c m) (nexts_made u m n) (numbers_made m) (blocks_made m) (λ r. Made_named r m n w)
     made u (S.a_list e) n w a c = exp u e n w a c
     made u (S.a_set e) n w a c = exp u e n w a c
     made u (S.a_dict k v) n w a c = gives (λ s b at is h. (s.0 b at is h.0, s.1 b at is h.1)) (two (exp u k n w a c) (exp u v (n + size k) w a c))
 
     clauses : (u : Bool) (cs : Clauses) (n : ℕ) (w : List ℕ) (a : Context) (c : Name)
-        → In u a c (places_clauses a c cs) (nexts_clauses u cs n) (blocks_clauses cs) (λ r. Clauses_named r cs n w (λ j. Unit {0}))
+        → In u a c (places_clauses a c cs) (nexts_clauses u cs n) (numbers_clauses cs) (blocks_clauses cs) (λ r. Clauses_named r cs n w (λ j. Unit {0}))
     clauses u S.no_clauses n w a c = leaf (λ b at is h. tt)
     clauses u (S.only_if e cs) n w a c =
         gives (λ s b at is h. (s.0 b at is h.0, s.1 b at is h.1)) (two (exp u e n w a c) (clauses u cs (n + size e + 1) w a c))
@@ -309,25 +296,25 @@ module _ {V : Type 0} (null : V) (g : Naming) (all : Comprehends g) where
         (regroup (places_target a c t) (places_exp a c it) (places_clauses a c cs)
         (two (two (target u t (n + size it + 2) w a c) (exp u it n w a c)) (clauses u cs (n + size it + 2 + target_size t) w a c)))
 
-    pub place : (u : Bool) (p : Place) (n : ℕ) (w : List ℕ) (a : Context) (c : Name) → In u a c (places_place a c p) (nexts_place u p n) (blocks_place p) (λ r. Place_named r p n w)
+    pub place : (u : Bool) (p : Place) (n : ℕ) (w : List ℕ) (a : Context) (c : Name) → In u a c (places_place a c p) (nexts_place u p n) (numbers_place p) (blocks_place p) (λ r. Place_named r p n w)
     place u (S.name_at l x) n w a c = told _ a (mangled c x) l (λ b at is h. tt)
     place u (S.attribute_at l e x) n w a c = exp u e n w a c
     place u (S.item_at l e i) n w a c = gives (λ s b at is h. (s.0 b at is h.0, s.1 b at is h.1)) (two (exp u e n w a c) (exp u i (n + size e) w a c))
 
     pub target : (u : Bool) (t : Tgt) (n : ℕ) (w : List ℕ) (a : Context) (c : Name)
-        → In u a c (places_target a c t) (nexts_target u t n) (blocks_target t) (λ r. Target_named r t n w)
+        → In u a c (places_target a c t) (nexts_target u t n) (numbers_target t) (blocks_target t) (λ r. Target_named r t n w)
     target u (S.single p) n w a c = place u p n w a c
     target u (S.several l f ts) n w a c = targets u ts (n + 1) w a c
     target u (S.starred l t) n w a c = target u t n w a c
 
     pub targets : (u : Bool) (ts : Tgts) (n : ℕ) (w : List ℕ) (a : Context) (c : Name)
-        → In u a c (places_targets a c ts) (nexts_targets u ts n) (blocks_targets ts) (λ r. Targets_named r ts n w)
+        → In u a c (places_targets a c ts) (nexts_targets u ts n) (numbers_targets ts) (blocks_targets ts) (λ r. Targets_named r ts n w)
     targets u S.no_targets n w a c = leaf (λ b at is h. tt)
     targets u (S.more_targets t ts) n w a c =
         gives (λ s b at is h. (s.0 b at is h.0, s.1 b at is h.1)) (two (target u t n w a c) (targets u ts (n + target_size t) w a c))
 
     formals : (u : Bool) (ps : Formals) (n : ℕ) (w : List ℕ) (a b : Context) (c : Name)
-        → In u a c (places_formals a b c ps) (nexts_formals u ps n) (blocks_formals ps) (λ r. Formals_named r ps n w (λ j. Unit {0}))
+        → In u a c (places_formals a b c ps) (nexts_formals u ps n) (numbers_formals ps) (blocks_formals ps) (λ r. Formals_named r ps n w (λ j. Unit {0}))
     formals u S.no_formals n w a b c = leaf (λ i at is h. tt)
     formals u (S.formal l x t S.absent r) n w a b c =
         let same : n + 0 ≡ n = omega arith in
@@ -337,7 +324,7 @@ module _ {V : Type 0} (null : V) (g : Naming) (all : Comprehends g) where
         (two (told {P = Unit {0}} _ b (mangled c x) l tt) (two (exp u e n w a c) (formals u r (n + size e) w a b c)))
 
   pub params : (u : Bool) (ps : Formals) (s : Option NamedParameter) (ks : Formals) (d : Option NamedParameter) (n : ℕ) (w : List ℕ) (a b : Context) (c : Name)
-      → In u a c (places_params a b c (S.parameters ps s ks d)) (nexts_params u (S.parameters ps s ks d) n) (blocks_params (S.parameters ps s ks d))
+      → In u a c (places_params a b c (S.parameters ps s ks d)) (nexts_params u (S.parameters ps s ks d) n) (numbers_params (S.parameters ps s ks d)) (blocks_params (S.parameters ps s ks d))
       (λ r. Defaults ps ks w r n)
   params u ps s ks d n w a b c =
       params_walked u ps s ks d n w a b c (formals u ps n w a b c) (formals u ks (n + formals_size ps) w a b c)

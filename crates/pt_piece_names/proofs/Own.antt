@@ -57,7 +57,7 @@ owned_is g r x is =
     subst (λ (v : Variable). IsOwn v.scope) (sym here) (kept (is_captured g r x))
 
 module _ {V : Type 0} (null : V) (g : Naming) (all : Comprehends g) where
-  own_name : (a : Context) (c : Name) (n : ℕ) (names : List Name) (B : ℕ) → IsComprehension null g a c (Some n) names B → (b : ℕ) → IsAt null g b a.home c
+  own_name : (a : Context) (c : Name) (n : ℕ) (names : List Name) (B : ℕ) → IsComprehension g a c (Some n) names B → (b : ℕ) → IsAt g b a.home c
       → (within : List ℕ) (x : Name) → has is_binding g.places.mentions B (mangled c x) ≡ true → IsOwn ((around_by null g b).variable (n ∷ within) x).scope
   own_name a c n names B k b at within x binds =
       let p = g.places in
@@ -73,7 +73,7 @@ module _ {V : Type 0} (null : V) (g : Naming) (all : Comprehends g) where
       ap (λ z. seen_if p (comprehension_in g (slice_get p.blocks b) n) z) (at.spelled x) ∙ ap (λ o. seen_if p o y) place in
       subst (λ (v : Variable). IsOwn v.scope) (sym is) (owned_is p B y owner)
 
-  pub own_names : (a : Context) (c : Name) (n : ℕ) (all_names : List Name) (B : ℕ) → IsComprehension null g a c (Some n) all_names B → (b : ℕ) → IsAt null g b a.home c
+  pub own_names : (a : Context) (c : Name) (n : ℕ) (all_names : List Name) (B : ℕ) → IsComprehension g a c (Some n) all_names B → (b : ℕ) → IsAt g b a.home c
       → (within : List ℕ) (xs : List Name) → Every (λ x. has is_binding g.places.mentions B (mangled c x) ≡ true) xs
       → AllOwn (map ((around_by null g b).variable (n ∷ within)) xs)
   own_names a c n names B k b at within [] h = tt

@@ -1,5 +1,5 @@
 -- The names in the blocks of a script.
-use Rattle.std.proofs.Common.{◌≡◌, ℕ, zero, suc, ◌+◌, List, [], ◌∷◌, map, Some, None, refl, ap, ◌∙◌, subst, arith}
+use Rattle.std.proofs.Common.{◌≡◌, ℕ, zero, suc, List, [], ◌∷◌, map, Some, None, refl, ap}
 use Rattle.std.specs.Prelude.{slice_get}
 use Rattle.pt_scopes.specs.BlockKinds.{code_kind}
 use Rattle.pt_scopes.specs.declared.region.Region.{Region}
@@ -8,54 +8,46 @@ use Rattle.pt_scopes.specs.Mentions.{places_script, places_stms}
 use Rattle.pt_scopes.specs.Names.{mangled}
 use Rattle.pt_scopes.specs.Places.{module_context, only_module}
 use Rattle.pt_tree.specs.Syntax.{Stms}
-use Rattle.pt_tree.specs.Blocks.{Block, blocks_script}
+use Rattle.pt_tree.specs.Blocks.{Block, Code, blocks_script}
+use Rattle.pt_numbering.specs.Numbered.{numbers_stms}
 use Rattle.pt_naming.specs.Nexts.{nexts_stms}
 use Rattle.pt_naming.specs.Script.{Naming, class_name_of, naming_script, shape_in}
 use Rattle.pt_next_numbers.proofs.Found.{found}
 use Rattle.pt_piece_names.specs.Laws.{NamesAreFound}
-use Rattle.pt_piece_names.proofs.Standing.{All_good, Good, Stands, right_stands}
+use Rattle.pt_piece_names.proofs.Standing.{All_good, Stands, good_at, itself, right_stands}
 use Rattle.pt_piece_names.proofs.Own.{Comprehends}
 use Rattle.pt_piece_names.proofs.Quiet.{all_undeclared}
+use Rattle.pt_piece_names.proofs.Expressions.{Found}
 use Rattle.pt_piece_names.proofs.Statements.{stms}
 
 comprehends : (ss : Stms) → Comprehends (naming_script ss)
 comprehends ss = record { found = found ss; undeclared = all_undeclared ss }
 
--- a script stands in itself, from its beginning
-itself : (g : Naming) → Stands g 0 g.places g.nexts
-itself g = record {
-  regions = λ i r is. let same : 0 + i ≡ i = omega arith in ap (λ j. slice_get g.places.regions j) same ∙ is;
-  nexts = λ i m is. let same : 0 + i ≡ i = omega arith in ap (λ j. slice_get g.nexts j) same ∙ is;
-  binds = λ r x is. is;
-}
-
-good_at : {V : Type 0} (null : V) (g : Naming) (rs : List ℕ) (bs : List Block) → All_good null g [] rs bs → (n : ℕ) (k : Block) → slice_get bs n ≡ Some k
-    → (r : ℕ) × (slice_get rs n ≡ Some r) × Good null g [] r k
-good_at null g [] [] h n k is = absurd (let no : None ≡ Some k = is in cc)
-good_at null g [] (b ∷ bs) h n k is = absurd h
-good_at null g (r ∷ rs) [] h n k is = absurd h
-good_at null g (r ∷ rs) (b ∷ bs) h zero k is =
-    let same : b ≡ k = (let there : Some b ≡ Some k = is in cc) in
-    (r, refl, subst (λ (j : Block). Good null g [] r j) same h.0)
-good_at null g (r ∷ rs) (b ∷ bs) h (suc n) k is = good_at null g rs bs h.1 n k is
-
-mapped_at : {A B : Type 0} (f : A → B) (xs : List A) (i : ℕ) (x : A) → slice_get xs i ≡ Some x → slice_get (map f xs) i ≡ Some (f x)
+pub mapped_at : {A B : Type 0} (f : A → B) (xs : List A) (i : ℕ) (x : A) → slice_get xs i ≡ Some x → slice_get (map f xs) i ≡ Some (f x)
 mapped_at f [] i x at = absurd (let no : None ≡ Some x = at in cc)
 mapped_at f (y ∷ ys) zero x at = let same : y ≡ x = (let there : Some y ≡ Some x = at in cc) in ap (λ z. Some (f z)) same
 mapped_at f (y ∷ ys) (suc i) x at = mapped_at f ys i x at
 
-all_good : {V : Type 0} (null : V) (ss : Stms) → All_good null (naming_script ss) [] (places_script ss).blocks (blocks_script ss)
+-- the module stands in front of what is in it
+pub module_stands : (ss : Stms) → Stands (naming_script ss) (0 ∷ numbers_stms ss) 1 1 (places_stms module_context [] ss 1) (nexts_stms ss 0) (numbers_stms ss)
+module_stands ss =
+    let g = naming_script ss in
+    let numbers : List ℕ = 0 ∷ numbers_stms ss in
+    right_stands g numbers 0 0 only_module (places_stms module_context [] ss 1) (None ∷ []) (nexts_stms ss 0) (0 ∷ []) (numbers_stms ss) refl refl (itself g numbers)
+
+all_good : {V : Type 0} (null : V) (ss : Stms)
+    → All_good (naming_script ss) (0 ∷ numbers_stms ss) (Found null (naming_script ss)) [] (places_script ss).blocks (blocks_script ss)
 all_good null ss =
     let g = naming_script ss in
-    let walk = stms null g (comprehends ss) ss 0 module_context [] in
-    let body = right_stands g 0 only_module (places_stms module_context [] ss 1) (None ∷ []) (nexts_stms ss 0) refl (itself g) in
-    let own = walk.own 1 body in
-    (((record { kind = Module; around = 0; home = 0 }, refl, refl), λ b at shape q. own b (record { region = at; spelled = λ x. ap (λ o. mangled (class_name_of o) x) shape }) refl q), walk.inner 1 body)
+    let walk = stms null g (0 ∷ numbers_stms ss) (comprehends ss) ss 0 module_context [] in
+    let body = module_stands ss in
+    let own = walk.own 1 1 body in
+    (((record { kind = Module; around = 0; home = 0 }, refl, refl), λ b at shape q. own b (record { region = at; spelled = λ x. ap (λ o. mangled (class_name_of o) x) shape }) refl q), walk.inner 1 1 body)
 
 pub names_are_found : {V : Type 0} → NamesAreFound V
 names_are_found null ss n block is plain =
     let g = naming_script ss in
-    let h = good_at null g (places_script ss).blocks (blocks_script ss) (all_good null ss) n block is in
+    let h = good_at g (0 ∷ numbers_stms ss) (Found null g) [] (places_script ss).blocks (blocks_script ss) (all_good null ss) n block is in
     h.2.1 n h.1 (mapped_at (shape_in []) (blocks_script ss) n block is) plain
 
 -- the region of a block, which is of its kind
@@ -68,16 +60,18 @@ pub record HasRegion (ss : Stms) (n : ℕ) (block : Block) : Type 0 where
 
 pub has_region : (ss : Stms) (n : ℕ) (block : Block) → slice_get (blocks_script ss) n ≡ Some block → HasRegion ss n block
 has_region ss n block is =
-    let h = good_at {V = Unit {0}} tt (naming_script ss) (places_script ss).blocks (blocks_script ss) (all_good {V = Unit {0}} tt ss) n block is in
+    let g = naming_script ss in
+    let h = good_at g (0 ∷ numbers_stms ss) (Found {V = Unit {0}} tt g) [] (places_script ss).blocks (blocks_script ss) (all_good {V = Unit {0}} tt ss) n block is in
     record { region = h.0; here = h.2.0.0; is_region = h.1; is_here = h.2.0.1; same_kind = h.2.0.2 }
 
-no_region_at : {V : Type 0} (null : V) (g : Naming) (rs : List ℕ) (bs : List Block) → All_good null g [] rs bs → (n : ℕ) → slice_get bs n ≡ None → slice_get rs n ≡ None
-no_region_at null g [] [] h n is = refl
-no_region_at null g [] (b ∷ bs) h n is = absurd h
-no_region_at null g (r ∷ rs) [] h n is = absurd h
-no_region_at null g (r ∷ rs) (b ∷ bs) h zero is = absurd (let there : Some b ≡ None = is in cc)
-no_region_at null g (r ∷ rs) (b ∷ bs) h (suc n) is = no_region_at null g rs bs h.1 n is
+no_region_at : (g : Naming) (numbers : List ℕ) (Asked : (block region : ℕ) → Code → Type 0) (rs : List ℕ) (bs : List Block) → All_good g numbers Asked [] rs bs → (n : ℕ) → slice_get bs n ≡ None → slice_get rs n ≡ None
+no_region_at g numbers Asked [] [] h n is = refl
+no_region_at g numbers Asked [] (b ∷ bs) h n is = absurd h
+no_region_at g numbers Asked (r ∷ rs) [] h n is = absurd h
+no_region_at g numbers Asked (r ∷ rs) (b ∷ bs) h zero is = absurd (let there : Some b ≡ None = is in cc)
+no_region_at g numbers Asked (r ∷ rs) (b ∷ bs) h (suc n) is = no_region_at g numbers Asked rs bs h.1 n is
 
 pub has_no_region : (ss : Stms) (n : ℕ) → slice_get (blocks_script ss) n ≡ None → slice_get (places_script ss).blocks n ≡ None
 has_no_region ss n is =
-    no_region_at {V = Unit {0}} tt (naming_script ss) (places_script ss).blocks (blocks_script ss) (all_good {V = Unit {0}} tt ss) n is
+    let g = naming_script ss in
+    no_region_at g (0 ∷ numbers_stms ss) (Found {V = Unit {0}} tt g) (places_script ss).blocks (blocks_script ss) (all_good {V = Unit {0}} tt ss) n is

@@ -38,14 +38,14 @@ use Rattle.pt_script_code.proofs.Begun.{block_begun, stands_whole}
 use Rattle.pt_script_tables.specs.Laws.{around_block, block_in, TakesAll, BlocksHaveTables}
 
 -- as many bytes as its instructions have
-bytes_wide : (w : Written) (ps : List Placed) → length (flat_map encoding (map (λ p. instr_in w p.operation) ps)) ≡ wide ps
+pub bytes_wide : (w : Written) (ps : List Placed) → length (flat_map encoding (map (λ p. instr_in w p.operation) ps)) ≡ wide ps
 bytes_wide w [] = refl
 bytes_wide w (p ∷ ps) =
     length-append (encoding (instr_in w p.operation)) (flat_map encoding (map (λ q. instr_in w q.operation) ps))
     ∙ (let a = width_in w p.operation in let b = bytes_wide w ps in omega (arith, a, b))
 
 -- each instruction has some length
-laid_rise : (b : CodeBlock) (p : ℕ) (is : List Instr) (pc : ℕ) (i : Ins) → laid_from b p is pc ≡ Some i → pc < i.next
+pub laid_rise : (b : CodeBlock) (p : ℕ) (is : List Instr) (pc : ℕ) (i : Ins) → laid_from b p is pc ≡ Some i → pc < i.next
 laid_rise b p [] pc i e = absurd (let h : ⊥ = cc in h)
 laid_rise b p (j ∷ js) pc i e = by (laid_rise b (p + length (encoding j)) js pc i) (nat_eq p pc) e
   where
@@ -55,7 +55,7 @@ laid_rise b p (j ∷ js) pc i e = by (laid_rise b (p + length (encoding j)) js p
     by f false h = f h
 
 -- a block has the kinds with which it begins
-begins_so : (c : BlockCode) → kinds_at_start (kind_of c) ≡ kinds_of (first_slots c)
+pub begins_so : (c : BlockCode) → kinds_at_start (kind_of c) ≡ kinds_of (first_slots c)
 begins_so (B.of_module ss) = refl
 begins_so (B.of_function ss) = by (yields (B.of_function ss))
   where

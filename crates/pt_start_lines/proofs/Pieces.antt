@@ -25,7 +25,7 @@ use Rattle.pt_start_lines.specs.Laws.{StartsHaveStatements}
 use Rattle.pt_start_lines.proofs.Lines.{EachLine, plain_lines, EachTarget, targets_apart, HasStatement, targets_have, of_start, laid_lines}
 
 module _ {V : Type 0} (around : Around V) (Q : ℕ → Type 0) where
-  alone : (st : Stm) (n : ℕ) (w : Behind) → HoldsNone st → EachLine Q (stm_piece around st n w)
+  pub alone : (st : Stm) (n : ℕ) (w : Behind) → HoldsNone st → EachLine Q (stm_piece around st n w)
   alone (S.expr l e) n w h = (plain_lines Q (value_piece around e n) (val_plain around e n), tt)
   alone (S.assign l ts e) n w h = plain_lines Q (stm_piece around (S.assign l ts e) n w) (val_plain around e n, assigned_plain around ts (n + size e))
   alone (S.augmented l p o e) n w h = plain_lines Q (stm_piece around (S.augmented l p o e) n w) (augmented_plain around p o e l n)
@@ -53,7 +53,7 @@ module _ {V : Type 0} (around : Around V) (Q : ℕ → Type 0) where
   alone (S.try l body hs els fin) n w h = absurd h
   alone (S.with l is body) n w h = absurd h
 
-  begun : (st : Stm) (w : Behind) (p : Piece) → EachLine Q p → EachLine Q (begun_piece st w p)
+  pub begun : (st : Stm) (w : Behind) (p : Piece) → EachLine Q p → EachLine Q (begun_piece st w p)
   begun st w p h = by (is_silent st) (leaves st && is_needed w)
     where
       by : (s t : Bool) → EachLine Q (if s then begun_piece (S.global 0 []) w p else if t then begun_piece (S.raise_again 0) needed p else p)

@@ -1,6 +1,6 @@
 -- The pieces of statements are typed: from the slots of the parts around a statement either these are behind it, or nothing goes on.
 use Rattle.std.proofs.Common.{◌≡◌, ℕ, ◌+◌, suc, Bool, true, false, ◌&&◌, ◌||◌, if◌then◌else◌, nat_eq, List, [], ◌∷◌, ◌++◌, length, replicate, Option, Some, None, refl, sym, ap, ◌∙◌, subst, arith}
-use Rattle.std.proofs.lemmas.Bool.{false≢true}
+use Rattle.std.proofs.lemmas.Bool.{false≢true, true≢false}
 use Rattle.std.proofs.lemmas.Bool.Decides.{nat_tests}
 use Rattle.pt_base.specs.declared.operators.BinOp.{BinOp}
 use Rattle.pt_tree.specs.declared.expression.Constant.TheVariants as constant
@@ -106,7 +106,7 @@ module _ {links : Links} {x : Option Loop} {Ls : List (Option StackMap)} {base :
 
   -- parts
 
-  imports_name : (y : Name) (F : StackMap) → Over base F → Does links (P.with_text instr.ImportName y) x Ls base to (value ∷ F) (Some (value ∷ value ∷ F)) to_none
+  pub imports_name : (y : Name) (F : StackMap) → Over base F → Does links (P.with_text instr.ImportName y) x Ls base to (value ∷ F) (Some (value ∷ value ∷ F)) to_none
   unfolding effect_of
   imports_name y F o = record {
     fires = record { taken = value ∷ []; rest = F; is = refl; over = o; takes = plainly refl; above = tt; uniform = λ t. refl; lands = tt; holds = (tt, tt) };
@@ -122,25 +122,25 @@ module _ {links : Links} {x : Option Loop} {Ls : List (Option StackMap)} {base :
     sent = λ k. refl;
   }
 
-  catches : (p : ℕ) (F : StackMap) → Over base F → Does links (P.plain instr.Caught) x Ls base to (exception p ∷ F) (Some (value ∷ exception to ∷ F)) to_none
+  pub catches : (p : ℕ) (F : StackMap) → Over base F → Does links (P.plain instr.Caught) x Ls base to (exception p ∷ F) (Some (value ∷ exception to ∷ F)) to_none
   unfolding effect_of
   catches p F o =
       gives_plain (kind.Exc ∷ []) (kind.Exc ∷ kind.Value ∷ []) false refl tt (exception p ∷ []) (value ∷ exception to ∷ []) refl (tt, tt) refl F o
 
-  ends_handler : (p : ℕ) (F : StackMap) → Over base F → Does links (P.plain instr.EndHandler) x Ls base to (exception p ∷ F) (Some F) to_none
+  pub ends_handler : (p : ℕ) (F : StackMap) → Over base F → Does links (P.plain instr.EndHandler) x Ls base to (exception p ∷ F) (Some F) to_none
   unfolding effect_of
   ends_handler p F o = gives_plain (kind.Exc ∷ []) [] false refl tt (exception p ∷ []) [] refl (tt, tt) refl F o
 
-  enters : (F : StackMap) → Over base F → Does links (P.plain instr.Enter) x Ls base to (value ∷ F) (Some (value ∷ exit to ∷ F)) to_none
+  pub enters : (F : StackMap) → Over base F → Does links (P.plain instr.Enter) x Ls base to (value ∷ F) (Some (value ∷ exit to ∷ F)) to_none
   unfolding effect_of
   enters F o = gives_plain (kind.Value ∷ []) (kind.With ∷ kind.Value ∷ []) false refl tt (value ∷ []) (value ∷ exit to ∷ []) refl (tt, tt) refl F o
 
-  exits_part : (p q : ℕ) (F : StackMap) → Over base F → Does links (P.plain instr.Exit) x Ls base to (pending p x ∷ exit q ∷ F) (Some (pending to x ∷ F)) to_none
+  pub exits_part : (p q : ℕ) (F : StackMap) → Over base F → Does links (P.plain instr.Exit) x Ls base to (pending p x ∷ exit q ∷ F) (Some (pending to x ∷ F)) to_none
   unfolding effect_of
   exits_part p q F o =
       gives_plain (kind.With ∷ kind.Pending ∷ []) (kind.Pending ∷ []) false refl tt (pending p x ∷ exit q ∷ []) (pending to x ∷ []) refl (refl, (tt, tt)) refl F o
 
-  ends_finally : (p : ℕ) (F : StackMap) → Over base F → Does links (P.plain instr.EndFinally) x Ls base to (pending p x ∷ F) (Some F) to_none
+  pub ends_finally : (p : ℕ) (F : StackMap) → Over base F → Does links (P.plain instr.EndFinally) x Ls base to (pending p x ∷ F) (Some F) to_none
   unfolding effect_of
   ends_finally p F o = record {
     fires = record { taken = pending p x ∷ []; rest = F; is = refl; over = o; takes = plainly refl; above = tt; uniform = tt; lands = tt; holds = (refl, tt) };
@@ -275,7 +275,7 @@ module _ {V : Type 0} (around : Around V) (links : Links) (next : ℕ → ℕ) (
       → Goes links next (store_piece around y n l) c Ls base from (value ∷ F) (Some F) to_none
   stored y n l F o = let z = around.variable [] y in act_of (stores z.scope z.name F o)
 
-  assigned : (ts : Tgts) (n : ℕ) → Targets_named around ts n [] → (F : StackMap)
+  pub assigned : (ts : Tgts) (n : ℕ) → Targets_named around ts n [] → (F : StackMap)
       → {c : Setting} {Ls : List (Option StackMap)} {base : StackMap} {from : ℕ} → Over base F
       → Goes links next (assigned_piece around ts n) c Ls base from (value ∷ F) (Some F) to_none
   unfolding effect_of
@@ -292,7 +292,7 @@ module _ {V : Type 0} (around : Around V) (links : Links) (next : ℕ → ℕ) (
   changed y e l n back F ts h f o =
       next_to (val e n h (value ∷ (ts ++ F)) (over_more value (over_all ts o))) (next_to (act_of (one_of_two refl tt (ts ++ F) (over_all ts o))) (f (n + size e + 1) _ _ _ _ o))
 
-  augmented : (p : Place) (y : BinOp) (e : Exp) (l n : ℕ) → Changed_named around p e n → (F : StackMap)
+  pub augmented : (p : Place) (y : BinOp) (e : Exp) (l n : ℕ) → Changed_named around p e n → (F : StackMap)
       → {c : Setting} {Ls : List (Option StackMap)} {base : StackMap} {from : ℕ} → Over base F
       → Goes links next (augmented_piece around p y e l n) c Ls base from F (Some F) to_none
   unfolding effect_of
@@ -317,13 +317,13 @@ module _ {V : Type 0} (around : Around V) (links : Links) (next : ℕ → ℕ) (
   deleted (S.item_at l a q) n (h, i) F o =
       next_to (val a n h F o) (next_to (val q (n + size a) i (value ∷ F) (over_more value o)) (act_of (takes_two refl tt F o)))
 
-  all_deleted : (ps : List Place) (n : ℕ) → All_deleted_named around ps n → (F : StackMap)
+  pub all_deleted : (ps : List Place) (n : ℕ) → All_deleted_named around ps n → (F : StackMap)
       → {c : Setting} {Ls : List (Option StackMap)} {base : StackMap} {from : ℕ} → Over base F
       → Goes links next (all_deleted_piece around ps n) c Ls base from F (Some F) to_none
   all_deleted [] n h F o = nothing_there
   all_deleted (p ∷ ps) n (h, i) F o = next_to (deleted p n h F o) (all_deleted ps (n + place_size p) i F o)
 
-  failed : (m : Opt) (l n : ℕ) → Opt_named around m n → (F : StackMap)
+  pub failed : (m : Opt) (l n : ℕ) → Opt_named around m n → (F : StackMap)
       → {c : Setting} {Ls : List (Option StackMap)} {base : StackMap} {from : ℕ} → Over base F
       → Goes links next (failed_piece around m l n) c Ls base from F None to_none
   failed S.absent l n h F o = act_of (fails F o)
@@ -341,7 +341,7 @@ module _ {V : Type 0} (around : Around V) (links : Links) (next : ℕ → ℕ) (
   thrown S.absent l n h F o = act_of (raises F o)
   thrown (S.given e) l n h F o = next_to (val e n h (value ∷ F) (over_more value o)) (act_of (raises_from F o))
 
-  imported : (xs : List Alias) (l n : ℕ) (F : StackMap)
+  pub imported : (xs : List Alias) (l n : ℕ) (F : StackMap)
       → {c : Setting} {Ls : List (Option StackMap)} {base : StackMap} {from : ℕ} → Over base F
       → Goes links next (imported_piece around xs l n) c Ls base from F (Some F) to_none
   unfolding effect_of
@@ -349,7 +349,7 @@ module _ {V : Type 0} (around : Around V) (links : Links) (next : ℕ → ℕ) (
   imported (a ∷ as') l n F o =
       next_to (act_of (gives_one refl (λ t. refl) F o)) (next_to (stored (bound_name a) (n + 1) l F o) (imported as' l (n + 1 + 1) F o))
 
-  imported_from : (xs : List Alias) (l n : ℕ) (F : StackMap)
+  pub imported_from : (xs : List Alias) (l n : ℕ) (F : StackMap)
       → {c : Setting} {Ls : List (Option StackMap)} {base : StackMap} {from : ℕ} → Over base F
       → Goes links next (imported_from_piece around xs l n) c Ls base from (value ∷ F) (Some F) to_none
   unfolding effect_of
@@ -383,7 +383,7 @@ module _ {V : Type 0} (around : Around V) (links : Links) (next : ℕ → ℕ) (
       (next_to (makes_a_class around links next cells captures b l (n + size e) false (many (length ks) F) (over_all (replicate (length ks) value) o))
       (bound ks l (n + size e + 1) y F o))
 
-  defined : (ds : Decorators) (what : Definition) (ks : List ℕ) (l n : ℕ) (y : Name) → Definition_named around ds (Made' what) n → (F : StackMap)
+  pub defined : (ds : Decorators) (what : Definition) (ks : List ℕ) (l n : ℕ) (y : Name) → Definition_named around ds (Made' what) n → (F : StackMap)
       → {c : Setting} {Ls : List (Option StackMap)} {base : StackMap} {from : ℕ} → Over base F
       → Goes links next (defined_piece around ds what ks l n y) c Ls base from (many (length ks) F) (Some F) to_none
   defined S.no_decorators what ks l n y h F o = definition what ks l n y h F o
@@ -836,41 +836,61 @@ module _ {V : Type 0} (around : Around V) (links : Links) (next : ℕ → ℕ) (
       v : Handling rest c Ls base (end_of next first from) p
       v = g _ _ _ _ _
 
-  single : (st : Stm) (n : ℕ) (b : Behind) → HoldsNone st → Stm_named around st n → Outs (stm_piece around st n b)
+  -- a statement that holds no other and doesn't leave goes on
+  pub record Through (q : Piece) (c : Setting) (Ls : List (Option StackMap)) (base : StackMap) (from : ℕ) : Type 0 where
+    pub sent : ℕ → Option StackMap
+    pub goes : Goes links next q c Ls base from base (Some base) sent
+
+  through : {q : Piece} {c : Setting} {Ls : List (Option StackMap)} {base : StackMap} {from : ℕ} {τ : ℕ → Option StackMap} → Goes links next q c Ls base from base (Some base) τ
+      → Through q c Ls base from
+  through {τ = τ} g = record { sent = τ; goes = g }
+
+  pub simple : (st : Stm) (n : ℕ) (b : Behind) → HoldsNone st → leaves st ≡ false → Stm_named around st n → (c : Setting) (Ls : List (Option StackMap)) (base : StackMap) (from : ℕ)
+      → Through (stm_piece around st n b) c Ls base from
   unfolding effect_of
-  single (S.expr l e) n b w h c Ls base from =
-      on links next (next_to (val e n h base (over_itself base)) (act_of (takes_one refl tt base (over_itself base))))
-  single (S.assign l ts e) n b w h c Ls base from =
-      on links next (next_to (val e n h.0 base (over_itself base)) (assigned ts (n + size e) h.1 base (over_itself base)))
-  single (S.augmented l p y e) n b w h c Ls base from = on links next (augmented p y e l n h base (over_itself base))
-  single (S.annotated l p a S.absent) n b w h c Ls base from = on links next (act_of (takes_none refl tt base (over_itself base)))
-  single (S.annotated l p a (S.given e)) n b w h c Ls base from =
-      on links next (next_to (val e n h.0 base (over_itself base))
-      (assigned (S.more_targets (S.single p) S.no_targets) (n + size e) (h.1, tt) base (over_itself base)))
-  single (S.assert l e m) n b w h c Ls base from =
-      on links next (in_block {r = Some base} (both (val e n h.0 base (over_itself base)) (both (act_of (tests_true 0 base (over_itself base) refl))
+  simple (S.expr l e) n b w z h c Ls base from = through (next_to (val e n h base (over_itself base)) (act_of (takes_one refl tt base (over_itself base))))
+  simple (S.assign l ts e) n b w z h c Ls base from = through (next_to (val e n h.0 base (over_itself base)) (assigned ts (n + size e) h.1 base (over_itself base)))
+  simple (S.augmented l p y e) n b w z h c Ls base from = through (augmented p y e l n h base (over_itself base))
+  simple (S.annotated l p a S.absent) n b w z h c Ls base from = through (act_of (takes_none refl tt base (over_itself base)))
+  simple (S.annotated l p a (S.given e)) n b w z h c Ls base from =
+      through (next_to (val e n h.0 base (over_itself base)) (assigned (S.more_targets (S.single p) S.no_targets) (n + size e) (h.1, tt) base (over_itself base)))
+  simple (S.assert l e m) n b w z h c Ls base from =
+      through (in_block {r = Some base} (both (val e n h.0 base (over_itself base)) (both (act_of (tests_true 0 base (over_itself base) refl))
       (failed m l (n + size e + 1) h.1 base (over_itself base)))) refl)
-  single (S.pass l) n b w h c Ls base from = on links next (act_of (takes_none refl tt base (over_itself base)))
-  single (S.del l ts) n b w h c Ls base from = on links next (all_deleted (all_places ts) n h base (over_itself base))
+  simple (S.pass l) n b w z h c Ls base from = through (act_of (takes_none refl tt base (over_itself base)))
+  simple (S.del l ts) n b w z h c Ls base from = through (all_deleted (all_places ts) n h base (over_itself base))
+  simple (S.import l xs) n b w z h c Ls base from = through (imported xs l n base (over_itself base))
+  simple (S.import_from l m xs) n b w z h c Ls base from =
+      through (next_to (act_of (gives_one refl (λ t. refl) base (over_itself base))) (imported_from xs l (n + 1) base (over_itself base)))
+  simple (S.global l xs) n b w z h c Ls base from = through nothing_there
+  simple (S.nonlocal l xs) n b w z h c Ls base from = through nothing_there
+  simple (S.def l ds k b y ps a body) n q w z h c Ls base from = through (defined ds (a_function b ps) [] k n y h base (over_itself base))
+  simple (S.class l ds k b y base' body) n q w z h c Ls base from = through (defined ds (a_class b base') [] k n y h base (over_itself base))
+  simple (S.docstring l) n b w z h c Ls base from = through nothing_there
+  simple (S.return l e) n b w z h c Ls base from = absurd (true≢false z)
+  simple (S.raise l e d) n b w z h c Ls base from = absurd (true≢false z)
+  simple (S.raise_again l) n b w z h c Ls base from = absurd (true≢false z)
+  simple (S.break l) n b w z h c Ls base from = absurd (true≢false z)
+  simple (S.continue l) n b w z h c Ls base from = absurd (true≢false z)
+  simple (S.choice l bs els) n b w z h c Ls base from = absurd w
+  simple (S.while l e body els) n b w z h c Ls base from = absurd w
+  simple (S.for l t it body els) n b w z h c Ls base from = absurd w
+  simple (S.try l body hs els fin) n b w z h c Ls base from = absurd w
+  simple (S.with l is body) n b w z h c Ls base from = absurd w
+
+  single : (st : Stm) (n : ℕ) (b : Behind) → HoldsNone st → Stm_named around st n → Outs (stm_piece around st n b)
   single (S.return l e) n b w h c Ls base from = off links next (returned e l n h base (over_itself base))
   single (S.raise l e d) n b w h c Ls base from =
       off links next (next_to (val e n h.0 base (over_itself base)) (thrown d l (n + size e) h.1 base (over_itself base)))
   single (S.raise_again l) n b w h c Ls base from = off links next (act_of (raises_again base (over_itself base)))
   single (S.break l) n b w h c Ls base from = off links next (leaves_by (over_itself base))
   single (S.continue l) n b w h c Ls base from = off links next (leaves_by (over_itself base))
-  single (S.import l xs) n b w h c Ls base from = on links next (imported xs l n base (over_itself base))
-  single (S.import_from l m xs) n b w h c Ls base from =
-      on links next (next_to (act_of (gives_one refl (λ t. refl) base (over_itself base))) (imported_from xs l (n + 1) base (over_itself base)))
-  single (S.global l xs) n b w h c Ls base from = on links next nothing_there
-  single (S.nonlocal l xs) n b w h c Ls base from = on links next nothing_there
-  single (S.def l ds k b y ps a body) n q w h c Ls base from = on links next (defined ds (a_function b ps) [] k n y h base (over_itself base))
-  single (S.class l ds k b y base' body) n q w h c Ls base from = on links next (defined ds (a_class b base') [] k n y h base (over_itself base))
-  single (S.docstring l) n b w h c Ls base from = on links next nothing_there
   single (S.choice l bs els) n b w h c Ls base from = absurd w
   single (S.while l e body els) n b w h c Ls base from = absurd w
   single (S.for l t it body els) n b w h c Ls base from = absurd w
   single (S.try l body hs els fin) n b w h c Ls base from = absurd w
   single (S.with l is body) n b w h c Ls base from = absurd w
+  single st n b w h c Ls base from = let u : Through (stm_piece around st n b) c Ls base from = simple st n b tt refl h c Ls base from in on links next u.goes
 
   choice_out : (l n : ℕ) (bs : Branches) (els : Stms) (b : Behind)
       → Branchings (branches_piece around bs n (λ m. P.closed (all_piece around els m (behind_branches (some_branch_goes_on bs) b))))

@@ -20,6 +20,7 @@ use Rattle.pt_slots.specs.BlockObject.{IsBlockObject, SlotsAt, pool_of, slots_at
 use Rattle.pt_fits.specs.Block.{Links, Block, effect, captured, kinds_at_start, block_of}
 use Rattle.pt_fits.specs.Steps.{target_of}
 use Rattle.pt_fits.specs.Agreement as A
+use Rattle.pt_fits.specs.Agreement.{TooFew}
 use Rattle.pt_fits.specs.Fits.{Fits}
 use Rattle.pt_fits.specs.Laws.{Runs}
 use Rattle.pt_fits.proofs.ViewLaid.{view_is_laid}
@@ -49,7 +50,8 @@ single x y (suc k, l, e) = absurd (let h : ⊥ = omega (arith, l) in h)
 nothing : {X : Type 0} (y : X) → Contains [] y → ⊥
 nothing y (k, l, e) = let h : ⊥ = omega (arith, l) in h
 
-module _ {V : Type 0} (c : Code) (b : CodeBlock) (object : CodeObject V) (is : IsBlockObject c b object) (fits : Fits (block_of c b object.at)) where
+module _ {V : Type 0} (c : Code) (b : CodeBlock) (object : CodeObject V) (is : IsBlockObject c b object)
+    (finds : TooFew (block_of c b object.at) (length b.instructions) → ⊥) where
   abbrev B : Block
   B = block_of c b object.at
 
@@ -125,10 +127,11 @@ module _ {V : Type 0} (c : Code) (b : CodeBlock) (object : CodeObject V) (is : I
 
   enough_at : {q n : ℕ} (i : Ins) → object.at q ≡ Some i → q ≤ B.size → Sized B B.size q n → length (effect B.links i.instr).takes ≤ n
   enough_at {q = q} {n = n} i e l s = let g = sizes_have_kinds B B.size q n s in
-      let w = leb-true _ (length g.kinds) (true_from_ne_false _ (λ f. fits.agrees.enough (A.lacks (record { gets = g.gets; low = l; stands = e }) f))) in
+      let w = leb-true _ (length g.kinds) (true_from_ne_false _ (λ f. finds (A.lacks (record { gets = g.gets; low = l; stands = e }) f))) in
       let m = g.long in omega (arith, w, m)
 
-  sized_at : {q n : ℕ} → Sized B B.size q n → At q n
+  -- a place has the number of slots with which some way comes to it
+  pub sized_at : {q n : ℕ} → Sized B B.size q n → At q n
   sized_at (S.start i e) = subst (At 0) (same_start b.kind) O.at_start
   sized_at (S.onward {q = q} {r = r} {n = n} {m = m} s l k i e) = let (j, f) = some_at s in
       steps q n j f (sized_at s) (enough_at j f l s) (sized r m) (subst (λ o. Contains (size_steps_of B.links q n o) (sized r m)) f k)
@@ -142,4 +145,4 @@ module _ {V : Type 0} (c : Code) (b : CodeBlock) (object : CodeObject V) (is : I
   }
 
 pub object_runs : (V : Type 0) → ObjectRuns V
-object_runs V c b object is fits = runs_it c b object is fits
+object_runs V c b object is fits = runs_it c b object is fits.agrees.enough

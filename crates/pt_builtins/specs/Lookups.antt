@@ -1,0 +1,16 @@
+-- What code answers of a builtin's name, as a host has it.
+use Rattle.std.specs.Prelude.{Bool}
+use Rattle.pt_tables.specs.Names.{builtin_names}
+use Rattle.pt_tree.specs.Syntax.{Name}
+use Rattle.pt_bind.specs.NameSets.{is_among}
+use Rattle.pt_host.specs.Builtins.{Builtin, is, unavailable, no_builtin}
+use Rattle.pt_builtins.specs.declared.BuiltinLookup.{BuiltinLookup}
+use Rattle.pt_builtins.specs.declared.BuiltinLookup.TheVariants as lookup
+
+abbrev pub builtin_view : BuiltinLookup → Builtin
+builtin_view (lookup.Found v) = is v
+builtin_view lookup.Unavailable = unavailable
+builtin_view lookup.Unbound = no_builtin
+
+abbrev pub is_builtin_name : Name → Bool
+is_builtin_name x = is_among builtin_names x

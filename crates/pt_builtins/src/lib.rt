@@ -1,0 +1,139 @@
+//! What names mean that neither a block nor the module binds (Library Reference, "Built-in
+//! Functions", "Built-in Constants", "Built-in Exceptions").
+#![tactic(auto)]
+
+ghost use Rattle.std.specs.Prelude.{◌≡◌, ◌<◌, length, map, position, IfSome};
+ghost use Rattle.std.specs.Str.{bytes_eq};
+ghost use Rattle.pt_bind.specs.NameSets.{is_among};
+ghost use Rattle.pt_builtins.specs.Lookups.{builtin_view, is_builtin_name};
+ghost use Rattle.pt_host.specs.Builtins.{builtin, listed_builtin, start_object};
+ghost use Rattle.pt_tables.specs.Names.{unbuilt_names};
+
+use pt_base::ObjId;
+use pt_heap::Value;
+use pt_start::{Kind, START};
+use pt_tables::builtins;
+
+/// What a name means by itself.
+#[derive(Clone, Copy, Debug, PartialEq, Eq)]
+pub enum BuiltinLookup {
+    Found(Value),
+    /// Runs don't have it.
+    Unavailable,
+    /// It is no builtin's.
+    Unbound,
+}
+
+/// The names of the Library Reference that runs don't have.
+const UNBUILT: [&str; 30] = [
+    "open",
+    "input",
+    "eval",
+    "exec",
+    "id",
+    "hash",
+    "dir",
+    "vars",
+    "globals",
+    "locals",
+    "compile",
+    "bytes",
+    "bytearray",
+    "complex",
+    "float",
+    "frozenset",
+    "memoryview",
+    "slice",
+    "property",
+    "staticmethod",
+    "classmethod",
+    "round",
+    "pow",
+    "format",
+    "bin",
+    "hex",
+    "oct",
+    "ascii",
+    "help",
+    "delattr",
+];
+
+/// Whether a name is one of a list.
+fn is_listed(names: &[&str], name: &str) -> bool
+    ensures { result ≡ is_among (map (λ n. n.now) names.now) name.now }
+{
+    for listed in names {
+        if name == *listed {
+            return true;
+        }
+    }
+    false
+}
+
+fn is_unbuilt(name: &str) -> bool
+    ensures { result ≡ is_among unbuilt_names name.now }
+{
+    is_listed(&UNBUILT, name)
+}
+
+/// The place of the first row with this name.
+fn place_in(rows: &[(&str, Kind)], name: &str) -> Option<usize>
+    ensures place { result ≡ position (bytes_eq name.now) (map (λ r. r.0.now) rows.now) }
+    ensures within { IfSome result (λ place. place < length rows.now) }
+{
+    for at in 0..rows.len() {
+        if name == rows[at].0 {
+            return Some(at);
+        }
+    }
+    None
+}
+
+/// One of the objects that each run starts with.
+fn start_object(name: &str) -> BuiltinLookup
+    ensures { builtin_view result ≡ start_object name.now }
+{
+    match place_in(&START, name) {
+        Some(place) => BuiltinLookup::Found(Value::Obj(ObjId(place as u32))),
+        None => BuiltinLookup::Unavailable,
+    }
+}
+
+fn listed_builtin(name: &str) -> BuiltinLookup
+    ensures { builtin_view result ≡ listed_builtin name.now }
+{
+    if name == "NotImplemented" {
+        return BuiltinLookup::Found(Value::NotImplemented);
+    }
+    if name == "Ellipsis" {
+        return BuiltinLookup::Found(Value::Ellipsis);
+    }
+    if is_unbuilt(name) {
+        return BuiltinLookup::Unavailable;
+    }
+    start_object(name)
+}
+
+fn is_builtin_name(name: &str) -> bool
+    ensures { result ≡ is_builtin_name name.now }
+{
+    match builtins().get(name) {
+        Some(_) => true,
+        None => false,
+    }
+}
+
+/// What a name means by itself, the same throughout a run. It takes a search through the tables of
+/// builtins, of which there are about 90.
+pub fn builtin(name: &str) -> BuiltinLookup
+    ensures { builtin_view result ≡ builtin name.now }
+{
+    if is_builtin_name(name) {
+        return listed_builtin(name);
+    }
+    if name == "__name__" {
+        BuiltinLookup::Unavailable
+    } else {
+        BuiltinLookup::Unbound
+    }
+}

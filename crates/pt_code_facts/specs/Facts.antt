@@ -1,0 +1,91 @@
+-- What a code tells of its blocks beside what they run (Library Reference, "inspect": code objects; Language Reference 3.2.13.1).
+use Rattle.std.specs.Prelude.{◌≡◌, ℕ, List, [], Bool, true, false, if◌then◌else◌, map, take, drop, Option, Some, None, slice_get}
+use Rattle.pt_tree.specs.Syntax.{Name}
+use Rattle.pt_heap.specs.declared.value.Value.{Value}
+use Rattle.pt_bind.specs.declared.arguments.Params.{Params}
+use Rattle.pt_instr.specs.declared.TextNo.{TextNo}
+use Rattle.pt_code.specs.declared.BlockKind.{BlockKind}
+use Rattle.pt_code.specs.declared.BlockKind.TheVariants as kind
+use Rattle.pt_code.specs.declared.CodeBlock.{CodeBlock}
+use Rattle.pt_code.specs.declared.Code.{Code}
+use Rattle.pt_slots.specs.BlockObject.{text_in, pool_of}
+use Rattle.pt_slots.specs.CodeObject.{CodeObject}
+use Rattle.pt_run.specs.Machine as M
+use Rattle.pt_host.specs.World.{CodeFacts, Program}
+use Rattle.pt_variables.specs.Numbers.{KnowsNames}
+use Rattle.pt_code_facts.specs.declared.facts.BlockFacts.{BlockFacts}
+use Rattle.pt_code_facts.specs.declared.facts.Blocks.{Blocks}
+
+-- as a host has them
+abbrev pub facts_view : BlockFacts → CodeFacts
+facts_view f = record {
+  name = f.name;
+  first_line = f.first_line.0;
+  params = f.params;
+  locals = f.locals;
+  cells = f.cells;
+  frees = f.frees;
+  yields = f.yields;
+}
+
+abbrev pub named_texts : (texts : List Name) → List TextNo → List Name
+named_texts texts xs = map (λ x. text_in texts x.0) xs
+
+abbrev pub is_generator : BlockKind → Bool
+is_generator kind.Generator = true
+is_generator k = false
+
+-- the plain parameters stand first among the local names, then those that a name alone fills; defaults stand in function objects
+abbrev pub params_of : (texts : List Name) → CodeBlock → Params
+params_of texts b = record {
+  plain = named_texts texts (take b.parameters b.locals);
+  only = named_texts texts (take b.keyword_only (drop b.parameters b.locals));
+  star = b.rest.positional;
+  stars = b.rest.named;
+  defaults = [];
+}
+
+abbrev pub facts_of : (texts : List Name) → CodeBlock → BlockFacts
+facts_of texts b = record {
+  name = text_in texts b.name.0;
+  first_line = b.first_line;
+  params = params_of texts b;
+  locals = named_texts texts b.locals;
+  cells = named_texts texts b.cells;
+  frees = named_texts texts b.free;
+  yields = is_generator b.kind;
+}
+
+-- of a block without names
+abbrev pub no_facts : BlockFacts
+no_facts = record {
+  name = [];
+  first_line = record { 0 = 0 };
+  params = record { plain = []; only = []; star = false; stars = false; defaults = [] };
+  locals = [];
+  cells = [];
+  frees = [];
+  yields = false;
+}
+
+abbrev pub blocks_of : (texts : List Name) → List CodeBlock → List BlockFacts
+blocks_of texts bs = map (facts_of texts) bs
+
+-- the blocks of the script, or those of the prelude
+abbrev pub sorts_of : Blocks → (hidden : Bool) → List BlockFacts
+sorts_of bs hidden = if hidden then bs.prelude else bs.script
+
+-- a block that isn't there has no names
+abbrev pub or_none : Option BlockFacts → BlockFacts
+or_none (Some f) = f
+or_none None = no_facts
+
+abbrev pub facts_at : Blocks → M.BlockId → BlockFacts
+facts_at bs b = or_none (slice_get (sorts_of bs b.hidden) b.number)
+
+-- the blocks of a program
+abbrev pub KnowsBlocks : Program → Blocks → Type 0
+KnowsBlocks program bs = (b : M.BlockId) → program.facts b ≡ facts_view (facts_at bs b)
+
+abbrev pub FactsKnowNames : Type 0
+FactsKnowNames = (c : Code) (b : CodeBlock) (object : CodeObject Value) → object.pool ≡ pool_of c b → KnowsNames object (facts_view (facts_of c.texts b))

@@ -1,0 +1,9 @@
+//! What a code tells of its blocks beside what they run: their names and parameters, as texts
+//! (Library Reference, "inspect": code objects).
+#![tactic(auto)]
+
+mod facts;
+mod laws;
+
+pub use facts::{BlockFacts, Blocks, blocks_of, facts_of};
+pub use laws::facts_know_the_names_of_code;

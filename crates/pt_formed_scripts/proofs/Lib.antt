@@ -1,0 +1,3 @@
+mod Ways
+mod Expressions
+pub mod Statements

@@ -1,0 +1,5 @@
+mod Operands
+mod Blocks
+mod Expressions
+mod Statements
+pub mod Script

@@ -1,0 +1,43 @@
+-- Where an instruction leads by the host's answer to what it asks.
+use Rattle.std.specs.Prelude.{◌≡◌, ◌∷◌, Bool, Option, Some, None}
+use Rattle.pt_heap.specs.declared.value.Value.{Value}
+use Rattle.pt_heap.specs.declared.value.Value.TheVariants as value
+use Rattle.pt_code.specs.View.{Ins}
+use Rattle.pt_slots.specs.Slots as S
+use Rattle.pt_slots.specs.Slots.{Slots, State, on}
+use Rattle.pt_slots.specs.CodeObject.{CodeObject}
+use Rattle.pt_slots.specs.Landing.{land}
+use Rattle.pt_run.specs.Host as H
+use Rattle.pt_host.specs.World.{Names, World}
+use Rattle.pt_host.specs.Trees.{Tree}
+use Rattle.pt_transitions.specs.Successors.{Successor, to, arises, behind_print, behind_request, outside}
+
+abbrev pub Reached : Type 0
+Reached = Successor (State Value) Names Value World
+
+module _ (code : CodeObject Value) (i : Ins) where
+  -- to where the reply does; a raise lands by the rows that cover the place, with the slots below what was taken
+  abbrev pub by_tree : {A : Type 0} → (A → State Value) → Slots Value → Tree A → Reached
+  by_tree next ss (H.answer x st) = to (next x) st
+  by_tree next ss (H.raise v st) = arises v (land code i.rows (S.raise v) ss) st
+  by_tree next ss (H.print t f) = behind_print t (by_tree next ss f)
+  by_tree next ss (H.leave what) = outside what
+  by_tree next ss (H.request r st k) = behind_request r st (λ x st1. by_tree next ss (k x st1))
+
+  -- a value is given above them
+  abbrev pub giving : Slots Value → Value → State Value
+  giving ss v = on i.next (S.value v ∷ ss)
+
+  -- nothing is given
+  abbrev pub behind : Slots Value → Unit {0} → State Value
+  behind ss u = on i.next ss
+
+-- the code of a run over the heap knows its None, True and False
+abbrev pub known_truth : Value → Option Bool
+known_truth (value.Bool b) = Some b
+known_truth v = None
+
+pub record KnowsTruths (code : CodeObject Value) : Type 0 where
+  pub null : code.null ≡ value.None
+  pub truth : (b : Bool) → code.truth b ≡ value.Bool b
+  pub is_truth : (v : Value) → code.is_truth v ≡ known_truth v

@@ -1,0 +1,45 @@
+use pt_base::{BlockId, ObjId, Pc, Text, What};
+use pt_bind::Locals;
+use pt_heap::{Completion, Value};
+
+/// What an instruction comes to.
+#[derive(Debug, Drop)]
+pub enum Progress {
+    /// The place behind it is next.
+    Next,
+    /// This place is next.
+    Goto {
+        pc: Pc,
+    },
+    /// A completion leaves the place.
+    Leaves {
+        how: Completion,
+    },
+    /// The text is printed, and the place behind is next.
+    Print {
+        text: Text,
+    },
+    /// A block runs in an activation of its own, with these names; its value is given, or what
+    /// leaves it arises.
+    Calls {
+        block: BlockId,
+        hidden: bool,
+        locals: Locals,
+    },
+    /// An exception of this class arises, with this argument.
+    Fails {
+        class: ObjId,
+        arg: Option<Value>,
+    },
+    /// An exception of this class arises, with this text.
+    FailsSaying {
+        class: ObjId,
+        text: Text,
+    },
+    /// The run leaves the profile of the language.
+    Outside {
+        what: What,
+    },
+    /// The slots lack what the instruction takes.
+    Lacks,
+}

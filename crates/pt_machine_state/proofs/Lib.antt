@@ -1,0 +1,9 @@
+pub mod WriteLemmas
+pub mod TurnLemmas
+pub mod LandLemmas
+pub mod ApplyLemmas
+pub mod LineLemmas
+pub mod FailLemmas
+pub mod CallLemmas
+pub mod CloseLemmas
+pub mod StrideLemmas

@@ -1,0 +1,76 @@
+-- When the machine did what an instruction comes to, wherever that stands and whatever waits.
+use Rattle.std.specs.Prelude.{◌≡◌, ℕ, List, Some}
+use Rattle.pt_base.specs.declared.numbers.Pc.{Pc}
+use Rattle.pt_heap.specs.declared.value.Value.{Value}
+use Rattle.pt_code.specs.View.{Ins}
+use Rattle.pt_control.specs.Turn.{Ask}
+use Rattle.pt_frames.specs.Slots.{active_in}
+use Rattle.pt_slots.specs.Slots.{State}
+use Rattle.pt_slots.specs.CodeObject.{CodeObject}
+use Rattle.pt_comp_expr.specs.Law.{active_at}
+use Rattle.pt_run.specs.Host.{Here}
+use Rattle.pt_host.specs.World.{Program}
+use Rattle.pt_host.specs.HeapHost.{heap_host}
+use Rattle.pt_bare_runs.specs.Strides.{with_store, here_of, lead, stride as stride_of}
+use Rattle.pt_code_machine.specs.CodeBlocks.{CodeBlocks, machine}
+use Rattle.pt_heap_rows.specs.declared.progress.Progress.{Progress}
+use Rattle.pt_heap_rows.specs.Leads.{Reached}
+use Rattle.pt_heap_rows.specs.Told.{told}
+use Rattle.pt_heap_rows.specs.Views.{slots_view}
+use Rattle.pt_machine_state.specs.declared.blocks.BlockCode.{BlockCode}
+use Rattle.pt_machine_state.specs.declared.blocks.Blocks.{Blocks}
+use Rattle.pt_machine_state.specs.declared.machine.Machine.{Machine}
+use Rattle.pt_machine_state.specs.declared.machine.Standing.TheVariants as standing
+use Rattle.pt_machine_state.specs.declared.machine.Stride.{Stride}
+use Rattle.pt_machine_state.specs.declared.writes.Writes.{Writes}
+use Rattle.pt_machine_state.specs.Blocks.{IsBlockOf, AreBlocksOf}
+use Rattle.pt_machine_state.specs.Views.{Bare, Beside, IsPlain, AllWait, block_of, run_in, run_of, stores_of}
+use Rattle.pt_machine_state.specs.Strode.{Strode}
+
+-- a run whose newest activation has come from an instruction, with the slots that this has left: what asks, what is kept beside the machine, and
+-- the state in which the instruction began
+pub record Asking : Type 0 where
+  pub program : Program
+  pub code : CodeBlocks Value
+  pub ins : Ins
+  pub ask : Ask Value
+  pub beside : Beside
+  pub before : State Value
+
+abbrev pub object_of : Asking → Machine → CodeObject Value
+object_of q m = q.code.object (block_of m.here)
+
+abbrev pub run_at : Asking → Machine → Bare
+run_at q m = run_in q.program q.before m q.beside
+
+-- the machine stands at the instruction of a block that it knows, whose ask tells an exception plainly
+pub record Stands (blocks : Blocks) (block : BlockCode) (next : Pc) (m : Machine) (q : Asking) : Type 0 where
+  pub blocks_known : AreBlocksOf q.program q.code blocks
+  pub known : IsBlockOf q.program q.code (block_of m.here) block
+  pub there : (object_of q m).at m.here.pc.0 ≡ Some q.ins
+  pub next_is : q.ins.next ≡ next.0
+  pub at_place : m.standing ≡ standing.AtPlace
+  pub plain : IsPlain q.ask
+  pub waiting : AllWait q.program q.code m.frames.activations q.beside.waiting
+  pub active : active_at q.before ≡ active_in m.here.slots
+
+-- where that leads the machine went: from a run that is that of the machine but for names and world, which are stored first
+abbrev pub LedTo : Reached → Asking → Stride → (old : Machine) (written : Writes) → (new : Machine) (writes : Writes) → Type 0
+LedTo reached q r old written new writes =
+    (s : Bare) → with_store (stores_of q.program old) s ≡ run_at q old
+    → Strode q.program q.code (lead (machine q.code) (heap_host q.program) q.ask reached s) r written new writes
+
+abbrev pub here_at : Asking → Machine → Here Value
+here_at q m = here_of (machine q.code) (heap_host q.program) (run_at q m)
+
+-- the machine did what the instruction came to
+unfoldable pub Applied : Blocks → BlockCode → (next : Pc) → Progress → Stride → (old : Machine) (written : Writes) → (new : Machine) (writes : Writes) → Type 0
+Applied blocks block next p r old written new writes =
+    (q : Asking) → Stands blocks block next old q
+    → LedTo (told q.program (object_of q old) q.ins (here_at q old) p (slots_view old.here.slots) (stores_of q.program old)) q r old written new writes
+
+-- the machine did the stride of a run that is at the end of a block
+unfoldable pub Closes : Blocks → Stride → (old : Machine) (written : Writes) → (new : Machine) (writes : Writes) → Type 0
+Closes blocks r old written new writes =
+    (program : Program) (code : CodeBlocks Value) (n : ℕ) (x : Beside) → AreBlocksOf program code blocks → AllWait program code old.frames.activations x.waiting
+    → Strode program code (stride_of (machine code) (heap_host program) n (run_of program old x)) r written new writes

@@ -1,0 +1,31 @@
+-- What the machine knows of a block is what its code object says.
+use Rattle.std.specs.Prelude.{◌≡◌, ℕ, List, filter, Some, slice_index_or, if◌then◌else◌}
+use Rattle.pt_heap.specs.declared.value.Value.{Value}
+use Rattle.pt_ranges.specs.Rows.{covers}
+use Rattle.pt_code.specs.View.{Ins}
+use Rattle.pt_slots.specs.CodeObject.{CodeObject}
+use Rattle.pt_places.specs.PlaceTable.{HasPlaces}
+use Rattle.pt_run.specs.Machine.{BlockId}
+use Rattle.pt_host.specs.World.{Program}
+use Rattle.pt_code_machine.specs.CodeBlocks.{CodeBlocks}
+use Rattle.pt_heap_rows.specs.Leads.{KnowsTruths}
+use Rattle.pt_machine_state.specs.declared.blocks.BlockCode.{BlockCode}
+use Rattle.pt_machine_state.specs.declared.blocks.Blocks.{Blocks}
+
+abbrev pub depth_of : BlockCode → (pc : ℕ) → ℕ
+depth_of block pc = slice_index_or block.depths pc 0
+
+pub record IsBlockOf (program : Program) (code : CodeBlocks Value) (b : BlockId) (block : BlockCode) : Type 0 where
+  pub name : block.name ≡ (program.facts b).name
+  pub first_line : block.first_line.0 ≡ (program.facts b).first_line
+  pub places : HasPlaces (code.object b).at block.places
+  pub rows : (pc : ℕ) (i : Ins) → (code.object b).at pc ≡ Some i → i.rows ≡ filter (λ row. covers row (record { 0 = pc })) block.handlers
+  pub depths : (pc : ℕ) → (code.object b).depth_at pc ≡ depth_of block pc
+  pub truths : KnowsTruths (code.object b)
+  pub iterates : code.iterates b ≡ block.iterates
+
+abbrev pub block_at : Blocks → BlockId → BlockCode
+block_at blocks b = if b.hidden then blocks.missing else slice_index_or blocks.of_script b.number blocks.missing
+
+abbrev pub AreBlocksOf : Program → CodeBlocks Value → Blocks → Type 0
+AreBlocksOf program code blocks = (b : BlockId) → IsBlockOf program code b (block_at blocks b)

@@ -1,0 +1,7 @@
+pub mod Writing
+pub mod Blocks
+pub mod Views
+pub mod Strode
+pub mod Changes
+pub mod Applies
+pub mod Laws

@@ -1,0 +1,44 @@
+-- When the machine did a stride of a run.
+use Rattle.std.specs.Prelude.{◌≡◌, ℕ, List}
+use Rattle.pt_base.specs.declared.what.What.TheVariants.{Exit}
+use Rattle.pt_heap.specs.declared.value.Value.{Value}
+use Rattle.pt_slots.specs.Slots.{State}
+use Rattle.pt_run.specs.Host as H
+use Rattle.pt_run.specs.Host.{Leaving}
+use Rattle.pt_host.specs.World.{Names, World, Program}
+use Rattle.pt_host.specs.Leaving.{leaving}
+use Rattle.pt_bare_runs.specs.Strides as bare
+use Rattle.pt_bare_runs.specs.Strides.{goes, ends, is_stuck, done, exited, raised, spent, outside_at}
+use Rattle.pt_code_machine.specs.CodeBlocks.{CodeBlocks}
+use Rattle.pt_heap_rows.specs.Views.{world_view}
+use Rattle.pt_machine_state.specs.declared.machine.Machine.{Machine}
+use Rattle.pt_machine_state.specs.declared.machine.RunEnd.{RunEnd}
+use Rattle.pt_machine_state.specs.declared.machine.RunEnd.TheVariants as end
+use Rattle.pt_machine_state.specs.declared.machine.Stride.{Stride}
+use Rattle.pt_machine_state.specs.declared.machine.Stride.TheVariants as stride
+use Rattle.pt_machine_state.specs.declared.writes.Writes.{Writes}
+use Rattle.pt_machine_state.specs.Writing.{Adds}
+use Rattle.pt_machine_state.specs.Views.{Bare, Beside, run_of, AllWait}
+
+abbrev pub Ending : Type 0
+Ending = bare.Ending Value World
+
+-- what becomes of an exception that leaves the module, in whose frame this line stands
+abbrev pub left : Leaving → Value → (line : ℕ) → World → Ending
+left (H.exits n x) v l w = exited n x
+left H.exits_oddly v l w = outside_at Exit l
+left (H.fails es) v l w = raised v w
+
+abbrev pub ending_of : RunEnd → Machine → Ending
+ending_of end.Done m = done
+ending_of (end.Left v line) m = left (leaving v (world_view m.frames m.heap)) v line.0 (world_view m.frames m.heap)
+ending_of end.Spent m = spent
+ending_of (end.Outside what line) m = outside_at what line.0
+
+module _ (program : Program) (code : CodeBlocks Value) where
+  -- the run goes on as the machine does, or ends as it says; of a run that is stuck nothing is said
+  abbrev pub Strode : bare.Stride (State Value) Names Value World → Stride → (old : Writes) → Machine → (new : Writes) → Type 0
+  Strode (goes ws s) r old m new =
+      (r ≡ stride.Goes) × (Adds old new ws × ((x : Beside) × ((s ≡ run_of program m x) × AllWait program code m.frames.activations x.waiting)))
+  Strode (ends ws u e) r old m new = (x : RunEnd) × ((r ≡ stride.Ends x) × (Adds old new ws × ((u ≡ m.units) × (e ≡ ending_of x m))))
+  Strode is_stuck r old m new = Unit {0}

@@ -1,0 +1,17 @@
+//! The state of the machine of code: its activations and heap, the tables of the code that it runs,
+//! and what it has to write.
+#![tactic(auto)]
+
+mod blocks;
+mod changes;
+mod laws;
+mod machine;
+mod writes;
+
+pub use blocks::{BlockCode, Blocks};
+pub use laws::{
+    blocks_end_as_in_a_run, blocks_open_as_in_a_run, exceptions_arise_as_in_a_run,
+    instructions_are_strides, the_machine_goes_where_instructions_lead,
+};
+pub use machine::{Machine, RunEnd, Standing, Stride};
+pub use writes::{Write, Writes};

@@ -1,0 +1,5 @@
+pub mod TakeLemmas
+pub mod MoveLemmas
+mod ConstantLemmas
+mod TruthLemmas
+mod BranchLemmas

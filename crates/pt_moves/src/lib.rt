@@ -1,0 +1,12 @@
+//! What instructions do that move slots, give constants and decide where code goes on.
+#![tactic(auto)]
+
+mod branches;
+mod constants;
+mod moves;
+mod taking;
+
+pub use branches::{jump_if, jump_if_keep, jump_unless, jump_unless_keep};
+pub use constants::constant;
+pub use moves::{copy, copy_two, jump, leave, nop, pop, return_value, rotate_three, swap};
+pub use taking::{take_movable, take_one, take_three, take_two};

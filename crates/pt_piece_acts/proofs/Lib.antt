@@ -1,0 +1,4 @@
+pub mod Above
+pub mod Expressions
+pub mod Statements
+pub mod Marks
