@@ -72,8 +72,8 @@ abbrev pub blocks_of : (texts : List Name) → List CodeBlock → List BlockFact
 blocks_of texts bs = map (facts_of texts) bs
 
 -- the blocks of the script, or those of the prelude
-abbrev pub sorts_of : Blocks → (hidden : Bool) → List BlockFacts
-sorts_of bs hidden = if hidden then bs.prelude else bs.script
+abbrev pub facts_among : Blocks → (hidden : Bool) → List BlockFacts
+facts_among bs hidden = if hidden then bs.prelude else bs.script
 
 -- a block that isn't there has no names
 abbrev pub or_none : Option BlockFacts → BlockFacts
@@ -81,7 +81,7 @@ or_none (Some f) = f
 or_none None = no_facts
 
 abbrev pub facts_at : Blocks → M.BlockId → BlockFacts
-facts_at bs b = or_none (slice_get (sorts_of bs b.hidden) b.number)
+facts_at bs b = or_none (slice_get (facts_among bs b.hidden) b.number)
 
 -- the blocks of a program
 abbrev pub KnowsBlocks : Program → Blocks → Type 0

@@ -2,7 +2,7 @@ ghost use Rattle.std.specs.Prelude.{◌≡◌, IfOk, map, slice_get};
 ghost use Rattle.std.specs.Option.{option_copied};
 ghost use Rattle.pt_slots.specs.BlockObject.{text_in};
 ghost use Rattle.pt_code_facts.specs.Facts.{blocks_of, facts_of, is_generator, named_texts};
-ghost use Rattle.pt_code_facts.specs.Facts.{no_facts, params_of, sorts_of};
+ghost use Rattle.pt_code_facts.specs.Facts.{no_facts, params_of, facts_among};
 
 use pt_base::{BlockId, Dup, Line, Memory, Seq, Text};
 use pt_bind::Params;
@@ -146,7 +146,7 @@ pub struct Blocks {
 impl Blocks {
     /// What is known of a block, if it is there.
     pub fn get(&self, block: BlockId, hidden: bool) -> Option<&BlockFacts>
-        ensures { option_copied result ≡ slice_get (sorts_of self.now hidden) block.0 }
+        ensures { option_copied result ≡ slice_get (facts_among self.now hidden) block.0 }
     {
         if hidden {
             self.prelude.get(block.0 as usize)

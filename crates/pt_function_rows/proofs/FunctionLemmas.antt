@@ -31,7 +31,7 @@ use Rattle.pt_heap_rows.specs.declared.progress.Progress.TheVariants as progress
 use Rattle.pt_heap_rows.specs.Laws.{reached}
 use Rattle.pt_heap_rows.specs.Leads.{by_tree, giving}
 use Rattle.pt_heap_rows.specs.Told.{told}
-use Rattle.pt_heap_rows.specs.RowsIn.{Surroundings, RowsIn}
+use Rattle.pt_heap_rows.specs.RowsIn.{Standpoint, RowsIn}
 use Rattle.pt_heap_rows.specs.Views.{slots_view}
 use Rattle.pt_heap_rows.proofs.RowLemmas.{operations_lead}
 use Rattle.pt_moves.proofs.MoveLemmas.{stuck_row}
@@ -74,7 +74,7 @@ module _ (b : BlockId) (l : ListNo) (xs : List Name) (captures : ℕ) (hidden : 
   abbrev under : List Slot
   under = drop (length xs) (drop captures old)
 
-  turned : (s : Surroundings) (i : Ins) (ns : List ℕ) (vs : List Value) → MakesFunction xs l.0 captures hidden b.0 s
+  turned : (s : Standpoint) (i : Ins) (ns : List ℕ) (vs : List Value) → MakesFunction xs l.0 captures hidden b.0 s
       → many_cells captures old ≡ Some ns → many_values (length xs) (drop captures old) ≡ Some vs
       → P.cells (s.code.pool.captures b.0) [] (slots_view old)
       (λ cs below. P.values (length xs) cs below (λ ws under. gives s.code i (T.operate (T.function b.0 (s.code.pool.texts l.0)) ws) under))
@@ -86,7 +86,7 @@ module _ (b : BlockId) (l : ListNo) (xs : List Name) (captures : ℕ) (hidden : 
       (before_others (length xs) [] (as_values ns) (drop captures old) vs g)
       ∙ ap (λ ys. gives s.code i (T.operate (T.function b.0 ys) (vs ++ as_values ns)) (slots_view (drop (length xs) (drop captures old)))) makes.names))
 
-  leads : (s : Surroundings) (i : Ins) (ns : List ℕ) (vs : List Value) (st : Stores) → MakesFunction xs l.0 captures hidden b.0 s
+  leads : (s : Standpoint) (i : Ins) (ns : List ℕ) (vs : List Value) (st : Stores) → MakesFunction xs l.0 captures hidden b.0 s
       → many_cells captures old ≡ Some ns → many_values (length xs) (drop captures old) ≡ Some vs
       → reached s.program s.code i s.here (with_objects heap st)
       (P.cells (s.code.pool.captures b.0) [] (slots_view old)
@@ -100,7 +100,7 @@ module _ (b : BlockId) (l : ListNo) (xs : List Name) (captures : ℕ) (hidden : 
       (ap (λ t. function_object b.0 t xs (vs ++ as_values ns)) makes.is_hidden ∙ object_is b hidden xs vs ns (let h : length vs ≡ length xs = omega (arith, length_taken (length xs) [] (drop captures old) vs g) in h)))
 
   -- what the object is, where there is room
-  told_made : (s : Surroundings) (i : Ins) (st : Stores) (rest new : List Slot) (a : Allotted) (v : Value) (grown : List Object) → IsAllotted a (Some v) grown → new ≡ slot.Value v ∷ rest
+  told_made : (s : Standpoint) (i : Ins) (st : Stores) (rest new : List Slot) (a : Allotted) (v : Value) (grown : List Object) → IsAllotted a (Some v) grown → new ≡ slot.Value v ∷ rest
       → told s.program s.code i s.here progress.Next (slots_view new) (with_objects grown st)
       ≡ by_tree s.code i (giving s.code i (slots_view rest)) (slots_view rest) (answer_with a (with_objects heap st))
   told_made s i st rest new (made w k) v grown is e =
@@ -109,7 +109,7 @@ module _ (b : BlockId) (l : ListNo) (xs : List Name) (captures : ℕ) (hidden : 
       ∙ ap (λ x. told s.program s.code i s.here progress.Next (slots_view (slot.Value x ∷ rest)) (with_objects k st)) (let q : v ≡ w = let h : ◌≡◌ {A = Option Value} (Some v) (Some w) = is.0 in cc in q))
   told_made s i st rest new (beyond what) v grown is e = absurd (let h : ◌≡◌ {A = Option Value} (Some v) None = is in cc)
 
-  told_full : (s : Surroundings) (i : Ins) (st : Stores) (rest : List Slot) (o : Object) (grown : List Object) → IsAllotted (allot o heap) None grown
+  told_full : (s : Standpoint) (i : Ins) (st : Stores) (rest : List Slot) (o : Object) (grown : List Object) → IsAllotted (allot o heap) None grown
       → told s.program s.code i s.here (progress.Outside Heap) (slots_view rest) (with_objects grown st)
       ≡ by_tree s.code i (giving s.code i (slots_view rest)) (slots_view rest) (answer_with (allot o heap) (with_objects heap st))
   told_full s i st rest o grown is = by (nat_eq (length heap) object_limit) is

@@ -6,11 +6,11 @@ use Rattle.pt_heap.specs.declared.object.Object.{Object}
 use Rattle.pt_frames.specs.declared.slot.Slot.{Slot}
 use Rattle.pt_host.specs.World.{Stores, with_objects}
 use Rattle.pt_heap_rows.specs.declared.progress.Progress.{Progress}
-use Rattle.pt_heap_rows.specs.RowsIn.{Surroundings, RowsIn}
+use Rattle.pt_heap_rows.specs.RowsIn.{Standpoint, RowsIn}
 
 -- the operands name these names of defaults and a block that takes so many cells along, and the block that makes the function is
 -- hidden or not
-pub record MakesFunction (xs : List Name) (l : ℕ) (captures : ℕ) (hidden : Bool) (b : ℕ) (s : Surroundings) : Type 0 where
+pub record MakesFunction (xs : List Name) (l : ℕ) (captures : ℕ) (hidden : Bool) (b : ℕ) (s : Standpoint) : Type 0 where
   pub names : s.code.pool.texts l ≡ xs
   pub captured : s.code.pool.captures b ≡ captures
   pub is_hidden : s.here.block.hidden ≡ hidden

@@ -15,11 +15,11 @@ use Rattle.pt_host.specs.HeapHost.{heap_host}
 use Rattle.pt_host.specs.Answers.{seeks, deeds, operate, branch}
 use Rattle.pt_transitions.specs.Transitions.{transition}
 use Rattle.pt_transitions.specs.Successors.{successor, to}
-use Rattle.pt_heap_rows.specs.Leads.{Reached}
+use Rattle.pt_heap_rows.specs.Leads.{HeapSuccessor}
 use Rattle.pt_heap_rows.specs.Leads.{by_tree, giving, behind}
 
 module _ (program : Program) (code : CodeObject Value) (i : Ins) (h : Here Value) (st : Stores) where
-  abbrev pub reached : Turn (State Value) Value → Reached
+  abbrev pub reached : Turn (State Value) Value → HeapSuccessor
   reached t = successor (transition (heap_host program) t h st)
 
   abbrev pub OperationsLead : Type 0

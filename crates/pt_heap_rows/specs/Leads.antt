@@ -12,12 +12,12 @@ use Rattle.pt_host.specs.World.{Names, World}
 use Rattle.pt_host.specs.Trees.{Tree}
 use Rattle.pt_transitions.specs.Successors.{Successor, to, arises, behind_print, behind_request, outside}
 
-abbrev pub Reached : Type 0
-Reached = Successor (State Value) Names Value World
+abbrev pub HeapSuccessor : Type 0
+HeapSuccessor = Successor (State Value) Names Value World
 
 module _ (code : CodeObject Value) (i : Ins) where
   -- to where the reply does; a raise lands by the rows that cover the place, with the slots below what was taken
-  abbrev pub by_tree : {A : Type 0} → (A → State Value) → Slots Value → Tree A → Reached
+  abbrev pub by_tree : {A : Type 0} → (A → State Value) → Slots Value → Tree A → HeapSuccessor
   by_tree next ss (H.answer x st) = to (next x) st
   by_tree next ss (H.raise v st) = arises v (land code i.rows (S.raise v) ss) st
   by_tree next ss (H.print t f) = behind_print t (by_tree next ss f)
@@ -37,7 +37,7 @@ abbrev pub known_truth : Value → Option Bool
 known_truth (value.Bool b) = Some b
 known_truth v = None
 
-pub record KnowsTruths (code : CodeObject Value) : Type 0 where
+pub record HasHeapTruths (code : CodeObject Value) : Type 0 where
   pub null : code.null ≡ value.None
   pub truth : (b : Bool) → code.truth b ≡ value.Bool b
   pub is_truth : (v : Value) → code.is_truth v ≡ known_truth v

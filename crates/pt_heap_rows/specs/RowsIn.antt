@@ -10,18 +10,18 @@ use Rattle.pt_host.specs.World.{Stores, Program}
 use Rattle.pt_host.specs.HeapHost.{heap_host}
 use Rattle.pt_rows.specs.Rows.{row_of}
 use Rattle.pt_heap_rows.specs.declared.progress.Progress.{Progress}
-use Rattle.pt_heap_rows.specs.Leads.{KnowsTruths}
+use Rattle.pt_heap_rows.specs.Leads.{HasHeapTruths}
 use Rattle.pt_heap_rows.specs.Told.{told}
 use Rattle.pt_heap_rows.specs.Views.{slots_view}
 
 -- where an instruction stands: in which program and code, and in which activation
-pub record Surroundings : Type 0 where
+pub record Standpoint : Type 0 where
   pub program : Program
   pub code : CodeObject Value
   pub here : Here Value
 
--- what code did with the slots and the stores is the row of an instruction, in surroundings of which this holds
-unfoldable pub RowsIn : (Surroundings → Type 0) → Instr → (old : List Slot) → Stores → Progress → (new : List Slot) → Stores → Type 0
+-- what code did with the slots and the stores is the row of an instruction, at a standpoint of which this holds
+unfoldable pub RowsIn : (Standpoint → Type 0) → Instr → (old : List Slot) → Stores → Progress → (new : List Slot) → Stores → Type 0
 RowsIn Where j old st p new st1 =
-    (s : Surroundings) (pc : ℕ) (i : Ins) → KnowsTruths s.code → Where s
+    (s : Standpoint) (pc : ℕ) (i : Ins) → HasHeapTruths s.code → Where s
     → told s.program s.code i s.here p (slots_view new) st1 ≡ row_of (heap_host s.program) s.code pc i j (slots_view old) s.here st

@@ -18,7 +18,7 @@ use Rattle.pt_host.specs.Calls.{arguments_of, result_of}
 use Rattle.pt_transitions.specs.Successors.{to, behind_print, behind_request, outside, none}
 use Rattle.pt_heap_rows.specs.declared.progress.Progress.{Progress}
 use Rattle.pt_heap_rows.specs.declared.progress.Progress.TheVariants as progress
-use Rattle.pt_heap_rows.specs.Leads.{Reached}
+use Rattle.pt_heap_rows.specs.Leads.{HeapSuccessor}
 use Rattle.pt_heap_rows.specs.Leads.{by_tree, giving}
 use Rattle.pt_heap_rows.specs.Views.{names_in}
 
@@ -37,7 +37,7 @@ module _ (program : Program) (code : CodeObject Value) (i : Ins) where
   behind_leave (Return v) ss = land code i.rows (S.return v) ss
   behind_leave (Leave target) ss = land code i.rows (S.jump_to target.0) ss
 
-  abbrev pub told : Here Value → Progress → Slots Value → Stores → Reached
+  abbrev pub told : Here Value → Progress → Slots Value → Stores → HeapSuccessor
   told h progress.Next ss st = to (on i.next ss) st
   told h (progress.Goto pc) ss st = to (on pc.0 ss) st
   told h (progress.Leaves how) ss st = to (behind_leave how ss) st

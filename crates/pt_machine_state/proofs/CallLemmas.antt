@@ -20,6 +20,7 @@ use Rattle.pt_slots.specs.Slots.{State, on, iterator}
 use Rattle.pt_slots.specs.Machine as slots
 use Rattle.pt_slots.specs.Landing.{land}
 use Rattle.pt_run.specs.Machine as M
+use Rattle.pt_run.specs.State.{most_activations}
 use Rattle.pt_run.specs.Source.{or_null}
 use Rattle.pt_run.specs.Events as Told
 use Rattle.pt_run.specs.Host as H
@@ -34,7 +35,7 @@ use Rattle.pt_bare_runs.specs.Strides as bare
 use Rattle.pt_bare_runs.specs.Strides.{logged, open_above, open_or_fail, fail_opening, is_full, store, lead}
 use Rattle.pt_code_machine.specs.CodeBlocks.{CodeBlocks, machine, start_of}
 use Rattle.pt_heap_rows.specs.declared.progress.Progress.TheVariants as progress
-use Rattle.pt_heap_rows.specs.Leads.{KnowsTruths}
+use Rattle.pt_heap_rows.specs.Leads.{HasHeapTruths}
 use Rattle.pt_heap_rows.specs.Told.{block_id, opening_of}
 use Rattle.pt_heap_rows.specs.Views.{slots_view, world_view}
 use Rattle.pt_machine_state.specs.declared.blocks.BlockCode.{BlockCode}
@@ -60,7 +61,7 @@ count-waiting program code _ _ (more o w os ws waits rest) = ap suc (count-waiti
 
 -- a block begins where its code does
 
-start-is : (code : CodeBlocks Value) (b : M.BlockId) (it : Bool) → code.iterates b ≡ it → KnowsTruths (code.object b) → start_of code b None ≡ on 0 (slots_view (slots_at_start it))
+start-is : (code : CodeBlocks Value) (b : M.BlockId) (it : Bool) → code.iterates b ≡ it → HasHeapTruths (code.object b) → start_of code b None ≡ on 0 (slots_view (slots_at_start it))
 start-is code b it e truths = ap (λ x. if x then slots.start_generator (or_null (code.object b).null None) else slots.start) e ∙ by it
   where
     by : (x : Bool) → (if x then slots.start_generator (or_null (code.object b).null None) else slots.start) ≡ on 0 (slots_view (slots_at_start x))
@@ -101,7 +102,7 @@ module _ (blocks : Blocks) (block : BlockCode) (next : Pc) (m : Machine) (w : Wr
         ap (λ c. run_in q.program c above beside) (start-is q.code (block_id b hidden) callee.iterates callee-known.iterates callee-known.truths
         ∙ ap (λ s. state_of s above.here) (sym stands.at_place))
 
-    is-room : length m.frames.activations + 1 < 1000 → is_full (run_at q m) ≡ false
+    is-room : length m.frames.activations + 1 < most_activations → is_full (run_at q m) ≡ false
     is-room room = grind (arith, nat_tests, count-waiting q.program q.code m.frames.activations q.beside.waiting stands.waiting)
 
     abbrev Done : Stride → Machine → Writes → bare.Stride (State Value) Names Value World → Type 0
@@ -118,7 +119,7 @@ module _ (blocks : Blocks) (block : BlockCode) (next : Pc) (m : Machine) (w : Wr
       ),
     )
 
-  pub applied_calls : (w1 : Writes) → length m.frames.activations + 1 < 1000 → Adds w w1 (events_of (codes "call") [] callee above)
+  pub applied_calls : (w1 : Writes) → length m.frames.activations + 1 < most_activations → Adds w w1 (events_of (codes "call") [] callee above)
       → Applied blocks block next (progress.Calls b hidden ls) stride.Goes m w above w1
   unfolding Applied
   applied_calls w1 room adds q stands s stored =
@@ -130,7 +131,7 @@ module _ (blocks : Blocks) (block : BlockCode) (next : Pc) (m : Machine) (w : Wr
 
   -- one too many is a RecursionError at the call
   module _ (q : Asking) (stands : Stands blocks block next m q) where
-    is-full : 1000 ≤ length m.frames.activations + 1 → is_full (run_at q m) ≡ true
+    is-full : most_activations ≤ length m.frames.activations + 1 → is_full (run_at q m) ≡ true
     is-full full = grind (arith, nat_tests, count-waiting q.program q.code m.frames.activations q.beside.waiting stands.waiting)
 
     abbrev too_many : Option Value → Allotted
@@ -155,7 +156,7 @@ module _ (blocks : Blocks) (block : BlockCode) (next : Pc) (m : Machine) (w : Wr
         subst (λ x. Strode q.program q.code (fails (beyond x)) (stride.Ends (end.Outside Heap line)) w new w) (sym (only what refl))
         (outside-led blocks block next m new w Heap line q stands same is (run_at q m) refl)
 
-  pub fails_to_open : (v : Value) (h : List Object) (w1 : Writes) → 1000 ≤ length m.frames.activations + 1
+  pub fails_to_open : (v : Value) (h : List Object) (w1 : Writes) → most_activations ≤ length m.frames.activations + 1
       → IsAllotted (error_saying RECURSION_ERROR (codes "too many activations") None (active_of m) m.heap) (Some v) h
       → Adds w w1 (raise_events v block (grown blocks block next m w h))
       → Applied blocks block next (progress.Calls b hidden ls) stride.Goes m w (raised_at block v (grown blocks block next m w h)) w1
@@ -168,7 +169,7 @@ module _ (blocks : Blocks) (block : BlockCode) (next : Pc) (m : Machine) (w : Wr
       (fails-made q stands (too_many q stands (here_at q m).active) v h w1
       (subst (λ x. IsAllotted (too_many q stands x) (Some v) h) (sym (active-here blocks block next m q stands)) given) adds))
 
-  pub no_room_to_fail : (h : List Object) (new : Machine) (line : Line) → 1000 ≤ length m.frames.activations + 1
+  pub no_room_to_fail : (h : List Object) (new : Machine) (line : Line) → most_activations ≤ length m.frames.activations + 1
       → IsAllotted (error_saying RECURSION_ERROR (codes "too many activations") None (active_of m) m.heap) None h → new.units ≡ m.units → line.0 ≡ visible_line blocks m
       → Applied blocks block next (progress.Calls b hidden ls) (stride.Ends (end.Outside Heap line)) m w new w
   unfolding Applied

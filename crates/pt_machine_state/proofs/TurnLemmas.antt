@@ -66,8 +66,8 @@ plain_delegate a r None v = refl
 plain_delegate a r (Some e) v = refl
 
 module _ (program : Program) (code : CodeBlocks Value) (n : ℕ) where
-  abbrev Reached : Type 0
-  Reached = bare.Stride (State Value) Names Value World
+  abbrev HeapSuccessor : Type 0
+  HeapSuccessor = bare.Stride (State Value) Names Value World
 
   abbrev row : Turn (State Value) Value → Here Value → Stores → Successor (State Value) Names Value World
   row t h st = successor (transition (heap_host program) t h st)
@@ -92,7 +92,7 @@ module _ (program : Program) (code : CodeBlocks Value) (n : ℕ) where
   led_plainly m (T.delegate a r) k h st s = (T.delegate a r, (plain_delegate a r, refl))
 
   module _ (r : Stride) (old : Writes) (m : Machine) (new : Writes) where
-    abbrev Done : Reached → Type 0
+    abbrev Done : HeapSuccessor → Type 0
     Done d = Strode program code d r old m new
 
     -- where no act begins

@@ -14,7 +14,7 @@ use Rattle.pt_host.specs.HeapHost.{heap_host}
 use Rattle.pt_bare_runs.specs.Strides.{with_store, here_of, lead, stride as stride_of}
 use Rattle.pt_code_machine.specs.CodeBlocks.{CodeBlocks, machine}
 use Rattle.pt_heap_rows.specs.declared.progress.Progress.{Progress}
-use Rattle.pt_heap_rows.specs.Leads.{Reached}
+use Rattle.pt_heap_rows.specs.Leads.{HeapSuccessor}
 use Rattle.pt_heap_rows.specs.Told.{told}
 use Rattle.pt_heap_rows.specs.Views.{slots_view}
 use Rattle.pt_machine_state.specs.declared.blocks.BlockCode.{BlockCode}
@@ -55,7 +55,7 @@ pub record Stands (blocks : Blocks) (block : BlockCode) (next : Pc) (m : Machine
   pub active : active_at q.before ≡ active_in m.here.slots
 
 -- where that leads the machine went: from a run that is that of the machine but for names and world, which are stored first
-abbrev pub LedTo : Reached → Asking → Stride → (old : Machine) (written : Writes) → (new : Machine) (writes : Writes) → Type 0
+abbrev pub LedTo : HeapSuccessor → Asking → Stride → (old : Machine) (written : Writes) → (new : Machine) (writes : Writes) → Type 0
 LedTo reached q r old written new writes =
     (s : Bare) → with_store (stores_of q.program old) s ≡ run_at q old
     → Strode q.program q.code (lead (machine q.code) (heap_host q.program) q.ask reached s) r written new writes

@@ -8,7 +8,7 @@ use Rattle.pt_places.specs.PlaceTable.{HasPlaces}
 use Rattle.pt_run.specs.Machine.{BlockId}
 use Rattle.pt_host.specs.World.{Program}
 use Rattle.pt_code_machine.specs.CodeBlocks.{CodeBlocks}
-use Rattle.pt_heap_rows.specs.Leads.{KnowsTruths}
+use Rattle.pt_heap_rows.specs.Leads.{HasHeapTruths}
 use Rattle.pt_machine_state.specs.declared.blocks.BlockCode.{BlockCode}
 use Rattle.pt_machine_state.specs.declared.blocks.Blocks.{Blocks}
 
@@ -21,7 +21,7 @@ pub record IsBlockOf (program : Program) (code : CodeBlocks Value) (b : BlockId)
   pub places : HasPlaces (code.object b).at block.places
   pub rows : (pc : ℕ) (i : Ins) → (code.object b).at pc ≡ Some i → i.rows ≡ filter (λ row. covers row (record { 0 = pc })) block.handlers
   pub depths : (pc : ℕ) → (code.object b).depth_at pc ≡ depth_of block pc
-  pub truths : KnowsTruths (code.object b)
+  pub truths : HasHeapTruths (code.object b)
   pub iterates : code.iterates b ≡ block.iterates
 
 abbrev pub block_at : Blocks → BlockId → BlockCode

@@ -35,6 +35,7 @@ ghost use Rattle.pt_machine_state.specs.declared.machine.Standing.TheVariants as
 ghost use Rattle.pt_machine_state.specs.declared.machine.Stride.TheVariants as stride;
 ghost use Rattle.pt_machine_state.specs.declared.writes.Writes.{Writes};
 ghost use Rattle.pt_places.specs.PlaceTable.{entry};
+ghost use Rattle.pt_run.specs.State.{most_activations};
 ghost use Rattle.pt_places.specs.declared.places.Place.{Place};
 
 /// The machine does what an instruction comes to as a run does: it goes to a place, a completion
@@ -93,21 +94,21 @@ pub fn exceptions_arise_as_in_a_run()
 pub fn blocks_open_as_in_a_run()
     ensures opens { (blocks : Blocks) (block : BlockCode) (next : Pc) (m : Machine) (w : Writes)
         (b : BlockId) (hidden : Bool) (ls : Locals) (w1 : Writes)
-        → length m.frames.activations + 1 < 1000
+        → length m.frames.activations + 1 < most_activations
         → Adds w w1 (events_of (codes "call") [] (block_at blocks (block_id b hidden))
         (opened (block_at blocks (block_id b hidden)).iterates b hidden ls m))
         → Applied blocks block next (progress.Calls b hidden ls) stride.Goes m w
         (opened (block_at blocks (block_id b hidden)).iterates b hidden ls m) w1 }
     ensures too_deep { (blocks : Blocks) (block : BlockCode) (next : Pc) (m : Machine)
         (w : Writes) (b : BlockId) (hidden : Bool) (ls : Locals) (v : Value) (h : List Object)
-        (w1 : Writes) → 1000 ≤ length m.frames.activations + 1
+        (w1 : Writes) → most_activations ≤ length m.frames.activations + 1
         → IsAllotted (error_saying RECURSION_ERROR (codes "too many activations") None (active_of m)
         m.heap) (Some v) h → Adds w w1 (raise_events v block (record m { heap = h }))
         → Applied blocks block next (progress.Calls b hidden ls) stride.Goes m w
         (raised_at block v (record m { heap = h })) w1 }
     ensures no_room { (blocks : Blocks) (block : BlockCode) (next : Pc) (m : Machine) (w : Writes)
         (b : BlockId) (hidden : Bool) (ls : Locals) (h : List Object) (new : Machine) (line : Line)
-        → 1000 ≤ length m.frames.activations + 1
+        → most_activations ≤ length m.frames.activations + 1
         → IsAllotted (error_saying RECURSION_ERROR (codes "too many activations") None (active_of m)
         m.heap) None h → new.units ≡ m.units → line.0 ≡ visible_line blocks m
         → Applied blocks block next (progress.Calls b hidden ls)

@@ -32,8 +32,8 @@ use Rattle.pt_host.specs.Trees.{and_then, raise_with}
 use Rattle.pt_transitions.specs.Successors.{to}
 use Rattle.pt_heap_rows.specs.declared.progress.Progress.{Progress}
 use Rattle.pt_heap_rows.specs.declared.progress.Progress.TheVariants as progress
-use Rattle.pt_heap_rows.specs.Leads.{Reached}
-use Rattle.pt_heap_rows.specs.Leads.{by_tree, giving, KnowsTruths, known_truth}
+use Rattle.pt_heap_rows.specs.Leads.{HeapSuccessor}
+use Rattle.pt_heap_rows.specs.Leads.{by_tree, giving, HasHeapTruths, known_truth}
 use Rattle.pt_heap_rows.specs.Laws.{reached}
 use Rattle.pt_heap_rows.specs.Told.{told}
 use Rattle.pt_heap_rows.specs.Views.{slots_view}
@@ -76,7 +76,7 @@ module _ (heap : List Object) where
 
 module _ (program : Program) (code : CodeObject Value) (i : Ins) (h : Here Value) (ss : Slots Value) (next : Bool → State Value) where
   -- where the truth of a value leads, or what arises instead
-  abbrev led : Result Bool Progress → Stores → Reached
+  abbrev led : Result Bool Progress → Stores → HeapSuccessor
   led (Ok b) s = to (next b) s
   led (Err p) s = told program code i h p ss s
 
@@ -115,7 +115,7 @@ module _ (program : Program) (code : CodeObject Value) (i : Ins) (h : Here Value
     known_asked (Some m) = asked (value.Bool b) heap st (Some m)
 
 module _ (program : Program) (code : CodeObject Value) (i : Ins) (h : Here Value) (ss : Slots Value) (on_true on_false : Value → Slots Value → State Value)
-    (known : KnowsTruths code) (heap : List Object) (st : Stores) where
+    (known : HasHeapTruths code) (heap : List Object) (st : Stores) where
   abbrev next_of : Value → Bool → State Value
   next_of v b = decided code b on_true on_false v ss
 

@@ -17,7 +17,7 @@ use Rattle.pt_host.specs.World.{Stores, Program}
 use Rattle.pt_host.specs.Answers.{constant_value}
 use Rattle.pt_transitions.specs.Successors.{to}
 use Rattle.pt_heap_rows.specs.declared.progress.Progress.TheVariants as progress
-use Rattle.pt_heap_rows.specs.Leads.{KnowsTruths, giving}
+use Rattle.pt_heap_rows.specs.Leads.{HasHeapTruths, giving}
 use Rattle.pt_heap_rows.specs.Laws.{reached}
 use Rattle.pt_heap_rows.specs.Views.{slots_view}
 use Rattle.pt_moves.specs.Operands.{RowsConstant}
@@ -36,7 +36,7 @@ module _ (program : Program) (code : CodeObject Value) (i : Ins) (h : Here Value
   known_given c v None e = refl
   known_given c v (Some m) e = ap (λ x. to (giving code i ss x) st) e
 
-  constant_leads : (c : Constant) (v : Value) → KnowsTruths code → constant_value program c ≡ v → reached program code i h st (gives_known code i c (known code c) ss) ≡ to (giving code i ss v) st
+  constant_leads : (c : Constant) (v : Value) → HasHeapTruths code → constant_value program c ≡ v → reached program code i h st (gives_known code i c (known code c) ss) ≡ to (giving code i ss v) st
   constant_leads constant.None v k e = ap (λ x. reached program code i h st (unmarked i.mark (giving code i ss x) (T.act (option_map mark_of i.mark) (T.seek (T.const constant.None)) (after code i ss (giving code i ss))))) (k.null ∙ e)
       ∙ known_given constant.None v i.mark e
   constant_leads (constant.Bool b) v k e = ap (λ x. reached program code i h st (unmarked i.mark (giving code i ss x) (T.act (option_map mark_of i.mark) (T.seek (T.const (constant.Bool b))) (after code i ss (giving code i ss))))) (k.truth b ∙ e)

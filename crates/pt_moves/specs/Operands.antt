@@ -15,7 +15,7 @@ use Rattle.pt_host.specs.HeapHost.{heap_host}
 use Rattle.pt_host.specs.Answers.{constant_value}
 use Rattle.pt_heap_rows.specs.declared.progress.Progress.{Progress}
 use Rattle.pt_rows.specs.Rows.{row_of}
-use Rattle.pt_heap_rows.specs.Leads.{KnowsTruths}
+use Rattle.pt_heap_rows.specs.Leads.{HasHeapTruths}
 use Rattle.pt_heap_rows.specs.Told.{told}
 use Rattle.pt_heap_rows.specs.Views.{slots_view}
 
@@ -46,18 +46,18 @@ one_movable slots = None
 -- what code did with the slots is the row of an instruction, wherever that stands in code that knows its None, True and False
 unfoldable pub RowsSlots : Instr → (old : List Slot) → Progress → (new : List Slot) → Type 0
 RowsSlots j old p new =
-    (program : Program) (code : CodeObject Value) (pc : ℕ) (i : Ins) (h : Here Value) (st : Stores) → KnowsTruths code
+    (program : Program) (code : CodeObject Value) (pc : ℕ) (i : Ins) (h : Here Value) (st : Stores) → HasHeapTruths code
     → told program code i h p (slots_view new) st ≡ row_of (heap_host program) code pc i j (slots_view old) h st
 
 -- the same of one that changes the heap too
 unfoldable pub RowsHeap : Instr → (old : List Slot) (heap : List Object) → Progress → (new : List Slot) (grown : List Object) → Type 0
 RowsHeap j old heap p new grown =
-    (program : Program) (code : CodeObject Value) (pc : ℕ) (i : Ins) (h : Here Value) (st : Stores) → KnowsTruths code
+    (program : Program) (code : CodeObject Value) (pc : ℕ) (i : Ins) (h : Here Value) (st : Stores) → HasHeapTruths code
     → told program code i h p (slots_view new) (with_objects grown st) ≡ row_of (heap_host program) code pc i j (slots_view old) h (with_objects heap st)
 
 -- a constant of code is given, where it has this value
 unfoldable pub RowsConstant : Value → (old : List Slot) → Progress → (new : List Slot) → Type 0
 RowsConstant v old p new =
-    (k : ConstNo) (program : Program) (code : CodeObject Value) (pc : ℕ) (i : Ins) (h : Here Value) (st : Stores) → KnowsTruths code
+    (k : ConstNo) (program : Program) (code : CodeObject Value) (pc : ℕ) (i : Ins) (h : Here Value) (st : Stores) → HasHeapTruths code
     → constant_value program (code.pool.constant k.0) ≡ v
     → told program code i h p (slots_view new) st ≡ row_of (heap_host program) code pc i (instr.Const k) (slots_view old) h st

@@ -16,14 +16,14 @@ use Rattle.pt_host.specs.Errors.{error_saying}
 use Rattle.pt_host.specs.Texts.{unbound_text, unbound_class}
 use Rattle.pt_host.specs.Variables.{readable_value, variable_value, load, load_by, unless_bound, raise_unbound, delete, delete_by, put, make_anew}
 use Rattle.pt_transitions.specs.Successors.{to}
-use Rattle.pt_heap_rows.specs.Leads.{Reached}
+use Rattle.pt_heap_rows.specs.Leads.{HeapSuccessor}
 use Rattle.pt_heap_rows.specs.Leads.{by_tree, giving, behind}
 use Rattle.pt_heap_rows.specs.Laws.{reached}
 use Rattle.pt_heap_rows.specs.Told.{told}
 use Rattle.pt_heap_rows.proofs.RowLemmas.{loads_lead, deeds_lead}
 use Rattle.pt_name_rows.specs.Names.{unbound}
 
-abbrev pub goes_to : State Value → Stores → Reached
+abbrev pub goes_to : State Value → Stores → HeapSuccessor
 goes_to s st = to s st
 
 module _ (program : Program) (code : CodeObject Value) (i : Ins) (h : Here Value) (st : Stores) (ss : Slots Value) where

@@ -21,7 +21,7 @@ use Rattle.pt_heap_rows.specs.declared.progress.Progress.{Progress}
 use Rattle.pt_heap_rows.specs.declared.progress.Progress.TheVariants as progress
 use Rattle.pt_heap_rows.specs.Leads.{by_tree, giving}
 use Rattle.pt_heap_rows.specs.Told.{told}
-use Rattle.pt_heap_rows.specs.RowsIn.{Surroundings, RowsIn}
+use Rattle.pt_heap_rows.specs.RowsIn.{Standpoint, RowsIn}
 use Rattle.pt_heap_rows.specs.Views.{slots_view}
 use Rattle.pt_code.specs.View.{Ins}
 use Rattle.pt_builtins.specs.declared.BuiltinLookup.{BuiltinLookup}
@@ -54,7 +54,7 @@ module _ (x : Name) (t : TextNo) (old : List Slot) (globals : Named) where
   slots_otherwise (lookup.Found v) = slot.Value v ∷ old
   slots_otherwise b = old
 
-  leads_otherwise : (b : BuiltinLookup) (s : Surroundings) (i : Ins) (st : Stores)
+  leads_otherwise : (b : BuiltinLookup) (s : Standpoint) (i : Ins) (st : Stores)
       → told s.program s.code i s.here (otherwise b) (slots_view (slots_otherwise b)) st
       ≡ by_tree s.code i (giving s.code i (slots_view old)) (slots_view old) (by_builtin (builtin_view b) T.global x s.here st)
   leads_otherwise (lookup.Found v) s i st = refl

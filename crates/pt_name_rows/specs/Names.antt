@@ -13,7 +13,7 @@ use Rattle.pt_host.specs.Texts.{unbound_text, unbound_class}
 use Rattle.pt_host.specs.Builtins.{builtin}
 use Rattle.pt_heap_rows.specs.declared.progress.Progress.{Progress}
 use Rattle.pt_heap_rows.specs.declared.progress.Progress.TheVariants as progress
-use Rattle.pt_heap_rows.specs.RowsIn.{Surroundings, RowsIn}
+use Rattle.pt_heap_rows.specs.RowsIn.{Standpoint, RowsIn}
 use Rattle.pt_heap_rows.specs.Views.{stores_in}
 use Rattle.pt_variables.specs.Numbers.{cell_variable, KnowsNames, HasLocals, HasCells}
 use Rattle.pt_code_facts.specs.declared.facts.BlockFacts.{BlockFacts}
