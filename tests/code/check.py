@@ -8,13 +8,14 @@ import argparse
 import os
 import random
 import sys
-import threading
 import traceback
 
 import blocks
 import errors
 from machines import CRATES, Script, Specs, scripts
 from follow import Differs, Pair  # noqa: I001
+
+import deep  # noqa: I001
 
 # how often an answer is a raise, and how often a jump comes, in the runs of a block, in turn
 PLANS = [(0.0, 0.0), (0.04, 0.0), (0.15, 0.0), (0.04, 0.25)]
@@ -95,10 +96,4 @@ if __name__ == "__main__":
     parser.add_argument("--runs", type=int, default=len(PLANS))
     parser.add_argument("--show", type=int)
     parser.add_argument("--errors", action="store_true")
-    status = []
-    sys.setrecursionlimit(200000)
-    threading.stack_size(512 * 1024 * 1024)
-    thread = threading.Thread(target=lambda: status.append(main(parser.parse_args())))
-    thread.start()
-    thread.join()
-    sys.exit(status[0] if status else 1)
+    sys.exit(deep.call(lambda: main(parser.parse_args())))

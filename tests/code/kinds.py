@@ -3,36 +3,22 @@ place, one origin for each slot that two places have in common, and what `finall
 
   kinds.py [--crates FOLDER] [--from N] [--many N] [--runs N] [--errors]
 """
-import argparse
-import os
 import random
 import sys
-import threading
 
 import errors
-from check import CRATES, PLANS, text_of
+import over_scripts
+from check import PLANS, text_of
 from follow import Differs, Pair
-from machines import NONE, Script, Specs, items, listed
+from machines import NONE, Script, items, listed
+
+import deep  # noqa: I001
 
 TEXT = {"Value": "V", "Cell": "C", "Iter": "I", "Exc": "X", "Pending": "P", "With": "W"}
 
 
 def Error(name, old, new):
     return errors.Error(name, "Walk", old, new)
-
-
-def remember_flows(d):
-    """The walk over a piece at a place from the same slots is made once for each block."""
-    flow = d.module("Rattle.pt_piece_kinds.specs.Walk").definitions["flow"]
-    code, plain, known = d.function(flow), d.compiled(flow), {}
-
-    def remembered(links, next_of, piece, setting, base, place, slots):
-        key = id(piece), place, str(slots)
-        if key not in known:
-            known[key] = piece, plain(links, next_of, piece, setting, base, place, slots)
-        return known[key][1]
-    d.space[code] = remembered
-    return known
 
 
 class Walk:
@@ -158,49 +144,6 @@ WRONG = [
 ]
 
 
-def main(options):
-    if options.errors:
-        missed = 0
-        for error in WRONG:
-            found = None
-            with errors.put_in(options.crates, error, "pt_piece_kinds") as copy:
-                specs = Specs(copy)
-                specs.flows = remember_flows(specs.pieces)
-                for seed in range(1, options.many + 1):
-                    try:
-                        script_checked(specs, seed, 1, {k: 0 for k in ("blocks", "places", "slots of parts", "runs", "acts")})
-                    except Exception as e:
-                        found = seed, f"{type(e).__name__} {e}"
-                        break
-            missed += found is None
-            print(f"{error.name}: {found}", flush=True)
-        return 1 if missed else 0
-    specs, wrong = Specs(options.crates), 0
-    specs.flows = remember_flows(specs.pieces)
-    totals = {k: 0 for k in ("blocks", "places", "slots of parts", "runs", "acts")}
-    for seed in range(options.start, options.start + options.many):
-        try:
-            script_checked(specs, seed, options.runs, totals)
-        except Differs as e:
-            wrong += 1
-            print(f"script {seed}: {e}", flush=True)
-        if seed % 50 == 0:
-            print(f"so far to {seed}: {totals}, wrong {wrong}", flush=True)
-    print(f"scripts {options.many} from {options.start}, {totals}, wrong {wrong}")
-    return 1 if wrong else 0
-
-
 if __name__ == "__main__":
-    parser = argparse.ArgumentParser()
-    parser.add_argument("--crates", default=CRATES)
-    parser.add_argument("--from", dest="start", type=int, default=1)
-    parser.add_argument("--many", type=int, default=300)
-    parser.add_argument("--runs", type=int, default=len(PLANS))
-    parser.add_argument("--errors", action="store_true")
-    status = []
-    sys.setrecursionlimit(200000)
-    threading.stack_size(512 * 1024 * 1024)
-    thread = threading.Thread(target=lambda: status.append(main(parser.parse_args())))
-    thread.start()
-    thread.join()
-    sys.exit(status[0] if status else 1)
+    counted = "blocks", "places", "slots of parts", "runs", "acts"
+    sys.exit(deep.call(lambda: over_scripts.main(script_checked, counted, WRONG, 300, "pt_piece_kinds")))

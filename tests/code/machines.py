@@ -7,7 +7,7 @@ import sys
 
 HERE = os.path.dirname(os.path.abspath(__file__))
 CRATES = os.path.join(HERE, "..", "..", "crates")
-sys.path[:0] = [os.path.join(HERE, "..", "run"), os.path.join(HERE, "..", "fits")]
+sys.path[:0] = [os.path.join(HERE, ".."), os.path.join(HERE, "..", "run"), os.path.join(HERE, "..", "fits")]
 
 import scripts  # noqa: E402, F401
 from checker import Block as PlainBlock  # noqa: E402

@@ -4,16 +4,17 @@ the parts of control's nest.
 
   parts.py [--crates FOLDER] [--from N] [--many N] [--runs N] [--errors]
 """
-import argparse
 import random
 import sys
-import threading
 
 import errors
-from check import CRATES, PLANS, text_of
+import over_scripts
+from check import PLANS, text_of
 from follow import Differs, Pair
-from kinds import Walk, remember_flows
-from machines import NONE, Script, Specs, items
+from kinds import Walk
+from machines import NONE, Script, items
+
+import deep  # noqa: I001
 
 KIND = {"for_part": "I", "with_part": "W", "tests_part": "X", "handler_part": "X", "finally_part": "P", "exit_part": "P"}
 
@@ -116,47 +117,6 @@ WRONG = [
 ]
 
 
-def main(options):
-    names = "blocks", "parts", "lines", "acts"
-    if options.errors:
-        missed = 0
-        for error in WRONG:
-            found = None
-            with errors.put_in(options.crates, error, "pt_part_slots") as copy:
-                specs = Specs(copy)
-                specs.flows = remember_flows(specs.pieces)
-                for seed in range(1, options.many + 1):
-                    try:
-                        script_checked(specs, seed, 1, dict.fromkeys(names, 0))
-                    except Exception as e:
-                        found = seed, f"{type(e).__name__} {e}"
-                        break
-            missed += found is None
-            print(f"{error.name}: {found}", flush=True)
-        return 1 if missed else 0
-    specs, wrong, totals = Specs(options.crates), 0, dict.fromkeys(names, 0)
-    specs.flows = remember_flows(specs.pieces)
-    for seed in range(options.start, options.start + options.many):
-        try:
-            script_checked(specs, seed, options.runs, totals)
-        except Differs as e:
-            wrong += 1
-            print(f"script {seed}: {e}", flush=True)
-    print(f"scripts {options.many} from {options.start}, {totals}, wrong {wrong}")
-    return 1 if wrong else 0
-
-
 if __name__ == "__main__":
-    parser = argparse.ArgumentParser()
-    parser.add_argument("--crates", default=CRATES)
-    parser.add_argument("--from", dest="start", type=int, default=1)
-    parser.add_argument("--many", type=int, default=100)
-    parser.add_argument("--runs", type=int, default=len(PLANS))
-    parser.add_argument("--errors", action="store_true")
-    status = []
-    sys.setrecursionlimit(200000)
-    threading.stack_size(512 * 1024 * 1024)
-    thread = threading.Thread(target=lambda: status.append(main(parser.parse_args())))
-    thread.start()
-    thread.join()
-    sys.exit(status[0] if status else 1)
+    counted = "blocks", "parts", "lines", "acts"
+    sys.exit(deep.call(lambda: over_scripts.main(script_checked, counted, WRONG, 100, "pt_part_slots")))

@@ -13,11 +13,11 @@ import os
 import shlex
 import subprocess
 import sys
-import threading
 
 HERE = os.path.dirname(os.path.abspath(__file__))
-sys.path.insert(0, os.path.join(HERE, "..", "front"))
+sys.path[:0] = [os.path.join(HERE, ".."), os.path.join(HERE, "..", "front")]
 import acts  # noqa: E402
+import deep  # noqa: E402
 from laid import Listings  # noqa: E402
 
 LOADS = {"Local", "Cell", "Global", "Name"}
@@ -180,10 +180,4 @@ def main():
 
 
 if __name__ == "__main__":
-    status = []
-    sys.setrecursionlimit(200000)
-    threading.stack_size(512 * 1024 * 1024)
-    thread = threading.Thread(target=lambda: status.append(main()))
-    thread.start()
-    thread.join()
-    sys.exit(status[0] if status else 1)
+    sys.exit(deep.call(main))

@@ -9,11 +9,11 @@ import json
 import os
 import subprocess
 import sys
-import threading
 import warnings
 
 HERE = os.path.dirname(os.path.abspath(__file__))
-sys.path.insert(0, os.path.join(HERE, "..", "run"))
+sys.path[:0] = [os.path.join(HERE, ".."), os.path.join(HERE, "..", "run")]
+import deep  # noqa: E402
 from definitions import items, listed, load  # noqa: E402
 from older import NODES, codes, parameters  # noqa: E402
 from random_scripts import BY_HAND, script  # noqa: E402
@@ -336,10 +336,4 @@ def main():
 
 if __name__ == "__main__":
     warnings.simplefilter("ignore")
-    sys.setrecursionlimit(200000)
-    threading.stack_size(512 * 1024 * 1024)
-    failed = []
-    thread = threading.Thread(target=lambda: failed.append(main()))
-    thread.start()
-    thread.join()
-    sys.exit(0 if failed == [0] else 1)
+    sys.exit(1 if deep.call(main) else 0)

@@ -10,15 +10,17 @@ import pickle
 import random
 import re
 import sys
-import threading
 import traceback
 import types
 import warnings
 
-from host import DISABLE, NONE, Function, Generator, Raised
-from record import CALLS, KINDS, TOOL, Recorder, callee, describe
-from run import Runner
-from scripts import HEAD, script
+sys.path.append(os.path.join(os.path.dirname(os.path.abspath(__file__)), ".."))
+
+import deep  # noqa: E402
+from host import DISABLE, NONE, Function, Generator, Raised  # noqa: E402
+from record import CALLS, KINDS, TOOL, Recorder, callee, describe  # noqa: E402
+from run import Runner  # noqa: E402
+from scripts import HEAD, script  # noqa: E402
 
 EVENTS = {"starts": "PY_START", "resumes": "PY_RESUME", "returns": "PY_RETURN", "yields": "PY_YIELD", "throws": "PY_THROW", "unwinds": "PY_UNWIND",
           "line": "LINE", "raises": "RAISE", "calls": "CALL", "returns_from": "C_RETURN", "raises_from": "C_RAISE"}
@@ -452,12 +454,6 @@ def main():
 
 
 if __name__ == "__main__":
-    sys.setrecursionlimit(100000)
     warnings.simplefilter("ignore")
     sys.unraisablehook = lambda u: None
-    threading.stack_size(512 * 1024 * 1024)
-    found = []
-    thread = threading.Thread(target=lambda: found.append(main()))
-    thread.start()
-    thread.join()
-    sys.exit(found[0] if found else 2)
+    sys.exit(deep.call(main))

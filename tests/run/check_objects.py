@@ -10,7 +10,6 @@ import argparse
 import collections
 import re
 import sys
-import threading
 import warnings
 
 from check import EVENTS, RULES, TRACED, Plan, alike, first_difference, of_ended_iteration, of_one_line, of_spread_call
@@ -19,6 +18,8 @@ from definitions import items, listed, number
 from objects import ObjectRunner, text_of
 from programs import program
 from record import CALLS, Recorder
+
+import deep  # noqa: I001
 
 # exceptions whose texts are CPython's
 NAMED = ("<NameError>", "<UnboundLocalError>")
@@ -244,11 +245,5 @@ def main():
 
 
 if __name__ == "__main__":
-    sys.setrecursionlimit(100000)
     warnings.simplefilter("ignore")
-    threading.stack_size(512 * 1024 * 1024)
-    found = []
-    thread = threading.Thread(target=lambda: found.append(main()))
-    thread.start()
-    thread.join()
-    sys.exit(found[0] if found else 2)
+    sys.exit(deep.call(main))

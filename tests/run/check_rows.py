@@ -8,12 +8,12 @@ import argparse
 import collections
 import os
 import sys
-import threading
 import warnings
 
 HERE = os.path.dirname(os.path.abspath(__file__))
-sys.path[:0] = [HERE, os.path.join(HERE, "..", "code")]
+sys.path[:0] = [HERE, os.path.join(HERE, ".."), os.path.join(HERE, "..", "code")]
 
+import deep  # noqa: E402
 from check_objects import WRITTEN, Check  # noqa: E402
 from definitions import STD, integer, items, listed  # noqa: E402
 from follow import Checked  # noqa: E402
@@ -198,11 +198,5 @@ def main():
 
 
 if __name__ == "__main__":
-    sys.setrecursionlimit(200000)
     warnings.simplefilter("ignore")
-    threading.stack_size(512 * 1024 * 1024)
-    found = []
-    thread = threading.Thread(target=lambda: found.append(main()))
-    thread.start()
-    thread.join()
-    sys.exit(found[0] if found else 2)
+    sys.exit(deep.call(main))
