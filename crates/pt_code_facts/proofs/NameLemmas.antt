@@ -1,17 +1,13 @@
 -- Names by number, in the lists of a block and in its facts.
-use Rattle.std.proofs.Common.{◌≡◌, ◌∙◌, ◌+◌, ◌<◌, ◌≤◌, ◌-◌, ℕ, zero, suc, Bool, true, false, List, [], ◌∷◌, ◌++◌, length, map, Option, None, refl, sym, ap, arith}
+use Rattle.std.proofs.Common.{◌≡◌, ◌∙◌, ◌+◌, ◌<◌, ◌≤◌, ◌-◌, ℕ, zero, suc, Bool, true, false, List, [], ◌∷◌, ◌++◌, length, None, refl, sym, ap, arith}
 use Rattle.std.specs.Prelude.{nat_lt, slice_get, slice_index_or, if◌then◌else◌}
 use Rattle.std.proofs.lemmas.Bool.Decides.{nat_tests}
 use Rattle.pt_tree.specs.Syntax.{Name}
-use Rattle.pt_heap.specs.declared.value.Value.{Value}
 use Rattle.pt_control.specs.Turn as T
 use Rattle.pt_instr.specs.declared.TextNo.{TextNo}
-use Rattle.pt_code.specs.declared.CodeBlock.{CodeBlock}
-use Rattle.pt_code.specs.declared.Code.{Code}
-use Rattle.pt_slots.specs.BlockObject.{text_in, name_in, variable_in, pool_of}
-use Rattle.pt_slots.specs.CodeObject.{CodeObject, Pool, named}
-use Rattle.pt_variables.specs.Numbers.{KnowsNames, cell_variable}
-use Rattle.pt_code_facts.specs.Facts.{named_texts, facts_of, facts_view, FactsKnowNames}
+use Rattle.pt_slots.specs.BlockObject.{text_in, name_in, variable_in}
+use Rattle.pt_slots.specs.CodeObject.{Pool, named}
+use Rattle.pt_code_facts.specs.Facts.{named_texts, FactsKnowNames}
 
 -- past the end there is no text
 no_text : (texts : List Name) → text_in texts (length texts) ≡ []

@@ -1,5 +1,5 @@
 -- What a code tells of its blocks beside what they run (Library Reference, "inspect": code objects; Language Reference 3.2.13.1).
-use Rattle.std.specs.Prelude.{◌≡◌, ℕ, List, [], Bool, true, false, if◌then◌else◌, map, take, drop, Option, Some, None, slice_get}
+use Rattle.std.specs.Prelude.{◌≡◌, List, [], Bool, true, false, map, take, drop}
 use Rattle.pt_tree.specs.Syntax.{Name}
 use Rattle.pt_heap.specs.declared.value.Value.{Value}
 use Rattle.pt_bind.specs.declared.arguments.Params.{Params}
@@ -15,6 +15,7 @@ use Rattle.pt_host.specs.World.{CodeFacts, Program}
 use Rattle.pt_variables.specs.Numbers.{KnowsNames}
 use Rattle.pt_code_facts.specs.declared.facts.BlockFacts.{BlockFacts}
 use Rattle.pt_code_facts.specs.declared.facts.Blocks.{Blocks}
+use Rattle.pt_code_facts.specs.Numbered.{by_number}
 
 -- as a host has them
 abbrev pub facts_view : BlockFacts → CodeFacts
@@ -56,32 +57,11 @@ facts_of texts b = record {
   yields = is_generator b.kind;
 }
 
--- of a block without names
-abbrev pub no_facts : BlockFacts
-no_facts = record {
-  name = [];
-  first_line = record { 0 = 0 };
-  params = record { plain = []; only = []; star = false; stars = false; defaults = [] };
-  locals = [];
-  cells = [];
-  frees = [];
-  yields = false;
-}
-
 abbrev pub blocks_of : (texts : List Name) → List CodeBlock → List BlockFacts
 blocks_of texts bs = map (facts_of texts) bs
 
--- the blocks of the script, or those of the prelude
-abbrev pub facts_among : Blocks → (hidden : Bool) → List BlockFacts
-facts_among bs hidden = if hidden then bs.prelude else bs.script
-
--- a block that isn't there has no names
-abbrev pub or_none : Option BlockFacts → BlockFacts
-or_none (Some f) = f
-or_none None = no_facts
-
 abbrev pub facts_at : Blocks → M.BlockId → BlockFacts
-facts_at bs b = or_none (slice_get (facts_among bs b.hidden) b.number)
+facts_at bs b = by_number bs.of_module bs.others b.number
 
 -- the blocks of a program
 abbrev pub KnowsBlocks : Program → Blocks → Type 0

@@ -1,8 +1,8 @@
-ghost use Rattle.std.specs.Prelude.{◌≡◌, IfOk, map, slice_get};
-ghost use Rattle.std.specs.Option.{option_copied};
+ghost use Rattle.std.specs.Prelude.{◌≡◌, Bool, IfOk};
 ghost use Rattle.pt_slots.specs.BlockObject.{text_in};
-ghost use Rattle.pt_code_facts.specs.Facts.{blocks_of, facts_of, is_generator, named_texts};
-ghost use Rattle.pt_code_facts.specs.Facts.{no_facts, params_of, facts_among};
+ghost use Rattle.pt_code_facts.specs.Facts.{blocks_of, facts_at, facts_of, is_generator};
+ghost use Rattle.pt_code_facts.specs.Facts.{named_texts, params_of};
+ghost use Rattle.pt_heap_rows.specs.Told.{block_id};
 
 use pt_base::{BlockId, Dup, Line, Memory, Seq, Text};
 use pt_bind::Params;
@@ -25,29 +25,6 @@ pub struct BlockFacts {
     pub frees: Seq<Text>,
     /// Whether a call makes a generator.
     pub yields: bool,
-}
-
-impl BlockFacts {
-    /// Those of a block without names. They take no memory.
-    pub fn none(alloc: Global) -> BlockFacts
-        ensures { result ≡ no_facts }
-    {
-        BlockFacts {
-            name: Text::new(alloc),
-            first_line: Line(0),
-            params: Params {
-                plain: Seq::new(alloc),
-                only: Seq::new(alloc),
-                star: false,
-                stars: false,
-                defaults: Seq::new(alloc),
-            },
-            locals: Seq::new(alloc),
-            cells: Seq::new(alloc),
-            frees: Seq::new(alloc),
-            yields: false,
-        }
-    }
 }
 
 /// The text of a number; the empty one where there is none.
@@ -136,22 +113,27 @@ pub fn blocks_of(
     Ok(facts)
 }
 
-/// The blocks of a program: those of its script and those of the prelude, which are hidden.
+/// What is known of the blocks of a script by their numbers. The module has number 0, and stands
+/// for a number that the script doesn't have.
 #[derive(Debug, Drop)]
 pub struct Blocks {
-    pub script: Seq<BlockFacts>,
-    pub prelude: Seq<BlockFacts>,
+    pub of_module: BlockFacts,
+    /// The blocks from number 1 on.
+    pub others: Seq<BlockFacts>,
 }
 
 impl Blocks {
-    /// What is known of a block, if it is there.
-    pub fn get(&self, block: BlockId, hidden: bool) -> Option<&BlockFacts>
-        ensures { option_copied result ≡ slice_get (facts_among self.now hidden) block.0 }
+    /// What is known of the block of a number, in constant time.
+    #[tactic(auto, using(crate::proofs::NumberedLemmas::first, crate::proofs::NumberedLemmas::later, crate::proofs::NumberedLemmas::missing))]
+    pub fn get(&self, block: BlockId) -> &BlockFacts
+        ensures { (hidden : Bool) → result.now ≡ facts_at self.now (block_id block hidden) }
     {
-        if hidden {
-            self.prelude.get(block.0 as usize)
-        } else {
-            self.script.get(block.0 as usize)
+        if block.0 == 0 {
+            return &self.of_module;
+        }
+        match self.others.get(block.0 as usize - 1) {
+            Some(block) => block,
+            None => &self.of_module,
         }
     }
 }

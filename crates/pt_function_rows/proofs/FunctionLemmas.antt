@@ -1,15 +1,13 @@
 -- Rows that make functions.
-use Rattle.std.proofs.Common.{◌≡◌, ◌∙◌, ◌+◌, ℕ, zero, suc, Bool, true, false, List, [], ◌∷◌, ◌++◌, length, map, Option, Some, None, refl, sym, ap, subst, arith}
-use Rattle.std.specs.Prelude.{drop, pos, nat_eq, if◌then◌else◌}
+use Rattle.std.proofs.Common.{◌≡◌, ◌∙◌, ℕ, Bool, true, false, List, [], ◌∷◌, ◌++◌, length, map, Option, Some, None, refl, sym, ap, arith}
+use Rattle.std.specs.Prelude.{drop, nat_eq, if◌then◌else◌}
 use Rattle.pt_base.specs.declared.numbers.BlockId.{BlockId}
-use Rattle.pt_base.specs.declared.what.What.{What}
 use Rattle.pt_base.specs.declared.what.What.TheVariants.{Heap}
 use Rattle.pt_tree.specs.Syntax.{Name}
 use Rattle.pt_control.specs.Turn as T
 use Rattle.pt_instr.specs.declared.Instr.TheVariants as instr
 use Rattle.pt_instr.specs.declared.ListNo.{ListNo}
 use Rattle.pt_heap.specs.declared.value.Value.{Value}
-use Rattle.pt_heap.specs.declared.value.Value.TheVariants as value
 use Rattle.pt_heap.specs.Limits.{object_limit}
 use Rattle.pt_heap.specs.declared.view.Binding.{Binding}
 use Rattle.pt_heap.specs.declared.object.Object.{Object}
@@ -17,16 +15,13 @@ use Rattle.pt_heap.specs.declared.object.Object.TheVariants as object
 use Rattle.pt_frames.specs.declared.slot.Slot.{Slot}
 use Rattle.pt_frames.specs.declared.slot.Slot.TheVariants as slot
 use Rattle.pt_code.specs.View.{Ins}
-use Rattle.pt_slots.specs.Slots.{State}
-use Rattle.pt_slots.specs.CodeObject.{CodeObject}
 use Rattle.pt_slots.specs.Steps.{gives}
 use Rattle.pt_slots.specs.Pops as P
-use Rattle.pt_run.specs.Host.{Here, made, beyond}
+use Rattle.pt_run.specs.Host.{made, beyond}
 use Rattle.pt_prims.specs.Operations.{next_object}
-use Rattle.pt_host.specs.World.{Stores, Program, Allotted, IsAllotted, allot, with_objects}
+use Rattle.pt_host.specs.World.{Stores, Allotted, IsAllotted, allot, with_objects}
 use Rattle.pt_host.specs.Trees.{answer_with}
-use Rattle.pt_host.specs.Calls.{defaults_of, number_of, function_object, make_function}
-use Rattle.pt_heap_rows.specs.declared.progress.Progress.{Progress}
+use Rattle.pt_host.specs.Calls.{defaults_of, number_of, function_object}
 use Rattle.pt_heap_rows.specs.declared.progress.Progress.TheVariants as progress
 use Rattle.pt_heap_rows.specs.Laws.{reached}
 use Rattle.pt_heap_rows.specs.Leads.{by_tree, giving}
@@ -35,7 +30,7 @@ use Rattle.pt_heap_rows.specs.RowsIn.{Standpoint, RowsIn}
 use Rattle.pt_heap_rows.specs.Views.{slots_view}
 use Rattle.pt_heap_rows.proofs.RowLemmas.{operations_lead}
 use Rattle.pt_moves.proofs.MoveLemmas.{stuck_row}
-use Rattle.pt_function_rows.specs.Operands.{values_before, many_values, many_cells}
+use Rattle.pt_function_rows.specs.Operands.{many_values, many_cells}
 use Rattle.pt_function_rows.specs.FunctionRows.{MakesFunction, RowsFunction}
 use Rattle.pt_function_rows.proofs.TakeLemmas.{as_values, before_others, none_before_others, length_taken, values_taken, values_missing, cells_taken, cells_missing}
 

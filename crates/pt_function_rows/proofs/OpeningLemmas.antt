@@ -9,8 +9,8 @@ use Rattle.pt_heap.specs.declared.value.Value.{Value}
 use Rattle.pt_heap.specs.declared.object.Function.{Function}
 use Rattle.pt_bind.specs.Binding.{names_of}
 use Rattle.pt_bind.specs.declared.arguments.Params.{Params}
-use Rattle.pt_host.specs.World.{Names, World}
-use Rattle.pt_host.specs.Calls.{cells_from, cells_along, first_values, names_from, parameters_given}
+use Rattle.pt_host.specs.World.{World}
+use Rattle.pt_host.specs.Calls.{cells_from, cells_along, names_from, parameters_given}
 use Rattle.pt_heap_rows.specs.Views.{paired, names_in}
 use Rattle.pt_code_facts.specs.declared.facts.BlockFacts.{BlockFacts}
 use Rattle.pt_code_facts.specs.Facts.{facts_view}

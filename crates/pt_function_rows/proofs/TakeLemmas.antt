@@ -1,5 +1,5 @@
 -- Values and cells that are taken off one by one.
-use Rattle.std.proofs.Common.{◌≡◌, ◌∙◌, ◌+◌, ◌-◌, ◌<◌, ◌≤◌, ℕ, zero, suc, List, [], ◌∷◌, ◌++◌, length, map, Option, Some, None, refl, sym, ap, subst, arith}
+use Rattle.std.proofs.Common.{◌≡◌, ◌∙◌, ◌+◌, ◌-◌, ◌<◌, ℕ, zero, suc, List, [], ◌∷◌, ◌++◌, length, map, Some, None, refl, sym, ap, arith}
 use Rattle.std.specs.Prelude.{drop, reverse, slice_get, pos}
 use Rattle.std.proofs.lemmas.List.{reverse-append}
 use Rattle.pt_heap.specs.declared.value.Value.{Value}
@@ -7,14 +7,13 @@ use Rattle.pt_heap.specs.declared.value.Value.TheVariants as value
 use Rattle.pt_frames.specs.declared.slot.Slot.{Slot}
 use Rattle.pt_frames.specs.declared.slot.Slot.TheVariants as slot
 use Rattle.pt_frames.specs.Slots.{active_in}
-use Rattle.pt_control.specs.Turn.{Turn, stuck}
-use Rattle.pt_slots.specs.Slots.{State}
+use Rattle.pt_control.specs.Turn.{stuck}
 use Rattle.pt_slots.specs.Pops as P
 use Rattle.pt_slots.specs.Pops.{Next}
 use Rattle.pt_heap_rows.specs.Views.{slots_view}
 use Rattle.pt_moves.specs.Operands.{one_value}
 use Rattle.pt_moves.proofs.TakeLemmas.{one_on}
-use Rattle.pt_function_rows.specs.Operands.{values_before, many_values, cell_in, one_cell, cells_before, many_cells}
+use Rattle.pt_function_rows.specs.Operands.{values_before, cell_in, one_cell, cells_before}
 
 -- one more value below those that were taken
 pub value_below : (n : ℕ) (vs : List Value) (slots : List Slot) (ws : List Value) (v : Value)

@@ -1,5 +1,6 @@
 //! Functions are made (Language Reference 6.14, 8.7).
-ghost use Rattle.std.specs.Prelude.{◌≡◌, length, IfOk};
+ghost use Rattle.std.specs.Prelude.{◌≡◌, length, IfOk, OnOk};
+ghost use Rattle.pt_frames.specs.Slots.{active_in};
 ghost use Rattle.pt_function_rows.specs.FunctionRows.{RowsFunction};
 ghost use Rattle.pt_instr.specs.declared.Instr.TheVariants as instr;
 
@@ -15,7 +16,7 @@ use std::alloc::Global;
 
 /// Makes a function of a block with defaults of these names, which takes so many cells along. It is
 /// hidden where the block that makes it is.
-#[tactic(auto, using(crate::proofs::FunctionLemmas::made_row, crate::proofs::FunctionLemmas::full_row, crate::proofs::FunctionLemmas::lacks_cells, crate::proofs::FunctionLemmas::lacks_defaults))]
+#[tactic(auto, using(crate::proofs::FunctionLemmas::made_row, crate::proofs::FunctionLemmas::full_row, crate::proofs::FunctionLemmas::lacks_cells, crate::proofs::FunctionLemmas::lacks_defaults, pt_moves::proofs::TakeLemmas::quiet_over))]
 pub fn make_function(
     alloc: Global,
     block: BlockId,
@@ -26,10 +27,11 @@ pub fn make_function(
     slots: &mut Slots,
     heap: &mut Heap,
 ) -> Result<Progress, Memory>
-    ensures { IfOk result
+    ensures row { IfOk result
         (λ p. RowsFunction names.now list.0 captures hidden block.0
         (instr.MakeFunction block (length names.now) list) slots.old heap.old p slots.new
         heap.new) }
+    ensures active { OnOk result (active_in slots.new ≡ active_in slots.old) }
 {
     let Some(cells) = take_cells(alloc, captures, slots)? else {
         return Ok(Progress::Lacks);

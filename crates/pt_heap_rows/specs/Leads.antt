@@ -1,5 +1,7 @@
 -- Where an instruction leads by the host's answer to what it asks.
-use Rattle.std.specs.Prelude.{◌≡◌, ◌∷◌, Bool, Option, Some, None}
+use Rattle.std.specs.Prelude.{◌≡◌, ◌∷◌, List, Bool, Option, Some, None}
+use Rattle.pt_base.specs.declared.what.What.TheVariants.{Feature}
+use Rattle.pt_control.specs.Turn.{Operation}
 use Rattle.pt_heap.specs.declared.value.Value.{Value}
 use Rattle.pt_heap.specs.declared.value.Value.TheVariants as value
 use Rattle.pt_code.specs.View.{Ins}
@@ -8,9 +10,11 @@ use Rattle.pt_slots.specs.Slots.{Slots, State, on}
 use Rattle.pt_slots.specs.CodeObject.{CodeObject}
 use Rattle.pt_slots.specs.Landing.{land}
 use Rattle.pt_run.specs.Host as H
-use Rattle.pt_host.specs.World.{Names, World}
+use Rattle.pt_run.specs.Host.{Here}
+use Rattle.pt_host.specs.World.{Names, World, Stores, Program}
 use Rattle.pt_host.specs.Trees.{Tree}
-use Rattle.pt_transitions.specs.Successors.{Successor, to, arises, behind_print, behind_request, outside}
+use Rattle.pt_host.specs.Answers.{operate}
+use Rattle.pt_transitions.specs.Successors.{Successor, to, arises, behind_yield, behind_print, behind_request, outside, none}
 
 abbrev pub HeapSuccessor : Type 0
 HeapSuccessor = Successor (State Value) Names Value World
@@ -41,3 +45,18 @@ pub record HasHeapTruths (code : CodeObject Value) : Type 0 where
   pub null : code.null ≡ value.None
   pub truth : (b : Bool) → code.truth b ≡ value.Bool b
   pub is_truth : (v : Value) → code.is_truth v ≡ known_truth v
+
+-- its operations that no tree asks for aren't supported yet
+abbrev pub LeavesFeature : Operation → Type 0
+LeavesFeature o = (program : Program) (vs : List Value) (h : Here Value) (st : Stores) → operate program o vs h st ≡ H.leave Feature
+
+pub record HasHeapExtras (code : CodeObject Value) : Type 0 where
+  pub tuple_join : LeavesFeature code.extras.tuple_join
+  pub dict_merge : LeavesFeature code.extras.dict_merge
+  pub super : LeavesFeature code.extras.super
+
+-- a bare run is stuck where slots lack what is taken, and where a value is given on (6.2.9)
+abbrev pub IsStuck : HeapSuccessor → Type 0
+IsStuck none = Unit {0}
+IsStuck (behind_yield v k st) = Unit {0}
+IsStuck s = ⊥

@@ -1,13 +1,15 @@
 -- What code answers of an instruction, as where it leads.
-use Rattle.std.specs.Prelude.{[], Bool, None}
+use Rattle.std.specs.Prelude.{◌≡◌, List, [], Bool, None}
 use Rattle.pt_base.specs.declared.numbers.BlockId.{BlockId}
 use Rattle.pt_heap.specs.declared.value.Value.{Value}
 use Rattle.pt_heap.specs.declared.completion.Completion.{Completion}
 use Rattle.pt_heap.specs.declared.completion.Completion.TheVariants.{Normal, Raise, Return, Leave}
 use Rattle.pt_bind.specs.declared.arguments.Locals.{Locals}
+use Rattle.pt_frames.specs.declared.slot.Slot.{Slot}
+use Rattle.pt_frames.specs.Slots.{active_in}
 use Rattle.pt_code.specs.View.{Ins}
 use Rattle.pt_slots.specs.Slots as S
-use Rattle.pt_slots.specs.Slots.{Slots, State, on}
+use Rattle.pt_slots.specs.Slots.{Slots, State, on, reraises}
 use Rattle.pt_slots.specs.CodeObject.{CodeObject}
 use Rattle.pt_slots.specs.Landing.{land}
 use Rattle.pt_run.specs.Machine as M
@@ -41,6 +43,7 @@ module _ (program : Program) (code : CodeObject Value) (i : Ins) where
   told h progress.Next ss st = to (on i.next ss) st
   told h (progress.Goto pc) ss st = to (on pc.0 ss) st
   told h (progress.Leaves how) ss st = to (behind_leave how ss) st
+  told h (progress.Reraises e) ss st = to (reraises e i.rows ss) st
   told h (progress.Print t) ss st = behind_print t (to (on i.next ss) st)
   told h (progress.Calls block hidden ls) ss st =
       behind_request (opens (opening_of program (block_id block hidden) ls)) st (λ r st1. by_tree code i (giving code i ss) ss (result_of r.end st1))
@@ -48,3 +51,13 @@ module _ (program : Program) (code : CodeObject Value) (i : Ins) where
   told h (progress.FailsSaying class t) ss st = by_tree code i (giving code i ss) ss (raise_saying class t h st)
   told h (progress.Outside what) ss st = outside what
   told h progress.Lacks ss st = none
+
+-- where an exception may arise in the activation, the one that is active is the same as before (7.8)
+abbrev pub IfActive : Progress → Type 0 → Type 0
+IfActive (progress.Fails class arg) A = A
+IfActive (progress.FailsSaying class t) A = A
+IfActive (progress.Calls block hidden ls) A = A
+IfActive p A = Unit {0}
+
+abbrev pub KeepsActive : Progress → (old new : List Slot) → Type 0
+KeepsActive p old new = IfActive p (active_in new ≡ active_in old)

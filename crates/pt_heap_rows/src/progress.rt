@@ -15,6 +15,10 @@ pub enum Progress {
     Leaves {
         how: Completion,
     },
+    /// A raise that was held goes on under the rows that cover the place (Language Reference 8.4).
+    Reraises {
+        exception: Value,
+    },
     /// The text is printed, and the place behind is next.
     Print {
         text: Text,

@@ -1,21 +1,15 @@
 -- What the machine did is what a run does with what an instruction comes to.
-use Rattle.std.proofs.Common.{◌≡◌, ◌∙◌, ℕ, List, [], ◌∷◌, ◌++◌, Bool, true, false, Option, Some, None, refl, sym, ap, subst, length, append-nil}
-use Rattle.std.specs.Prelude.{slice_get, codes, if◌then◌else◌}
+use Rattle.std.proofs.Common.{inl, inr, ◌≡◌, ◌∙◌, ℕ, List, [], ◌∷◌, Bool, true, false, refl, sym, ap, subst}
+use Rattle.std.specs.Prelude.{codes, if◌then◌else◌}
 use Rattle.std.specs.Option.{option_map}
 use Rattle.pt_base.specs.declared.numbers.Pc.{Pc}
-use Rattle.pt_base.specs.declared.numbers.Line.{Line}
-use Rattle.pt_base.specs.declared.what.What.{What}
 use Rattle.pt_heap.specs.declared.value.Value.{Value}
 use Rattle.pt_heap.specs.declared.value.Value.TheVariants as value
-use Rattle.pt_heap.specs.declared.object.Object.{Object}
 use Rattle.pt_heap.specs.declared.completion.Completion.{Completion}
 use Rattle.pt_heap.specs.declared.completion.Completion.TheVariants as completion
-use Rattle.pt_code.specs.View.{Ins}
-use Rattle.pt_control.specs.Turn.{Ask}
 use Rattle.pt_control.specs.Events as E
-use Rattle.pt_frames.specs.declared.activation.Activation.{Activation}
 use Rattle.pt_slots.specs.Slots as S
-use Rattle.pt_slots.specs.Slots.{State, on}
+use Rattle.pt_slots.specs.Slots.{State, on, reraises}
 use Rattle.pt_slots.specs.Landing.{land}
 use Rattle.pt_unwind.specs.declared.Landing.{Landing}
 use Rattle.pt_unwind.specs.declared.Landing.TheVariants.{Enter, Jump, Out}
@@ -31,14 +25,14 @@ use Rattle.pt_prims.specs.Classes.{class_name}
 use Rattle.pt_host.specs.HeapHost.{heap_host}
 use Rattle.pt_transitions.specs.Successors as leads
 use Rattle.pt_bare_runs.specs.Strides as bare
-use Rattle.pt_bare_runs.specs.Strides.{in_state, in_world, raise_here, logged, arise, here_of}
+use Rattle.pt_bare_runs.specs.Strides.{goes, stride as stride_of, in_state, in_world, raise_here, logged, arise, here_of}
 use Rattle.pt_code_machine.specs.CodeBlocks.{CodeBlocks, machine}
 use Rattle.pt_heap_rows.specs.declared.progress.Progress.TheVariants as progress
 use Rattle.pt_heap_rows.specs.Views.{slots_view, world_view}
 use Rattle.pt_machine_state.specs.declared.blocks.BlockCode.{BlockCode}
 use Rattle.pt_machine_state.specs.declared.blocks.Blocks.{Blocks}
 use Rattle.pt_machine_state.specs.declared.machine.Machine.{Machine}
-use Rattle.pt_machine_state.specs.declared.machine.RunEnd.TheVariants as end
+use Rattle.pt_machine_state.specs.declared.machine.Stride.{Stride}
 use Rattle.pt_machine_state.specs.declared.machine.Stride.TheVariants as stride
 use Rattle.pt_machine_state.specs.declared.writes.Writes.{Writes}
 use Rattle.pt_machine_state.specs.Writing.{Adds, print_piece, event_text}
@@ -47,7 +41,7 @@ use Rattle.pt_machine_state.specs.Views.{Bare, Beside, AllWait, block_of, state_
 use Rattle.pt_machine_state.specs.Strode.{Strode}
 use Rattle.pt_machine_state.specs.Changes.{gone_to, landed, landed_at, left_place, line_of, entry_of, heap_with_entry, entered, raised_at, events_of, exception_events, raise_events}
 use Rattle.pt_machine_state.specs.Applies.{Asking, Stands, LedTo, Applied, object_of, run_at}
-use Rattle.pt_machine_state.proofs.WriteLemmas.{adds_none, adds_both}
+use Rattle.pt_machine_state.proofs.WriteLemmas.{adds_none}
 use Rattle.pt_machine_state.proofs.LandLemmas.{landed-state}
 
 module _ (program : Program) (block : BlockCode) (m : Machine) (x : Beside) where
@@ -78,7 +72,7 @@ module _ (blocks : Blocks) (block : BlockCode) (next : Pc) (m : Machine) where
   pub to_state : (q : Asking) → Stands blocks block next m q → (w : Writes) (new : Machine) (c : State Value) → IsIn q new c → new.frames.activations ≡ m.frames.activations
       → LedTo (leads.to c (stores_of q.program m)) q stride.Goes m w new w
   to_state q stands w new c is_in same s stored =
-      (refl, (adds_none w, (q.beside, (ap (λ t. in_state c t) stored ∙ sym is_in, subst (λ os. AllWait q.program q.code os q.beside.waiting) (sym same) stands.waiting))))
+      (refl, (adds_none w, (q.beside, (inl (ap (λ t. in_state c t) stored ∙ sym is_in), subst (λ os. AllWait q.program q.code os q.beside.waiting) (sym same) stands.waiting))))
 
   gone-in : (q : Asking) → Stands blocks block next m q → (pc : Pc) → IsIn q (gone_to pc m) (on pc.0 (slots_view m.here.slots))
   gone-in q stands pc = ap (λ s. run_in q.program (state_of s (gone_to pc m).here) m q.beside) stands.at_place
@@ -100,27 +94,47 @@ module _ (blocks : Blocks) (block : BlockCode) (next : Pc) (m : Machine) where
   module _ (w : Writes) where
     pub applied_next : Applied blocks block next progress.Next stride.Goes m w (gone_to next m) w
     unfolding Applied
-    applied_next q stands = to_state q stands w (gone_to next m) (on q.ins.next (slots_view m.here.slots)) (gone-next q stands) refl
+    applied_next q stands active = to_state q stands w (gone_to next m) (on q.ins.next (slots_view m.here.slots)) (gone-next q stands) refl
 
     pub applied_goto : (pc : Pc) → Applied blocks block next (progress.Goto pc) stride.Goes m w (gone_to pc m) w
     unfolding Applied
-    applied_goto pc q stands = to_state q stands w (gone_to pc m) (on pc.0 (slots_view m.here.slots)) (gone-in q stands pc) refl
+    applied_goto pc q stands active = to_state q stands w (gone_to pc m) (on pc.0 (slots_view m.here.slots)) (gone-in q stands pc) refl
 
     pub applied_leaves : (how : Completion) → Applied blocks block next (progress.Leaves how) stride.Goes m w (left_place block next how m) w
     unfolding Applied
-    applied_leaves completion.Normal q stands = to_state q stands w (gone_to next m) (on q.ins.next (slots_view m.here.slots)) (gone-next q stands) refl
-    applied_leaves (completion.Raise v) q stands = landed-to q stands w (S.raise v)
-    applied_leaves (completion.Return v) q stands = landed-to q stands w (S.return v)
-    applied_leaves (completion.Leave t) q stands = landed-to q stands w (S.jump_to t.0)
+    applied_leaves completion.Normal q stands active = to_state q stands w (gone_to next m) (on q.ins.next (slots_view m.here.slots)) (gone-next q stands) refl
+    applied_leaves (completion.Raise v) q stands active = landed-to q stands w (S.raise v)
+    applied_leaves (completion.Return v) q stands active = landed-to q stands w (S.return v)
+    applied_leaves (completion.Leave t) q stands active = landed-to q stands w (S.jump_to t.0)
 
-    pub applied_lacks : (new : Machine) (w1 : Writes) → Applied blocks block next progress.Lacks stride.Lacks m w new w1
+    -- a raise that was held goes on by itself: the run comes by a note to where it lands
+    pub applied_reraises : (v : Value) → Applied blocks block next (progress.Reraises v) stride.Goes m w (landed block (completion.Raise v) m) w
     unfolding Applied
-    applied_lacks new w1 q stands s stored = tt
+    applied_reraises v q stands active s stored =
+        let is_landed : in_state (land (object_of q m) q.ins.rows (S.raise v) (slots_view m.here.slots)) (run_at q m) ≡ run_of q.program (landed block (completion.Raise v) m) q.beside
+        = sym (landed-in q stands (S.raise v)) in (
+          refl,
+          (
+            adds_none w,
+            (
+              q.beside,
+              (
+                inr (λ n. ap (λ t. stride_of (machine q.code) (heap_host q.program) n (in_state (reraises v q.ins.rows (slots_view m.here.slots)) t)) stored ∙ ap (λ t. goes [] t) is_landed),
+                subst (λ os. AllWait q.program q.code os q.beside.waiting)
+                    (sym (landed-frames block m (completion.Raise v) (landing_of block.handlers m.here.pc (completion.Raise v)))) stands.waiting,
+              ),
+            ),
+          ),
+        )
+
+    pub applied_lacks : (r : Stride) (new : Machine) (w1 : Writes) → Applied blocks block next progress.Lacks r m w new w1
+    unfolding Applied
+    applied_lacks r new w1 q stands active s stored = tt
 
     pub applied_print : (t : List ℕ) (w1 : Writes) → Adds w w1 (print_piece t ∷ []) → Applied blocks block next (progress.Print t) stride.Goes m w (gone_to next m) w1
     unfolding Applied
-    applied_print t w1 adds q stands s stored =
-        (refl, (adds, (q.beside, (ap (λ s1. in_state (on q.ins.next (slots_view m.here.slots)) s1) stored ∙ sym (gone-next q stands), stands.waiting))))
+    applied_print t w1 adds q stands active s stored =
+        (refl, (adds, (q.beside, (inl (ap (λ s1. in_state (on q.ins.next (slots_view m.here.slots)) s1) stored ∙ sym (gone-next q stands)), stands.waiting))))
 
 -- what is told of an event, and the line of the frame
 
@@ -187,7 +201,6 @@ module _ (blocks : Blocks) (block : BlockCode) (next : Pc) (m : Machine) (w : Wr
     at_place = stands.at_place;
     plain = stands.plain;
     waiting = stands.waiting;
-    active = stands.active;
   }
 
   module _ (v : Value) (w1 : Writes) (q : Asking) (stands : Stands blocks block next m q) where
@@ -215,4 +228,4 @@ module _ (blocks : Blocks) (block : BlockCode) (next : Pc) (m : Machine) (w : Wr
     raise-led adds s stored =
         subst (λ t. Done (arise (machine q.code) (heap_host q.program) (E.arisen (here_of (machine q.code) (heap_host q.program) t).active q.ask v) landing t)) (sym stored)
         (subst (λ e. Done (arise (machine q.code) (heap_host q.program) e landing (run_at q m))) (sym (stands.plain (here_of (machine q.code) (heap_host q.program) (run_at q m)).active v))
-        (refl, (subst (λ ws. Adds w w1 ws) (sym written) adds, (q.beside, (goes-to, all-wait)))))
+        (refl, (subst (λ ws. Adds w w1 ws) (sym written) adds, (q.beside, (inl goes-to, all-wait)))))

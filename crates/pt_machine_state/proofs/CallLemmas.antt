@@ -1,24 +1,21 @@
 -- A block opens above the newest activation, or in place of one too many an exception arises.
-use Rattle.std.proofs.Common.{◌≡◌, ◌∙◌, ℕ, suc, ◌+◌, ◌<◌, ◌≤◌, List, [], ◌∷◌, Bool, true, false, Option, Some, None, refl, sym, ap, subst, length, arith}
+use Rattle.std.proofs.Common.{inl, ◌≡◌, ◌∙◌, suc, ◌+◌, ◌<◌, ◌≤◌, List, [], ◌∷◌, Bool, true, false, Option, Some, None, refl, sym, ap, subst, length, arith}
 use Rattle.std.proofs.lemmas.Bool.Decides.{nat_tests}
-use Rattle.std.specs.Prelude.{nat_le, codes, if◌then◌else◌}
+use Rattle.std.specs.Prelude.{codes, if◌then◌else◌}
 use Rattle.pt_base.specs.declared.numbers.Pc.{Pc}
 use Rattle.pt_base.specs.declared.numbers.Line.{Line}
 use Rattle.pt_base.specs.declared.numbers.BlockId.{BlockId}
 use Rattle.pt_base.specs.declared.what.What.{What}
 use Rattle.pt_base.specs.declared.what.What.TheVariants.{Heap}
 use Rattle.pt_heap.specs.declared.value.Value.{Value}
-use Rattle.pt_heap.specs.declared.value.Value.TheVariants as value
+use Rattle.pt_frames.specs.Slots.{active_in}
+use Rattle.pt_comp_expr.specs.Law.{active_at}
 use Rattle.pt_heap.specs.declared.object.Object.{Object}
 use Rattle.pt_bind.specs.declared.arguments.Locals.{Locals}
 use Rattle.pt_frames.specs.declared.activations.OpenActivation.{OpenActivation}
 use Rattle.pt_frames.specs.declared.purpose.Purpose.TheVariants.{Result}
-use Rattle.pt_code.specs.View.{Ins}
-use Rattle.pt_control.specs.Turn.{left_by}
-use Rattle.pt_slots.specs.Slots as S
 use Rattle.pt_slots.specs.Slots.{State, on, iterator}
 use Rattle.pt_slots.specs.Machine as slots
-use Rattle.pt_slots.specs.Landing.{land}
 use Rattle.pt_run.specs.Machine as M
 use Rattle.pt_run.specs.State.{most_activations}
 use Rattle.pt_run.specs.Source.{or_null}
@@ -29,7 +26,6 @@ use Rattle.pt_host.specs.World.{Names, World, Program, Allotted, IsAllotted}
 use Rattle.pt_host.specs.Errors.{error_saying, in_heap_of}
 use Rattle.pt_host.specs.HeapHost.{heap_host}
 use Rattle.pt_host.specs.declared.places.TheConstants.{RECURSION_ERROR}
-use Rattle.pt_transitions.specs.Successors as leads
 use Rattle.pt_transitions.specs.Successors.{Successor}
 use Rattle.pt_bare_runs.specs.Strides as bare
 use Rattle.pt_bare_runs.specs.Strides.{logged, open_above, open_or_fail, fail_opening, is_full, store, lead}
@@ -47,10 +43,10 @@ use Rattle.pt_machine_state.specs.declared.machine.Stride.TheVariants as stride
 use Rattle.pt_machine_state.specs.declared.writes.Writes.{Writes}
 use Rattle.pt_machine_state.specs.Writing.{Adds}
 use Rattle.pt_machine_state.specs.Blocks.{block_at, IsBlockOf}
-use Rattle.pt_machine_state.specs.Views.{Bare, Waits, Beside, AllWait, none, more, WaitsFor, active_of, block_of, state_of, run_in, run_of, led_to, stores_of}
+use Rattle.pt_machine_state.specs.Views.{Bare, Waits, Beside, AllWait, none, more, WaitsFor, active_of, block_of, state_of, run_in, run_of, led_to}
 use Rattle.pt_machine_state.specs.Strode.{Strode}
 use Rattle.pt_machine_state.specs.Changes.{opened, slots_at_start, events_of, raised_at, raise_events, visible_line}
-use Rattle.pt_machine_state.specs.Applies.{Asking, Stands, Applied, object_of, run_at, here_at}
+use Rattle.pt_machine_state.specs.Applies.{Asking, Stands, Applied, run_at, here_at}
 use Rattle.pt_machine_state.proofs.ApplyLemmas.{logged-start, raise-led}
 use Rattle.pt_machine_state.proofs.FailLemmas.{active-here, saying-heap, grown, stands-grown}
 use Rattle.pt_machine_state.proofs.LineLemmas.{outside-led}
@@ -94,8 +90,8 @@ module _ (blocks : Blocks) (block : BlockCode) (next : Pc) (m : Machine) (w : Wr
     callee-known : IsBlockOf q.program q.code (block_id b hidden) callee
     callee-known = stands.blocks_known (block_id b hidden)
 
-    waits-here : WaitsFor q.program q.code m.here the_waiting
-    waits-here = record { state = q.before; act = q.beside.act; seen = refl; active = stands.active; ins = q.ins; there = stands.there; leads = refl; plain = stands.plain }
+    waits-here : active_at q.before ≡ active_in m.here.slots → WaitsFor q.program q.code m.here the_waiting
+    waits-here active = record { state = q.before; act = q.beside.act; seen = refl; active = active; ins = q.ins; there = stands.there; leads = refl; plain = stands.plain }
 
     opens-above : open_above (machine q.code) (heap_host q.program) q.ask rest o (run_at q m) ≡ run_of q.program above beside
     opens-above =
@@ -108,26 +104,26 @@ module _ (blocks : Blocks) (block : BlockCode) (next : Pc) (m : Machine) (w : Wr
     abbrev Done : Stride → Machine → Writes → bare.Stride (State Value) Names Value World → Type 0
     Done r new w1 d = Strode q.program q.code d r w new w1
 
-    opened-done : (w1 : Writes) → Adds w w1 (events_of (codes "call") [] callee above)
+    opened-done : (w1 : Writes) → active_at q.before ≡ active_in m.here.slots → Adds w w1 (events_of (codes "call") [] callee above)
         → Done stride.Goes above w1 (bare.goes (logged (machine q.code) (heap_host q.program) Told.starts (open_above (machine q.code) (heap_host q.program) q.ask rest o (run_at q m)))
         (open_above (machine q.code) (heap_host q.program) q.ask rest o (run_at q m)))
-    opened-done w1 adds = subst (λ t. Done stride.Goes above w1 (bare.goes (logged (machine q.code) (heap_host q.program) Told.starts t) t)) (sym opens-above) (
+    opened-done w1 active adds = subst (λ t. Done stride.Goes above w1 (bare.goes (logged (machine q.code) (heap_host q.program) Told.starts t) t)) (sym opens-above) (
       refl,
       (
         subst (λ ws. Adds w w1 ws) (sym (logged-start q.program q.code callee above beside (state_of above.standing above.here) callee-known)) adds,
-        (beside, (refl, more (record { activation = m.here; why = Result }) the_waiting m.frames.activations q.beside.waiting waits-here stands.waiting)),
+        (beside, (inl refl, more (record { activation = m.here; why = Result }) the_waiting m.frames.activations q.beside.waiting (waits-here active) stands.waiting)),
       ),
     )
 
   pub applied_calls : (w1 : Writes) → length m.frames.activations + 1 < most_activations → Adds w w1 (events_of (codes "call") [] callee above)
       → Applied blocks block next (progress.Calls b hidden ls) stride.Goes m w above w1
   unfolding Applied
-  applied_calls w1 room adds q stands s stored =
+  applied_calls w1 room adds q stands active s stored =
       subst (λ t. Done q stands stride.Goes above w1 (open_or_fail (machine q.code) (heap_host q.program) q.ask (rest q stands) (on_with q stands) (o q stands) t)) (sym stored)
       (subst (λ x. Done q stands stride.Goes above w1 (if x then fail_opening (machine q.code) (heap_host q.program) (on_with q stands) (o q stands) ((heap_host q.program).makes H.too_deep (here_at q m) (run_at q m).world) (run_at q m)
       else bare.goes (logged (machine q.code) (heap_host q.program) Told.starts (open_above (machine q.code) (heap_host q.program) q.ask (rest q stands) (o q stands) (run_at q m)))
       (open_above (machine q.code) (heap_host q.program) q.ask (rest q stands) (o q stands) (run_at q m)))) (sym (is-room q stands room))
-      (opened-done q stands w1 adds))
+      (opened-done q stands w1 active adds))
 
   -- one too many is a RecursionError at the call
   module _ (q : Asking) (stands : Stands blocks block next m q) where
@@ -161,23 +157,23 @@ module _ (blocks : Blocks) (block : BlockCode) (next : Pc) (m : Machine) (w : Wr
       → Adds w w1 (raise_events v block (grown blocks block next m w h))
       → Applied blocks block next (progress.Calls b hidden ls) stride.Goes m w (raised_at block v (grown blocks block next m w h)) w1
   unfolding Applied
-  fails_to_open v h w1 full given adds q stands s stored =
+  fails_to_open v h w1 full given adds q stands active s stored =
       subst (λ t. Done q stands stride.Goes (raised_at block v (grown blocks block next m w h)) w1 (open_or_fail (machine q.code) (heap_host q.program) q.ask (rest q stands) (on_with q stands) (o q stands) t)) (sym stored)
       (subst (λ x. Done q stands stride.Goes (raised_at block v (grown blocks block next m w h)) w1 (if x then fails q stands ((heap_host q.program).makes H.too_deep (here_at q m) (run_at q m).world)
       else bare.goes (logged (machine q.code) (heap_host q.program) Told.starts (open_above (machine q.code) (heap_host q.program) q.ask (rest q stands) (o q stands) (run_at q m)))
       (open_above (machine q.code) (heap_host q.program) q.ask (rest q stands) (o q stands) (run_at q m)))) (sym (is-full q stands full))
       (fails-made q stands (too_many q stands (here_at q m).active) v h w1
-      (subst (λ x. IsAllotted (too_many q stands x) (Some v) h) (sym (active-here blocks block next m q stands)) given) adds))
+      (subst (λ x. IsAllotted (too_many q stands x) (Some v) h) (sym (active-here blocks block next m q stands active)) given) adds))
 
   pub no_room_to_fail : (h : List Object) (new : Machine) (line : Line) → most_activations ≤ length m.frames.activations + 1
       → IsAllotted (error_saying RECURSION_ERROR (codes "too many activations") None (active_of m) m.heap) None h → new.units ≡ m.units → line.0 ≡ visible_line blocks m
       → Applied blocks block next (progress.Calls b hidden ls) (stride.Ends (end.Outside Heap line)) m w new w
   unfolding Applied
-  no_room_to_fail h new line full given same is q stands s stored =
+  no_room_to_fail h new line full given same is q stands active s stored =
       subst (λ t. Done q stands (stride.Ends (end.Outside Heap line)) new w (open_or_fail (machine q.code) (heap_host q.program) q.ask (rest q stands) (on_with q stands) (o q stands) t)) (sym stored)
       (subst (λ x. Done q stands (stride.Ends (end.Outside Heap line)) new w (if x then fails q stands ((heap_host q.program).makes H.too_deep (here_at q m) (run_at q m).world)
       else bare.goes (logged (machine q.code) (heap_host q.program) Told.starts (open_above (machine q.code) (heap_host q.program) q.ask (rest q stands) (o q stands) (run_at q m)))
       (open_above (machine q.code) (heap_host q.program) q.ask (rest q stands) (o q stands) (run_at q m)))) (sym (is-full q stands full))
       (fails-full q stands (too_many q stands (here_at q m).active) h new line
-      (subst (λ x. IsAllotted (too_many q stands x) None h) (sym (active-here blocks block next m q stands)) given)
+      (subst (λ x. IsAllotted (too_many q stands x) None h) (sym (active-here blocks block next m q stands active)) given)
       (λ what. saying-heap RECURSION_ERROR (codes "too many activations") None (here_at q m).active m.heap what) same is))

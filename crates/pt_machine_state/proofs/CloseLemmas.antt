@@ -1,5 +1,5 @@
 -- A block ends: its result goes to the activation that waits for it, or the run ends.
-use Rattle.std.proofs.Common.{◌≡◌, ◌∙◌, ℕ, List, [], ◌∷◌, ◌++◌, Bool, true, false, Option, Some, None, refl, sym, ap, subst, append-nil}
+use Rattle.std.proofs.Common.{◌≡◌, ◌∙◌, ℕ, List, [], ◌∷◌, ◌++◌, Some, refl, sym, ap, subst, append-nil}
 use Rattle.std.specs.Prelude.{codes}
 use Rattle.pt_base.specs.declared.numbers.Pc.{Pc}
 use Rattle.pt_base.specs.declared.numbers.Line.{Line}
@@ -17,7 +17,7 @@ use Rattle.pt_transitions.specs.Successors as leads
 use Rattle.pt_run.specs.Host as H
 use Rattle.pt_run.specs.Host.{Leaving, BlockResult}
 use Rattle.pt_run.specs.Run as run
-use Rattle.pt_host.specs.World.{Names, World, Program}
+use Rattle.pt_host.specs.World.{Names, Program}
 use Rattle.pt_host.specs.HeapHost.{heap_host}
 use Rattle.pt_host.specs.Leaving.{leaving}
 use Rattle.pt_bare_runs.specs.Strides as bare
@@ -113,7 +113,6 @@ module _ (program : Program) (code : CodeBlocks Value) (blocks : Blocks) (known 
       at_place = at_place;
       plain = waits.plain;
       waiting = rest;
-      active = waits.active;
     }
 
     module _ (r : Stride) (w w1 : Writes) (new : Machine) (e : End Value) (s : Standing) (act : ℕ) (W : Waits) (ws : List Waits) (waits : WaitsFor program code m.here W) where

@@ -40,7 +40,7 @@ use Rattle.pt_machine_state.specs.declared.writes.Writes.{Writes}
 use Rattle.pt_machine_state.specs.Writing.{Adds}
 use Rattle.pt_machine_state.specs.Views.{Waits, AllWait, none, more, active_of, stores_of}
 use Rattle.pt_machine_state.specs.Changes.{raised_at, raise_events, visible_line}
-use Rattle.pt_machine_state.specs.Applies.{Asking, Stands, LedTo, Applied, object_of, run_at, here_at}
+use Rattle.pt_machine_state.specs.Applies.{Asking, Stands, LedTo, Applied, object_of, here_at}
 use Rattle.pt_machine_state.proofs.ApplyLemmas.{raise-led}
 use Rattle.pt_machine_state.proofs.LineLemmas.{outside-led}
 
@@ -58,10 +58,10 @@ active-waiting program code _ _ (more o w os ws waits rest) =
     ∙ ap (λ v. bases.or_else (active_in o.activation.slots) v) (active-waiting program code os ws rest)
     ∙ or-is (active_in o.activation.slots) (active_exception os)
 
-module _ (blocks : Blocks) (block : BlockCode) (next : Pc) (m : Machine) (q : Asking) (stands : Stands blocks block next m q) where
+module _ (blocks : Blocks) (block : BlockCode) (next : Pc) (m : Machine) (q : Asking) (stands : Stands blocks block next m q) (is_active : active_at q.before ≡ active_in m.here.slots) where
   pub active-here : (here_at q m).active ≡ active_of m
   active-here =
-      ap (λ v. bases.or_else v (active_among (machine q.code) (heap_host q.program) q.beside.waiting)) stands.active
+      ap (λ v. bases.or_else v (active_among (machine q.code) (heap_host q.program) q.beside.waiting)) is_active
       ∙ ap (λ v. bases.or_else (active_in m.here.slots) v) (active-waiting q.program q.code m.frames.activations q.beside.waiting stands.waiting)
       ∙ or-is (active_in m.here.slots) (active_exception m.frames.activations)
 
@@ -96,7 +96,6 @@ module _ (blocks : Blocks) (block : BlockCode) (next : Pc) (m : Machine) (w : Wr
     at_place = stands.at_place;
     plain = stands.plain;
     waiting = stands.waiting;
-    active = stands.active;
   }
 
   -- with an exception that was made
@@ -118,17 +117,17 @@ module _ (blocks : Blocks) (block : BlockCode) (next : Pc) (m : Machine) (w : Wr
       → IsAllotted (allot (error class (arguments_of arg) None (active_of m)) m.heap) (Some v) h → Adds w w1 (raise_events v block (grown h))
       → Applied blocks block next (progress.Fails class arg) stride.Goes m w (raised_at block v (grown h)) w1
   unfolding Applied
-  applied_fails class arg v h w1 is adds q stands =
+  applied_fails class arg v h w1 is adds q stands active =
       made-led (allot (error class (arguments_of arg) None (here_at q m).active) m.heap) v h w1 q stands
-      (subst (λ x. IsAllotted (allot (error class (arguments_of arg) None x) m.heap) (Some v) h) (sym (active-here blocks block next m q stands)) is) adds
+      (subst (λ x. IsAllotted (allot (error class (arguments_of arg) None x) m.heap) (Some v) h) (sym (active-here blocks block next m q stands active)) is) adds
 
   pub applied_fails_saying : (class : ObjId) (text : List ℕ) (v : Value) (h : List Object) (w1 : Writes)
       → IsAllotted (error_saying class text None (active_of m) m.heap) (Some v) h → Adds w w1 (raise_events v block (grown h))
       → Applied blocks block next (progress.FailsSaying class text) stride.Goes m w (raised_at block v (grown h)) w1
   unfolding Applied
-  applied_fails_saying class text v h w1 is adds q stands =
+  applied_fails_saying class text v h w1 is adds q stands active =
       made-led (error_saying class text None (here_at q m).active m.heap) v h w1 q stands
-      (subst (λ x. IsAllotted (error_saying class text None x m.heap) (Some v) h) (sym (active-here blocks block next m q stands)) is) adds
+      (subst (λ x. IsAllotted (error_saying class text None x m.heap) (Some v) h) (sym (active-here blocks block next m q stands active)) is) adds
 
   -- without room for one
   module _ (new : Machine) (same : new.units ≡ m.units) (line : Line) (is : line.0 ≡ visible_line blocks m) where
@@ -142,20 +141,20 @@ module _ (blocks : Blocks) (block : BlockCode) (next : Pc) (m : Machine) (w : Wr
         → IsAllotted (allot (error class (arguments_of arg) None (active_of m)) m.heap) None h
         → Applied blocks block next (progress.Fails class arg) (stride.Ends (end.Outside Heap line)) m w new w
     unfolding Applied
-    fails_outside class arg h given q stands =
+    fails_outside class arg h given q stands active =
         full-led (allot (error class (arguments_of arg) None (here_at q m).active) m.heap) h q stands
-        (subst (λ x. IsAllotted (allot (error class (arguments_of arg) None x) m.heap) None h) (sym (active-here blocks block next m q stands)) given)
+        (subst (λ x. IsAllotted (allot (error class (arguments_of arg) None x) m.heap) None h) (sym (active-here blocks block next m q stands active)) given)
         (λ what. beyond-heap (error class (arguments_of arg) None (here_at q m).active) m.heap what)
 
     pub fails_saying_outside : (class : ObjId) (text : List ℕ) (h : List Object)
         → IsAllotted (error_saying class text None (active_of m) m.heap) None h
         → Applied blocks block next (progress.FailsSaying class text) (stride.Ends (end.Outside Heap line)) m w new w
     unfolding Applied
-    fails_saying_outside class text h given q stands =
+    fails_saying_outside class text h given q stands active =
         full-led (error_saying class text None (here_at q m).active m.heap) h q stands
-        (subst (λ x. IsAllotted (error_saying class text None x m.heap) None h) (sym (active-here blocks block next m q stands)) given)
+        (subst (λ x. IsAllotted (error_saying class text None x m.heap) None h) (sym (active-here blocks block next m q stands active)) given)
         (λ what. saying-heap class text None (here_at q m).active m.heap what)
 
     pub applied_outside : (what : What) → Applied blocks block next (progress.Outside what) (stride.Ends (end.Outside what line)) m w new w
     unfolding Applied
-    applied_outside what q stands = outside-led blocks block next m new w what line q stands same is
+    applied_outside what q stands active = outside-led blocks block next m new w what line q stands same is

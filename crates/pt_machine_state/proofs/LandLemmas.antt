@@ -1,11 +1,10 @@
 -- Where a completion lands in the machine it lands in the run.
-use Rattle.std.proofs.Common.{◌≡◌, ◌∙◌, ℕ, ◌-◌, zero, suc, List, [], ◌∷◌, length, drop, map, Bool, true, false, Option, Some, None, refl, sym, ap, filter}
+use Rattle.std.proofs.Common.{◌≡◌, ◌∙◌, ℕ, ◌-◌, zero, suc, List, [], ◌∷◌, length, drop, Bool, true, false, Option, Some, None, refl, sym, ap, filter}
 use Rattle.std.specs.Option.{option_or}
 use Rattle.pt_base.specs.declared.numbers.Pc.{Pc}
 use Rattle.pt_heap.specs.declared.value.Value.{Value}
 use Rattle.pt_heap.specs.declared.completion.Completion.{Completion}
 use Rattle.pt_heap.specs.declared.completion.Completion.TheVariants.{Raise, Return, Leave}
-use Rattle.pt_ranges.specs.declared.handlers.Handler.{Handler}
 use Rattle.pt_ranges.specs.Rows.{covers}
 use Rattle.pt_code.specs.View.{Ins}
 use Rattle.pt_frames.specs.declared.slot.Slot.{Slot}
@@ -14,7 +13,6 @@ use Rattle.pt_frames.specs.Slots as frames
 use Rattle.pt_frames.specs.Slots.{active_in}
 use Rattle.pt_slots.specs.Slots as S
 use Rattle.pt_slots.specs.Slots.{Abrupt, Slots, State, on}
-use Rattle.pt_slots.specs.CodeObject.{CodeObject}
 use Rattle.pt_slots.specs.Landing.{land, cut, held_by}
 use Rattle.pt_unwind.specs.declared.Landing.{Landing}
 use Rattle.pt_unwind.specs.declared.Landing.TheVariants.{Enter, Jump, Out}

@@ -1,5 +1,5 @@
 -- The line of the innermost visible frame, and how a run leaves the profile there.
-use Rattle.std.proofs.Common.{◌≡◌, ◌∙◌, ℕ, List, [], ◌∷◌, Bool, true, false, Option, Some, None, refl, sym, ap, subst}
+use Rattle.std.proofs.Common.{◌≡◌, ◌∙◌, ℕ, List, [], ◌∷◌, Bool, true, false, refl, sym, ap}
 use Rattle.std.specs.Prelude.{if◌then◌else◌}
 use Rattle.std.specs.Option.{option_map}
 use Rattle.pt_base.specs.declared.numbers.Pc.{Pc}
@@ -13,7 +13,7 @@ use Rattle.pt_run.specs.Machine.{BlockId}
 use Rattle.pt_run.specs.Host.{Frame}
 use Rattle.pt_run.specs.Views as views
 use Rattle.pt_run.specs.Views.{line_or, visible, line_of_first}
-use Rattle.pt_host.specs.World.{Names, World, Stores, Program}
+use Rattle.pt_host.specs.World.{Names, Stores, Program}
 use Rattle.pt_host.specs.HeapHost.{heap_host}
 use Rattle.pt_transitions.specs.Successors as leads
 use Rattle.pt_bare_runs.specs.Strides as bare
@@ -25,10 +25,10 @@ use Rattle.pt_machine_state.specs.declared.machine.Machine.{Machine}
 use Rattle.pt_machine_state.specs.declared.machine.RunEnd.TheVariants as end
 use Rattle.pt_machine_state.specs.declared.machine.Stride.TheVariants as stride
 use Rattle.pt_machine_state.specs.declared.writes.Writes.{Writes}
-use Rattle.pt_machine_state.specs.Blocks.{AreBlocksOf, block_at}
+use Rattle.pt_machine_state.specs.Blocks.{AreBlocksOf}
 use Rattle.pt_machine_state.specs.Views.{Bare, Waits, Beside, AllWait, none, more, block_of, frame_of, run_in, stores_of}
 use Rattle.pt_machine_state.specs.Changes.{line_in, first_visible, visible_line}
-use Rattle.pt_machine_state.specs.Applies.{Asking, Stands, LedTo, run_at}
+use Rattle.pt_machine_state.specs.Applies.{Asking, Stands, LedTo}
 use Rattle.pt_machine_state.proofs.WriteLemmas.{adds_none}
 
 module _ (program : Program) (code : CodeBlocks Value) (blocks : Blocks) (known : AreBlocksOf program code blocks) where

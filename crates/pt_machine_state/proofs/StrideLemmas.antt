@@ -1,6 +1,6 @@
 -- The machine did a stride of a run where it took the unit and told the line, did the row of the instruction, and did what that came to.
-use Rattle.std.proofs.Common.{◌≡◌, ◌∙◌, ℕ, List, [], ◌∷◌, Bool, true, false, Option, Some, None, refl, sym, ap, subst}
-use Rattle.std.specs.Prelude.{nat_lt, if◌then◌else◌}
+use Rattle.std.proofs.Common.{inl, inr, ◌≡◌, ◌∙◌, ℕ, [], true, Some, None, refl, sym, ap, subst}
+use Rattle.std.specs.Prelude.{◌⊎◌, nat_lt, if◌then◌else◌}
 use Rattle.std.specs.Option.{option_map}
 use Rattle.pt_base.specs.declared.numbers.Pc.{Pc}
 use Rattle.pt_heap.specs.declared.value.Value.{Value}
@@ -8,7 +8,7 @@ use Rattle.pt_ranges.specs.declared.lines.ActMark.{ActMark}
 use Rattle.pt_code.specs.View.{Ins}
 use Rattle.pt_control.specs.Turn.{Ask}
 use Rattle.pt_control.specs.LineEvents.{is_told}
-use Rattle.pt_slots.specs.Slots.{State, on}
+use Rattle.pt_slots.specs.Slots.{on}
 use Rattle.pt_slots.specs.Steps.{mark_of}
 use Rattle.pt_slots.specs.Machine as slots
 use Rattle.pt_slots.specs.Instructions.{perform}
@@ -20,6 +20,13 @@ use Rattle.pt_rows.specs.Rows.{row_of}
 use Rattle.pt_bare_runs.specs.Strides.{behind, here_of, lead, line_logged, store, take_turn, take_unit, stride as stride_of}
 use Rattle.pt_run.specs.Step.{line_before}
 use Rattle.pt_code_machine.specs.CodeBlocks.{CodeBlocks, machine}
+use Rattle.pt_comp_expr.specs.Law.{active_at}
+use Rattle.pt_frames.specs.Slots.{active_in}
+use Rattle.pt_transitions.specs.Successors as leads
+use Rattle.pt_heap_rows.specs.declared.progress.Progress.{Progress}
+use Rattle.pt_heap_rows.specs.declared.progress.Progress.TheVariants as progress
+use Rattle.pt_heap_rows.specs.Leads.{HeapSuccessor, IsStuck}
+use Rattle.pt_heap_rows.specs.Told.{told, IfActive}
 use Rattle.pt_heap_rows.specs.Views.{slots_view}
 use Rattle.pt_machine_state.specs.declared.blocks.BlockCode.{BlockCode}
 use Rattle.pt_machine_state.specs.declared.blocks.Blocks.{Blocks}
@@ -33,7 +40,7 @@ use Rattle.pt_machine_state.specs.Views.{Bare, Beside, IsPlain, AllWait, block_o
 use Rattle.pt_machine_state.specs.Strode.{Strode}
 use Rattle.pt_machine_state.specs.Changes.{at_act, line_events}
 use Rattle.pt_machine_state.specs.Applies.{Asking, Stands, Applied}
-use Rattle.pt_machine_state.specs.Laws.{RowDone, behind_row, AtRow, UnmarkedStrides, MarkedStrides}
+use Rattle.pt_machine_state.specs.Laws.{RowDone, behind_row, row_at, AtRow, UnmarkedStrides, MarkedStrides}
 use Rattle.pt_machine_state.proofs.WriteLemmas.{behind-strode}
 use Rattle.pt_machine_state.proofs.LandLemmas.{active-view}
 use Rattle.pt_machine_state.proofs.ApplyLemmas.{logged-line-event}
@@ -79,6 +86,31 @@ module _ (program : Program) (code : CodeBlocks Value) (n : ℕ) (m : Machine) (
 
 -- the same by what the machine did
 
+-- of a run that is stuck nothing is said
+stuck-led : (program : Program) (code : CodeBlocks Value) (r : Stride) (w : Writes) (new : Machine) (w1 : Writes) (a : Ask Value) (s : Bare) (t : HeapSuccessor) → IsStuck t
+    → Strode program code (lead (machine code) (heap_host program) a t s) r w new w1
+stuck-led program code r w new w1 a s leads.none stuck = tt
+stuck-led program code r w new w1 a s (leads.behind_yield v k st) stuck = tt
+stuck-led program code r w new w1 a s (leads.to c st) stuck = absurd stuck
+stuck-led program code r w new w1 a s (leads.arises v c st) stuck = absurd stuck
+stuck-led program code r w new w1 a s (leads.behind_print t k) stuck = absurd stuck
+stuck-led program code r w new w1 a s (leads.behind_request q st k) stuck = absurd stuck
+stuck-led program code r w new w1 a s (leads.behind_note v k) stuck = absurd stuck
+stuck-led program code r w new w1 a s (leads.outside what) stuck = absurd stuck
+stuck-led program code r w new w1 a s (leads.end e) stuck = absurd stuck
+
+if-active : {A B : Type 0} (p : Progress) → (A → B) → IfActive p A → IfActive p B
+if-active (progress.Fails class arg) f a = f a
+if-active (progress.FailsSaying class t) f a = f a
+if-active (progress.Calls b hidden ls) f a = f a
+if-active progress.Next f a = tt
+if-active (progress.Goto pc) f a = tt
+if-active (progress.Leaves how) f a = tt
+if-active (progress.Reraises e) f a = tt
+if-active (progress.Print t) f a = tt
+if-active (progress.Outside what) f a = tt
+if-active progress.Lacks f a = tt
+
 module _ (program : Program) (code : CodeBlocks Value) (blocks : Blocks) (block : BlockCode) (next : Pc) (m : Machine) (i : Ins) (d : RowDone)
     (at : AtRow program code blocks block next i d m m) (x : Beside) (waits : AllWait program code m.frames.activations x.waiting) where
   abbrev at_instruction : Bare
@@ -96,8 +128,11 @@ module _ (program : Program) (code : CodeBlocks Value) (blocks : Blocks) (block 
     at_place = at.at_place;
     plain = plain;
     waiting = waits;
-    active = active-view m.here.slots ∙ sym at.same_active;
   }
+
+  -- what it needs to know of the active exception
+  active-known : IfActive d.progress (active_at (on m.here.pc.0 (slots_view m.here.slots)) ≡ active_in d.slots)
+  active-known = if-active d.progress (λ same. active-view m.here.slots ∙ sym same) at.same_active
 
   -- where the row leads the machine went
   pub row-led : (r : Stride) (w w1 : Writes) (new : Machine) → Applied blocks block next d.progress r (behind_row d m) w new w1 → (a : Ask Value) → IsPlain a
@@ -106,8 +141,15 @@ module _ (program : Program) (code : CodeBlocks Value) (blocks : Blocks) (block 
       (here_of (machine code) (heap_host program) at_instruction) (stores_of program m)) at_instruction) r w new w1
   unfolding Applied
   row-led r w w1 new applied a plain =
-      subst (λ t. Strode program code (lead (machine code) (heap_host program) a t at_instruction) r w new w1)
-      (at.row (here_of (machine code) (heap_host program) at_instruction)) (applied (asking a) (stands-behind a plain) at_instruction refl)
+      by (at.row (here_of (machine code) (heap_host program) at_instruction) refl)
+    where
+      by : IsStuck (row_at program code i m (here_of (machine code) (heap_host program) at_instruction))
+          ⊎ (told program (code.object (block_of m.here)) i (here_of (machine code) (heap_host program) at_instruction) d.progress (slots_view d.slots) (stores_of program (behind_row d m))
+          ≡ row_at program code i m (here_of (machine code) (heap_host program) at_instruction))
+          → Strode program code (lead (machine code) (heap_host program) a (row_at program code i m (here_of (machine code) (heap_host program) at_instruction)) at_instruction) r w new w1
+      by (inl stuck) = stuck-led program code r w new w1 a at_instruction (row_at program code i m (here_of (machine code) (heap_host program) at_instruction)) stuck
+      by (inr row) = subst (λ t. Strode program code (lead (machine code) (heap_host program) a t at_instruction) r w new w1) row
+          (applied (asking a) (stands-behind a plain) active-known at_instruction refl)
 
 pub unmarked_done : UnmarkedStrides
 unfolding UnmarkedStrides

@@ -1,5 +1,5 @@
 -- A stride from an instruction is that to which its row leads, behind its unit and its line where it has a mark.
-use Rattle.std.proofs.Common.{◌≡◌, ◌∙◌, ℕ, List, [], ◌∷◌, Bool, true, false, Option, Some, None, refl, sym, subst}
+use Rattle.std.proofs.Common.{◌≡◌, ◌∙◌, ℕ, [], true, false, Option, Some, None, refl, sym, ap, subst}
 use Rattle.std.specs.Prelude.{nat_lt, if◌then◌else◌}
 use Rattle.pt_heap.specs.declared.value.Value.{Value}
 use Rattle.pt_control.specs.Turn as T
@@ -16,10 +16,13 @@ use Rattle.pt_bare_runs.specs.Strides.{behind, store, take_unit, here_of, line_l
 use Rattle.pt_run.specs.Step.{line_before}
 use Rattle.pt_code_machine.specs.CodeBlocks.{CodeBlocks, machine}
 use Rattle.pt_machine_state.specs.declared.machine.Machine.{Machine}
+use Rattle.pt_machine_state.specs.declared.machine.RunEnd.TheVariants as end
 use Rattle.pt_machine_state.specs.declared.machine.Stride.{Stride}
+use Rattle.pt_machine_state.specs.declared.machine.Stride.TheVariants as stride
 use Rattle.pt_machine_state.specs.declared.writes.Writes.{Writes}
 use Rattle.pt_machine_state.specs.Views.{Bare, IsPlain}
 use Rattle.pt_machine_state.specs.Strode.{Strode}
+use Rattle.pt_machine_state.proofs.WriteLemmas.{adds_none}
 
 plain_seek : (a : Seek Value) → IsPlain (T.seek a)
 plain_seek a None v = refl
@@ -123,3 +126,17 @@ module _ (program : Program) (code : CodeBlocks Value) (n : ℕ) where
     marked w (T.note a k) s b is_left f = absurd b
     marked w (T.over e) s b is_left f = absurd b
     marked w T.stuck s b is_left f = tt
+
+  -- where one would begin, and no unit is left
+  pub spent : (m : Machine) (old : Writes) (w : Mark) (t : Turn (State Value) Value) (s : Bare) → Begins (Some w) t → s.units ≡ m.units → nat_lt m.units n ≡ false
+      → Strode program code (take_turn (machine code) (heap_host program) n t s) (stride.Ends end.Spent) old m old
+  spent m old w (T.act (Some v) a k) s b same none =
+      subst (λ x. Strode program code (if x then behind (line_logged (machine code) (heap_host program) v (line_before s.here) (take_unit v s))
+      (lead (machine code) (heap_host program) a (row (T.act (Some v) a k) (here_of (machine code) (heap_host program) (take_unit v s)) (store (take_unit v s))) (take_unit v s))
+      else bare.ends [] s.units bare.spent) (stride.Ends end.Spent) old m old) (sym (ap (λ u. nat_lt u n) same ∙ none))
+      (end.Spent, (refl, (adds_none old, (same, refl))))
+  spent m old w (T.act None a k) s b same none = absurd (cc)
+  spent m old w (T.move c) s b same none = absurd (cc)
+  spent m old w (T.note a k) s b same none = absurd b
+  spent m old w (T.over e) s b same none = absurd b
+  spent m old w T.stuck s b same none = tt

@@ -1,5 +1,5 @@
 -- What is put behind what a run has to write.
-use Rattle.std.proofs.Common.{◌≡◌, ◌∙◌, ℕ, List, [], ◌∷◌, ◌++◌, Bool, true, false, refl, sym, ap, append_assoc, append-nil}
+use Rattle.std.proofs.Common.{◌≡◌, ◌∙◌, List, [], ◌∷◌, ◌++◌, Bool, true, false, refl, sym, ap, append_assoc, append-nil}
 use Rattle.pt_run.specs.Run as run
 use Rattle.pt_run.specs.Run.{to_out, to_log}
 use Rattle.pt_heap.specs.declared.value.Value.{Value}
@@ -14,7 +14,7 @@ use Rattle.pt_machine_state.specs.declared.writes.Writes.{Writes}
 use Rattle.pt_machine_state.specs.Strode.{Strode}
 use Rattle.pt_machine_state.specs.Writing.{Adds, pieces_of, kept, prints_among, put_if_printed}
 
-kept-nil : (b : Bool) → kept b [] ≡ []
+pub kept-nil : (b : Bool) → kept b [] ≡ []
 kept-nil true = refl
 kept-nil false = refl
 
@@ -29,7 +29,7 @@ prints-append (w ∷ ws) vs = by w.sink (prints-append ws vs)
     by to_out e = ap (λ l. w ∷ l) e
     by to_log e = e
 
-kept-append : (b : Bool) (ws vs : List run.Write) → kept b (ws ++ vs) ≡ kept b ws ++ kept b vs
+pub kept-append : (b : Bool) (ws vs : List run.Write) → kept b (ws ++ vs) ≡ kept b ws ++ kept b vs
 kept-append true ws vs = refl
 kept-append false ws vs = prints-append ws vs
 

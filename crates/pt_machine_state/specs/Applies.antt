@@ -1,5 +1,5 @@
 -- When the machine did what an instruction comes to, wherever that stands and whatever waits.
-use Rattle.std.specs.Prelude.{◌≡◌, ℕ, List, Some}
+use Rattle.std.specs.Prelude.{◌≡◌, ℕ, Some}
 use Rattle.pt_base.specs.declared.numbers.Pc.{Pc}
 use Rattle.pt_heap.specs.declared.value.Value.{Value}
 use Rattle.pt_code.specs.View.{Ins}
@@ -15,7 +15,7 @@ use Rattle.pt_bare_runs.specs.Strides.{with_store, here_of, lead, stride as stri
 use Rattle.pt_code_machine.specs.CodeBlocks.{CodeBlocks, machine}
 use Rattle.pt_heap_rows.specs.declared.progress.Progress.{Progress}
 use Rattle.pt_heap_rows.specs.Leads.{HeapSuccessor}
-use Rattle.pt_heap_rows.specs.Told.{told}
+use Rattle.pt_heap_rows.specs.Told.{told, IfActive}
 use Rattle.pt_heap_rows.specs.Views.{slots_view}
 use Rattle.pt_machine_state.specs.declared.blocks.BlockCode.{BlockCode}
 use Rattle.pt_machine_state.specs.declared.blocks.Blocks.{Blocks}
@@ -52,7 +52,6 @@ pub record Stands (blocks : Blocks) (block : BlockCode) (next : Pc) (m : Machine
   pub at_place : m.standing ≡ standing.AtPlace
   pub plain : IsPlain q.ask
   pub waiting : AllWait q.program q.code m.frames.activations q.beside.waiting
-  pub active : active_at q.before ≡ active_in m.here.slots
 
 -- where that leads the machine went: from a run that is that of the machine but for names and world, which are stored first
 abbrev pub LedTo : HeapSuccessor → Asking → Stride → (old : Machine) (written : Writes) → (new : Machine) (writes : Writes) → Type 0
@@ -66,7 +65,7 @@ here_at q m = here_of (machine q.code) (heap_host q.program) (run_at q m)
 -- the machine did what the instruction came to
 unfoldable pub Applied : Blocks → BlockCode → (next : Pc) → Progress → Stride → (old : Machine) (written : Writes) → (new : Machine) (writes : Writes) → Type 0
 Applied blocks block next p r old written new writes =
-    (q : Asking) → Stands blocks block next old q
+    (q : Asking) → Stands blocks block next old q → IfActive p (active_at q.before ≡ active_in old.here.slots)
     → LedTo (told q.program (object_of q old) q.ins (here_at q old) p (slots_view old.here.slots) (stores_of q.program old)) q r old written new writes
 
 -- the machine did the stride of a run that is at the end of a block

@@ -1,14 +1,14 @@
 -- What the machine knows of a block is what its code object says.
-use Rattle.std.specs.Prelude.{◌≡◌, ℕ, List, filter, Some, slice_index_or, if◌then◌else◌}
+use Rattle.std.specs.Prelude.{◌≡◌, ℕ, filter, Some, slice_index_or}
 use Rattle.pt_heap.specs.declared.value.Value.{Value}
 use Rattle.pt_ranges.specs.Rows.{covers}
 use Rattle.pt_code.specs.View.{Ins}
-use Rattle.pt_slots.specs.CodeObject.{CodeObject}
 use Rattle.pt_places.specs.PlaceTable.{HasPlaces}
 use Rattle.pt_run.specs.Machine.{BlockId}
 use Rattle.pt_host.specs.World.{Program}
 use Rattle.pt_code_machine.specs.CodeBlocks.{CodeBlocks}
 use Rattle.pt_heap_rows.specs.Leads.{HasHeapTruths}
+use Rattle.pt_code_facts.specs.Numbered.{by_number}
 use Rattle.pt_machine_state.specs.declared.blocks.BlockCode.{BlockCode}
 use Rattle.pt_machine_state.specs.declared.blocks.Blocks.{Blocks}
 
@@ -25,7 +25,7 @@ pub record IsBlockOf (program : Program) (code : CodeBlocks Value) (b : BlockId)
   pub iterates : code.iterates b ≡ block.iterates
 
 abbrev pub block_at : Blocks → BlockId → BlockCode
-block_at blocks b = if b.hidden then blocks.missing else slice_index_or blocks.of_script b.number blocks.missing
+block_at blocks b = by_number blocks.of_module blocks.others b.number
 
 abbrev pub AreBlocksOf : Program → CodeBlocks Value → Blocks → Type 0
 AreBlocksOf program code blocks = (b : BlockId) → IsBlockOf program code b (block_at blocks b)

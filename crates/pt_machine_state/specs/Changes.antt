@@ -1,5 +1,5 @@
 -- How the machine changes: it goes to a place, a completion lands, an exception gets an entry of its traceback (Language Reference 8.4, 7.6, 7.8).
-use Rattle.std.specs.Prelude.{ℕ, suc, ◌-◌, List, [], ◌∷◌, length, drop, Bool, true, false, Option, Some, None, slice_get, codes, if◌then◌else◌}
+use Rattle.std.specs.Prelude.{ℕ, suc, ◌-◌, List, [], ◌∷◌, length, drop, Bool, true, false, Option, Some, slice_get, codes, if◌then◌else◌}
 use Rattle.std.specs.Option.{option_map}
 use Rattle.pt_base.specs.declared.numbers.Pc.{Pc}
 use Rattle.pt_heap.specs.declared.value.Value.{Value}

@@ -1,5 +1,5 @@
 -- That the machine does strides of runs over code.
-use Rattle.std.specs.Prelude.{◌≡◌, ℕ, List, true, Option, Some, None, nat_lt}
+use Rattle.std.specs.Prelude.{◌≡◌, ◌⊎◌, ℕ, List, true, Option, Some, None, nat_lt}
 use Rattle.pt_base.specs.declared.numbers.Pc.{Pc}
 use Rattle.pt_heap.specs.declared.value.Value.{Value}
 use Rattle.pt_heap.specs.declared.object.Object.{Object}
@@ -7,7 +7,6 @@ use Rattle.pt_names.specs.Names.{Named}
 use Rattle.pt_ranges.specs.declared.lines.ActMark.{ActMark}
 use Rattle.pt_code.specs.View.{Ins}
 use Rattle.pt_frames.specs.declared.slot.Slot.{Slot}
-use Rattle.pt_frames.specs.Slots.{active_in}
 use Rattle.pt_run.specs.Host.{Here}
 use Rattle.pt_host.specs.World.{Program}
 use Rattle.pt_host.specs.HeapHost.{heap_host}
@@ -15,7 +14,8 @@ use Rattle.pt_rows.specs.Rows.{row_of}
 use Rattle.pt_bare_runs.specs.Strides.{stride as stride_of}
 use Rattle.pt_code_machine.specs.CodeBlocks.{CodeBlocks, machine}
 use Rattle.pt_heap_rows.specs.declared.progress.Progress.{Progress}
-use Rattle.pt_heap_rows.specs.Told.{told}
+use Rattle.pt_heap_rows.specs.Leads.{HeapSuccessor, IsStuck}
+use Rattle.pt_heap_rows.specs.Told.{told, KeepsActive}
 use Rattle.pt_heap_rows.specs.Views.{slots_view}
 use Rattle.pt_machine_state.specs.declared.blocks.BlockCode.{BlockCode}
 use Rattle.pt_machine_state.specs.declared.blocks.Blocks.{Blocks}
@@ -45,10 +45,14 @@ abbrev pub behind_row : RowDone → Machine → Machine
 behind_row d m = changed d.slots d.locals d.cells d.names d.globals d.frame_cells d.heap m
 
 module _ (program : Program) (code : CodeBlocks Value) where
-  -- that is the row of the instruction, from a machine
+  -- where the instruction leads from a machine
+  abbrev pub row_at : Ins → Machine → Here Value → HeapSuccessor
+  row_at i m h = row_of (heap_host program) (code.object (block_of m.here)) m.here.pc.0 i i.instr (slots_view m.here.slots) h (stores_of program m)
+
+  -- that is what was done, unless the run is stuck there
   abbrev pub IsRow : Ins → RowDone → Machine → Type 0
-  IsRow i d m = (h : Here Value) → told program (code.object (block_of m.here)) i h d.progress (slots_view d.slots) (stores_of program (behind_row d m))
-      ≡ row_of (heap_host program) (code.object (block_of m.here)) m.here.pc.0 i i.instr (slots_view m.here.slots) h (stores_of program m)
+  IsRow i d m = (h : Here Value) → h.block ≡ block_of m.here → IsStuck (row_at i m h)
+      ⊎ (told program (code.object (block_of m.here)) i h d.progress (slots_view d.slots) (stores_of program (behind_row d m)) ≡ row_at i m h)
 
   -- the machine is at an instruction of a block that it knows, whose row is done behind what comes before it
   pub record AtRow (blocks : Blocks) (block : BlockCode) (next : Pc) (i : Ins) (d : RowDone) (m before_row : Machine) : Type 0 where
@@ -57,7 +61,7 @@ module _ (program : Program) (code : CodeBlocks Value) where
     pub at_place : m.standing ≡ standing.AtPlace
     pub there : (code.object (block_of m.here)).at m.here.pc.0 ≡ Some i
     pub next_is : i.next ≡ next.0
-    pub same_active : active_in d.slots ≡ active_in m.here.slots
+    pub same_active : KeepsActive d.progress m.here.slots d.slots
     pub row : IsRow i d before_row
 
 -- the machine does a stride where what comes behind the row is applied; with a mark behind its unit and its line

@@ -1,5 +1,5 @@
 -- When the machine did a stride of a run.
-use Rattle.std.specs.Prelude.{◌≡◌, ℕ, List}
+use Rattle.std.specs.Prelude.{◌≡◌, ◌⊎◌, ℕ, []}
 use Rattle.pt_base.specs.declared.what.What.TheVariants.{Exit}
 use Rattle.pt_heap.specs.declared.value.Value.{Value}
 use Rattle.pt_slots.specs.Slots.{State}
@@ -8,8 +8,9 @@ use Rattle.pt_run.specs.Host.{Leaving}
 use Rattle.pt_host.specs.World.{Names, World, Program}
 use Rattle.pt_host.specs.Leaving.{leaving}
 use Rattle.pt_bare_runs.specs.Strides as bare
-use Rattle.pt_bare_runs.specs.Strides.{goes, ends, is_stuck, done, exited, raised, spent, outside_at}
-use Rattle.pt_code_machine.specs.CodeBlocks.{CodeBlocks}
+use Rattle.pt_bare_runs.specs.Strides.{goes, ends, is_stuck, done, exited, raised, spent, outside_at, stride as stride_of}
+use Rattle.pt_host.specs.HeapHost.{heap_host}
+use Rattle.pt_code_machine.specs.CodeBlocks.{CodeBlocks, machine}
 use Rattle.pt_heap_rows.specs.Views.{world_view}
 use Rattle.pt_machine_state.specs.declared.machine.Machine.{Machine}
 use Rattle.pt_machine_state.specs.declared.machine.RunEnd.{RunEnd}
@@ -36,9 +37,13 @@ ending_of end.Spent m = spent
 ending_of (end.Outside what line) m = outside_at what line.0
 
 module _ (program : Program) (code : CodeBlocks Value) where
-  -- the run goes on as the machine does, or ends as it says; of a run that is stuck nothing is said
+  -- a run is another one, or comes to it by a stride that writes nothing, whatever units may be taken
+  abbrev pub ComesTo : Bare → Bare → Type 0
+  ComesTo s t = (s ≡ t) ⊎ ((n : ℕ) → stride_of (machine code) (heap_host program) n s ≡ goes [] t)
+
+  -- the run goes on as the machine does, which may do another stride of it beside this, or ends as it says; of a run that is stuck nothing is said
   abbrev pub Strode : bare.Stride (State Value) Names Value World → Stride → (old : Writes) → Machine → (new : Writes) → Type 0
   Strode (goes ws s) r old m new =
-      (r ≡ stride.Goes) × (Adds old new ws × ((x : Beside) × ((s ≡ run_of program m x) × AllWait program code m.frames.activations x.waiting)))
+      (r ≡ stride.Goes) × (Adds old new ws × ((x : Beside) × (ComesTo s (run_of program m x) × AllWait program code m.frames.activations x.waiting)))
   Strode (ends ws u e) r old m new = (x : RunEnd) × ((r ≡ stride.Ends x) × (Adds old new ws × ((u ≡ m.units) × (e ≡ ending_of x m))))
   Strode is_stuck r old m new = Unit {0}

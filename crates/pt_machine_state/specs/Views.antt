@@ -1,7 +1,6 @@
 -- The machine of code as a run sees it (Language Reference 4.1, 3.2.13.2).
 use Rattle.std.specs.Prelude.{◌≡◌, ℕ, List, [], ◌∷◌, true, false, Option, None, Some}
 use Rattle.std.specs.Option.{option_map, option_or}
-use Rattle.pt_base.specs.declared.numbers.Line.{Line}
 use Rattle.pt_heap.specs.declared.value.Value.{Value}
 use Rattle.pt_code.specs.View.{Ins}
 use Rattle.pt_control.specs.Turn.{Ask, gave, left_by}

@@ -1,4 +1,8 @@
-use pt_base::{Line, Seq, Text};
+ghost use Rattle.pt_heap_rows.specs.Told.{block_id};
+ghost use Rattle.pt_machine_state.specs.Blocks.{block_at, depth_of};
+ghost use Rattle.std.specs.Prelude.{◌≡◌, Bool};
+
+use pt_base::{BlockId, Line, Pc, Seq, Text};
 use pt_places::{Handlers, Places};
 
 /// What the machine knows of a block, made once.
@@ -14,10 +18,40 @@ pub struct BlockCode {
     pub iterates: bool,
 }
 
-/// The blocks of a script by their numbers.
+impl BlockCode {
+    /// How many slots lie at a place, in constant time.
+    #[tactic(auto, using(pt_code_facts::proofs::NumberedLemmas::none_in))]
+    pub fn depth(&self, pc: Pc) -> usize
+        ensures { result ≡ depth_of self.now pc.0 }
+    {
+        match self.depths.get(pc.0 as usize) {
+            Some(depth) => *depth as usize,
+            None => 0,
+        }
+    }
+}
+
+/// The blocks of a script by their numbers. The module has number 0, and stands for a number that
+/// the script doesn't have.
 #[derive(Drop)]
 pub struct Blocks {
-    pub of_script: Seq<BlockCode>,
-    /// A block without an instruction, in place of those that aren't there.
-    pub missing: BlockCode,
+    pub of_module: BlockCode,
+    /// The blocks from number 1 on.
+    pub others: Seq<BlockCode>,
+}
+
+impl Blocks {
+    /// The block of a number, in constant time.
+    #[tactic(auto, using(pt_code_facts::proofs::NumberedLemmas::first, pt_code_facts::proofs::NumberedLemmas::later, pt_code_facts::proofs::NumberedLemmas::missing))]
+    pub fn at(&self, block: BlockId) -> &BlockCode
+        ensures { (hidden : Bool) → result.now ≡ block_at self.now (block_id block hidden) }
+    {
+        if block.0 == 0 {
+            return &self.of_module;
+        }
+        match self.others.get(block.0 as usize - 1) {
+            Some(block) => block,
+            None => &self.of_module,
+        }
+    }
 }

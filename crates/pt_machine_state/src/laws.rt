@@ -11,6 +11,7 @@ ghost use Rattle.pt_base.specs.declared.what.What.{What};
 ghost use Rattle.pt_bind.specs.declared.arguments.Locals.{Locals};
 ghost use Rattle.pt_frames.specs.declared.activation.Activation.{Activation};
 ghost use Rattle.pt_frames.specs.declared.purpose.Purpose.{Purpose};
+ghost use Rattle.pt_heap.specs.declared.completion.Completion.TheVariants as completion;
 ghost use Rattle.pt_heap.specs.declared.completion.Completion.{Completion};
 ghost use Rattle.pt_heap.specs.declared.object.Object.{Object};
 ghost use Rattle.pt_heap.specs.declared.value.Value.{Value};
@@ -22,7 +23,8 @@ ghost use Rattle.pt_host.specs.World.{IsAllotted, allot};
 ghost use Rattle.pt_host.specs.declared.places.TheConstants.{RECURSION_ERROR};
 ghost use Rattle.pt_machine_state.specs.Applies.{Applied, Closes};
 ghost use Rattle.pt_machine_state.specs.Blocks.{block_at};
-ghost use Rattle.pt_machine_state.specs.Changes.{events_of, given_back, gone_to, left_place, opened};
+ghost use Rattle.pt_machine_state.specs.Changes.{events_of, given_back, gone_to, landed, left_place};
+ghost use Rattle.pt_machine_state.specs.Changes.{opened};
 ghost use Rattle.pt_machine_state.specs.Changes.{raise_events, raised_at, suspended, visible_line};
 ghost use Rattle.pt_machine_state.specs.Laws.{MarkedStrides, UnmarkedStrides};
 ghost use Rattle.pt_machine_state.specs.Views.{active_of, block_of};
@@ -33,14 +35,16 @@ ghost use Rattle.pt_machine_state.specs.declared.machine.Machine.{Machine};
 ghost use Rattle.pt_machine_state.specs.declared.machine.RunEnd.TheVariants as ending;
 ghost use Rattle.pt_machine_state.specs.declared.machine.Standing.TheVariants as standing;
 ghost use Rattle.pt_machine_state.specs.declared.machine.Stride.TheVariants as stride;
+ghost use Rattle.pt_machine_state.specs.declared.machine.Stride.{Stride};
 ghost use Rattle.pt_machine_state.specs.declared.writes.Writes.{Writes};
 ghost use Rattle.pt_places.specs.PlaceTable.{entry};
 ghost use Rattle.pt_run.specs.State.{most_activations};
 ghost use Rattle.pt_places.specs.declared.places.Place.{Place};
 
 /// The machine does what an instruction comes to as a run does: it goes to a place, a completion
-/// lands, a text is printed.
-#[tactic(auto, using(crate::proofs::ApplyLemmas::applied_next, crate::proofs::ApplyLemmas::applied_goto, crate::proofs::ApplyLemmas::applied_leaves, crate::proofs::ApplyLemmas::applied_print))]
+/// lands, a raise that was held goes on, a text is printed. Where slots lack what is taken the run
+/// is stuck, whatever the machine does.
+#[tactic(auto, using(crate::proofs::ApplyLemmas::applied_next, crate::proofs::ApplyLemmas::applied_goto, crate::proofs::ApplyLemmas::applied_leaves, crate::proofs::ApplyLemmas::applied_print, crate::proofs::ApplyLemmas::applied_reraises, crate::proofs::ApplyLemmas::applied_lacks))]
 pub fn the_machine_goes_where_instructions_lead()
     ensures next { (blocks : Blocks) (block : BlockCode) (next : Pc) (m : Machine) (w : Writes)
         → Applied blocks block next progress.Next stride.Goes m w (gone_to next m) w }
@@ -52,6 +56,12 @@ pub fn the_machine_goes_where_instructions_lead()
     ensures prints { (blocks : Blocks) (block : BlockCode) (next : Pc) (m : Machine) (w : Writes)
         (t : List ℕ) (w1 : Writes) → Adds w w1 (print_piece t ∷ [])
         → Applied blocks block next (progress.Print t) stride.Goes m w (gone_to next m) w1 }
+    ensures reraises { (blocks : Blocks) (block : BlockCode) (next : Pc) (m : Machine) (w : Writes)
+        (v : Value) → Applied blocks block next (progress.Reraises v) stride.Goes m w
+        (landed block (completion.Raise v) m) w }
+    ensures lacks { (blocks : Blocks) (block : BlockCode) (next : Pc) (m : Machine) (w : Writes)
+        (r : Stride) (new : Machine) (w1 : Writes)
+        → Applied blocks block next progress.Lacks r m w new w1 }
 {}
 
 /// The machine does with exceptions that instructions make what a run does, and where there is no

@@ -22,7 +22,7 @@ use Rattle.pt_prims.specs.declared.operand.Operand.TheVariants as operand
 use Rattle.pt_prims.specs.declared.answer.PrimAns.{PrimAns}
 use Rattle.pt_prims.specs.declared.answer.PrimAns.TheVariants as prim
 use Rattle.pt_prims.specs.Operands.{operand_of}
-use Rattle.pt_prims.specs.Operations.{prim_answer, prim_heap, placed, grown}
+use Rattle.pt_prims.specs.Operations.{prim_answer, prim_heap, placed}
 use Rattle.pt_prims.specs.Truths.{truth_by}
 use Rattle.pt_host.specs.World.{Stores, Program, Allotted, with_objects, allot}
 use Rattle.pt_host.specs.Answers.{branch as answered, truth as host_truth}

@@ -1,12 +1,12 @@
 -- What lies on top of slots, by what lies on those below.
-use Rattle.std.proofs.Common.{◌≡◌, ◌∙◌, List, [], ◌∷◌, Option, Some, None, refl, sym, ap, subst}
+use Rattle.std.proofs.Common.{◌≡◌, ◌∙◌, ℕ, List, [], ◌∷◌, Option, Some, None, refl, sym, ap, subst}
 use Rattle.std.specs.Prelude.{drop, slice_get, MatchOption}
 use Rattle.std.proofs.lemmas.Option.{same_Some}
 use Rattle.pt_heap.specs.declared.value.Value.{Value}
 use Rattle.pt_frames.specs.declared.slot.Slot.{Slot}
 use Rattle.pt_frames.specs.declared.slot.Slot.TheVariants as slot
 use Rattle.pt_frames.specs.Slots.{active_in}
-use Rattle.pt_moves.specs.Operands.{value_in, one_value, two_values, three_values}
+use Rattle.pt_moves.specs.Operands.{value_in, movable_in, one_movable, one_value, two_values, three_values}
 
 pub two_off : (slots : List Slot) → drop 1 (drop 1 slots) ≡ drop 2 slots
 two_off [] = refl
@@ -49,6 +49,38 @@ quiet_one slots v e = sym (ap active_in (one_on slots v e))
 
 pub quiet_over : (slots : List Slot) (v : Value) → active_in (slot.Value v ∷ slots) ≡ active_in slots
 quiet_over slots v = refl
+
+pub quiet_over_cell : (slots : List Slot) (n : ℕ) → active_in (slot.Cell n ∷ slots) ≡ active_in slots
+quiet_over_cell slots n = refl
+
+-- the same of a value or an iterator
+
+pub first_movable : (slots : List Slot) → movable_in (slice_get slots 0) ≡ one_movable slots
+first_movable [] = refl
+first_movable (slot.Value v ∷ slots) = refl
+first_movable (slot.Cell n ∷ slots) = refl
+first_movable (slot.Iter v ∷ slots) = refl
+first_movable (slot.Exc v ∷ slots) = refl
+first_movable (slot.Pending c ∷ slots) = refl
+first_movable (slot.With v ∷ slots) = refl
+
+pub quiet_one_movable : (slots : List Slot) (s : Slot) → one_movable slots ≡ Some s → active_in (drop 1 slots) ≡ active_in slots
+quiet_one_movable [] s e = absurd (cc)
+quiet_one_movable (slot.Value v ∷ slots) s e = refl
+quiet_one_movable (slot.Cell n ∷ slots) s e = absurd (cc)
+quiet_one_movable (slot.Iter v ∷ slots) s e = refl
+quiet_one_movable (slot.Exc v ∷ slots) s e = absurd (cc)
+quiet_one_movable (slot.Pending c ∷ slots) s e = absurd (cc)
+quiet_one_movable (slot.With v ∷ slots) s e = absurd (cc)
+
+pub quiet_movable : (slots over : List Slot) (s : Slot) → one_movable slots ≡ Some s → active_in (s ∷ over) ≡ active_in over
+quiet_movable [] over s e = absurd (cc)
+quiet_movable (slot.Value v ∷ slots) over s e = ap (λ x. active_in (x ∷ over)) (let q : s ≡ slot.Value v = cc in q)
+quiet_movable (slot.Cell n ∷ slots) over s e = absurd (cc)
+quiet_movable (slot.Iter v ∷ slots) over s e = ap (λ x. active_in (x ∷ over)) (let q : s ≡ slot.Iter v = cc in q)
+quiet_movable (slot.Exc v ∷ slots) over s e = absurd (cc)
+quiet_movable (slot.Pending c ∷ slots) over s e = absurd (cc)
+quiet_movable (slot.With v ∷ slots) over s e = absurd (cc)
 
 -- two values, by the upper one and then the lower one
 

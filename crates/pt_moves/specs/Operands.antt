@@ -38,6 +38,11 @@ three_values (slot.Value w ∷ slot.Value v ∷ slot.Value u ∷ slots) = Some (
 three_values slots = None
 
 -- a value or an iterator
+abbrev pub movable_in : Option Slot → Option Slot
+movable_in (Some (slot.Value v)) = Some (slot.Value v)
+movable_in (Some (slot.Iter v)) = Some (slot.Iter v)
+movable_in o = None
+
 abbrev pub one_movable : List Slot → Option Slot
 one_movable (slot.Value v ∷ slots) = Some (slot.Value v)
 one_movable (slot.Iter v ∷ slots) = Some (slot.Iter v)

@@ -59,6 +59,7 @@ fn branch(
     }
 }
 
+/// Goes to a place where the value on top is true (Language Reference 6.11, 8.1).
 #[tactic(auto, using(crate::proofs::BranchLemmas::jump_if_row, crate::proofs::BranchLemmas::jump_if_lacks))]
 pub fn jump_if(
     alloc: Global,
@@ -82,6 +83,7 @@ pub fn jump_if(
     }
 }
 
+/// Goes to a place where the value on top is false (Language Reference 6.11, 8.1, 8.2).
 #[tactic(auto, using(crate::proofs::BranchLemmas::jump_unless_row, crate::proofs::BranchLemmas::jump_unless_lacks))]
 pub fn jump_unless(
     alloc: Global,
@@ -105,7 +107,7 @@ pub fn jump_unless(
     }
 }
 
-/// Where the value is true it stays.
+/// Goes to a place where the value on top is true, which stays there (Language Reference 6.11).
 #[tactic(auto, using(crate::proofs::BranchLemmas::keeps_if_true, crate::proofs::BranchLemmas::drops_if_false, crate::proofs::BranchLemmas::if_fails, crate::proofs::BranchLemmas::jump_if_keep_lacks, crate::proofs::TakeLemmas::quiet_over))]
 pub fn jump_if_keep(
     alloc: Global,
@@ -130,7 +132,7 @@ pub fn jump_if_keep(
     }
 }
 
-/// Where the value is false it stays.
+/// Goes to a place where the value on top is false, which stays there (Language Reference 6.11).
 #[tactic(auto, using(crate::proofs::BranchLemmas::keeps_unless_false, crate::proofs::BranchLemmas::drops_unless_true, crate::proofs::BranchLemmas::unless_fails, crate::proofs::BranchLemmas::jump_unless_keep_lacks, crate::proofs::TakeLemmas::quiet_over))]
 pub fn jump_unless_keep(
     alloc: Global,

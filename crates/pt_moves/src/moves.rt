@@ -1,5 +1,6 @@
 //! Instructions that move slots and go to places, and ask for nothing.
-ghost use Rattle.std.specs.Prelude.{◌≡◌, ◌∷◌, List, IfOk};
+ghost use Rattle.std.specs.Prelude.{◌≡◌, ◌∷◌, List, IfOk, OnOk};
+ghost use Rattle.pt_frames.specs.Slots.{active_in};
 ghost use Rattle.pt_frames.specs.declared.slot.Slot.{Slot};
 ghost use Rattle.pt_frames.specs.declared.slot.Slot.TheVariants as slot;
 ghost use Rattle.pt_instr.specs.declared.Instr.TheVariants as instr;
@@ -11,6 +12,7 @@ use pt_frames::{Slot, Slots};
 use pt_heap::{Completion, Value};
 use pt_heap_rows::Progress;
 
+/// Does nothing.
 #[tactic(auto, using(crate::proofs::MoveLemmas::nop_row))]
 pub fn nop() -> Progress
     ensures { (slots : List Slot) → RowsSlots instr.Nop slots result slots }
@@ -18,6 +20,7 @@ pub fn nop() -> Progress
     Progress::Next
 }
 
+/// Goes to a place (Language Reference 8.1, 8.2).
 #[tactic(auto, using(crate::proofs::MoveLemmas::jump_row))]
 pub fn jump(to: Pc) -> Progress
     ensures { (slots : List Slot) → RowsSlots (instr.Jump to) slots result slots }
@@ -38,7 +41,8 @@ pub fn leave(to: Pc) -> Progress
 /// A `return` (Language Reference 7.6).
 #[tactic(auto, using(crate::proofs::MoveLemmas::return_row, crate::proofs::MoveLemmas::return_lacks))]
 pub fn return_value(slots: &mut Slots) -> Progress
-    ensures { RowsSlots instr.Return slots.old result slots.new }
+    ensures row { RowsSlots instr.Return slots.old result slots.new }
+    ensures active { active_in slots.new ≡ active_in slots.old }
 {
     match take_one(slots) {
         Some(value) => Progress::Leaves {
@@ -48,9 +52,11 @@ pub fn return_value(slots: &mut Slots) -> Progress
     }
 }
 
+/// Drops the value on top (Language Reference 7.1).
 #[tactic(auto, using(crate::proofs::MoveLemmas::pop_row, crate::proofs::MoveLemmas::pop_lacks))]
 pub fn pop(slots: &mut Slots) -> Progress
-    ensures { RowsSlots instr.Pop slots.old result slots.new }
+    ensures row { RowsSlots instr.Pop slots.old result slots.new }
+    ensures active { active_in slots.new ≡ active_in slots.old }
 {
     match take_one(slots) {
         Some(_) => Progress::Next,
@@ -65,9 +71,11 @@ fn push_two(slots: &mut Slots, lower: Value, upper: Value) -> Result<(), Memory>
     slots.push(Slot::Value(upper))
 }
 
-#[tactic(auto, using(crate::proofs::MoveLemmas::copy_row, crate::proofs::MoveLemmas::copy_lacks))]
+/// The value on top comes twice (Language Reference 6.10, 7.2).
+#[tactic(auto, using(crate::proofs::MoveLemmas::copy_row, crate::proofs::MoveLemmas::copy_lacks, crate::proofs::TakeLemmas::quiet_over))]
 pub fn copy(slots: &mut Slots) -> Result<Progress, Memory>
-    ensures { IfOk result (λ p. RowsSlots instr.Copy slots.old p slots.new) }
+    ensures row { IfOk result (λ p. RowsSlots instr.Copy slots.old p slots.new) }
+    ensures active { OnOk result (active_in slots.new ≡ active_in slots.old) }
 {
     match take_one(slots) {
         Some(value) => {
@@ -78,9 +86,11 @@ pub fn copy(slots: &mut Slots) -> Result<Progress, Memory>
     }
 }
 
-#[tactic(auto, using(crate::proofs::MoveLemmas::copy_two_row, crate::proofs::MoveLemmas::copy_two_lacks))]
+/// The two values on top come twice (Language Reference 7.2.1).
+#[tactic(auto, using(crate::proofs::MoveLemmas::copy_two_row, crate::proofs::MoveLemmas::copy_two_lacks, crate::proofs::TakeLemmas::quiet_over))]
 pub fn copy_two(slots: &mut Slots) -> Result<Progress, Memory>
-    ensures { IfOk result (λ p. RowsSlots instr.Copy2 slots.old p slots.new) }
+    ensures row { IfOk result (λ p. RowsSlots instr.Copy2 slots.old p slots.new) }
+    ensures active { OnOk result (active_in slots.new ≡ active_in slots.old) }
 {
     match take_two(slots) {
         Some((lower, upper)) => {
@@ -93,9 +103,10 @@ pub fn copy_two(slots: &mut Slots) -> Result<Progress, Memory>
 }
 
 /// The value on top goes below the two under it.
-#[tactic(auto, using(crate::proofs::MoveLemmas::rotate_row, crate::proofs::MoveLemmas::rotate_lacks))]
+#[tactic(auto, using(crate::proofs::MoveLemmas::rotate_row, crate::proofs::MoveLemmas::rotate_lacks, crate::proofs::TakeLemmas::quiet_over))]
 pub fn rotate_three(slots: &mut Slots) -> Result<Progress, Memory>
-    ensures { IfOk result (λ p. RowsSlots instr.Rot3 slots.old p slots.new) }
+    ensures row { IfOk result (λ p. RowsSlots instr.Rot3 slots.old p slots.new) }
+    ensures active { OnOk result (active_in slots.new ≡ active_in slots.old) }
 {
     match take_three(slots) {
         Some((first, (second, third))) => {
@@ -108,9 +119,10 @@ pub fn rotate_three(slots: &mut Slots) -> Result<Progress, Memory>
 }
 
 /// The value on top goes below the value or the iterator under it.
-#[tactic(auto, using(crate::proofs::MoveLemmas::swap_row, crate::proofs::MoveLemmas::swap_lacks, crate::proofs::MoveLemmas::swap_lacks_lower))]
+#[tactic(auto, using(crate::proofs::MoveLemmas::swap_row, crate::proofs::MoveLemmas::swap_lacks, crate::proofs::MoveLemmas::swap_lacks_lower, crate::proofs::TakeLemmas::quiet_over, crate::proofs::TakeLemmas::quiet_movable))]
 pub fn swap(slots: &mut Slots) -> Result<Progress, Memory>
-    ensures { IfOk result (λ p. RowsSlots instr.Swap slots.old p slots.new) }
+    ensures row { IfOk result (λ p. RowsSlots instr.Swap slots.old p slots.new) }
+    ensures active { OnOk result (active_in slots.new ≡ active_in slots.old) }
 {
     let Some(upper) = take_one(slots) else {
         return Ok(Progress::Lacks);

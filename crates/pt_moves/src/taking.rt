@@ -1,8 +1,8 @@
 //! How values are taken off the slots.
 ghost use Rattle.std.specs.Prelude.{◌≡◌, drop, IfSome};
 ghost use Rattle.pt_frames.specs.Slots.{active_in};
-ghost use Rattle.pt_moves.specs.Operands.{one_movable, one_value, three_values, two_values};
-ghost use Rattle.pt_moves.specs.Operands.{value_in};
+ghost use Rattle.pt_moves.specs.Operands.{movable_in, one_movable, one_value, three_values};
+ghost use Rattle.pt_moves.specs.Operands.{two_values, value_in};
 
 use pt_frames::{Slot, Slots};
 use pt_heap::Value;
@@ -57,14 +57,29 @@ pub fn take_three(slots: &mut Slots) -> Option<(Value, (Value, Value))>
     Some((lowest, upper_two))
 }
 
-/// Takes a value or an iterator off, or answers None where neither is on top.
-pub fn take_movable(slots: &mut Slots) -> Option<Slot>
-    ensures slot { result ≡ one_movable slots.old }
-    ensures below { IfSome result (λ _. slots.new ≡ drop 1 slots.old) }
+/// What a slot is, if it is there and holds a value or an iterator.
+fn movable_in(slot: Option<Slot>) -> Option<Slot>
+    ensures { result ≡ movable_in slot }
 {
-    match slots.pop() {
+    match slot {
         Some(Slot::Value(value)) => Some(Slot::Value(value)),
         Some(Slot::Iter(iterator)) => Some(Slot::Iter(iterator)),
         _ => None,
+    }
+}
+
+/// Takes a value or an iterator off, or answers None where neither is on top.
+#[tactic(auto, using(crate::proofs::TakeLemmas::first_movable, crate::proofs::TakeLemmas::popped, crate::proofs::TakeLemmas::quiet_one_movable))]
+pub fn take_movable(slots: &mut Slots) -> Option<Slot>
+    ensures slot { result ≡ one_movable slots.old }
+    ensures below { IfSome result (λ _. slots.new ≡ drop 1 slots.old) }
+    ensures active { active_in slots.new ≡ active_in slots.old }
+{
+    match movable_in(slots.get(0)) {
+        Some(slot) => {
+            slots.pop();
+            Some(slot)
+        }
+        None => None,
     }
 }

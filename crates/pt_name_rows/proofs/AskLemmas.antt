@@ -1,20 +1,19 @@
 -- Where the host's answers about names lead, by what a name's value is.
-use Rattle.std.proofs.Common.{◌≡◌, ◌∙◌, ◌∷◌, Option, Some, None, refl, sym, ap}
-use Rattle.pt_tree.specs.Syntax.{Name}
+use Rattle.std.proofs.Common.{◌≡◌, ◌∙◌, ◌∷◌, Some, None, refl, sym, ap}
 use Rattle.pt_control.specs.Turn as T
 use Rattle.pt_control.specs.Turn.{Scope, Variable}
 use Rattle.pt_heap.specs.declared.value.Value.{Value}
 use Rattle.pt_code.specs.View.{Ins}
 use Rattle.pt_slots.specs.Slots as S
 use Rattle.pt_slots.specs.Slots.{Slots, State, on}
-use Rattle.pt_slots.specs.CodeObject.{CodeObject, named}
+use Rattle.pt_slots.specs.CodeObject.{CodeObject}
 use Rattle.pt_slots.specs.Steps.{gives, does}
 use Rattle.pt_run.specs.Host.{Here, made, beyond}
 use Rattle.pt_host.specs.World.{Stores, Program, Allotted}
 use Rattle.pt_host.specs.Trees.{raise_with}
 use Rattle.pt_host.specs.Errors.{error_saying}
 use Rattle.pt_host.specs.Texts.{unbound_text, unbound_class}
-use Rattle.pt_host.specs.Variables.{readable_value, variable_value, load, load_by, unless_bound, raise_unbound, delete, delete_by, put, make_anew}
+use Rattle.pt_host.specs.Variables.{readable_value, variable_value, load_by, unless_bound, delete_by, put, make_anew}
 use Rattle.pt_transitions.specs.Successors.{to}
 use Rattle.pt_heap_rows.specs.Leads.{HeapSuccessor}
 use Rattle.pt_heap_rows.specs.Leads.{by_tree, giving, behind}

@@ -1,9 +1,6 @@
 -- Rows of cell and free names.
-use Rattle.std.proofs.Common.{◌≡◌, ◌∙◌, ◌+◌, ◌<◌, ◌≤◌, ℕ, zero, suc, Bool, true, false, List, [], ◌∷◌, ◌++◌, length, Option, Some, None, refl, sym, ap, subst, arith, length-append}
+use Rattle.std.proofs.Common.{◌≡◌, ◌∙◌, ◌<◌, ◌≤◌, ℕ, zero, suc, Bool, true, false, List, [], ◌∷◌, ◌++◌, length, Option, Some, None, refl, sym, ap, subst, arith}
 use Rattle.std.specs.Prelude.{drop, nat_lt, slice_get, slice_set, if◌then◌else◌}
-use Rattle.std.proofs.lemmas.Bool.Decides.{nat_tests}
-use Rattle.std.specs.Option.{option_flatten}
-use Rattle.std.specs.Str.{bytes_eq}
 use Rattle.pt_tree.specs.Syntax.{Name}
 use Rattle.pt_control.specs.Turn as T
 use Rattle.pt_control.specs.Turn.{Scope, Variable}
@@ -16,7 +13,7 @@ use Rattle.pt_frames.specs.declared.slot.Slot.TheVariants as slot
 use Rattle.pt_run.specs.Host.{Here}
 use Rattle.pt_slots.specs.Slots as S
 use Rattle.pt_slots.specs.Slots.{on}
-use Rattle.pt_host.specs.World.{Names, World, Stores, CodeFacts}
+use Rattle.pt_host.specs.World.{World, Stores}
 use Rattle.pt_host.specs.Trees.{Tree}
 use Rattle.pt_host.specs.Variables.{variable_value, readable_value, cell_number, cell_value, unless_bound, raise_unbound, put, with_cell, with_new_cell, make_anew, number_value}
 use Rattle.pt_heap_rows.specs.declared.progress.Progress.{Progress}
@@ -65,12 +62,6 @@ past_end : (ns : List ℕ) (n : ℕ) → slice_get ns n ≡ None → length ns �
 past_end [] n e = omega arith
 past_end (m ∷ ns) zero e = absurd (cc)
 past_end (m ∷ ns) (suc n) e = let h : length ns ≤ n = past_end ns n e in omega (arith, h)
-
-before_frees : (xs ys : List Name) (n : ℕ) → n < length xs → n < length (xs ++ ys)
-before_frees xs ys n h = let l : length (xs ++ ys) ≡ length xs + length ys = length-append xs ys in omega (arith, h, l)
-
-is_below : (n m : ℕ) → n < m → nat_lt n m ≡ true
-is_below n m h = grind (arith, nat_tests)
 
 module _ (facts : BlockFacts) (own : List ℕ) (x : SlotNo) (cells : List (Option Value)) where
   abbrev variable_x : Variable
@@ -147,11 +138,15 @@ module _ (facts : BlockFacts) (own : List ℕ) (x : SlotNo) (cells : List (Optio
   push_lacks_of old new e locals of_class w has within s pc i truths knows =
       absurd (let h : length own ≤ x.0 = past_end own x.0 e in let k : length own ≡ length (facts.cells ++ facts.frees) = has.count in omega (arith, h, k, within))
 
--- another cell for a cell name
+-- another cell for a cell name, and no value for a free one
 module _ (facts : BlockFacts) (x : SlotNo) (own : List ℕ) (cells : List (Option Value)) where
   anew : (b : Bool) (n : Name) (st : Stores) → b ≡ true → make_anew (scope b) n st ≡ with_new_cell n st
   anew true n st e = refl
   anew false n st e = absurd (cc)
+
+  emptied_alike : (b : Bool) (n : Name) (st : Stores) → b ≡ false → make_anew (scope b) n st ≡ put (scope b) n None st
+  emptied_alike true n st e = absurd (cc)
+  emptied_alike false n st e = refl
 
   abbrev before : List (Option Value) → Named → World → Stores
   before locals of_class w = stores_in (facts_view facts) locals own of_class (with_cells cells w)
@@ -160,14 +155,23 @@ module _ (facts : BlockFacts) (x : SlotNo) (own : List ℕ) (cells : List (Optio
   abbrev with_numbers : List (Option Value) → Named → World → List (Name × ℕ) → Stores
   with_numbers locals of_class w ns = record { names = record { values = (before locals of_class w).names.values; cells = ns }; world = with_cells (cells ++ None ∷ []) w }
 
-  made_anew_of : RowsOwnCell facts x.0 (instr.FreshCell x) own cells progress.Next (slice_set own x.0 (length cells)) (cells ++ None ∷ [])
+  made_anew_of : is_cell facts own x cells ≡ true → RowsOwnCell facts x.0 (instr.FreshCell x) own cells progress.Next (slice_set own x.0 (length cells)) (cells ++ None ∷ [])
   unfolding RowsOwnCell RowsIn
-  made_anew_of slots locals of_class w has within s pc i truths knows =
+  made_anew_of among slots locals of_class w has within s pc i truths knows =
       ap (λ (ns : List (Name × ℕ)). goes_to (on i.next (slots_view slots)) (with_numbers locals of_class w ns))
-      (sym ((cells_stand (facts_view facts) locals own of_class x.0 has (before_frees (facts.cells) (facts.frees) x.0 within)).written (length cells)))
-      ∙ (ap (λ (c : Stores). goes_to (on i.next (slots_view slots)) c) (sym (anew (nat_lt x.0 (length facts.cells)) (cell_name (facts_view facts) x.0) (before locals of_class w) (is_below x.0 (length facts.cells) within)))
+      (sym ((cells_stand (facts_view facts) locals own of_class x.0 has within).written (length cells)))
+      ∙ (ap (λ (c : Stores). goes_to (on i.next (slots_view slots)) c) (sym (anew (is_cell facts own x cells) (cell_name (facts_view facts) x.0) (before locals of_class w) among))
       ∙ (ap (λ (y : Variable). goes_to (on i.next (slots_view slots)) (make_anew y.scope y.name (before locals of_class w))) (sym (knows.cell x.0))
       ∙ makes_anew s.program s.code i s.here (before locals of_class w) (slots_view slots) (s.code.pool.cell x.0)))
+
+  emptied_of : is_cell facts own x cells ≡ false → RowsOwnCell facts x.0 (instr.FreshCell x) own cells progress.Next own (with_value (slice_get own x.0) None cells)
+  unfolding RowsOwnCell RowsIn
+  emptied_of beyond slots locals of_class w has within s pc i truths knows =
+      ap (λ (c : Stores). goes_to (on i.next (slots_view slots)) c) (sym (writes facts own x cells locals of_class w has within _ None (knows.cell x.0)))
+      ∙ (ap (λ (y : Variable). goes_to (on i.next (slots_view slots)) (put y.scope y.name None (before locals of_class w))) (knows.cell x.0)
+      ∙ (ap (λ (c : Stores). goes_to (on i.next (slots_view slots)) c) (sym (emptied_alike (is_cell facts own x cells) (cell_name (facts_view facts) x.0) (before locals of_class w) beyond))
+      ∙ (ap (λ (y : Variable). goes_to (on i.next (slots_view slots)) (make_anew y.scope y.name (before locals of_class w))) (sym (knows.cell x.0))
+      ∙ makes_anew s.program s.code i s.here (before locals of_class w) (slots_view slots) (s.code.pool.cell x.0))))
 
 -- the same by what code found, took and wrote
 module _ (facts : BlockFacts) (own : List ℕ) (x : SlotNo) (old : List Slot) (cells : List (Option Value)) where
@@ -201,8 +205,15 @@ module _ (facts : BlockFacts) (own : List ℕ) (x : SlotNo) (old : List Slot) (c
   pub push_lacks : (new : List Slot) → slice_get own x.0 ≡ None → RowsCell facts own x.0 (instr.PushCell x) old cells progress.Lacks new cells
   push_lacks new e = push_lacks_of facts own x cells old new e
 
-pub made_anew : (facts : BlockFacts) (x : SlotNo) (own changed_own : List ℕ) (cells changed : List (Option Value)) (c : ℕ)
-    → c ≡ length cells → changed ≡ cells ++ None ∷ [] → changed_own ≡ slice_set own x.0 c → RowsOwnCell facts x.0 (instr.FreshCell x) own cells progress.Next changed_own changed
-made_anew facts x own changed_own cells changed c e f g =
-    subst (λ m. RowsOwnCell facts x.0 (instr.FreshCell x) own cells progress.Next m changed) (sym (g ∙ ap (λ k. slice_set own x.0 k) e))
-    (subst (λ m. RowsOwnCell facts x.0 (instr.FreshCell x) own cells progress.Next (slice_set own x.0 (length cells)) m) (sym f) (made_anew_of facts x own cells))
+module _ (facts : BlockFacts) (x : SlotNo) (own changed_own : List ℕ) (cells changed : List (Option Value)) (b : Bool) (counts : b ≡ nat_lt x.0 (length facts.cells)) where
+  pub made_anew : (c : ℕ) → b ≡ true → c ≡ length cells → changed ≡ cells ++ None ∷ [] → changed_own ≡ slice_set own x.0 c
+      → RowsOwnCell facts x.0 (instr.FreshCell x) own cells progress.Next changed_own changed
+  made_anew c is e f g =
+      subst (λ m. RowsOwnCell facts x.0 (instr.FreshCell x) own cells progress.Next m changed) (sym (g ∙ ap (λ k. slice_set own x.0 k) e))
+      (subst (λ m. RowsOwnCell facts x.0 (instr.FreshCell x) own cells progress.Next (slice_set own x.0 (length cells)) m) (sym f) (made_anew_of facts x own cells (sym counts ∙ is)))
+
+  pub emptied : b ≡ false → changed_own ≡ own → changed ≡ with_value (slice_get own x.0) None cells
+      → RowsOwnCell facts x.0 (instr.FreshCell x) own cells progress.Next changed_own changed
+  emptied is e f =
+      subst (λ m. RowsOwnCell facts x.0 (instr.FreshCell x) own cells progress.Next m changed) (sym e)
+      (subst (λ m. RowsOwnCell facts x.0 (instr.FreshCell x) own cells progress.Next own m) (sym f) (emptied_of facts x own cells (sym counts ∙ is)))

@@ -1,5 +1,5 @@
 mod DotLemmas
-mod AskLemmas
+pub mod AskLemmas
 mod LocalLemmas
 mod CellLemmas
 mod GlobalLemmas

@@ -1,5 +1,5 @@
 -- Rows of local names.
-use Rattle.std.proofs.Common.{◌≡◌, ◌∙◌, ◌<◌, ℕ, List, [], ◌∷◌, length, Option, Some, None, refl, sym, ap, subst}
+use Rattle.std.proofs.Common.{◌≡◌, ◌∙◌, ◌<◌, ℕ, List, [], ◌∷◌, length, Option, Some, None, sym, ap, subst}
 use Rattle.std.specs.Prelude.{drop, slice_get, slice_set, slice_index_or}
 use Rattle.std.specs.Option.{option_flatten}
 use Rattle.std.specs.Str.{bytes_eq}
@@ -20,8 +20,8 @@ use Rattle.pt_heap_rows.specs.declared.progress.Progress.{Progress}
 use Rattle.pt_heap_rows.specs.declared.progress.Progress.TheVariants as progress
 use Rattle.pt_heap_rows.specs.Told.{told}
 use Rattle.pt_heap_rows.specs.RowsIn.{RowsIn}
-use Rattle.pt_heap_rows.specs.Views.{names_in, paired, slots_view, stores_in}
-use Rattle.pt_variables.specs.Numbers.{local_name, HasLocals}
+use Rattle.pt_heap_rows.specs.Views.{slots_view, stores_in}
+use Rattle.pt_variables.specs.Numbers.{HasLocals}
 use Rattle.pt_variables.proofs.NumberLemmas.{locals_stand}
 use Rattle.pt_code_facts.specs.declared.facts.BlockFacts.{BlockFacts}
 use Rattle.pt_code_facts.specs.Facts.{facts_view}

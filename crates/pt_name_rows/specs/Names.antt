@@ -13,7 +13,7 @@ use Rattle.pt_host.specs.Texts.{unbound_text, unbound_class}
 use Rattle.pt_host.specs.Builtins.{builtin}
 use Rattle.pt_heap_rows.specs.declared.progress.Progress.{Progress}
 use Rattle.pt_heap_rows.specs.declared.progress.Progress.TheVariants as progress
-use Rattle.pt_heap_rows.specs.RowsIn.{Standpoint, RowsIn}
+use Rattle.pt_heap_rows.specs.RowsIn.{RowsIn}
 use Rattle.pt_heap_rows.specs.Views.{stores_in}
 use Rattle.pt_variables.specs.Numbers.{cell_variable, KnowsNames, HasLocals, HasCells}
 use Rattle.pt_code_facts.specs.declared.facts.BlockFacts.{BlockFacts}
@@ -74,10 +74,10 @@ RowsCell facts own n j old cells p new changed =
     → RowsIn (λ s. KnowsNames s.code (facts_view facts)) j old (stores_in (facts_view facts) locals own of_class (with_cells cells w))
     p new (stores_in (facts_view facts) locals own of_class (with_cells changed w))
 
--- and where a cell name has another cell
+-- and where a cell name may have another cell
 unfoldable pub RowsOwnCell : BlockFacts → (number : ℕ) → Instr → (own : List ℕ) (cells : List (Option Value)) → Progress → (changed_own : List ℕ) (changed : List (Option Value)) → Type 0
 RowsOwnCell facts n j own cells p changed_own changed =
-    (slots : List Slot) (locals : List (Option Value)) (of_class : Named) (w : World) → HasCells (facts_view facts) own → n < length facts.cells
+    (slots : List Slot) (locals : List (Option Value)) (of_class : Named) (w : World) → HasCells (facts_view facts) own → n < length (facts.cells ++ facts.frees)
     → RowsIn (λ s. KnowsNames s.code (facts_view facts)) j slots (stores_in (facts_view facts) locals own of_class (with_cells cells w))
     p slots (stores_in (facts_view facts) locals changed_own of_class (with_cells changed w))
 

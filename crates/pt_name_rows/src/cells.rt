@@ -1,5 +1,6 @@
 //! Names that have cells, by their numbers in the block.
-ghost use Rattle.std.specs.Prelude.{◌≡◌, ◌++◌, ◌∷◌, [], slice_get, slice_set, length, IfOk, OnOk};
+ghost use Rattle.std.specs.Prelude.{◌≡◌, ◌++◌, ◌∷◌, [], slice_get, slice_set, length, nat_lt, IfOk};
+ghost use Rattle.std.specs.Prelude.{OnOk};
 ghost use Rattle.pt_instr.specs.declared.Instr.TheVariants as instr;
 ghost use Rattle.pt_frames.specs.Slots.{active_in};
 ghost use Rattle.pt_name_rows.specs.Names.{RowsCell, RowsOwnCell, value_through, with_value};
@@ -70,9 +71,10 @@ pub fn set_cell(
     cells: &mut Seq<Option<Value>>,
     slots: &mut Slots,
 ) -> Progress
-    ensures { (facts : _)
+    ensures row { (facts : _)
         → RowsCell facts own.now slot.0 (instr.SetCell slot) slots.old cells.old result
         slots.new cells.new }
+    ensures active { active_in slots.new ≡ active_in slots.old }
 {
     match take_one(slots) {
         Some(value) => {
@@ -121,20 +123,33 @@ fn new_cell(cells: &mut Seq<Option<Value>>, value: Option<Value>) -> Result<u32,
     Ok(number as u32)
 }
 
-/// Makes a cell name anew: it has a cell of its own, without a value (Language Reference 6.2.4).
-#[tactic(auto, using(crate::proofs::CellLemmas::made_anew))]
+/// Whether a number is that of a cell name of the block, and not of a free one.
+fn is_cell_name(facts: &BlockFacts, number: usize) -> bool
+    ensures { result ≡ nat_lt number (length facts.now.cells) }
+{
+    number < facts.cells.len()
+}
+
+/// Makes a name anew, without a value (Language Reference 6.2.4): a cell name has a cell of its own
+/// then.
+#[tactic(auto, using(crate::proofs::CellLemmas::made_anew, crate::proofs::CellLemmas::emptied))]
 pub fn fresh_cell(
     slot: SlotNo,
+    facts: &BlockFacts,
     own: &mut Seq<u32>,
     cells: &mut Seq<Option<Value>>,
 ) -> Result<Progress, Memory>
     ensures { IfOk result
-        (λ p. (facts : _)
-        → RowsOwnCell facts slot.0 (instr.FreshCell slot) own.old cells.old p own.new
+        (λ p. RowsOwnCell facts.now slot.0 (instr.FreshCell slot) own.old cells.old p own.new
         cells.new) }
 {
-    let cell = new_cell(cells, None)?;
-    set_number(own, slot.0 as usize, cell);
+    let number = slot.0 as usize;
+    if is_cell_name(facts, number) {
+        let cell = new_cell(cells, None)?;
+        set_number(own, number, cell);
+    } else {
+        put_through(own, cells, number, None);
+    }
     Ok(Progress::Next)
 }
 
@@ -148,12 +163,13 @@ fn set_number(numbers: &mut Seq<u32>, at: usize, number: u32)
 }
 
 /// Gives the cell of a cell or free name, for a block that takes it along.
-#[tactic(auto, using(crate::proofs::CellLemmas::pushed, crate::proofs::CellLemmas::push_lacks))]
+#[tactic(auto, using(crate::proofs::CellLemmas::pushed, crate::proofs::CellLemmas::push_lacks, pt_moves::proofs::TakeLemmas::quiet_over_cell))]
 pub fn push_cell(slot: SlotNo, own: &Seq<u32>, slots: &mut Slots) -> Result<Progress, Memory>
-    ensures { IfOk result
+    ensures row { IfOk result
         (λ p. (facts : _) → (cells : _)
         → RowsCell facts own.now slot.0 (instr.PushCell slot) slots.old cells p slots.new
         cells) }
+    ensures active { OnOk result (active_in slots.new ≡ active_in slots.old) }
 {
     match own.get(slot.0 as usize).copied() {
         Some(cell) => {

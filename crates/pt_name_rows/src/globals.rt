@@ -56,9 +56,10 @@ pub fn set_global(
     globals: &mut Names,
     slots: &mut Slots,
 ) -> Result<Progress, Memory>
-    ensures { IfOk result
+    ensures row { IfOk result
         (λ p. RowsGlobal name.now (instr.SetGlobal text) text.0 slots.old globals.old p slots.new
         globals.new) }
+    ensures active { OnOk result (active_in slots.new ≡ active_in slots.old) }
 {
     match take_one(slots) {
         Some(value) => {

@@ -9,4 +9,5 @@ mod unbound;
 
 pub use cells::{cell, delete_cell, fresh_cell, push_cell, set_cell};
 pub use globals::{delete_global, global, set_global};
-pub use locals::{delete_local, fresh_local, local, set_local};
+pub use locals::{delete_local, fresh_local, local, put_at, set_local, value_at};
+pub use unbound::unbound_global;

@@ -61,8 +61,9 @@ pub fn local(
 /// Binds a local name.
 #[tactic(auto, using(crate::proofs::LocalLemmas::stored, crate::proofs::LocalLemmas::store_lacks))]
 pub fn set_local(slot: SlotNo, locals: &mut Seq<Option<Value>>, slots: &mut Slots) -> Progress
-    ensures { (facts : _) → RowsLocal facts slot.0 (instr.SetLocal slot) slots.old locals.old
+    ensures row { (facts : _) → RowsLocal facts slot.0 (instr.SetLocal slot) slots.old locals.old
         result slots.new locals.new }
+    ensures active { active_in slots.new ≡ active_in slots.old }
 {
     match take_one(slots) {
         Some(value) => {

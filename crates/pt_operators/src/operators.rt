@@ -54,6 +54,7 @@ pub fn operation(
     give(answer, slots)
 }
 
+/// A unary operator: `+`, `-`, `~` (Language Reference 6.6).
 #[tactic(auto, using(crate::proofs::OperatorLemmas::unary_row, crate::proofs::OperatorLemmas::unary_lacks))]
 pub fn unary(
     alloc: Global,
@@ -71,6 +72,7 @@ pub fn unary(
     }
 }
 
+/// `not` (Language Reference 6.11).
 #[tactic(auto, using(crate::proofs::OperatorLemmas::not_row, crate::proofs::OperatorLemmas::not_lacks))]
 pub fn not(alloc: Global, slots: &mut Slots, heap: &mut Heap) -> Result<Progress, Memory>
     ensures row { IfOk result (λ p. RowsHeap instr.Not slots.old heap.old p slots.new heap.new) }
@@ -82,6 +84,7 @@ pub fn not(alloc: Global, slots: &mut Slots, heap: &mut Heap) -> Result<Progress
     }
 }
 
+/// A binary operator (Language Reference 6.5, 6.7 to 6.9).
 #[tactic(auto, using(crate::proofs::OperatorLemmas::binary_row, crate::proofs::OperatorLemmas::binary_values, crate::proofs::OperatorLemmas::binary_lacks))]
 pub fn binary(
     alloc: Global,
@@ -99,6 +102,7 @@ pub fn binary(
     }
 }
 
+/// The operator of an augmented assignment (Language Reference 7.2.1).
 #[tactic(auto, using(crate::proofs::OperatorLemmas::in_place_row, crate::proofs::OperatorLemmas::in_place_values, crate::proofs::OperatorLemmas::in_place_lacks))]
 pub fn in_place(
     alloc: Global,
@@ -116,6 +120,7 @@ pub fn in_place(
     }
 }
 
+/// A comparison (Language Reference 6.10).
 #[tactic(auto, using(crate::proofs::OperatorLemmas::compare_row, crate::proofs::OperatorLemmas::compare_values, crate::proofs::OperatorLemmas::compare_lacks))]
 pub fn compare(
     alloc: Global,

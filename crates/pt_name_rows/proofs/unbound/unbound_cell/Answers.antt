@@ -1,4 +1,4 @@
-use Rattle.std.proofs.Common.{◌≡◌, ◌<◌, ◌≤◌, length, arith}
+use Rattle.std.proofs.Common.{arith}
 use Rattle.std.proofs.lemmas.Result.{IfOk-weaker}
 use Rattle.pt_code_facts.specs.Facts.{facts_view}
 use Rattle.pt_name_rows.proofs.NameLemmas.{cell_told, free_told}

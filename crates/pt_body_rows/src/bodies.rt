@@ -1,0 +1,106 @@
+//! Names of the bodies of the module and of classes (Language Reference 4.2.2): the body of a class
+//! reads a name of the module that it doesn't bind.
+ghost use Rattle.std.specs.Prelude.{◌≡◌, IfOk, OnOk};
+ghost use Rattle.pt_body_rows.specs.Bodies.{RowsLoadName, RowsName};
+ghost use Rattle.pt_frames.specs.Slots.{active_in};
+ghost use Rattle.pt_instr.specs.declared.Instr.TheVariants as instr;
+
+use crate::own::{body_value, own_value, put_own};
+use pt_base::{Memory, Seq};
+use pt_builtins::BuiltinLookup;
+use pt_code_facts::BlockFacts;
+use pt_frames::{Slot, Slots};
+use pt_heap::Value;
+use pt_heap_rows::Progress;
+use pt_instr::TextNo;
+use pt_moves::take_one;
+use pt_name_rows::{delete_global, global, set_global, unbound_global};
+use pt_names::Names;
+use std::alloc::Global;
+
+/// Gives the value of a name of a body, or what the name means by itself.
+#[tactic(auto, using(crate::proofs::BodyLemmas::found, crate::proofs::BodyLemmas::otherwise, pt_moves::proofs::TakeLemmas::quiet_over))]
+pub fn name(
+    alloc: Global,
+    in_class: bool,
+    text: TextNo,
+    name: &str,
+    lookup: BuiltinLookup,
+    facts: &BlockFacts,
+    locals: &Seq<Option<Value>>,
+    own: &Names,
+    globals: &Names,
+    slots: &mut Slots,
+) -> Result<Progress, Memory>
+    ensures row { IfOk result
+        (λ p. RowsLoadName name.now lookup in_class facts.now (instr.Name text) text.0 slots.old
+        locals.now own.now globals.now p slots.new) }
+    ensures active { OnOk result (active_in slots.new ≡ active_in slots.old) }
+{
+    match body_value(in_class, facts, locals, own, name) {
+        Some(value) => {
+            slots.push(Slot::Value(value))?;
+            Ok(Progress::Next)
+        }
+        None => global(alloc, text, name, lookup, globals, slots),
+    }
+}
+
+/// Binds a name of a body.
+#[tactic(auto, using(crate::proofs::BodyLemmas::stored, crate::proofs::BodyLemmas::store_lacks, crate::proofs::BodyLemmas::stored_global))]
+pub fn set_name(
+    alloc: Global,
+    in_class: bool,
+    text: TextNo,
+    name: &str,
+    facts: &BlockFacts,
+    locals: &mut Seq<Option<Value>>,
+    own: &mut Names,
+    globals: &mut Names,
+    slots: &mut Slots,
+) -> Result<Progress, Memory>
+    ensures row { IfOk result
+        (λ p. RowsName name.now in_class facts.now (instr.SetName text) text.0 slots.old
+        locals.old own.old globals.old p slots.new locals.new own.new globals.new) }
+    ensures active { OnOk result (active_in slots.new ≡ active_in slots.old) }
+{
+    if !in_class {
+        return set_global(alloc, text, name, globals, slots);
+    }
+    match take_one(slots) {
+        Some(value) => {
+            put_own(alloc, facts, locals, own, name, Some(value))?;
+            Ok(Progress::Next)
+        }
+        None => Ok(Progress::Lacks),
+    }
+}
+
+/// Unbinds a name of a body.
+#[tactic(auto, using(crate::proofs::BodyLemmas::deleted, crate::proofs::BodyLemmas::delete_missing, crate::proofs::BodyLemmas::deleted_global))]
+pub fn delete_name(
+    alloc: Global,
+    in_class: bool,
+    text: TextNo,
+    name: &str,
+    facts: &BlockFacts,
+    locals: &mut Seq<Option<Value>>,
+    own: &mut Names,
+    globals: &mut Names,
+) -> Result<Progress, Memory>
+    ensures { IfOk result
+        (λ p. (slots : _)
+        → RowsName name.now in_class facts.now (instr.DelName text) text.0 slots locals.old
+        own.old globals.old p slots locals.new own.new globals.new) }
+{
+    if !in_class {
+        return delete_global(alloc, text, name, globals);
+    }
+    match own_value(facts, locals, own, name) {
+        Some(_) => {
+            put_own(alloc, facts, locals, own, name, None)?;
+            Ok(Progress::Next)
+        }
+        None => unbound_global(alloc, name),
+    }
+}

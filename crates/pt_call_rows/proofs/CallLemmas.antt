@@ -1,0 +1,316 @@
+-- What calls come to.
+use Rattle.std.proofs.Common.{◌≡◌, ◌∙◌, ◌++◌, ℕ, Bool, true, false, List, [], ◌∷◌, length, Option, Some, None, Result, Ok, Err, refl, sym, ap}
+use Rattle.std.specs.Prelude.{slice_get, if◌then◌else◌}
+use Rattle.pt_base.specs.declared.what.What.TheVariants.{Feature}
+use Rattle.pt_heap.specs.declared.value.Value.{Value}
+use Rattle.pt_heap.specs.declared.value.Value.TheVariants as value
+use Rattle.pt_heap.specs.declared.view.Binding.{Binding}
+use Rattle.pt_heap.specs.declared.object.Object.{Object}
+use Rattle.pt_heap.specs.declared.object.Object.TheVariants as object
+use Rattle.pt_heap.specs.declared.object.Function.{Function}
+use Rattle.pt_attrs.specs.Store.{is_scripted}
+use Rattle.pt_dicts.specs.Chain.{class_in}
+use Rattle.pt_bind.specs.declared.arguments.Args.{Args}
+use Rattle.pt_bind.specs.declared.arguments.BindErr.{BindErr}
+use Rattle.pt_bind.specs.declared.arguments.BindErr.TheVariants as refusal
+use Rattle.pt_bind.specs.declared.arguments.Locals.{Locals}
+use Rattle.pt_bind.specs.Binding.{names_of, binding_with, IsTold}
+use Rattle.pt_frames.specs.declared.slot.Slot.{Slot}
+use Rattle.pt_prims.specs.declared.op.Op.{Op}
+use Rattle.pt_prims.specs.Operations.{of_function}
+use Rattle.pt_prims.specs.declared.operand.Operand.{Operand}
+use Rattle.pt_prims.specs.declared.operand.Operand.TheVariants as operand
+use Rattle.pt_prims.specs.Operands.{operand_of, object_operand}
+use Rattle.pt_code.specs.View.{Ins}
+use Rattle.pt_slots.specs.CodeObject.{CodeObject}
+use Rattle.pt_run.specs.Host.{Here, BlockResult, leave, opens}
+use Rattle.pt_host.specs.World.{Names, Stores, Program, CodeFacts}
+use Rattle.pt_host.specs.Trees.{Tree}
+use Rattle.pt_host.specs.Calls.{block_of, is_simple, call_bound, call_function, by_operation, call_value, call_object, call_other, not_callable as host_not_callable, names_from, parameters_given, result_of}
+use Rattle.pt_transitions.specs.Successors.{behind_request}
+use Rattle.pt_heap_rows.specs.declared.progress.Progress.{Progress}
+use Rattle.pt_heap_rows.specs.declared.progress.Progress.TheVariants as progress
+use Rattle.pt_heap_rows.specs.Leads.{HeapSuccessor}
+use Rattle.pt_heap_rows.specs.Leads.{by_tree, giving}
+use Rattle.pt_heap_rows.specs.Told.{told, block_id}
+use Rattle.pt_heap_rows.specs.Views.{slots_view, names_in}
+use Rattle.pt_code_facts.specs.declared.facts.BlockFacts.{BlockFacts}
+use Rattle.pt_code_facts.specs.declared.facts.Blocks.{Blocks}
+use Rattle.pt_code_facts.specs.Facts.{facts_view, facts_at}
+use Rattle.pt_operators.specs.Operates.{Operates}
+use Rattle.pt_function_rows.specs.Openings.{first_values_of, numbers_from, given_cells}
+use Rattle.pt_call_rows.specs.CallRows.{Calls, CallsBlock, CallsFunction, CallsBuiltin, CallsValue, with_parts}
+use Rattle.pt_call_rows.specs.CallRows.{function_in, function_of, builtin_in, builtin_of, is_unsupported_in, is_unsupported, not_callable, misfit, is_memory}
+use Rattle.pt_function_rows.proofs.OpeningLemmas.{names_begin}
+
+-- of a block
+
+module _ (facts : BlockFacts) (f : Function) (args : Args) (cells : List (Option Value)) (slots : List Slot) (heap : List Object) where
+  -- where the answer of the call leads, by facts, by whether the block is simple, and by what is bound
+  abbrev by_facts : CodeObject Value → Ins → Here Value → Stores → CodeFacts → HeapSuccessor
+  by_facts code i h st fs = by_tree code i (giving code i (slots_view slots)) (slots_view slots) (call_function fs f args h st)
+
+  abbrev by_simple : CodeObject Value → Ins → Here Value → Stores → Bool → HeapSuccessor
+  by_simple code i h st b = by_tree code i (giving code i (slots_view slots)) (slots_view slots)
+      (if b then call_bound (facts_view facts) f (binding_with facts.params f.defaults args) h st else leave Feature)
+
+  abbrev by_bound : CodeObject Value → Ins → Here Value → Stores → Result Locals BindErr → HeapSuccessor
+  by_bound code i h st r = by_tree code i (giving code i (slots_view slots)) (slots_view slots) (call_bound (facts_view facts) f r h st)
+
+  -- the block runs with these names, where the cells are these
+  abbrev opens_with : CodeObject Value → Ins → Stores → Names → List (Option Value) → HeapSuccessor
+  opens_with code i st ns cs = behind_request (opens (record { block = block_id f.block f.hidden; iterator = None; names = ns })) (with_parts cs heap st)
+      (λ (r : BlockResult Names Value) st1. by_tree code i (giving code i (slots_view slots)) (slots_view slots) (result_of r.end st1))
+
+  pub unsupported_block : is_simple (facts_view facts) ≡ false → CallsBlock facts f args slots cells heap (progress.Outside Feature) cells
+  unfolding CallsBlock Calls
+  unsupported_block e program code i h st knows =
+      sym (ap (by_facts code i h (with_parts cells heap st)) knows ∙ ap (by_simple code i h (with_parts cells heap st)) e)
+
+  leads_bound : (program : Program) (code : CodeObject Value) (i : Ins) (h : Here Value) (st : Stores) (r : Result Locals BindErr)
+      → program.facts (block_of f) ≡ facts_view facts → is_simple (facts_view facts) ≡ true → binding_with facts.params f.defaults args ≡ r
+      → by_facts code i h st (program.facts (block_of f)) ≡ by_bound code i h st r
+  leads_bound program code i h st r knows simple bound = ap (by_facts code i h st) knows ∙ (ap (by_simple code i h st) simple ∙ ap (by_bound code i h st) bound)
+
+  pub opened : (changed : List (Option Value)) (bound ls : Locals) → is_simple (facts_view facts) ≡ true → binding_with facts.params f.defaults args ≡ Ok bound
+      → ls.values ≡ first_values_of facts bound.values facts.locals → ls.cells ≡ numbers_from (length cells) facts.cells ++ f.cells
+      → changed ≡ cells ++ given_cells facts bound.values facts.cells
+      → CallsBlock facts f args slots cells heap (progress.Calls f.block f.hidden ls) changed
+  unfolding CallsBlock Calls
+  opened changed bound ls simple is_bound values numbers changes program code i h st knows =
+      ap (λ (fs : CodeFacts). opens_with code i st (names_in fs ls.values ls.cells []) changed) knows
+      ∙ (ap (λ (ns : Names). opens_with code i st ns changed)
+      (names_begin facts f bound.values (with_parts cells heap st).world ls.values ls.cells values numbers)
+      ∙ (ap (λ (cs : List (Option Value)). opens_with code i st
+      (names_from (facts_view facts) f (parameters_given (names_of facts.params) bound.values) (with_parts cells heap st).world) cs) changes
+      ∙ sym (leads_bound program code i h (with_parts cells heap st) (Ok bound) knows simple is_bound)))
+
+  told_of : (a : Result Locals BindErr) (e : BindErr) → is_memory e ≡ false → IsTold a e → a ≡ Err e
+  told_of a (refusal.Missing x) m t = t
+  told_of a (refusal.TooMany n) m t = t
+  told_of a (refusal.Unexpected x) m t = t
+  told_of a (refusal.Double x) m t = t
+  told_of a refusal.Memory m t = absurd (cc)
+
+  pub misfits : (e : BindErr) (p : Progress) → is_simple (facts_view facts) ≡ true → IsTold (binding_with facts.params f.defaults args) e → is_memory e
+      ≡ false → p ≡ misfit facts e
+      → CallsBlock facts f args slots cells heap p cells
+  unfolding CallsBlock Calls
+  misfits e p simple told_so m q program code i h st knows =
+      ap (λ x. told program code i h x (slots_view slots) (with_parts cells heap st)) q
+      ∙ sym (leads_bound program code i h (with_parts cells heap st) (Err e) knows simple (told_of _ e m told_so))
+
+-- of a function
+pub known_block : (blocks : Blocks) (f : Function) (args : Args) (slots : List Slot) (cells : List (Option Value)) (heap : List Object) (p : Progress)
+    (changed : List (Option Value))
+    → (facts : BlockFacts) → facts ≡ facts_at blocks (block_of f)
+    → CallsBlock facts f args slots cells heap p changed → CallsFunction blocks f args slots cells heap p changed
+unfolding CallsBlock CallsFunction Calls
+known_block blocks f args slots cells heap p changed facts e done program code i h st knows = done program code i h st
+    (knows (block_of f) ∙ sym (ap facts_view e))
+
+-- of a builtin
+module _ (number : ℕ) (args : Args) (old : List Slot) (heap : List Object) (p : Progress) (new : List Slot) (grown : List Object) where
+  pub operated : (o : Op) → of_function number ≡ Some o → args.named ≡ [] → Operates o args.plain old heap p new grown
+      → CallsBuiltin number args old heap p new grown
+  unfolding CallsBuiltin Calls Operates
+  operated o e n done cells program code i h st u =
+      done program code i h (with_parts cells heap st)
+      ∙ (ap (λ bs. by_tree code i (giving code i (slots_view old)) (slots_view old) (by_operation (Some o) bs args.plain h (with_parts cells heap st))) (sym n)
+      ∙ ap (λ x. by_tree code i (giving code i (slots_view old)) (slots_view old) (by_operation x args.named args.plain h (with_parts cells heap st))) (sym e))
+
+module _ (number : ℕ) (args : Args) (slots : List Slot) (heap : List Object) where
+  pub no_operation : of_function number ≡ None → CallsBuiltin number args slots heap (progress.Outside Feature) slots heap
+  unfolding CallsBuiltin Calls
+  no_operation e cells program code i h st u =
+      ap (λ x. by_tree code i (giving code i (slots_view slots)) (slots_view slots) (by_operation x args.named args.plain h (with_parts cells heap st))) (sym e)
+
+  pub named : (args.named ≡ [] → ⊥) → CallsBuiltin number args slots heap (progress.Outside Feature) slots heap
+  unfolding CallsBuiltin Calls
+  named n cells program code i h st u = by_names (of_function number) args.named n
+    where
+      by_names : (o : Option Op) (bs : List Binding) → (bs ≡ [] → ⊥)
+          → told program code i h (progress.Outside Feature) (slots_view slots) (with_parts cells heap st)
+          ≡ by_tree code i (giving code i (slots_view slots)) (slots_view slots) (by_operation o bs args.plain h (with_parts cells heap st))
+      by_names (Some o) [] n = absurd (n refl)
+      by_names (Some o) (b ∷ bs) n = refl
+      by_names None [] n = absurd (n refl)
+      by_names None (b ∷ bs) n = refl
+
+-- of a value
+module _ (program : Program) (v : Value) (args : Args) (h : Here Value) (st : Stores) where
+  object_function : (o : Option Object) (f : Function) → function_in o ≡ Some f
+      → ◌≡◌ {A = Tree Value} (call_object program o v args h st) (call_function (program.facts (block_of f)) f args h st)
+  object_function None f e = absurd (cc)
+  object_function (Some (object.Str s)) f e = absurd (cc)
+  object_function (Some (object.List l)) f e = absurd (cc)
+  object_function (Some (object.Tuple l)) f e = absurd (cc)
+  object_function (Some (object.Dict d)) f e = absurd (cc)
+  object_function (Some (object.Set d)) f e = absurd (cc)
+  object_function (Some (object.Range r)) f e = absurd (cc)
+  object_function (Some (object.Slice r)) f e = absurd (cc)
+  object_function (Some (object.Cursor r)) f e = absurd (cc)
+  object_function (Some (object.View r)) f e = absurd (cc)
+  object_function (Some (object.Function g)) f e = let q : g ≡ f = cc in ap (λ x. call_function (program.facts (block_of x)) x args h st) q
+  object_function (Some (object.Method m)) f e = absurd (cc)
+  object_function (Some (object.Builtin b)) f e = absurd (cc)
+  object_function (Some (object.Class c)) f e = absurd (cc)
+  object_function (Some (object.Instance x)) f e = absurd (cc)
+  object_function (Some (object.Error x)) f e = absurd (cc)
+  object_function (Some (object.Generator n)) f e = absurd (cc)
+  object_function (Some (object.Frame n)) f e = absurd (cc)
+  object_function (Some (object.CodeRef b hid)) f e = absurd (cc)
+  object_function (Some (object.Module m)) f e = absurd (cc)
+  object_function (Some (object.Super x)) f e = absurd (cc)
+
+  object_builtin : (o : Option Object) (n : ℕ) → builtin_in o ≡ Some n
+      → ◌≡◌ {A = Tree Value} (call_object program o v args h st) (by_operation (of_function n) args.named args.plain h st)
+  object_builtin None n e = absurd (cc)
+  object_builtin (Some (object.Str s)) n e = absurd (cc)
+  object_builtin (Some (object.List l)) n e = absurd (cc)
+  object_builtin (Some (object.Tuple l)) n e = absurd (cc)
+  object_builtin (Some (object.Dict d)) n e = absurd (cc)
+  object_builtin (Some (object.Set d)) n e = absurd (cc)
+  object_builtin (Some (object.Range r)) n e = absurd (cc)
+  object_builtin (Some (object.Slice r)) n e = absurd (cc)
+  object_builtin (Some (object.Cursor r)) n e = absurd (cc)
+  object_builtin (Some (object.View r)) n e = absurd (cc)
+  object_builtin (Some (object.Function g)) n e = absurd (cc)
+  object_builtin (Some (object.Method m)) n e = absurd (cc)
+  object_builtin (Some (object.Builtin b)) n e = let q : b.number ≡ n = cc in ap (λ x. by_operation (of_function x) args.named args.plain h st) q
+  object_builtin (Some (object.Class c)) n e = absurd (cc)
+  object_builtin (Some (object.Instance x)) n e = absurd (cc)
+  object_builtin (Some (object.Error x)) n e = absurd (cc)
+  object_builtin (Some (object.Generator m)) n e = absurd (cc)
+  object_builtin (Some (object.Frame m)) n e = absurd (cc)
+  object_builtin (Some (object.CodeRef b hid)) n e = absurd (cc)
+  object_builtin (Some (object.Module m)) n e = absurd (cc)
+  object_builtin (Some (object.Super x)) n e = absurd (cc)
+
+  -- an instance of a script's class is one for operators too
+  instance_leaves : (b : Bool) (k : Operand) → b ≡ true → ◌≡◌ {A = Tree Value} (call_other (if b then operand.Instance else k) v h st) (leave Feature)
+  instance_leaves true k e = refl
+  instance_leaves false k e = absurd (cc)
+
+  instance_stays : (b : Bool) → b ≡ false → ((k : Operand)
+      → ◌≡◌ {A = Tree Value} (call_other (if b then operand.Instance else operand.Plain) v h st) (host_not_callable v h st))
+      × ◌≡◌ {A = Tree Value} (call_other (if b then operand.Instance else operand.Compound) v h st) (host_not_callable v h st)
+  instance_stays true e = absurd (cc)
+  instance_stays false e = (λ k. refl, refl)
+
+  object_unsupported : (o : Option Object) → operand_of st.world.heap v ≡ object_operand st.world.heap o → is_unsupported_in st.world.heap o ≡ true
+      → ◌≡◌ {A = Tree Value} (call_object program o v args h st) (leave Feature)
+  object_unsupported None k e = absurd (cc)
+  object_unsupported (Some (object.Str s)) k e = absurd (cc)
+  object_unsupported (Some (object.List l)) k e = absurd (cc)
+  object_unsupported (Some (object.Tuple l)) k e = absurd (cc)
+  object_unsupported (Some (object.Dict d)) k e = absurd (cc)
+  object_unsupported (Some (object.Set d)) k e = absurd (cc)
+  object_unsupported (Some (object.Range r)) k e = absurd (cc)
+  object_unsupported (Some (object.Slice r)) k e = absurd (cc)
+  object_unsupported (Some (object.Cursor r)) k e = absurd (cc)
+  object_unsupported (Some (object.View r)) k e = absurd (cc)
+  object_unsupported (Some (object.Function g)) k e = absurd (cc)
+  object_unsupported (Some (object.Method m)) k e = refl
+  object_unsupported (Some (object.Builtin b)) k e = absurd (cc)
+  object_unsupported (Some (object.Class c)) k e = refl
+  object_unsupported (Some (object.Instance x)) k e = ap (λ y. call_other y v h st) k
+      ∙ instance_leaves (is_scripted (class_in (slice_get st.world.heap x.class.0))) operand.Plain e
+  object_unsupported (Some (object.Error x)) k e = ap (λ y. call_other y v h st) k
+      ∙ instance_leaves (is_scripted (class_in (slice_get st.world.heap x.class.0))) operand.Compound e
+  object_unsupported (Some (object.Generator n)) k e = absurd (cc)
+  object_unsupported (Some (object.Frame n)) k e = absurd (cc)
+  object_unsupported (Some (object.CodeRef b hid)) k e = absurd (cc)
+  object_unsupported (Some (object.Module m)) k e = absurd (cc)
+  object_unsupported (Some (object.Super x)) k e = absurd (cc)
+
+  object_other : (o : Option Object) → operand_of st.world.heap v ≡ object_operand st.world.heap o → function_in o ≡ None → builtin_in o ≡ None
+      → is_unsupported_in st.world.heap o ≡ false
+      → ◌≡◌ {A = Tree Value} (call_object program o v args h st) (host_not_callable v h st)
+  object_other None k f b e = ap (λ y. call_other y v h st) k
+  object_other (Some (object.Str s)) k f b e = ap (λ y. call_other y v h st) k
+  object_other (Some (object.List l)) k f b e = ap (λ y. call_other y v h st) k
+  object_other (Some (object.Tuple l)) k f b e = ap (λ y. call_other y v h st) k
+  object_other (Some (object.Dict d)) k f b e = ap (λ y. call_other y v h st) k
+  object_other (Some (object.Set d)) k f b e = ap (λ y. call_other y v h st) k
+  object_other (Some (object.Range r)) k f b e = ap (λ y. call_other y v h st) k
+  object_other (Some (object.Slice r)) k f b e = ap (λ y. call_other y v h st) k
+  object_other (Some (object.Cursor r)) k f b e = ap (λ y. call_other y v h st) k
+  object_other (Some (object.View r)) k f b e = ap (λ y. call_other y v h st) k
+  object_other (Some (object.Function g)) k f b e = absurd (cc)
+  object_other (Some (object.Method m)) k f b e = absurd (cc)
+  object_other (Some (object.Builtin b1)) k f b e = absurd (cc)
+  object_other (Some (object.Class c)) k f b e = absurd (cc)
+  object_other (Some (object.Instance x)) k f b e = ap (λ y. call_other y v h st) k
+      ∙ (instance_stays (is_scripted (class_in (slice_get st.world.heap x.class.0))) e).0 operand.Plain
+  object_other (Some (object.Error x)) k f b e = ap (λ y. call_other y v h st) k
+      ∙ (instance_stays (is_scripted (class_in (slice_get st.world.heap x.class.0))) e).1
+  object_other (Some (object.Generator n)) k f b e = ap (λ y. call_other y v h st) k
+  object_other (Some (object.Frame n)) k f b e = ap (λ y. call_other y v h st) k
+  object_other (Some (object.CodeRef b1 hid)) k f b e = ap (λ y. call_other y v h st) k
+  object_other (Some (object.Module m)) k f b e = ap (λ y. call_other y v h st) k
+  object_other (Some (object.Super x)) k f b e = ap (λ y. call_other y v h st) k
+
+module _ (program : Program) (args : Args) (h : Here Value) (st : Stores) where
+  value_function : (v : Value) (f : Function) → function_of st.world.heap v ≡ Some f
+      → ◌≡◌ {A = Tree Value} (call_value program v args h st) (call_function (program.facts (block_of f)) f args h st)
+  value_function value.None f e = absurd (cc)
+  value_function (value.Bool b) f e = absurd (cc)
+  value_function (value.Int z) f e = absurd (cc)
+  value_function value.Ellipsis f e = absurd (cc)
+  value_function value.NotImplemented f e = absurd (cc)
+  value_function (value.Obj id) f e = object_function program (value.Obj id) args h st (slice_get st.world.heap id.0) f e
+
+  value_builtin : (v : Value) (n : ℕ) → builtin_of st.world.heap v ≡ Some n
+      → ◌≡◌ {A = Tree Value} (call_value program v args h st) (by_operation (of_function n) args.named args.plain h st)
+  value_builtin value.None n e = absurd (cc)
+  value_builtin (value.Bool b) n e = absurd (cc)
+  value_builtin (value.Int z) n e = absurd (cc)
+  value_builtin value.Ellipsis n e = absurd (cc)
+  value_builtin value.NotImplemented n e = absurd (cc)
+  value_builtin (value.Obj id) n e = object_builtin program (value.Obj id) args h st (slice_get st.world.heap id.0) n e
+
+  value_unsupported : (v : Value) → is_unsupported st.world.heap v ≡ true → ◌≡◌ {A = Tree Value} (call_value program v args h st) (leave Feature)
+  value_unsupported value.None e = absurd (cc)
+  value_unsupported (value.Bool b) e = absurd (cc)
+  value_unsupported (value.Int z) e = absurd (cc)
+  value_unsupported value.Ellipsis e = absurd (cc)
+  value_unsupported value.NotImplemented e = absurd (cc)
+  value_unsupported (value.Obj id) e = object_unsupported program (value.Obj id) args h st (slice_get st.world.heap id.0) refl e
+
+  value_other : (v : Value) → function_of st.world.heap v ≡ None → builtin_of st.world.heap v ≡ None → is_unsupported st.world.heap v ≡ false
+      → ◌≡◌ {A = Tree Value} (call_value program v args h st) (host_not_callable v h st)
+  value_other value.None f b1 e = refl
+  value_other (value.Bool b) f b1 e = refl
+  value_other (value.Int z) f b1 e = refl
+  value_other value.Ellipsis f b1 e = refl
+  value_other value.NotImplemented f b1 e = refl
+  value_other (value.Obj id) f b1 e = object_other program (value.Obj id) args h st (slice_get st.world.heap id.0) refl f b1 e
+
+module _ (blocks : Blocks) (v : Value) (args : Args) (slots : List Slot) (cells : List (Option Value)) (heap : List Object) where
+  pub function_called : (f : Function) (p : Progress) (changed : List (Option Value)) → function_of heap v ≡ Some f
+      → CallsFunction blocks f args slots cells heap p changed
+      → CallsValue blocks v args slots cells heap p slots changed heap
+  unfolding CallsFunction CallsValue Calls
+  function_called f p changed e done program code i h st knows =
+      done program code i h st knows
+      ∙ ap (λ t. by_tree code i (giving code i (slots_view slots)) (slots_view slots) t) (sym (value_function program args h (with_parts cells heap st) v f e))
+
+  pub builtin_called : (n : ℕ) (p : Progress) (new : List Slot) (grown : List Object) → builtin_of heap v ≡ Some n → CallsBuiltin n args slots heap p new grown
+      → CallsValue blocks v args slots cells heap p new cells grown
+  unfolding CallsBuiltin CallsValue Calls
+  builtin_called n p new grown e done program code i h st knows =
+      done cells program code i h st tt
+      ∙ ap (λ t. by_tree code i (giving code i (slots_view slots)) (slots_view slots) t) (sym (value_builtin program args h (with_parts cells heap st) v n e))
+
+  pub unsupported_called : is_unsupported heap v ≡ true → CallsValue blocks v args slots cells heap (progress.Outside Feature) slots cells heap
+  unfolding CallsValue Calls
+  unsupported_called e program code i h st knows =
+      ap (λ t. by_tree code i (giving code i (slots_view slots)) (slots_view slots) t) (sym (value_unsupported program args h (with_parts cells heap st) v e))
+
+  pub other_called : (p : Progress) → function_of heap v ≡ None → builtin_of heap v ≡ None → is_unsupported heap v ≡ false → p ≡ not_callable heap v
+      → CallsValue blocks v args slots cells heap p slots cells heap
+  unfolding CallsValue Calls
+  other_called p f b e q program code i h st knows =
+      ap (λ x. told program code i h x (slots_view slots) (with_parts cells heap st)) q
+      ∙ ap (λ t. by_tree code i (giving code i (slots_view slots)) (slots_view slots) t) (sym (value_other program args h (with_parts cells heap st) v f b e))

@@ -1,0 +1,10 @@
+use Rattle.std.proofs.Common.{◌≡◌, ◌++◌, map, drop}
+use Rattle.pt_slots.specs.Instructions.{role_of}
+use Rattle.pt_host.specs.Calls.{plain_arguments, named_arguments}
+use Rattle.pt_call_rows.proofs.roles.arguments.Given as goal
+
+abbrev pub invariant-loop-at : goal.invariant-loop-at
+invariant-loop-at l = record {
+  plain : l.plain ++ plain_arguments (map role_of (drop l.at l.names)) (drop l.at l.values) ≡ plain_arguments (map role_of l.names) l.values;
+  named : l.named ++ named_arguments (map role_of (drop l.at l.names)) (drop l.at l.values) ≡ named_arguments (map role_of l.names) l.values;
+}

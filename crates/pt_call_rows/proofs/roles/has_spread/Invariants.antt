@@ -1,0 +1,7 @@
+use Rattle.std.proofs.Common.{◌≡◌, map, drop}
+use Rattle.pt_slots.specs.Instructions.{role_of}
+use Rattle.pt_host.specs.Calls.{has_spread}
+use Rattle.pt_call_rows.proofs.roles.has_spread.Given as goal
+
+abbrev pub invariant-loop-name : goal.invariant-loop-name
+invariant-loop-name l = has_spread (map role_of l.names) ≡ has_spread (map role_of (drop l.name-index l.names))

@@ -1,0 +1,124 @@
+-- When code does with calls what rows say (Language Reference 6.3.4).
+use Rattle.std.specs.Prelude.{◌≡◌, ℕ, List, Bool, true, false, Option, Some, None, slice_get}
+use Rattle.pt_tree.specs.Syntax.{Name}
+use Rattle.pt_instr.specs.declared.Instr.{Instr}
+use Rattle.pt_heap.specs.declared.value.Value.{Value}
+use Rattle.pt_heap.specs.declared.value.Value.TheVariants as value
+use Rattle.pt_heap.specs.declared.object.Object.{Object}
+use Rattle.pt_heap.specs.declared.object.Object.TheVariants as object
+use Rattle.pt_heap.specs.declared.object.Function.{Function}
+use Rattle.pt_attrs.specs.Store.{is_scripted}
+use Rattle.pt_dicts.specs.Chain.{class_in}
+use Rattle.pt_bind.specs.declared.arguments.Args.{Args}
+use Rattle.pt_bind.specs.declared.arguments.BindErr.{BindErr}
+use Rattle.pt_bind.specs.declared.arguments.BindErr.TheVariants as refusal
+use Rattle.pt_frames.specs.declared.slot.Slot.{Slot}
+use Rattle.pt_prims.specs.Classes.{class_name}
+use Rattle.pt_prims.specs.Operations.{of_function}
+use Rattle.pt_code.specs.View.{Ins}
+use Rattle.pt_slots.specs.CodeObject.{CodeObject}
+use Rattle.pt_run.specs.Host.{Here}
+use Rattle.pt_host.specs.declared.places.TheConstants.{TYPE_ERROR}
+use Rattle.pt_host.specs.World.{Stores, Program, with_objects, in_world}
+use Rattle.pt_host.specs.Texts.{binding_text, not_callable_text}
+use Rattle.pt_host.specs.Trees.{Tree}
+use Rattle.pt_host.specs.Calls.{block_of, call_function, by_operation, call_value}
+use Rattle.pt_heap_rows.specs.declared.progress.Progress.{Progress}
+use Rattle.pt_heap_rows.specs.declared.progress.Progress.TheVariants as progress
+use Rattle.pt_heap_rows.specs.Leads.{by_tree, giving}
+use Rattle.pt_heap_rows.specs.Told.{told}
+use Rattle.pt_heap_rows.specs.RowsIn.{RowsIn}
+use Rattle.pt_heap_rows.specs.Views.{slots_view}
+use Rattle.pt_code_facts.specs.declared.facts.BlockFacts.{BlockFacts}
+use Rattle.pt_code_facts.specs.declared.facts.Blocks.{Blocks}
+use Rattle.pt_code_facts.specs.Facts.{facts_view, KnowsBlocks}
+
+-- what a value is where it is called
+
+abbrev pub function_in : Option Object → Option Function
+function_in (Some (object.Function f)) = Some f
+function_in o = None
+
+abbrev pub function_of : List Object → Value → Option Function
+function_of heap (value.Obj id) = function_in (slice_get heap id.0)
+function_of heap v = None
+
+abbrev pub builtin_in : Option Object → Option ℕ
+builtin_in (Some (object.Builtin b)) = Some b.number
+builtin_in o = None
+
+abbrev pub builtin_of : List Object → Value → Option ℕ
+builtin_of heap (value.Obj id) = builtin_in (slice_get heap id.0)
+builtin_of heap v = None
+
+-- calls of classes, of methods, and of instances of a script's classes aren't supported yet
+abbrev pub is_unsupported_in : List Object → Option Object → Bool
+is_unsupported_in heap (Some (object.Class c)) = true
+is_unsupported_in heap (Some (object.Method m)) = true
+is_unsupported_in heap (Some (object.Error x)) = is_scripted (class_in (slice_get heap x.class.0))
+is_unsupported_in heap (Some (object.Instance x)) = is_scripted (class_in (slice_get heap x.class.0))
+is_unsupported_in heap o = false
+
+abbrev pub is_unsupported : List Object → Value → Bool
+is_unsupported heap (value.Obj id) = is_unsupported_in heap (slice_get heap id.0)
+is_unsupported heap v = false
+
+-- what is raised
+
+abbrev pub not_callable : List Object → Value → Progress
+not_callable heap v = progress.FailsSaying TYPE_ERROR (not_callable_text (class_name heap v))
+
+abbrev pub misfit : BlockFacts → BindErr → Progress
+misfit facts e = progress.FailsSaying TYPE_ERROR (binding_text facts.name e)
+
+abbrev pub is_memory : BindErr → Bool
+is_memory refusal.Memory = true
+is_memory e = false
+
+-- stores with these cells and objects
+abbrev pub with_parts : (cells : List (Option Value)) → List Object → Stores → Stores
+with_parts cells heap st = with_objects heap (in_world (record st.world { cells = cells }) st)
+
+-- in programs of which this holds, what code did with the slots below a call, the cells and the heap is what an answer in the making
+-- leads to
+unfoldable pub Calls : (Program → Type 0) → (Program → Here Value → Stores → Tree Value)
+    → (old : List Slot) (cells : List (Option Value)) (heap : List Object) → Progress
+    → (new : List Slot) (changed : List (Option Value)) (grown : List Object) → Type 0
+Calls Where answer old cells heap p new changed grown =
+    (program : Program) (code : CodeObject Value) (i : Ins) (h : Here Value) (st : Stores) → Where program
+    → told program code i h p (slots_view new) (with_parts changed grown st)
+    ≡ by_tree code i (giving code i (slots_view old)) (slots_view old) (answer program h (with_parts cells heap st))
+
+-- of a block with these facts, of a function, of a builtin's number, of a value
+unfoldable pub CallsBlock : BlockFacts → Function → Args → List Slot → (cells : List (Option Value)) (heap : List Object) → Progress
+    → (changed : List (Option Value)) → Type 0
+CallsBlock facts f args slots cells heap p changed =
+    Calls (λ program. program.facts (block_of f) ≡ facts_view facts)
+    (λ program h st. call_function (program.facts (block_of f)) f args h st) slots cells heap p slots changed heap
+
+unfoldable pub CallsFunction : Blocks → Function → Args → List Slot → (cells : List (Option Value)) (heap : List Object) → Progress
+    → (changed : List (Option Value)) → Type 0
+CallsFunction blocks f args slots cells heap p changed =
+    Calls (λ program. KnowsBlocks program blocks) (λ program h st. call_function (program.facts (block_of f)) f args h st) slots cells heap p slots changed heap
+
+unfoldable pub CallsBuiltin : (number : ℕ) → Args → (old : List Slot) (heap : List Object) → Progress → (new : List Slot) (grown : List Object) → Type 0
+CallsBuiltin n args old heap p new grown =
+    (cells : List (Option Value)) → Calls (λ program. Unit {0})
+    (λ program h st. by_operation (of_function n) args.named args.plain h st) old cells heap p new cells grown
+
+unfoldable pub CallsValue : Blocks → Value → Args → (old : List Slot) (cells : List (Option Value)) (heap : List Object)
+    → Progress → (new : List Slot) (changed : List (Option Value)) (grown : List Object) → Type 0
+CallsValue blocks v args old cells heap p new changed grown =
+    Calls (λ program. KnowsBlocks program blocks) (λ program h st. call_value program v args h st) old cells heap p new changed grown
+
+-- what code did with the slots, the cells and the heap is the row of a call
+unfoldable pub RowsCall : Blocks → Instr → (old : List Slot) (cells : List (Option Value)) (heap : List Object)
+    → Progress → (new : List Slot) (changed : List (Option Value)) (grown : List Object) → Type 0
+RowsCall blocks j old cells heap p new changed grown =
+    (st : Stores) → RowsIn (λ s. KnowsBlocks s.program blocks) j old (with_parts cells heap st) p new (with_parts changed grown st)
+
+-- the same where an operand names the names of arguments
+unfoldable pub RowsNamedCall : List Name → (list : ℕ) → Blocks → Instr → (old : List Slot) (cells : List (Option Value)) (heap : List Object)
+    → Progress → (new : List Slot) (changed : List (Option Value)) (grown : List Object) → Type 0
+RowsNamedCall xs l blocks j old cells heap p new changed grown =
+    (st : Stores) → RowsIn (λ s. KnowsBlocks s.program blocks × (s.code.pool.texts l ≡ xs)) j old (with_parts cells heap st) p new (with_parts changed grown st)

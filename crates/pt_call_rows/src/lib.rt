@@ -1,0 +1,7 @@
+//! What instructions do that call, up to the run of a block (Language Reference 6.3.4).
+#![tactic(auto)]
+
+mod calls;
+mod roles;
+
+pub use calls::{call, call_with_names, call_with_roles};
