@@ -1,0 +1,82 @@
+-- An exception that arose is what a run does with what the instruction came to.
+use Rattle.std.proofs.Common.{◌+◌, ◌≤◌, ℕ, List, Bool, Option, Some, None, refl, sym, subst, length}
+use Rattle.std.specs.Prelude.{codes}
+use Rattle.pt_base.specs.declared.numbers.BlockId.{BlockId}
+use Rattle.pt_base.specs.declared.numbers.ObjId.{ObjId}
+use Rattle.pt_base.specs.declared.numbers.Pc.{Pc}
+use Rattle.pt_base.specs.declared.what.What.TheVariants.{Heap}
+use Rattle.pt_bind.specs.declared.arguments.Locals.{Locals}
+use Rattle.pt_heap.specs.declared.value.Value.{Value}
+use Rattle.pt_heap.specs.declared.object.Object.{Object}
+use Rattle.pt_heap_rows.specs.declared.progress.Progress.{Progress}
+use Rattle.pt_heap_rows.specs.declared.progress.Progress.TheVariants as progress
+use Rattle.pt_host.specs.Calls.{arguments_of}
+use Rattle.pt_host.specs.Errors.{error, error_saying}
+use Rattle.pt_host.specs.World.{IsAllotted, allot}
+use Rattle.pt_host.specs.declared.places.TheConstants.{RECURSION_ERROR}
+use Rattle.pt_run.specs.State.{most_activations}
+use Rattle.pt_machine_state.specs.declared.blocks.BlockCode.{BlockCode}
+use Rattle.pt_machine_state.specs.declared.blocks.Blocks.{Blocks}
+use Rattle.pt_machine_state.specs.declared.machine.Machine.{Machine}
+use Rattle.pt_machine_state.specs.declared.machine.RunEnd.TheVariants as end
+use Rattle.pt_machine_state.specs.declared.machine.Stride.{Stride}
+use Rattle.pt_machine_state.specs.declared.machine.Stride.TheVariants as stride
+use Rattle.pt_machine_state.specs.declared.writes.Writes.{Writes}
+use Rattle.pt_machine_state.specs.Applies.{Applied}
+use Rattle.pt_machine_state.specs.Views.{active_of}
+use Rattle.pt_machine_state.proofs.FailLemmas.{applied_fails, applied_fails_saying, fails_outside, fails_saying_outside}
+use Rattle.pt_machine_state.proofs.CallLemmas.{fails_to_open, no_room_to_fail}
+use Rattle.pt_progress.specs.Arising.{Arises, ArisesOf}
+
+module _ (blocks : Blocks) (block : BlockCode) (next : Pc) (m : Machine) (w : Writes) where
+  abbrev Does : Progress → Stride → Machine → Writes → Type 0
+  Does p r new w1 = Applied blocks block next p r m w new w1
+
+  module _ (r : Stride) (new : Machine) (w1 : Writes) where
+    fails-by : (class : ObjId) (arg : Option Value) (o : Option Value) (h : List Object) → IsAllotted (allot (error class (arguments_of arg) None (active_of m)) m.heap) o h
+        → Arises blocks block o r (record m { heap = h }) w new w1 → Does (progress.Fails class arg) r new w1
+    fails-by class arg (Some v) h given (goes, (is, adds)) =
+        subst (λ s. Does (progress.Fails class arg) s new w1) (sym goes)
+        (subst (λ n. Does (progress.Fails class arg) stride.Goes n w1) (sym is) (applied_fails blocks block next m w class arg v h w1 given adds))
+    fails-by class arg None h given (line, (ends, (at, (is, same)))) =
+        subst (λ s. Does (progress.Fails class arg) s new w1) (sym ends)
+        (subst (λ n. Does (progress.Fails class arg) (stride.Ends (end.Outside Heap line)) n w1) (sym is)
+        (subst (λ y. Does (progress.Fails class arg) (stride.Ends (end.Outside Heap line)) (record m { heap = h }) y) (sym same)
+        (fails_outside blocks block next m w (record m { heap = h }) refl line at class arg h given)))
+
+    pub fails_arisen : (class : ObjId) (arg : Option Value) → ArisesOf (allot (error class (arguments_of arg) None (active_of m)) m.heap) blocks block r m w new w1
+        → Does (progress.Fails class arg) r new w1
+    fails_arisen class arg it = fails-by class arg it.exception it.heap it.allotted it.arises
+
+    saying-by : (class : ObjId) (text : List ℕ) (o : Option Value) (h : List Object) → IsAllotted (error_saying class text None (active_of m) m.heap) o h
+        → Arises blocks block o r (record m { heap = h }) w new w1 → Does (progress.FailsSaying class text) r new w1
+    saying-by class text (Some v) h given (goes, (is, adds)) =
+        subst (λ s. Does (progress.FailsSaying class text) s new w1) (sym goes)
+        (subst (λ n. Does (progress.FailsSaying class text) stride.Goes n w1) (sym is) (applied_fails_saying blocks block next m w class text v h w1 given adds))
+    saying-by class text None h given (line, (ends, (at, (is, same)))) =
+        subst (λ s. Does (progress.FailsSaying class text) s new w1) (sym ends)
+        (subst (λ n. Does (progress.FailsSaying class text) (stride.Ends (end.Outside Heap line)) n w1) (sym is)
+        (subst (λ y. Does (progress.FailsSaying class text) (stride.Ends (end.Outside Heap line)) (record m { heap = h }) y) (sym same)
+        (fails_saying_outside blocks block next m w (record m { heap = h }) refl line at class text h given)))
+
+    pub saying_arisen : (class : ObjId) (text : List ℕ) → ArisesOf (error_saying class text None (active_of m) m.heap) blocks block r m w new w1
+        → Does (progress.FailsSaying class text) r new w1
+    saying_arisen class text it = saying-by class text it.exception it.heap it.allotted it.arises
+
+    -- in place of a block too many
+
+    module _ (b : BlockId) (hidden : Bool) (ls : Locals) (full : most_activations ≤ length m.frames.activations + 1) where
+      too-deep-by : (o : Option Value) (h : List Object) → IsAllotted (error_saying RECURSION_ERROR (codes "too many activations") None (active_of m) m.heap) o h
+          → Arises blocks block o r (record m { heap = h }) w new w1 → Does (progress.Calls b hidden ls) r new w1
+      too-deep-by (Some v) h given (goes, (is, adds)) =
+          subst (λ s. Does (progress.Calls b hidden ls) s new w1) (sym goes)
+          (subst (λ n. Does (progress.Calls b hidden ls) stride.Goes n w1) (sym is) (fails_to_open blocks block next m w b hidden ls v h w1 full given adds))
+      too-deep-by None h given (line, (ends, (at, (is, same)))) =
+          subst (λ s. Does (progress.Calls b hidden ls) s new w1) (sym ends)
+          (subst (λ n. Does (progress.Calls b hidden ls) (stride.Ends (end.Outside Heap line)) n w1) (sym is)
+          (subst (λ y. Does (progress.Calls b hidden ls) (stride.Ends (end.Outside Heap line)) (record m { heap = h }) y) (sym same)
+          (no_room_to_fail blocks block next m w b hidden ls h (record m { heap = h }) line full given refl at)))
+
+      pub too_deep_arisen : ArisesOf (error_saying RECURSION_ERROR (codes "too many activations") None (active_of m) m.heap) blocks block r m w new w1
+          → Does (progress.Calls b hidden ls) r new w1
+      too_deep_arisen it = too-deep-by it.exception it.heap it.allotted it.arises

@@ -1,0 +1,58 @@
+-- What waits stands at a call.
+use Rattle.std.proofs.Common.{◌≡◌, ◌∙◌, List, ◌∷◌, [], Some, None, refl, sym, ap, subst}
+use Rattle.std.specs.Prelude.{codes}
+use Rattle.pt_heap.specs.declared.value.Value.{Value}
+use Rattle.pt_frames.specs.declared.activation.Activation.{Activation}
+use Rattle.pt_frames.specs.declared.activations.OpenActivation.{OpenActivation}
+use Rattle.pt_frames.specs.declared.purpose.Purpose.{Purpose}
+use Rattle.pt_places.specs.declared.places.Place.{Place}
+use Rattle.pt_places.specs.PlaceTable.{entry, place_at}
+use Rattle.pt_host.specs.World.{Program}
+use Rattle.pt_code_machine.specs.CodeBlocks.{CodeBlocks}
+use Rattle.pt_machine_state.specs.declared.blocks.Blocks.{Blocks}
+use Rattle.pt_machine_state.specs.declared.machine.Machine.{Machine}
+use Rattle.pt_machine_state.specs.declared.machine.Standing.{Standing}
+use Rattle.pt_machine_state.specs.declared.machine.Standing.TheVariants as standing
+use Rattle.pt_machine_state.specs.declared.machine.Stride.{Stride}
+use Rattle.pt_machine_state.specs.declared.machine.Stride.TheVariants as stride
+use Rattle.pt_machine_state.specs.declared.writes.Writes.{Writes}
+use Rattle.pt_machine_state.specs.Applies.{Closes}
+use Rattle.pt_machine_state.specs.Blocks.{AreBlocksOf, block_at}
+use Rattle.pt_machine_state.specs.Changes.{events_of, raise_events, raised_at, suspended}
+use Rattle.pt_machine_state.specs.Writing.{Adds}
+use Rattle.pt_machine_state.proofs.CloseLemmas.{block_raises}
+use Rattle.pt_machine_state.specs.Views.{AllWait, none, more, Waits, WaitsFor, block_of}
+
+module _ (program : Program) (code : CodeBlocks Value) (blocks : Blocks) (known : AreBlocksOf program code blocks) where
+  at-call : (a : Activation) (x : Waits) → WaitsFor program code a x → entry (block_at blocks (block_of a)).places a.pc.0 ≡ None → ⊥
+  at-call a x waits absent =
+      let placed : place_at (Some waits.ins) ≡ None = sym (ap place_at waits.there) ∙ (sym ((known (block_of a)).places a.pc.0) ∙ absent) in
+      absurd (cc)
+
+  waits-at-call : (a : Activation) (why : Purpose) (rest os : List OpenActivation) (xs : List Waits) → AllWait program code os xs → os ≡ record { activation = a; why = why } ∷ rest
+      → entry (block_at blocks (block_of a)).places a.pc.0 ≡ None → ⊥
+  waits-at-call a why rest _ _ none e absent = absurd (cc)
+  waits-at-call a why rest _ _ (more o x os xs waits others) e absent =
+      at-call o.activation x waits (ap (λ b. entry (block_at blocks (block_of b)).places b.pc.0) (ap (λ l. first_of l) e) ∙ absent)
+    where
+      first_of : List OpenActivation → Activation
+      first_of [] = a
+      first_of (p ∷ ps) = p.activation
+
+-- so there is no end of a block above a place without an instruction
+pub no_call : (blocks : Blocks) (m new : Machine) (a : Activation) (s : Standing) (why : Purpose) (w w1 : Writes) (r : Stride)
+    → entry (block_at blocks (block_of m.here)).places m.here.pc.0 ≡ None → Closes blocks r (suspended a s why m) w new w1
+unfolding Closes
+no_call blocks m new a s why w w1 r absent program code n x known waits =
+    absurd (waits-at-call program code blocks known m.here why m.frames.activations (record { activation = m.here; why = why } ∷ m.frames.activations) x.waiting waits refl absent)
+
+-- an exception goes on in the activation that waited
+pub raises_on : (blocks : Blocks) (m n : Machine) (why : Purpose) (v : Value) (p : Place) (w w0 w1 : Writes) (new : Machine)
+    → m.standing ≡ standing.Raises v → m ≡ suspended m.here m.standing why n → n.standing ≡ standing.AtPlace → entry (block_at blocks (block_of n.here)).places n.here.pc.0 ≡ Some p
+    → Adds w w0 (events_of (codes "return") [] (block_at blocks (block_of m.here)) m) → Adds w0 w1 (raise_events v (block_at blocks (block_of n.here)) n)
+    → new ≡ raised_at (block_at blocks (block_of n.here)) v n → Closes blocks stride.Goes m w new w1
+raises_on blocks m n why v p w w0 w1 new left was at is adds rise new_is =
+    let e : m ≡ suspended m.here (standing.Raises v) why n = was ∙ ap (λ s. suspended m.here s why n) left in
+    subst (λ x. Closes blocks stride.Goes m w x w1) (sym new_is)
+    (subst (λ x. Closes blocks stride.Goes x w (raised_at (block_at blocks (block_of n.here)) v n) w1) (sym e)
+    (block_raises blocks n m.here why p w w0 w1 at is v (subst (λ x. Adds w w0 (events_of (codes "return") [] (block_at blocks (block_of m.here)) x)) e adds) rise))

@@ -1,0 +1,2 @@
+pub mod ArisenLemmas
+pub mod CallerLemmas

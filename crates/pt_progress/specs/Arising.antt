@@ -1,0 +1,29 @@
+-- When an exception arose in the newest activation that was to be made, or there was no room for it.
+use Rattle.std.specs.Prelude.{◌≡◌, List, Option, Some, None}
+use Rattle.pt_base.specs.declared.numbers.Line.{Line}
+use Rattle.pt_base.specs.declared.what.What.TheVariants.{Heap}
+use Rattle.pt_heap.specs.declared.value.Value.{Value}
+use Rattle.pt_heap.specs.declared.object.Object.{Object}
+use Rattle.pt_host.specs.World.{Allotted, IsAllotted}
+use Rattle.pt_machine_state.specs.declared.blocks.BlockCode.{BlockCode}
+use Rattle.pt_machine_state.specs.declared.blocks.Blocks.{Blocks}
+use Rattle.pt_machine_state.specs.declared.machine.Machine.{Machine}
+use Rattle.pt_machine_state.specs.declared.machine.RunEnd.TheVariants.{Outside}
+use Rattle.pt_machine_state.specs.declared.machine.Stride.{Stride}
+use Rattle.pt_machine_state.specs.declared.machine.Stride.TheVariants.{Goes, Ends}
+use Rattle.pt_machine_state.specs.declared.writes.Writes.{Writes}
+use Rattle.pt_machine_state.specs.Changes.{raise_events, raised_at, visible_line}
+use Rattle.pt_machine_state.specs.Writing.{Adds}
+
+-- one that was made arises; where none was, the run leaves the profile
+abbrev pub Arises : Blocks → BlockCode → Option Value → Stride → (old : Machine) (written : Writes) → (new : Machine) (writes : Writes) → Type 0
+Arises blocks block (Some v) r old written new writes = (r ≡ Goes) × ((new ≡ raised_at block v old) × Adds written writes (raise_events v block old))
+Arises blocks block None r old written new writes =
+    (line : Line) × ((r ≡ Ends (Outside Heap line)) × ((line.0 ≡ visible_line blocks old) × ((new ≡ old) × (writes ≡ written))))
+
+-- of this, put into the heap if there is room
+pub record ArisesOf (made : Allotted) (blocks : Blocks) (block : BlockCode) (r : Stride) (old : Machine) (written : Writes) (new : Machine) (writes : Writes) : Type 0 where
+  pub exception : Option Value
+  pub heap : List Object
+  pub allotted : IsAllotted made exception heap
+  pub arises : Arises blocks block exception r (record old { heap = heap }) written new writes

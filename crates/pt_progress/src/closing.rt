@@ -1,0 +1,83 @@
+//! A block ends, and its result goes to the activation that waits for it.
+ghost use Rattle.std.specs.Prelude.{◌≡◌, ◌≢◌, IfOk};
+ghost use Rattle.pt_machine_state.specs.Applies.{Closes};
+ghost use Rattle.pt_machine_state.specs.declared.machine.Standing.TheVariants as standing;
+
+use pt_base::Memory;
+use pt_heap::Value;
+use pt_machine_state::{Blocks, Machine, RunEnd, Standing, Stride, Writes};
+use pt_transfers::{block_of, give_back, raise, resume, tell, visible_line};
+
+/// The block returned: the call of the activation that waits has the value, or the module is done.
+#[tactic(auto, using(pt_machine_state::proofs::CloseLemmas::module_returns, pt_machine_state::proofs::CloseLemmas::block_returns, crate::proofs::CallerLemmas::no_call))]
+fn close_by_return(
+    machine: &mut Machine,
+    writes: &mut Writes,
+    blocks: &Blocks,
+    value: Value,
+) -> Result<Stride, Memory>
+    requires { machine.old.standing ≡ standing.Returns value }
+    ensures { IfOk result
+        (λ r. Closes blocks.now r machine.old writes.old machine.new writes.new) }
+{
+    let block = block_of(machine, blocks);
+    tell(machine, block, "return", "", writes)?;
+    if !resume(machine) {
+        return Ok(Stride::Ends(RunEnd::Done));
+    }
+    let caller = block_of(machine, blocks);
+    match caller.places.at(machine.here.pc) {
+        Some(place) => {
+            give_back(machine, place.next, value)?;
+            Ok(Stride::Goes)
+        }
+        None => Ok(Stride::Lacks),
+    }
+}
+
+/// An exception left the block: it arises in the activation that waits, or the module is left.
+#[tactic(auto, using(pt_machine_state::proofs::CloseLemmas::module_raises, crate::proofs::CallerLemmas::raises_on, crate::proofs::CallerLemmas::no_call))]
+fn close_by_raise(
+    machine: &mut Machine,
+    writes: &mut Writes,
+    blocks: &Blocks,
+    exception: Value,
+) -> Result<Stride, Memory>
+    requires { machine.old.standing ≡ standing.Raises exception }
+    ensures { IfOk result
+        (λ r. Closes blocks.now r machine.old writes.old machine.new writes.new) }
+{
+    let block = block_of(machine, blocks);
+    tell(machine, block, "return", "", writes)?;
+    let line = visible_line(machine, blocks);
+    if !resume(machine) {
+        return Ok(Stride::Ends(RunEnd::Left { exception, line }));
+    }
+    let caller = block_of(machine, blocks);
+    match caller.places.at(machine.here.pc) {
+        Some(_) => {
+            raise(machine, caller, exception, writes)?;
+            Ok(Stride::Goes)
+        }
+        None => Ok(Stride::Lacks),
+    }
+}
+
+/// Closes the newest activation, whose block has ended, and goes on in the one that waits for it.
+/// Where the place of that one has no instruction, as none that waits for a call, it answers that the
+/// machine lacks what it needs.
+///
+/// # Errors
+///
+/// `Memory` for want of it.
+pub fn close(machine: &mut Machine, writes: &mut Writes, blocks: &Blocks) -> Result<Stride, Memory>
+    requires { machine.old.standing ≢ standing.AtPlace }
+    ensures { IfOk result
+        (λ r. Closes blocks.now r machine.old writes.old machine.new writes.new) }
+{
+    match machine.standing {
+        Standing::AtPlace => unreachable!(),
+        Standing::Returns(value) => close_by_return(machine, writes, blocks, value),
+        Standing::Raises(exception) => close_by_raise(machine, writes, blocks, exception),
+    }
+}

@@ -1,0 +1,9 @@
+//! What the machine of code does with what instructions come to, and at the ends of blocks.
+#![tactic(auto)]
+
+mod applying;
+mod closing;
+mod failing;
+
+pub use applying::apply;
+pub use closing::close;

@@ -1,0 +1,3 @@
+pub mod PieceLemmas
+pub mod EntryLemmas
+pub mod VisibleLemmas

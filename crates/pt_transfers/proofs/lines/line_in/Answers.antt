@@ -1,0 +1,13 @@
+use Rattle.std.proofs.Common.{◌∙◌, ap, sym}
+use Rattle.std.specs.Option.{option_map}
+use Rattle.pt_base.specs.declared.numbers.Line.{Line}
+use Rattle.pt_run.specs.Views.{line_or}
+use Rattle.pt_machine_state.specs.declared.blocks.BlockCode.{BlockCode}
+use Rattle.pt_machine_state.specs.Blocks.{block_at}
+use Rattle.pt_machine_state.specs.Views.{block_of}
+use Rattle.pt_transfers.proofs.lines.line_in.Goals as goal
+
+pub returns-in-None : goal.returns-in-None
+returns-in-None c =
+    ap (λ (b : BlockCode). b.first_line.0) (c.at.ensures c.args.activation.now.hidden)
+    ∙ ap (λ o. line_or (block_at c.args.blocks.now (block_of c.args.activation.now)).first_line.0 (option_map (λ (l : Line). l.0) o)) (sym c.in-None.is)
