@@ -1,0 +1,71 @@
+-- What was done with calls, and where functions are made, is what the machine did.
+use Rattle.std.proofs.Common.{◌≡◌, ◌∙◌, ℕ, List, Option, refl, sym, ap, subst, length}
+use Rattle.pt_base.specs.declared.numbers.BlockId.{BlockId}
+use Rattle.pt_tree.specs.Syntax.{Name}
+use Rattle.pt_instr.specs.declared.Instr.{Instr}
+use Rattle.pt_instr.specs.declared.Instr.TheVariants as instr
+use Rattle.pt_instr.specs.declared.ListNo.{ListNo}
+use Rattle.pt_heap.specs.declared.value.Value.{Value}
+use Rattle.pt_heap.specs.declared.object.Object.{Object}
+use Rattle.pt_frames.specs.declared.slot.Slot.{Slot}
+use Rattle.pt_frames.specs.Slots.{active_in}
+use Rattle.pt_heap_rows.specs.declared.progress.Progress.{Progress}
+use Rattle.pt_heap_rows.specs.RowsIn.{RowsIn}
+use Rattle.pt_call_rows.specs.CallRows.{RowsCall, RowsNamedCall}
+use Rattle.pt_function_rows.specs.FunctionRows.{RowsFunction}
+use Rattle.pt_machine_state.specs.declared.machine.Machine.{Machine}
+use Rattle.pt_machine_state.specs.Views.{block_of, stores_of}
+use Rattle.pt_code_tables.specs.declared.tables.CodeTables.{CodeTables}
+use Rattle.pt_code_tables.specs.Tables.{list_in, capture_in}
+use Rattle.pt_machine.specs.Performing.{Performs}
+use Rattle.pt_machine.proofs.RowLemmas.{IsTold, keeps, told_row}
+use Rattle.pt_machine.proofs.NameRows.{stands}
+
+module _ (tables : CodeTables) (j : Instr) (p : Progress) (m : Machine) where
+  abbrev with_cells : List Slot → List (Option Value) → List Object → Machine
+  with_cells slots cells heap = record m { here = record m.here { slots = slots }; frames = record m.frames { cells = cells }; heap = heap }
+
+  module _ (slots : List Slot) (cells : List (Option Value)) (heap : List Object) where
+    call-told : RowsCall tables.facts j m.here.slots m.frames.cells m.heap p slots cells heap → IsTold tables j p m (with_cells slots cells heap)
+    unfolding RowsCall RowsIn
+    call-told row program code known i h is = row (stores_of program m) (stands tables j p m program code h) m.here.pc.0 i (known.blocks (block_of m.here)).truths known.facts
+
+    pub called : RowsCall tables.facts j m.here.slots m.frames.cells m.heap p slots cells heap → active_in slots ≡ active_in m.here.slots → Performs tables j p m (with_cells slots cells heap)
+    called row same = record { rest = refl; active = keeps p same; row = told_row tables j p m (with_cells slots cells heap) (call-told row) }
+
+    named-told : (l : ℕ) → RowsNamedCall (list_in tables l) l tables.facts j m.here.slots m.frames.cells m.heap p slots cells heap → IsTold tables j p m (with_cells slots cells heap)
+    unfolding RowsNamedCall RowsIn
+    named-told l row program code known i h is =
+        row (stores_of program m) (stands tables j p m program code h) m.here.pc.0 i (known.blocks (block_of m.here)).truths (known.facts, (known.pools (block_of m.here)).lists l)
+
+    pub called_with_names : (l : ℕ) → RowsNamedCall (list_in tables l) l tables.facts j m.here.slots m.frames.cells m.heap p slots cells heap
+        → active_in slots ≡ active_in m.here.slots → Performs tables j p m (with_cells slots cells heap)
+    called_with_names l row same = record { rest = refl; active = keeps p same; row = told_row tables j p m (with_cells slots cells heap) (named-told l row) }
+
+-- a function is made, where the instruction counts as many names as the list has
+module _ (tables : CodeTables) (p : Progress) (m : Machine) (b : BlockId) (l : ListNo) (slots : List Slot) (heap : List Object) where
+  abbrev with_heap : Machine
+  with_heap = record m { here = record m.here { slots = slots }; heap = heap }
+
+  abbrev Made : ℕ → Type 0
+  Made n = RowsFunction (list_in tables l.0) l.0 (capture_in tables b.0) m.here.hidden b.0 (instr.MakeFunction b n l) m.here.slots m.heap p slots heap
+
+  function-told : (n : ℕ) → Made n → IsTold tables (instr.MakeFunction b n l) p m with_heap
+  unfolding RowsFunction RowsIn
+  function-told n row program code known i h is =
+      row (stores_of program m) (stands tables (instr.MakeFunction b n l) p m program code h) m.here.pc.0 i (known.blocks (block_of m.here)).truths
+      (record { names = (known.pools (block_of m.here)).lists l.0; captured = (known.pools (block_of m.here)).captures b.0; is_hidden = ap (λ k. k.hidden) is })
+
+  made_function : (n : ℕ) → n ≡ length (list_in tables l.0) → Made (length (list_in tables l.0)) → active_in slots ≡ active_in m.here.slots
+      → Performs tables (instr.MakeFunction b n l) p m with_heap
+  made_function n is row same =
+      let made : Made n = subst (λ k. Made k) (sym is) row in
+      record { rest = refl; active = keeps p same; row = told_row tables (instr.MakeFunction b n l) p m with_heap (function-told n made) }
+
+  pub made_by : (n : ℕ) (xs : List Name) (k : ℕ) → n ≡ length xs → xs ≡ list_in tables l.0 → k ≡ capture_in tables b.0
+      → RowsFunction xs l.0 k m.here.hidden b.0 (instr.MakeFunction b (length xs) l) m.here.slots m.heap p slots heap → active_in slots ≡ active_in m.here.slots
+      → Performs tables (instr.MakeFunction b n l) p m with_heap
+  made_by n xs k count names captured row same =
+      made_function n (count ∙ ap (λ ys. length ys) names)
+      (subst (λ ys. RowsFunction ys l.0 (capture_in tables b.0) m.here.hidden b.0 (instr.MakeFunction b (length ys) l) m.here.slots m.heap p slots heap) names
+      (subst (λ i. RowsFunction xs l.0 i m.here.hidden b.0 (instr.MakeFunction b (length xs) l) m.here.slots m.heap p slots heap) captured row)) same

@@ -1,0 +1,172 @@
+-- What was done with names is what the machine did.
+use Rattle.std.proofs.Common.{◌≡◌, ◌∙◌, ◌+◌, ◌-◌, ◌++◌, ◌<◌, ◌≤◌, ℕ, List, Bool, Option, refl, sym, ap, subst, length, arith, length-append}
+use Rattle.pt_tree.specs.Syntax.{Name}
+use Rattle.pt_instr.specs.declared.Instr.{Instr}
+use Rattle.pt_heap.specs.declared.value.Value.{Value}
+use Rattle.pt_names.specs.Names.{Named}
+use Rattle.pt_frames.specs.declared.slot.Slot.{Slot}
+use Rattle.pt_frames.specs.Slots.{active_in}
+use Rattle.pt_code.specs.View.{Ins}
+use Rattle.pt_run.specs.Host.{Here}
+use Rattle.pt_host.specs.World.{Program, Stores, CodeFacts}
+use Rattle.pt_host.specs.HeapHost.{heap_host}
+use Rattle.pt_rows.specs.Rows.{row_of}
+use Rattle.pt_code_machine.specs.CodeBlocks.{CodeBlocks}
+use Rattle.pt_heap_rows.specs.declared.progress.Progress.{Progress}
+use Rattle.pt_heap_rows.specs.RowsIn.{RowsIn, Standpoint}
+use Rattle.pt_heap_rows.specs.Told.{told, block_id}
+use Rattle.pt_heap_rows.specs.Views.{slots_view, stores_in, world_view}
+use Rattle.pt_variables.specs.Numbers.{KnowsNames}
+use Rattle.pt_code_facts.specs.declared.facts.BlockFacts.{BlockFacts}
+use Rattle.pt_code_facts.specs.Facts.{facts_view, facts_at}
+use Rattle.pt_name_rows.specs.Names.{RowsLocal, RowsCell, RowsOwnCell, RowsGlobal, RowsLoadGlobal}
+use Rattle.pt_machine_state.specs.declared.machine.Machine.{Machine}
+use Rattle.pt_machine_state.specs.Views.{block_of, stores_of}
+use Rattle.pt_code_tables.specs.declared.tables.CodeTables.{CodeTables}
+use Rattle.pt_code_tables.specs.Tables.{AreTablesOf, HasDifferentNames, text_in, builtin_in}
+use Rattle.pt_machine.specs.Performing.{Performs}
+use Rattle.pt_machine.proofs.RowLemmas.{IsTold, keeps, told_row}
+
+-- so many are those of two lists
+pub counted_both : {A B : Type 0} (xs ys : List A) (zs : List B) → length xs ≤ length zs → length ys ≡ length zs - length xs → length zs ≡ length (xs ++ ys)
+counted_both xs ys zs h e = let l : length (xs ++ ys) ≡ length xs + length ys = length-append xs ys in omega (arith, h, e, l)
+
+pub counted_within : {A B : Type 0} (xs ys : List A) (zs : List B) (n : ℕ) → length xs ≤ length zs → length ys ≡ length zs - length xs → n < length zs → n < length (xs ++ ys)
+counted_within xs ys zs n h e k = let l : length (xs ++ ys) ≡ length xs + length ys = length-append xs ys in omega (arith, h, e, k, l)
+
+-- facts of the block, whether it is hidden or not
+abbrev pub AreFacts : CodeTables → Machine → BlockFacts → Type 0
+AreFacts tables m f = (hidden : Bool) → f ≡ facts_at tables.facts (block_id m.here.block hidden)
+
+module _ (tables : CodeTables) (j : Instr) (p : Progress) (m : Machine) (f : BlockFacts) (are : AreFacts tables m f) where
+  module _ (program : Program) (code : CodeBlocks Value) (known : AreTablesOf program code tables) where
+    pub facts-are : program.facts (block_of m.here) ≡ facts_view f
+    facts-are = known.facts (block_of m.here) ∙ ap (λ g. facts_view g) (sym (are m.here.hidden))
+
+    knows : KnowsNames (code.object (block_of m.here)) (facts_view f)
+    knows = subst (λ g. KnowsNames (code.object (block_of m.here)) g) facts-are (known.names (block_of m.here))
+
+    different : HasDifferentNames (facts_view f)
+    different = subst (λ g. HasDifferentNames g) facts-are (known.are_different (block_of m.here))
+
+    abbrev at : Here Value → Standpoint
+    at h = record { program = program; code = code.object (block_of m.here); here = h }
+
+    -- it leads by these facts where it leads by those of the program
+    abbrev Leads : CodeFacts → (slots : List Slot) (old new : CodeFacts → Stores) → Ins → Here Value → Type 0
+    Leads g slots old new i h =
+        told program (code.object (block_of m.here)) i h p (slots_view slots) (new g)
+        ≡ row_of (heap_host program) (code.object (block_of m.here)) m.here.pc.0 i j (slots_view m.here.slots) h (old g)
+
+    pub by-facts : (slots : List Slot) (old new : CodeFacts → Stores) (i : Ins) (h : Here Value) → Leads (facts_view f) slots old new i h
+        → Leads (program.facts (block_of m.here)) slots old new i h
+    by-facts slots old new i h leads = subst (λ g. Leads g slots old new i h) (sym facts-are) leads
+
+  -- local names
+
+  abbrev with_locals : List Slot → List (Option Value) → Machine
+  with_locals slots locals = record m { here = record m.here { slots = slots; locals = locals } }
+
+  module _ (n : ℕ) (slots : List Slot) (locals : List (Option Value)) (count : length m.here.locals ≡ length f.locals) (within : n < length f.locals) where
+    local-told : RowsLocal f n j m.here.slots m.here.locals p slots locals → IsTold tables j p m (with_locals slots locals)
+    unfolding RowsLocal RowsIn
+    local-told row program code known i h is =
+        by-facts program code known slots (λ g. stores_in g m.here.locals m.here.cells m.here.names (world_view m.frames m.heap))
+        (λ g. stores_in g locals m.here.cells m.here.names (world_view m.frames m.heap)) i h
+        (row m.here.cells m.here.names (world_view m.frames m.heap) (record { are_different = (different program code known).locals; count = count }) within
+        (at program code known h) m.here.pc.0 i (known.blocks (block_of m.here)).truths (knows program code known))
+
+    pub local_row : RowsLocal f n j m.here.slots m.here.locals p slots locals → active_in slots ≡ active_in m.here.slots → Performs tables j p m (with_locals slots locals)
+    local_row row same = record { rest = refl; active = keeps p same; row = told_row tables j p m (with_locals slots locals) (local-told row) }
+
+    pub set_local : ((g : BlockFacts) → RowsLocal g n j m.here.slots m.here.locals p slots locals) → active_in slots ≡ active_in m.here.slots → Performs tables j p m (with_locals slots locals)
+    set_local row same = local_row (row f) same
+
+  module _ (n : ℕ) (locals : List (Option Value)) (count : length m.here.locals ≡ length f.locals) (within : n < length f.locals) where
+    pub deleted_local : ((slots : List Slot) → RowsLocal f n j slots m.here.locals p slots locals) → Performs tables j p m (with_locals m.here.slots locals)
+    deleted_local row = local_row n m.here.slots locals count within (row m.here.slots) refl
+
+    pub fresh_local : ((g : BlockFacts) (slots : List Slot) → RowsLocal g n j slots m.here.locals p slots locals) → Performs tables j p m (with_locals m.here.slots locals)
+    fresh_local row = local_row n m.here.slots locals count within (row f m.here.slots) refl
+
+  -- cells
+
+  abbrev with_cells : List Slot → (own : List ℕ) → List (Option Value) → Machine
+  with_cells slots own cells = record m { here = record m.here { slots = slots; cells = own }; frames = record m.frames { cells = cells } }
+
+  module _ (n : ℕ) (count : length m.here.cells ≡ length (f.cells ++ f.frees)) (within : n < length (f.cells ++ f.frees)) where
+    module _ (slots : List Slot) (cells : List (Option Value)) where
+      cell-told : RowsCell f m.here.cells n j m.here.slots m.frames.cells p slots cells → IsTold tables j p m (with_cells slots m.here.cells cells)
+      unfolding RowsCell RowsIn
+      cell-told row program code known i h is =
+          by-facts program code known slots (λ g. stores_in g m.here.locals m.here.cells m.here.names (world_view m.frames m.heap))
+          (λ g. stores_in g m.here.locals m.here.cells m.here.names (world_view (record m.frames { cells = cells }) m.heap)) i h
+          (row m.here.locals m.here.names (world_view m.frames m.heap) (record { are_different = (different program code known).cells; count = count }) within
+          (at program code known h) m.here.pc.0 i (known.blocks (block_of m.here)).truths (knows program code known))
+
+      pub cell_row : RowsCell f m.here.cells n j m.here.slots m.frames.cells p slots cells → active_in slots ≡ active_in m.here.slots → Performs tables j p m (with_cells slots m.here.cells cells)
+      cell_row row same = record { rest = refl; active = keeps p same; row = told_row tables j p m (with_cells slots m.here.cells cells) (cell-told row) }
+
+      pub set_cell : ((g : BlockFacts) → RowsCell g m.here.cells n j m.here.slots m.frames.cells p slots cells) → active_in slots ≡ active_in m.here.slots
+          → Performs tables j p m (with_cells slots m.here.cells cells)
+      set_cell row same = cell_row (row f) same
+
+    pub loaded_cell : (slots : List Slot) → RowsCell f m.here.cells n j m.here.slots m.frames.cells p slots m.frames.cells → active_in slots ≡ active_in m.here.slots
+        → Performs tables j p m (record m { here = record m.here { slots = slots } })
+    loaded_cell slots row same = cell_row slots m.frames.cells row same
+
+    pub pushed_cell : (slots : List Slot) → ((g : BlockFacts) (cells : List (Option Value)) → RowsCell g m.here.cells n j m.here.slots cells p slots cells)
+        → active_in slots ≡ active_in m.here.slots → Performs tables j p m (record m { here = record m.here { slots = slots } })
+    pushed_cell slots row same = cell_row slots m.frames.cells (row f m.frames.cells) same
+
+    pub deleted_cell : (cells : List (Option Value)) → ((slots : List Slot) → RowsCell f m.here.cells n j slots m.frames.cells p slots cells)
+        → Performs tables j p m (record m { frames = record m.frames { cells = cells } })
+    deleted_cell cells row = cell_row m.here.slots cells (row m.here.slots) refl
+
+    own-told : (own : List ℕ) (cells : List (Option Value)) → RowsOwnCell f n j m.here.cells m.frames.cells p own cells → IsTold tables j p m (with_cells m.here.slots own cells)
+    unfolding RowsOwnCell RowsIn
+    own-told own cells row program code known i h is =
+        by-facts program code known m.here.slots (λ g. stores_in g m.here.locals m.here.cells m.here.names (world_view m.frames m.heap))
+        (λ g. stores_in g m.here.locals own m.here.names (world_view (record m.frames { cells = cells }) m.heap)) i h
+        (row m.here.slots m.here.locals m.here.names (world_view m.frames m.heap) (record { are_different = (different program code known).cells; count = count }) within
+        (at program code known h) m.here.pc.0 i (known.blocks (block_of m.here)).truths (knows program code known))
+
+    pub fresh_cell : (own : List ℕ) (cells : List (Option Value)) → RowsOwnCell f n j m.here.cells m.frames.cells p own cells
+        → Performs tables j p m (record m { here = record m.here { cells = own }; frames = record m.frames { cells = cells } })
+    fresh_cell own cells row = record { rest = refl; active = keeps p refl; row = told_row tables j p m (with_cells m.here.slots own cells) (own-told own cells row) }
+
+-- names of the module
+
+module _ (tables : CodeTables) (j : Instr) (p : Progress) (m : Machine) where
+  abbrev with_globals : List Slot → Named → Machine
+  with_globals slots globals = record m { here = record m.here { slots = slots }; frames = record m.frames { globals = globals } }
+
+  abbrev pub stands : (program : Program) (code : CodeBlocks Value) → Here Value → Standpoint
+  stands program code h = record { program = program; code = code.object (block_of m.here); here = h }
+
+  module _ (t : ℕ) where
+    global-told : (slots : List Slot) (globals : Named) → RowsGlobal (text_in tables t) j t m.here.slots m.frames.globals p slots globals → IsTold tables j p m (with_globals slots globals)
+    unfolding RowsGlobal RowsIn
+    global-told slots globals row program code known i h is =
+        row (stores_of program m) (stands program code h) m.here.pc.0 i (known.blocks (block_of m.here)).truths ((known.pools (block_of m.here)).texts t)
+
+    pub global_row : (slots : List Slot) (globals : Named) → RowsGlobal (text_in tables t) j t m.here.slots m.frames.globals p slots globals
+        → active_in slots ≡ active_in m.here.slots → Performs tables j p m (with_globals slots globals)
+    global_row slots globals row same = record { rest = refl; active = keeps p same; row = told_row tables j p m (with_globals slots globals) (global-told slots globals row) }
+
+    deleted_global : (globals : Named) → ((slots : List Slot) → RowsGlobal (text_in tables t) j t slots m.frames.globals p slots globals)
+        → Performs tables j p m (record m { frames = record m.frames { globals = globals } })
+    deleted_global globals row = global_row m.here.slots globals (row m.here.slots) refl
+
+    pub deleted_by : (x : Name) → x ≡ text_in tables t → (globals : Named) → ((slots : List Slot) → RowsGlobal x j t slots m.frames.globals p slots globals)
+        → Performs tables j p m (record m { frames = record m.frames { globals = globals } })
+    deleted_by x is globals row = deleted_global globals (λ slots. subst (λ y. RowsGlobal y j t slots m.frames.globals p slots globals) is (row slots))
+
+    load-told : (slots : List Slot) → RowsLoadGlobal (text_in tables t) (builtin_in tables t) j t m.here.slots m.frames.globals p slots → IsTold tables j p m (with_globals slots m.frames.globals)
+    unfolding RowsLoadGlobal RowsIn
+    load-told slots row program code known i h is =
+        row (stores_of program m) (known.builtins t) (stands program code h) m.here.pc.0 i (known.blocks (block_of m.here)).truths ((known.pools (block_of m.here)).texts t)
+
+    pub load_row : (slots : List Slot) → RowsLoadGlobal (text_in tables t) (builtin_in tables t) j t m.here.slots m.frames.globals p slots
+        → active_in slots ≡ active_in m.here.slots → Performs tables j p m (record m { here = record m.here { slots = slots } })
+    load_row slots row same = record { rest = refl; active = keeps p same; row = told_row tables j p m (with_globals slots m.frames.globals) (load-told slots row) }

@@ -1,0 +1,3 @@
+pub mod Strides
+pub mod Groups
+pub mod Performing

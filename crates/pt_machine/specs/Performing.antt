@@ -1,0 +1,49 @@
+-- When what the machine does at an instruction is the row of that.
+use Rattle.std.specs.Prelude.{◌≡◌}
+use Rattle.pt_instr.specs.declared.Instr.{Instr}
+use Rattle.pt_heap.specs.declared.value.Value.{Value}
+use Rattle.pt_code.specs.View.{Ins}
+use Rattle.pt_host.specs.World.{Program}
+use Rattle.pt_code_machine.specs.CodeBlocks.{CodeBlocks}
+use Rattle.pt_heap_rows.specs.declared.progress.Progress.{Progress}
+use Rattle.pt_heap_rows.specs.Told.{KeepsActive}
+use Rattle.pt_machine_state.specs.declared.machine.Machine.{Machine}
+use Rattle.pt_machine_state.specs.declared.blocks.BlockCode.{BlockCode}
+use Rattle.pt_machine_state.specs.declared.machine.Stride.{Stride}
+use Rattle.pt_machine_state.specs.declared.writes.Writes.{Writes}
+use Rattle.pt_machine_state.specs.Applies.{Applied}
+use Rattle.pt_places.specs.declared.places.Place.{Place}
+use Rattle.pt_machine_state.specs.Laws.{RowDone, behind_row, IsRow}
+use Rattle.pt_code_tables.specs.declared.tables.CodeTables.{CodeTables}
+use Rattle.pt_code_tables.specs.Tables.{AreTablesOf}
+
+-- what an instruction came to, with what is left of the machine
+abbrev pub row_done : Progress → Machine → RowDone
+row_done p m = record {
+  progress = p;
+  slots = m.here.slots;
+  locals = m.here.locals;
+  cells = m.here.cells;
+  names = m.here.names;
+  globals = m.frames.globals;
+  frame_cells = m.frames.cells;
+  heap = m.heap;
+}
+
+-- in all code of which the tables are that is the row of the instruction
+unfoldable pub IsRowIn : CodeTables → Instr → Progress → (old new : Machine) → Type 0
+IsRowIn tables j p old new =
+    (program : Program) (code : CodeBlocks Value) → AreTablesOf program code tables → (i : Ins) → i.instr ≡ j → IsRow program code i (row_done p new) old
+
+-- the machine did the row of the instruction and nothing else
+pub record Performs (tables : CodeTables) (j : Instr) (p : Progress) (old new : Machine) : Type 0 where
+  pub rest : new ≡ behind_row (row_done p new) old
+  pub active : KeepsActive p old.here.slots new.here.slots
+  pub row : IsRowIn tables j p old new
+
+-- the machine did what stands at a place of a block, and went on where that leads
+pub record GoesOn (tables : CodeTables) (block : BlockCode) (place : Place) (r : Stride) (old : Machine) (written : Writes) (new : Machine) (writes : Writes) : Type 0 where
+  pub progress : Progress
+  pub mid : Machine
+  pub performed : Performs tables place.instr progress old mid
+  pub applied : Applied tables.blocks block place.next progress r mid written new writes

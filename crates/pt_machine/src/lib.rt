@@ -1,0 +1,15 @@
+//! The machine of code does strides: it begins an act, does what its instruction does, and goes on
+//! where that leads; at the end of a block it closes it.
+#![tactic(auto)]
+
+mod bodies;
+mod calls;
+mod cells;
+mod globals;
+mod instructions;
+mod locals;
+mod moves;
+mod operations;
+mod strides;
+
+pub use strides::stride;
