@@ -25,14 +25,14 @@ among_with ys z x h = by (list_any (λ y. bytes_eq y z) ys)
     by true = h
     by false = any_front (λ y. bytes_eq y x) ys (z ∷ []) h
 
-among_new : (ys : List Name) (x : Name) → Among (with_name ys x) x
+pub among_new : (ys : List Name) (x : Name) → Among (with_name ys x) x
 among_new ys x = by (list_any (λ y. bytes_eq y x) ys) refl
   where
     by : (b : Bool) → list_any (λ y. bytes_eq y x) ys ≡ b → Among (if b then ys else ys ++ x ∷ []) x
     by true e = e
     by false e = among_end ys x
 
-among_behind : (ys xs : List Name) (x : Name) → Among ys x → Among (distinct_behind ys xs) x
+pub among_behind : (ys xs : List Name) (x : Name) → Among ys x → Among (distinct_behind ys xs) x
 among_behind ys [] x h = h
 among_behind ys (z ∷ xs) x h = among_behind (with_name ys z) xs x (among_with ys z x h)
 

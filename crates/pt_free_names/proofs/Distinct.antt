@@ -35,7 +35,7 @@ apart_with ys x h = by (list_any (λ y. bytes_eq y x) ys) refl
     by true e = h
     by false e = apart_end ys x h (none_is x ys e)
 
-apart_behind : (ys xs : List Name) → Apart ys → Apart (distinct_behind ys xs)
+pub apart_behind : (ys xs : List Name) → Apart ys → Apart (distinct_behind ys xs)
 apart_behind ys [] h = h
 apart_behind ys (x ∷ xs) h = apart_behind (with_name ys x) xs (apart_with ys x h)
 

@@ -1,9 +1,10 @@
-mod Distinct
-mod Kept
+pub mod Distinct
+pub mod Kept
+pub mod Listing
 pub mod Begun
-mod Outwards
-mod Among
-mod Searches
+pub mod Outwards
+pub mod Among
+pub mod Searches
 pub mod Taken
 mod Backwards
 pub mod Own

@@ -29,7 +29,7 @@ use Rattle.pt_free_names.proofs.Searches.{HasOwner, class_found, class_is, free_
 same_some : {X : Type 0} (x y : X) → Some x ≡ Some y → x ≡ y
 same_some x y is = let there : Some x ≡ Some y = is in cc
 
-any_on : {A : Type 0} (p s : A → Bool) (xs : List A) → ((x : A) → p x ≡ true → s x ≡ true) → list_any p xs ≡ true → list_any s xs ≡ true
+pub any_on : {A : Type 0} (p s : A → Bool) (xs : List A) → ((x : A) → p x ≡ true → s x ≡ true) → list_any p xs ≡ true → list_any s xs ≡ true
 any_on p s [] f h = never h
 any_on p s (x ∷ xs) f h = by (p x) refl h (any_on p s xs f)
   where

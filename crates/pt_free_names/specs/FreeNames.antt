@@ -10,7 +10,7 @@ use Rattle.pt_scopes.specs.declared.region.Region.{Region}
 use Rattle.pt_scopes.specs.Refusals.{fault_of}
 use Rattle.pt_scopes.specs.Scope.{home_of}
 use Rattle.pt_control.specs.Turn as T
-use Rattle.pt_control.specs.Turn.{Variable}
+use Rattle.pt_control.specs.Turn.{Scope, Variable}
 use Rattle.pt_naming.specs.Around.{around_of, captured_in, names_of}
 use Rattle.pt_naming.specs.BlockNames.{class_name, free_names, named_at}
 use Rattle.pt_naming.specs.Naming.{variable_in}
@@ -27,27 +27,40 @@ Among xs x = list_any (λ y. bytes_eq y x) xs ≡ true
 abbrev pub ClassNameIsUnused : Stms → Type 0
 ClassNameIsUnused ss = AllByRecursion (λ (m : Mention). bytes_eq m.name class_name ≡ false) (places_script ss).mentions
 
--- what is so of each free name that an operand names
+-- what is so of each name in a slot that an operand names: a local name, one in a cell, or a free one
+
+abbrev pub NamedOperand : (Scope → Name → Type 0) → Op → Type 0
+NamedOperand Q (P.with_local u x) = Q T.local x
+NamedOperand Q (P.with_cell u x) = Q T.cell x
+NamedOperand Q (P.with_free u x) = Q T.free x
+NamedOperand Q op = Unit {0}
+
+abbrev pub NamedOperands : (Scope → Name → Type 0) → Piece → Type 0
+NamedOperands Q P.empty = Unit {0}
+NamedOperands Q (P.act op k l g) = NamedOperand Q op
+NamedOperands Q (P.move op) = NamedOperand Q op
+NamedOperands Q (P.seq a b) = NamedOperands Q a × NamedOperands Q b
+NamedOperands Q (P.block p) = NamedOperands Q p
+NamedOperands Q (P.headed p) = NamedOperands Q p
+NamedOperands Q (P.closed p) = NamedOperands Q p
+NamedOperands Q (P.looped b p) = NamedOperands Q p
+NamedOperands Q (P.leave e k l) = Unit {0}
+NamedOperands Q (P.ensured p) = NamedOperands Q p
+NamedOperands Q (P.caught p q) = NamedOperands Q p × NamedOperands Q q
+NamedOperands Q (P.deeper k p) = NamedOperands Q p
+NamedOperands Q (P.started l p) = NamedOperands Q p
+NamedOperands Q (P.numbered k p) = NamedOperands Q p
+
+-- of the free ones alone
+abbrev pub OnlyFree : (Name → Type 0) → Scope → Name → Type 0
+OnlyFree Q T.free x = Q x
+OnlyFree Q s x = Unit {0}
 
 abbrev pub FreeOperand : (Name → Type 0) → Op → Type 0
-FreeOperand Q (P.with_free u x) = Q x
-FreeOperand Q op = Unit {0}
+FreeOperand Q op = NamedOperand (OnlyFree Q) op
 
 abbrev pub FreeOperands : (Name → Type 0) → Piece → Type 0
-FreeOperands Q P.empty = Unit {0}
-FreeOperands Q (P.act op k l g) = FreeOperand Q op
-FreeOperands Q (P.move op) = FreeOperand Q op
-FreeOperands Q (P.seq a b) = FreeOperands Q a × FreeOperands Q b
-FreeOperands Q (P.block p) = FreeOperands Q p
-FreeOperands Q (P.headed p) = FreeOperands Q p
-FreeOperands Q (P.closed p) = FreeOperands Q p
-FreeOperands Q (P.looped b p) = FreeOperands Q p
-FreeOperands Q (P.leave e k l) = Unit {0}
-FreeOperands Q (P.ensured p) = FreeOperands Q p
-FreeOperands Q (P.caught p q) = FreeOperands Q p × FreeOperands Q q
-FreeOperands Q (P.deeper k p) = FreeOperands Q p
-FreeOperands Q (P.started l p) = FreeOperands Q p
-FreeOperands Q (P.numbered k p) = FreeOperands Q p
+FreeOperands Q p = NamedOperands (OnlyFree Q) p
 
 -- A block whose operands name none but its free names has as many of them in code as in the script: it begins with all of them, and each once.
 abbrev pub OperandsLeaveFreeNames : Type 0

@@ -1,5 +1,5 @@
-mod Operands
-mod Blocks
+pub mod Operands
+pub mod Blocks
 mod Expressions
 mod Statements
 pub mod Script

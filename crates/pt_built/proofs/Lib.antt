@@ -1,0 +1,5 @@
+pub mod Callees
+pub mod Never
+pub mod Quiet
+pub mod Silent
+pub mod Walk

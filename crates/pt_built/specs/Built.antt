@@ -1,0 +1,175 @@
+-- Which forms of the language are supported, and the line of the first node of a script that isn't: a node comes before its parts, and parts
+-- come in the order of the source. Annotations aren't looked at, since they never run. A part without a line of its own, as an argument, a link
+-- of a comparison or a declared name, is told with the node that it belongs to.
+use Rattle.std.specs.Prelude.{◌≡◌, ℕ, List, codes, Bool, true, false, ◌&&◌, ◌||◌, not, Option, Some, None, if◌then◌else◌}
+use Rattle.std.specs.List.{list_any}
+use Rattle.std.specs.Option.{option_or}
+use Rattle.std.specs.Str.{bytes_eq}
+use Rattle.pt_base.specs.declared.operators.CompareOp.{CompareOp}
+use Rattle.pt_base.specs.declared.operators.CompareOp.TheVariants as comparison
+use Rattle.pt_tree.specs.declared.expression.NamedParameter.{NamedParameter}
+use Rattle.pt_tree.specs.Syntax as S
+use Rattle.pt_tree.specs.Syntax.{Name, Exp, Exps, Opt, Links, Args, Place, Tgt, Tgts, Params, Formals, Decorators, Stm, Stms, Branches}
+use Rattle.pt_host.specs.Builtins as builtins
+use Rattle.pt_host.specs.Builtins.{Builtin, builtin}
+
+abbrev pub is_no_builtin : Builtin → Bool
+is_no_builtin (builtins.is v) = false
+is_no_builtin builtins.unavailable = false
+is_no_builtin builtins.no_builtin = true
+
+-- a name that means nothing by itself; another one is supported as `print` called with one plain argument alone
+unfoldable pub is_plain : Name → Bool
+is_plain x = is_no_builtin (builtin x)
+
+abbrev pub are_plain : List Name → Bool
+are_plain xs = not (list_any (λ x. not (is_plain x)) xs)
+
+abbrev pub is_one_plain : Args → Bool
+is_one_plain (S.positional e S.no_args) = true
+is_one_plain args = false
+
+-- `print` called with one plain argument
+abbrev pub prints_one : (callee : Exp) → Args → Bool
+prints_one (S.name l x) args = bytes_eq x (codes "print") && is_one_plain args
+prints_one f args = false
+
+-- `*e` or `**e` among arguments
+abbrev pub is_starred : Args → Bool
+is_starred S.no_args = false
+is_starred (S.positional e r) = is_starred r
+is_starred (S.named x e r) = is_starred r
+is_starred (S.spread e r) = true
+is_starred (S.spread_named e r) = true
+
+-- `in` and `not in`
+abbrev pub is_membership : CompareOp → Bool
+is_membership comparison.In = true
+is_membership comparison.NotIn = true
+is_membership o = false
+
+abbrev pub has_membership : Links → Bool
+has_membership S.no_links = false
+has_membership (S.link o b r) = is_membership o || has_membership r
+
+-- the line of a node that isn't supported
+abbrev pub unless : (is_built : Bool) → (line : ℕ) → Option ℕ
+unless b l = if b then None else Some l
+
+abbrev pub unbuilt_star : Option NamedParameter → Option ℕ
+unbuilt_star None = None
+unbuilt_star (Some p) = Some p.line.0
+
+abbrev mutual
+  pub unbuilt_exp : Exp → Option ℕ
+  unbuilt_exp (S.constant l k) = None
+  unbuilt_exp (S.name l x) = unless (is_plain x) l
+  unbuilt_exp (S.unary l o a) = unbuilt_exp a
+  unbuilt_exp (S.not_of l a) = unbuilt_exp a
+  unbuilt_exp (S.binary l o a b) = option_or (unbuilt_exp a) (unbuilt_exp b)
+  unbuilt_exp (S.compare l a o b r) =
+      option_or (unless (not (is_membership o || has_membership r)) l) (option_or (unbuilt_exp a) (option_or (unbuilt_exp b) (unbuilt_links r)))
+  unbuilt_exp (S.and l a es) = option_or (unbuilt_exp a) (unbuilt_all es)
+  unbuilt_exp (S.or l a es) = option_or (unbuilt_exp a) (unbuilt_all es)
+  unbuilt_exp (S.conditional l c a b) = option_or (unbuilt_exp a) (option_or (unbuilt_exp c) (unbuilt_exp b))
+  unbuilt_exp (S.call l f args) =
+      option_or (unless (not (is_starred args)) l) (option_or (if prints_one f args then None else unbuilt_exp f) (unbuilt_args args))
+  unbuilt_exp (S.lambda l n ps e) = option_or (unbuilt_params ps) (unbuilt_exp e)
+  unbuilt_exp (S.joined l ps) = Some l
+  unbuilt_exp (S.tuple l es) = Some l
+  unbuilt_exp (S.list l es) = Some l
+  unbuilt_exp (S.set l es) = Some l
+  unbuilt_exp (S.dict l es) = Some l
+  unbuilt_exp (S.attribute l a x) = Some l
+  unbuilt_exp (S.item l a i) = Some l
+  unbuilt_exp (S.slice l a b c) = Some l
+  unbuilt_exp (S.comprehension l m k t it cs) = Some l
+  unbuilt_exp (S.generator l n e k t it cs) = Some l
+  unbuilt_exp (S.yield l v) = Some l
+  unbuilt_exp (S.yield_from l e) = Some l
+
+  pub unbuilt_all : Exps → Option ℕ
+  unbuilt_all S.no_exps = None
+  unbuilt_all (S.more_exps e es) = option_or (unbuilt_exp e) (unbuilt_all es)
+
+  pub unbuilt_opt : Opt → Option ℕ
+  unbuilt_opt S.absent = None
+  unbuilt_opt (S.given e) = unbuilt_exp e
+
+  pub unbuilt_links : Links → Option ℕ
+  unbuilt_links S.no_links = None
+  unbuilt_links (S.link o b r) = option_or (unbuilt_exp b) (unbuilt_links r)
+
+  pub unbuilt_args : Args → Option ℕ
+  unbuilt_args S.no_args = None
+  unbuilt_args (S.positional e r) = option_or (unbuilt_exp e) (unbuilt_args r)
+  unbuilt_args (S.named x e r) = option_or (unbuilt_exp e) (unbuilt_args r)
+  unbuilt_args (S.spread e r) = option_or (unbuilt_exp e) (unbuilt_args r)
+  unbuilt_args (S.spread_named e r) = option_or (unbuilt_exp e) (unbuilt_args r)
+
+  -- `*name` and `**name` have a line of their own
+  pub unbuilt_params : Params → Option ℕ
+  unbuilt_params (S.parameters ps s ks d) = option_or (unbuilt_formals ps) (option_or (unbuilt_star s) (option_or (unbuilt_formals ks) (unbuilt_star d)))
+
+  pub unbuilt_formals : Formals → Option ℕ
+  unbuilt_formals S.no_formals = None
+  unbuilt_formals (S.formal l x a d r) = option_or (unless (is_plain x) l) (option_or (unbuilt_opt d) (unbuilt_formals r))
+
+abbrev pub unbuilt_place : Place → Option ℕ
+unbuilt_place (S.name_at l x) = unless (is_plain x) l
+unbuilt_place (S.attribute_at l a x) = Some l
+unbuilt_place (S.item_at l a i) = Some l
+
+abbrev pub unbuilt_target : Tgt → Option ℕ
+unbuilt_target (S.single p) = unbuilt_place p
+unbuilt_target (S.several l f ts) = Some l
+unbuilt_target (S.starred l t) = Some l
+
+abbrev pub unbuilt_targets : Tgts → Option ℕ
+unbuilt_targets S.no_targets = None
+unbuilt_targets (S.more_targets t ts) = option_or (unbuilt_target t) (unbuilt_targets ts)
+
+abbrev pub unbuilt_decorators : Decorators → Option ℕ
+unbuilt_decorators S.no_decorators = None
+unbuilt_decorators (S.decorator l e r) = option_or (unbuilt_exp e) (unbuilt_decorators r)
+
+abbrev mutual
+  pub unbuilt_stm : Stm → Option ℕ
+  unbuilt_stm (S.expr l e) = unbuilt_exp e
+  unbuilt_stm (S.assign l ts e) = option_or (unbuilt_targets ts) (unbuilt_exp e)
+  unbuilt_stm (S.augmented l p o e) = option_or (unbuilt_place p) (unbuilt_exp e)
+  unbuilt_stm (S.annotated l p a v) = option_or (unbuilt_place p) (unbuilt_opt v)
+  unbuilt_stm (S.pass l) = None
+  unbuilt_stm (S.del l ts) = unbuilt_targets ts
+  unbuilt_stm (S.return l v) = unbuilt_opt v
+  unbuilt_stm (S.break l) = None
+  unbuilt_stm (S.continue l) = None
+  unbuilt_stm (S.global l xs) = unless (are_plain xs) l
+  unbuilt_stm (S.nonlocal l xs) = unless (are_plain xs) l
+  unbuilt_stm (S.choice l bs els) = option_or (unbuilt_branches bs) (unbuilt_of els)
+  unbuilt_stm (S.while l c body els) = option_or (unbuilt_exp c) (option_or (unbuilt_of body) (unbuilt_of els))
+  unbuilt_stm (S.def l ds k n x ps r body) =
+      option_or (unless (is_plain x) l) (option_or (unbuilt_decorators ds) (option_or (unbuilt_params ps) (unbuilt_of body)))
+  unbuilt_stm (S.docstring l) = None
+  unbuilt_stm (S.assert l c m) = Some l
+  unbuilt_stm (S.raise l e c) = Some l
+  unbuilt_stm (S.raise_again l) = Some l
+  unbuilt_stm (S.import l xs) = Some l
+  unbuilt_stm (S.import_from l m xs) = Some l
+  unbuilt_stm (S.for l t e body els) = Some l
+  unbuilt_stm (S.try l body hs els fin) = Some l
+  unbuilt_stm (S.with l is body) = Some l
+  unbuilt_stm (S.class l ds k n x base body) = Some l
+
+  -- the line of the first node that isn't supported
+  pub unbuilt_of : Stms → Option ℕ
+  unbuilt_of S.none = None
+  unbuilt_of (S.more s ss) = option_or (unbuilt_stm s) (unbuilt_of ss)
+
+  pub unbuilt_branches : Branches → Option ℕ
+  unbuilt_branches S.no_branches = None
+  unbuilt_branches (S.branch l c body r) = option_or (unbuilt_exp c) (option_or (unbuilt_of body) (unbuilt_branches r))
+
+-- a script is supported where there is none
+abbrev pub Built : Stms → Type 0
+Built ss = unbuilt_of ss ≡ None

@@ -1,0 +1,7 @@
+mod Plain
+mod Homes
+mod Shown
+mod Owned
+mod Listed
+pub mod Written
+pub mod Different
