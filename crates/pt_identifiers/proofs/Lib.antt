@@ -1,0 +1,3 @@
+mod Characters
+mod Texts
+pub mod Words

@@ -1,0 +1,4 @@
+mod Places
+mod Layouts
+mod Blocks
+pub mod Operands

@@ -1,0 +1,4 @@
+mod Fine
+mod Ways
+mod Expressions
+pub mod Statements

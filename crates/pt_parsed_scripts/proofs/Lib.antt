@@ -1,0 +1,3 @@
+mod Parts
+mod Expressions
+pub mod Statements

@@ -1,0 +1,4 @@
+pub mod Forms
+mod Operations
+mod Expressions
+pub mod Statements

@@ -1,0 +1,3 @@
+mod Formed
+mod ClassName
+pub mod Texts
