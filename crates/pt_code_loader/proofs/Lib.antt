@@ -1,0 +1,4 @@
+pub mod DepthLemmas
+pub mod TextLemmas
+pub mod BlockLemmas
+pub mod StartLemmas

@@ -1,0 +1,7 @@
+use Rattle.std.proofs.Common.{◌≡◌, map, take}
+use Rattle.pt_host.specs.Builtins.{builtin}
+use Rattle.pt_builtins.specs.Lookups.{builtin_view}
+use Rattle.pt_code_loader.proofs.names.builtins_of.Given as goal
+
+abbrev pub invariant-loop-text : goal.invariant-loop-text
+invariant-loop-text l = map builtin_view l.found ≡ map builtin (take l.text-index l.texts)

@@ -1,0 +1,65 @@
+-- What tables made of a code have (Library Reference, "inspect": code objects; "dis").
+use Rattle.std.specs.Prelude.{◌≡◌, ℕ, Bool, true, false, List, [], ◌∷◌, length, map, slice_index_or, Option}
+use Rattle.pt_tree.specs.Syntax.{Name}
+use Rattle.pt_code.specs.declared.BlockKind.{BlockKind}
+use Rattle.pt_code.specs.declared.BlockKind.TheVariants as kind
+use Rattle.pt_code.specs.declared.CodeBlock.{CodeBlock}
+use Rattle.pt_code.specs.declared.Code.{Code}
+use Rattle.pt_code.specs.View.{Ins, IsView}
+use Rattle.pt_places.specs.PlaceTable.{HasPlaces}
+use Rattle.pt_slots.specs.BlockObject.{text_in}
+use Rattle.pt_fits.specs.Block as F
+use Rattle.pt_verify.specs.Sizes.{Sized}
+use Rattle.pt_verify.specs.PlaceTable.{SizesDisagree}
+use Rattle.pt_host.specs.Builtins.{builtin}
+use Rattle.pt_code_facts.specs.Facts.{blocks_of}
+use Rattle.pt_builtins.specs.Lookups.{builtin_view}
+use Rattle.pt_machine_state.specs.declared.blocks.BlockCode.{BlockCode}
+use Rattle.pt_code_loader.specs.declared.loading.Loaded.{Loaded}
+use Rattle.pt_code_loader.specs.Texts.{constant_texts, AreValues}
+
+-- where the sizes of a block agree, a place has so many slots
+abbrev pub HasDepths : F.Block → List ℕ → Type 0
+HasDepths b depths = ((p : ℕ) → SizesDisagree b p → ⊥) → (pc n : ℕ) → Sized b b.size pc n → slice_index_or depths pc 0 ≡ n
+
+abbrev pub iterates : BlockKind → Bool
+iterates kind.GeneratorExpression = true
+iterates k = false
+
+abbrev pub is_class : BlockKind → Bool
+is_class kind.Class = true
+is_class k = false
+
+pub record IsLoaded (c : Code) (b : CodeBlock) (block : BlockCode) : Type 0 where
+  pub name : block.name ≡ text_in c.texts b.name.0
+  pub first_line : block.first_line ≡ b.first_line
+  pub places : (view : ℕ → Option Ins) → IsView b view → HasPlaces view block.places
+  pub handlers : block.handlers ≡ b.handlers
+  pub depths : (view : ℕ → Option Ins) → IsView b view → HasDepths (F.block_of c b view) block.depths
+  pub iterates : block.iterates ≡ iterates b.kind
+
+-- each block, in their order
+abbrev pub AreLoaded : Code → List CodeBlock → List BlockCode → Type 0
+AreLoaded c [] [] = Unit {0}
+AreLoaded c (b ∷ bs) (k ∷ ks) = IsLoaded c b k × AreLoaded c bs ks
+AreLoaded c bs ks = ⊥
+
+abbrev pub listed_texts : (texts : List Name) → List ℕ → List Name
+listed_texts texts ts = map (text_in texts) ts
+
+abbrev pub captures_of : List CodeBlock → List ℕ
+captures_of bs = map (λ b. length b.free) bs
+
+abbrev pub classes_of : List CodeBlock → List Bool
+classes_of bs = map (λ b. is_class b.kind) bs
+
+pub record IsLoadedCode (c : Code) (l : Loaded) : Type 0 where
+  pub blocks : AreLoaded c c.blocks (l.tables.blocks.of_module ∷ l.tables.blocks.others)
+  pub facts : l.tables.facts.of_module ∷ l.tables.facts.others ≡ blocks_of c.texts c.blocks
+  pub constant_texts : l.texts ≡ constant_texts c
+  pub constants : AreValues c.texts c.constants l.texts l.tables.constants
+  pub texts : l.tables.texts ≡ c.texts
+  pub builtins : map builtin_view l.tables.builtins ≡ map builtin c.texts
+  pub lists : l.tables.lists ≡ map (listed_texts c.texts) c.lists
+  pub captures : l.tables.captures ≡ captures_of c.blocks
+  pub classes : l.tables.classes ≡ classes_of c.blocks

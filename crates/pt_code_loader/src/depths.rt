@@ -1,0 +1,51 @@
+//! How many slots lie at each place of a block.
+ghost use Rattle.std.specs.Prelude.{◌≡◌, ℕ, Option, IfOk, map};
+ghost use Rattle.std.specs.Option.{unwrap_or};
+ghost use Rattle.pt_code.specs.View.{Ins, IsView};
+ghost use Rattle.pt_fits.specs.Block.{block_of};
+ghost use Rattle.pt_code_loader.specs.Loaded.{HasDepths};
+
+use pt_base::{Memory, Seq};
+use pt_code::{Code, CodeBlock};
+use pt_verify::{Sizes, sizes};
+use std::alloc::Global;
+
+fn depth_of(size: Option<u64>) -> Result<u32, Memory>
+    ensures { IfOk result (λ depth. depth ≡ unwrap_or size 0) }
+{
+    match size {
+        None => Ok(0),
+        Some(size) => u32::try_from(size).map_err(|_| Memory),
+    }
+}
+
+/// Sizes by their places, 0 where no way comes.
+fn depths_in(alloc: Global, sizes: &[Option<u64>]) -> Result<Seq<u32>, Memory>
+    ensures { IfOk result (λ depths. depths ≡ map (λ s. unwrap_or s 0) sizes.now) }
+{
+    let mut depths = Seq::new(alloc);
+    for size in sizes {
+        let depth = depth_of(*size)?;
+        depths.push(depth)?;
+    }
+    Ok(depths)
+}
+
+/// How many slots lie at each place to which some way comes. Where sizes disagree, as in no code
+/// of a script, nothing is told.
+///
+/// # Errors
+///
+/// `Memory` for want of it, and where a size passes 2^32, to which no block of a code file comes.
+pub fn depths(alloc: Global, code: &Code, block: &CodeBlock) -> Result<Seq<u32>, Memory>
+    ensures { IfOk result (λ depths. (view : ℕ → Option Ins) → IsView block.now view
+        → HasDepths (block_of code.now block.now view) depths) }
+{
+    match sizes(alloc, code, block)? {
+        Sizes::Agree(table) => {
+            let depths = depths_in(alloc, &table)?;
+            Ok(depths)
+        }
+        Sizes::Meet(_) | Sizes::TooDeep(_, _) | Sizes::TooFew(_) => Ok(Seq::new(alloc)),
+    }
+}

@@ -1,0 +1,79 @@
+ghost use Rattle.std.specs.Prelude.{◌≡◌, ◌∷◌, ◌<◌, IfOk, OnOk, length};
+ghost use Rattle.pt_code_facts.specs.Facts.{blocks_of};
+ghost use Rattle.pt_code_loader.specs.Loaded.{AreLoaded, IsLoadedCode};
+ghost use Rattle.pt_operands_fit.specs.Laws.{CellsFit};
+
+use crate::blocks::{block_of, blocks_of, captures_of, classes_of, have_room};
+use crate::constants::constants_of;
+use crate::names::{builtins_of, lists_of};
+use pt_base::{Dup, Memory, Seq, Text};
+use pt_code::Code;
+use pt_code_facts::Blocks as Facts;
+use pt_code_tables::CodeTables;
+use pt_heap::Seed;
+use pt_machine_state::Blocks;
+use std::alloc::Global;
+
+/// A code that is ready to run.
+#[derive(Drop)]
+pub struct Loaded {
+    pub tables: CodeTables,
+    /// The texts of constants, each once, for which each run starts with an object.
+    pub texts: Seq<Text>,
+}
+
+/// The blocks of a code. The module is the first.
+#[tactic(auto, using(crate::proofs::BlockLemmas::first_and_others))]
+fn machine_blocks(alloc: Global, code: &Code) -> Result<Blocks, Memory>
+    requires { 0 < length code.now.blocks }
+    ensures { IfOk result (λ b. AreLoaded code.now code.now.blocks (b.of_module ∷ b.others)) }
+{
+    let blocks = code.blocks.as_slice();
+    let of_module = block_of(alloc, code, &blocks[0])?;
+    let others = blocks_of(alloc, code, &blocks[1..])?;
+    Ok(Blocks { of_module, others })
+}
+
+/// What the code tells of its blocks.
+#[tactic(auto, using(crate::proofs::BlockLemmas::first_facts_and_others))]
+fn facts_of(alloc: Global, code: &Code) -> Result<Facts, Memory>
+    requires { 0 < length code.now.blocks }
+    ensures { IfOk result
+        (λ f. f.of_module ∷ f.others ≡ blocks_of code.now.texts code.now.blocks) }
+{
+    let blocks = code.blocks.as_slice();
+    let of_module = pt_code_facts::facts_of(alloc, &code.texts, &blocks[0])?;
+    let others = pt_code_facts::blocks_of(alloc, &code.texts, &blocks[1..])?;
+    Ok(Facts { of_module, others })
+}
+
+/// Makes a code ready to run, in time about linear in it (Library Reference, "inspect": code
+/// objects). The seed is that of the hashes by which the texts of constants are found. A code has
+/// a block at least, its module.
+///
+/// # Errors
+///
+/// `Memory` for want of it, and where a number has no room in four bytes, as that of a cell of a block
+/// with 2^32 of them.
+pub fn load(alloc: Global, seed: Seed, code: &Code) -> Result<Loaded, Memory>
+    requires { 0 < length code.now.blocks }
+    ensures tables { IfOk result (λ loaded. IsLoadedCode code.now loaded) }
+    ensures room { OnOk result (CellsFit code.now) }
+{
+    have_room(code.blocks.as_slice())?;
+    let constants = constants_of(alloc, seed, &code.texts, code.constants.as_slice())?;
+    let tables = CodeTables {
+        blocks: machine_blocks(alloc, code)?,
+        facts: facts_of(alloc, code)?,
+        constants: constants.values,
+        texts: code.texts.dup(alloc)?,
+        builtins: builtins_of(alloc, code.texts.as_slice())?,
+        lists: lists_of(alloc, &code.texts, code.lists.as_slice())?,
+        captures: captures_of(alloc, code.blocks.as_slice())?,
+        classes: classes_of(alloc, code.blocks.as_slice())?,
+    };
+    Ok(Loaded {
+        tables,
+        texts: constants.texts,
+    })
+}

@@ -1,0 +1,91 @@
+ghost use Rattle.std.specs.Prelude.{◌≡◌, ◌++◌, ◌∷◌, [], IfOk, OnOk, map};
+ghost use Rattle.pt_frames.specs.Activations.{new_activation};
+ghost use Rattle.pt_heap.specs.declared.object.Object.TheVariants.{Str};
+ghost use Rattle.pt_start.specs.Start.{start_objects};
+ghost use Rattle.pt_code_loader.specs.Starting.{Begins};
+ghost use Rattle.pt_machine_state.specs.Changes.{slots_at_start};
+
+use crate::Loaded;
+use pt_base::{BlockId, Dup, Memory, Seq, Text};
+use pt_bind::Locals;
+use pt_frames::{Frames, Slot, Slots};
+use pt_heap::{Heap, Object, Seed, Str as HeapStr, Value};
+use pt_machine_state::{Machine, Standing};
+use std::alloc::Global;
+
+/// Puts an object for a text behind the others of a heap.
+fn add_text(alloc: Global, heap: &mut Heap, text: &Text) -> Result<(), Memory>
+    ensures { OnOk result (heap.new ≡ heap.old ++ Str text.now ∷ []) }
+{
+    let text = text.dup(alloc)?;
+    match heap.add(Object::Str(HeapStr::new(text))) {
+        Ok(_) => Ok(()),
+        Err(_) => Err(Memory),
+    }
+}
+
+fn start_objects(alloc: Global, seed: Seed) -> Result<Heap, Memory>
+    ensures { IfOk result (λ heap. heap ≡ start_objects) }
+{
+    pt_start::start(alloc, seed).map_err(|_| Memory)
+}
+
+/// The objects that each run of a code starts with: the builtin ones, and one for each text of a
+/// constant.
+fn heap_of(alloc: Global, seed: Seed, texts: &[Text]) -> Result<Heap, Memory>
+    ensures { IfOk result (λ heap. heap ≡ start_objects ++ map Str texts.now) }
+{
+    let mut heap = start_objects(alloc, seed)?;
+    for text in texts {
+        add_text(alloc, &mut heap, text)?;
+    }
+    Ok(heap)
+}
+
+/// No local names and no cells, as the module has none.
+fn no_locals(alloc: Global) -> Locals
+    ensures values { result.values ≡ [] }
+    ensures cells { result.cells ≡ [] }
+{
+    Locals {
+        values: Seq::new(alloc),
+        star: Seq::new(alloc),
+        stars: Seq::new(alloc),
+        cells: Seq::new(alloc),
+    }
+}
+
+/// The slots with which a block begins.
+fn slots_at_start(alloc: Global, iterates: bool) -> Result<Slots, Memory>
+    ensures { IfOk result (λ slots. slots ≡ slots_at_start iterates) }
+{
+    let mut slots = Slots::new(alloc);
+    if iterates {
+        slots.push(Slot::Iter(Value::None))?;
+    }
+    Ok(slots)
+}
+
+/// The machine where a run of a code begins, before the module's first act (Language Reference
+/// 4.1, 4.3). The seed is that of the hashes of its names and dictionaries.
+///
+/// # Errors
+///
+/// `Memory` for want of it, and where constants have more texts than a heap has room for objects.
+pub fn start(alloc: Global, seed: Seed, loaded: &Loaded) -> Result<Machine, Memory>
+    ensures begins { IfOk result (λ machine. Begins loaded.now machine) }
+    ensures alone { IfOk result (λ machine. machine.frames.activations ≡ []) }
+{
+    let heap = heap_of(alloc, seed, loaded.texts.as_slice())?;
+    let mut frames = Frames::new(alloc, seed);
+    let mut here = frames.fresh(BlockId(0), false, no_locals(alloc))?;
+    here.slots = slots_at_start(alloc, loaded.tables.blocks.of_module.iterates)?;
+    Ok(Machine {
+        alloc,
+        here,
+        standing: Standing::AtPlace,
+        frames,
+        heap,
+        units: 0,
+    })
+}

@@ -1,0 +1,3 @@
+mod Lists
+pub mod Loading
+pub mod Texts

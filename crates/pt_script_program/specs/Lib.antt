@@ -1,0 +1,2 @@
+pub mod ScriptProgram
+pub mod Laws
