@@ -14,10 +14,11 @@ use Rattle.pt_run.specs.Follows.{Nears, there, moves}
 use Rattle.pt_code_run.proofs.Following.{begin_by}
 use Rattle.pt_code_machine.specs.CodeBlocks as code_of
 use Rattle.pt_code_machine.specs.CodeBlocks.{CodeBlocks}
-use Rattle.pt_bare_code.specs.Turns.{AlikeTurns, alike_acts, alike_notes, alike_ends, FollowsTurns, HaveTheSameBareRuns, IsStuckNowhereElse}
+use Rattle.pt_bare_code.specs.Turns.{AlikeTurns, alike_acts, alike_notes, alike_ends, FollowsTurns, HaveTheSameBareRuns, IsStuckNowhereElse, WritesNothingElse}
 use Rattle.pt_bare_code.specs.Law.{HaveTheirCode}
 use Rattle.pt_bare_code.proofs.Runs.{have_the_same_bare_runs}
 use Rattle.pt_bare_code.proofs.Stuck.{stuck_nowhere_else}
+use Rattle.pt_bare_code.proofs.Writes.{writes_nothing_else}
 
 module _ {V : Type 0} (source : Source V) (code : CodeBlocks V) where
   abbrev Script : Machine (source_of.Position V) V
@@ -63,3 +64,8 @@ module _ {N V W : Type 0} where
       (world : W) → IsStuckNowhereElse (source_of.machine source) (code_of.machine code) host n block names world
   is_stuck_nowhere_else source code of host n block names world =
       stuck_nowhere_else (Script source code) (Coded source code) (At source code) (code_follows source code of) host n block names world
+
+  pub code_writes_nothing_else : (source : Source V) (code : CodeBlocks V) → HaveTheirCode source code → (host : Host N V W) (n : ℕ) (block : BlockId) (names : N)
+      (world : W) → WritesNothingElse (source_of.machine source) (code_of.machine code) host n block names world
+  code_writes_nothing_else source code of host n block names world =
+      writes_nothing_else (Script source code) (Coded source code) (At source code) (code_follows source code of) host n block names world

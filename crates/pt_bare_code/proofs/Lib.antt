@@ -3,5 +3,6 @@ mod Relation
 mod Strides
 mod Runs
 mod Stuck
+mod Writes
 pub mod Coded
 pub mod Plain

@@ -1,13 +1,15 @@
 -- When one machine follows the turns of another, so that it has the same runs where nothing hooks into them: there no jump is asked for, and no event
 -- tells which act comes next.
-use Rattle.std.specs.Prelude.{◌≡◌, ℕ, ◌↔◌, Option}
+use Rattle.std.specs.Prelude.{◌≡◌, ℕ, ◌↔◌, List, Option}
 use Rattle.pt_control.specs.Turn as T
 use Rattle.pt_control.specs.Turn.{Mark, Ask, Answer, Reply, Note, End, Turn}
 use Rattle.pt_run.specs.Machine.{BlockId, Machine}
 use Rattle.pt_run.specs.Host.{Host}
 use Rattle.pt_run.specs.Follows.{Nears}
+use Rattle.pt_run.specs.Run.{Write}
 use Rattle.pt_bare_runs.specs.Strides.{Outcome, Runs}
 use Rattle.pt_bare_runs.specs.Laws.{NeverStuck}
+use Rattle.pt_bare_writes.specs.Fronts.{RunWritesFirst}
 
 module _ {S R V : Type 0} (first : Machine S V) (second : Machine R V) (At : BlockId → S → R → Type 0) where
   -- the same ask with the same mark, the same note, or the same end; behind each reply the second comes, by silent moves, to a state that stands for
@@ -33,3 +35,7 @@ HaveTheSameBareRuns {V = V} {W = W} first second host n b names w =
 -- a bare run of the second is never stuck where one of the first isn't
 abbrev pub IsStuckNowhereElse : {S R N V W : Type 0} → Machine S V → Machine R V → Host N V W → (n : ℕ) → BlockId → N → W → Type 0
 IsStuckNowhereElse first second host n b names w = NeverStuck first host n b names w → NeverStuck second host n b names w
+
+-- what a bare run of the second writes first, one of the first writes first too
+abbrev pub WritesNothingElse : {S R N V W : Type 0} → Machine S V → Machine R V → Host N V W → (n : ℕ) → BlockId → N → W → Type 0
+WritesNothingElse first second host n b names w = (ws : List Write) → RunWritesFirst second host n b names w ws → RunWritesFirst first host n b names w ws

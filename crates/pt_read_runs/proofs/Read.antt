@@ -8,8 +8,8 @@ use Rattle.pt_free_pieces.proofs.Script.{blocks_have_free_names}
 use Rattle.pt_formed_scripts.proofs.Statements.{scripts_are_formed}
 use Rattle.pt_script_objects.proofs.Objects.{objects_have_their_code}
 use Rattle.pt_script_runs.specs.Laws.{AreItsObjects}
-use Rattle.pt_script_runs.proofs.Objects.{script_has_its_bare_runs, code_runs_as_its_script}
-use Rattle.pt_read_runs.specs.Laws.{IsReadWith, ReadScriptHasItsBareRuns, ReadScriptRunsAsItsCode}
+use Rattle.pt_script_runs.proofs.Objects.{script_has_its_bare_runs, code_of_script_writes_nothing_else, code_is_never_stuck, code_runs_as_its_script}
+use Rattle.pt_read_runs.specs.Laws.{IsReadWith, ReadScriptHasItsBareRuns, ReadScriptWritesAsItsCode, CodeOfReadScriptIsNeverStuck, ReadScriptRunsAsItsCode}
 
 are_its_objects : {V : Type 0} (null : V) (script : wide.Stms) (ss : Stms) (object : ℕ → CodeObject V) → IsReadWith null script ss object
     → AreItsObjects null ss object
@@ -25,6 +25,12 @@ are_its_objects null script ss object read =
 module _ {N V W : Type 0} where
   pub read_script_has_its_bare_runs : ReadScriptHasItsBareRuns N V W
   read_script_has_its_bare_runs null script ss object read = script_has_its_bare_runs null ss object (are_its_objects null script ss object read)
+
+  pub read_script_writes_as_its_code : ReadScriptWritesAsItsCode N V W
+  read_script_writes_as_its_code null script ss object read = code_of_script_writes_nothing_else null ss object (are_its_objects null script ss object read)
+
+  pub code_of_read_script_is_never_stuck : CodeOfReadScriptIsNeverStuck N V W
+  code_of_read_script_is_never_stuck null script ss object read = code_is_never_stuck null ss object (are_its_objects null script ss object read)
 
   pub read_script_runs_as_its_code : ReadScriptRunsAsItsCode N V W
   read_script_runs_as_its_code null script ss object read = code_runs_as_its_script null ss object (are_its_objects null script ss object read)

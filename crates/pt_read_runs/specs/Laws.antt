@@ -1,7 +1,7 @@
 -- What the law says of the code of a script that is read.
-use Rattle.std.specs.Prelude.{◌≡◌, ℕ, slice_get, Some, None}
+use Rattle.std.specs.Prelude.{◌≡◌, ℕ, slice_get, false, Some, None}
 use Rattle.pt_tree.specs.Syntax.{Stms}
-use Rattle.pt_tree.specs.Blocks.{Block, blocks_script}
+use Rattle.pt_tree.specs.Blocks.{Block, blocks_script, yields}
 use Rattle.pt_wide.specs.Syntax as wide
 use Rattle.pt_refine_expr.specs.StatementNarrow.{narrow_script}
 use Rattle.pt_scopes.specs.Mentions.{places_script}
@@ -13,11 +13,11 @@ use Rattle.pt_run.specs.Run.{nobody}
 use Rattle.pt_run.specs.Laws.{session}
 use Rattle.pt_bare_runs.specs.Strides as bare
 use Rattle.pt_bare_runs.specs.Strides.{Outcome}
-use Rattle.pt_bare_runs.specs.Laws.{IsAlike}
+use Rattle.pt_bare_runs.specs.Laws.{IsAlike, NeverStuck, OpensOnly}
 use Rattle.pt_free_names.specs.FreeNames.{ClassNameIsUnused}
 use Rattle.pt_formed_scripts.specs.Wide as formed
 use Rattle.pt_script_objects.specs.Laws.{HasCode}
-use Rattle.pt_bare_code.specs.Turns.{HaveTheSameBareRuns}
+use Rattle.pt_bare_code.specs.Turns.{HaveTheSameBareRuns, WritesNothingElse}
 use Rattle.pt_script_runs.specs.Blocks.{the_module}
 use Rattle.pt_script_runs.specs.Laws.{tree_machine, code_machine}
 
@@ -34,6 +34,17 @@ module _ (N V W : Type 0) where
   abbrev pub ReadScriptHasItsBareRuns : Type 0
   ReadScriptHasItsBareRuns = (null : V) (script : wide.Stms) (ss : Stms) (object : ℕ → CodeObject V) → IsReadWith null script ss object
       → (host : Host N V W) (n : ℕ) (names : N) (world : W) → HaveTheSameBareRuns (tree_machine null ss) (code_machine ss object) host n the_module names world
+
+  -- also where the code comes to no outcome, the script writes first what it writes first
+  abbrev pub ReadScriptWritesAsItsCode : Type 0
+  ReadScriptWritesAsItsCode = (null : V) (script : wide.Stms) (ss : Stms) (object : ℕ → CodeObject V) → IsReadWith null script ss object
+      → (host : Host N V W) (n : ℕ) (names : N) (world : W) → WritesNothingElse (tree_machine null ss) (code_machine ss object) host n the_module names world
+
+  -- the code is never stuck, where no block gives a value on and the host requests nothing but that blocks run
+  abbrev pub CodeOfReadScriptIsNeverStuck : Type 0
+  CodeOfReadScriptIsNeverStuck = (null : V) (script : wide.Stms) (ss : Stms) (object : ℕ → CodeObject V) → IsReadWith null script ss object
+      → ((k : ℕ) (block : Block) → slice_get (blocks_script ss) k ≡ Some block → yields block.code ≡ false) → (host : Host N V W) → OpensOnly host
+      → (n : ℕ) (names : N) (world : W) → NeverStuck (code_machine ss object) host n the_module names world
 
   abbrev pub ReadScriptRunsAsItsCode : Type 0
   ReadScriptRunsAsItsCode = (null : V) (script : wide.Stms) (ss : Stms) (object : ℕ → CodeObject V) → IsReadWith null script ss object

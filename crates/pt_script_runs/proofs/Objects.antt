@@ -11,10 +11,10 @@ use Rattle.pt_code_follows.specs.Laws.{iterates}
 use Rattle.pt_code_follows.proofs.Objects.{blocks_have_their_code, object_of}
 use Rattle.pt_bare_runs.proofs.BareRuns.{bare_runs_are_runs}
 use Rattle.pt_bare_code.specs.Law.{HaveTheirCode, NoneGivesOn}
-use Rattle.pt_bare_code.proofs.Coded.{has_the_bare_runs, is_stuck_nowhere_else}
+use Rattle.pt_bare_code.proofs.Coded.{has_the_bare_runs, is_stuck_nowhere_else, code_writes_nothing_else}
 use Rattle.pt_bare_code.proofs.Plain.{never_stuck_where_nothing_is_given_on}
 use Rattle.pt_script_runs.specs.Blocks.{number_or_module, code_or_module, script_trees, script_code, block_of, the_module}
-use Rattle.pt_script_runs.specs.Laws.{AreItsObjects, ScriptHasItsBareRuns, CodeIsStuckNowhereElse, CodeIsNeverStuck, CodeRunsAsItsScript, tree_machine}
+use Rattle.pt_script_runs.specs.Laws.{AreItsObjects, ScriptHasItsBareRuns, CodeIsStuckNowhereElse, CodeWritesNothingElse, CodeIsNeverStuck, CodeRunsAsItsScript, tree_machine}
 
 module _ {V : Type 0} (null : V) (ss : Stms) (object : ℕ → CodeObject V) (are : AreItsObjects null ss object) where
   -- the object of a number stands for the block of that number, or for the module
@@ -51,6 +51,10 @@ module _ {N V W : Type 0} where
   pub code_is_stuck_nowhere_else : CodeIsStuckNowhereElse N V W
   code_is_stuck_nowhere_else null ss object are host n names world =
       is_stuck_nowhere_else (script_trees ss null) (script_code ss object) (have_their_code null ss object are) host n the_module names world
+
+  pub code_of_script_writes_nothing_else : CodeWritesNothingElse N V W
+  code_of_script_writes_nothing_else null ss object are host n names world =
+      code_writes_nothing_else (script_trees ss null) (script_code ss object) (have_their_code null ss object are) host n the_module names world
 
   pub code_is_never_stuck : CodeIsNeverStuck N V W
   code_is_never_stuck null ss object are none host opens n names world =

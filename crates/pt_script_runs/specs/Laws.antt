@@ -17,7 +17,7 @@ use Rattle.pt_bare_runs.specs.Strides.{Outcome}
 use Rattle.pt_bare_runs.specs.Laws.{IsAlike, NeverStuck, OpensOnly}
 use Rattle.pt_code_machine.specs.CodeBlocks as coded
 use Rattle.pt_code_follows.specs.Laws.{HasObject, HasItsFreeNames}
-use Rattle.pt_bare_code.specs.Turns.{HaveTheSameBareRuns, IsStuckNowhereElse}
+use Rattle.pt_bare_code.specs.Turns.{HaveTheSameBareRuns, IsStuckNowhereElse, WritesNothingElse}
 use Rattle.pt_script_runs.specs.Blocks.{script_trees, script_code, the_module}
 
 abbrev pub tree_machine : {V : Type 0} → (null : V) → Stms → Machine (control.Position V) V
@@ -42,6 +42,11 @@ module _ (N V W : Type 0) where
   abbrev pub CodeIsStuckNowhereElse : Type 0
   CodeIsStuckNowhereElse = (null : V) (ss : Stms) (object : ℕ → CodeObject V) → AreItsObjects null ss object → (host : Host N V W) (n : ℕ) (names : N)
       (world : W) → IsStuckNowhereElse (tree_machine null ss) (code_machine ss object) host n the_module names world
+
+  -- and also where it comes to no outcome, the script writes first what it writes first
+  abbrev pub CodeWritesNothingElse : Type 0
+  CodeWritesNothingElse = (null : V) (ss : Stms) (object : ℕ → CodeObject V) → AreItsObjects null ss object → (host : Host N V W) (n : ℕ) (names : N)
+      (world : W) → WritesNothingElse (tree_machine null ss) (code_machine ss object) host n the_module names world
 
   -- so it is never stuck where no block gives a value on, over a host that requests nothing but that blocks run
   abbrev pub CodeIsNeverStuck : Type 0

@@ -1,13 +1,16 @@
 //! The laws of the code of a script, each the contract of a function that does nothing.
 
-ghost use Rattle.pt_script_runs.specs.Laws.{CodeIsNeverStuck, CodeIsStuckNowhereElse, CodeRunsAsItsScript, ScriptHasItsBareRuns};
+ghost use Rattle.pt_script_runs.specs.Laws.{CodeIsNeverStuck, CodeIsStuckNowhereElse, CodeRunsAsItsScript};
+ghost use Rattle.pt_script_runs.specs.Laws.{CodeWritesNothingElse, ScriptHasItsBareRuns};
 
 /// In a script without a fault in its declarations, the code objects of its blocks have the bare
 /// runs of the script: over each host and under each bound they come to an outcome exactly where
-/// control of the script's trees does, and are never stuck if that isn't.
+/// control of the script's trees does, and are never stuck if that isn't. Also where they come to no
+/// outcome, that writes first what they write first.
 pub fn the_code_of_a_script_has_its_bare_runs<N, V, W>()
     ensures outcomes { ScriptHasItsBareRuns N V W }
     ensures stuck { CodeIsStuckNowhereElse N V W }
+    ensures writes { CodeWritesNothingElse N V W }
 {}
 
 /// So a bare run of the code is never stuck, where no block of the script gives a value on and the

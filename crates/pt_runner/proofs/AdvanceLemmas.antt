@@ -1,0 +1,177 @@
+-- What a stride of the machine says of the run.
+use Rattle.std.proofs.Common.{◌≡◌, ℕ, List, [], ◌++◌, Result, Ok, Err, refl, sym, ap, ◌∙◌, subst, append-nil}
+use Rattle.std.specs.Prelude.{OnOk, OnErr, codes}
+use Rattle.pt_base.specs.declared.numbers.Line.{Line}
+use Rattle.pt_base.specs.Taken.{Pieces}
+use Rattle.pt_heap.specs.declared.value.Value.{Value}
+use Rattle.pt_slots.specs.Slots.{State}
+use Rattle.pt_run.specs.Host as H
+use Rattle.pt_run.specs.Host.{Leaving}
+use Rattle.pt_run.specs.Run.{Write}
+use Rattle.pt_host.specs.World.{Names, World}
+use Rattle.pt_host.specs.Leaving.{leaving}
+use Rattle.pt_bare_runs.specs.Strides as bare
+use Rattle.pt_bare_runs.specs.Strides.{goes, ends, is_stuck}
+use Rattle.pt_bare_writes.specs.Fronts.{written_by, within}
+use Rattle.pt_sinks.specs.Writing.{Took, TookFront}
+use Rattle.pt_sinks.proofs.WritingLemmas.{took_nothing, front_of_all, front_before}
+use Rattle.pt_heap_rows.specs.Views.{world_view}
+use Rattle.pt_machine_state.specs.declared.blocks.BlockCode.{BlockCode}
+use Rattle.pt_machine_state.specs.declared.machine.Machine.{Machine}
+use Rattle.pt_machine_state.specs.declared.machine.RunEnd.{RunEnd as MachineEnd}
+use Rattle.pt_machine_state.specs.declared.machine.RunEnd.TheVariants as ended
+use Rattle.pt_machine_state.specs.declared.machine.Stride.{Stride}
+use Rattle.pt_machine_state.specs.declared.machine.Stride.TheVariants as stride
+use Rattle.pt_machine_state.specs.declared.writes.Writes.{Writes}
+use Rattle.pt_machine_state.specs.Changes.{events_of}
+use Rattle.pt_machine_state.specs.Strode.{Strode, left, ending_of}
+use Rattle.pt_machine_state.specs.Writing.{Adds, kept, pieces_of}
+use Rattle.pt_code_tables.specs.declared.tables.CodeTables.{CodeTables}
+use Rattle.pt_machine.specs.Strides.{Strides}
+use Rattle.pt_runner.specs.declared.ending.RunEnd.{RunEnd}
+use Rattle.pt_runner.specs.Ends.{end_by, end_of, IsEnding}
+use Rattle.pt_runner.specs.Advancing.{Point, stride_at, StandsAt, WentOn, CameToEnd, BrokeOffAt}
+
+pub on_err : {T E P : Type 0} (r : Result T E) → P → OnErr r P
+on_err (Ok x) p = tt
+on_err (Err e) p = p
+
+-- the end that is told is that of the run
+left_so : (line : Line) (l : Leaving) (v : Value) (w : World) → IsEnding (end_by line l) (left l v line.0 w)
+left_so line (H.exits n x) v w = (refl, refl)
+left_so line H.exits_oddly v w = (refl, refl)
+left_so line (H.fails es) v w = tt
+
+ended_so : (e : MachineEnd) (m : Machine) → IsEnding (end_of e m) (ending_of e m)
+ended_so ended.Done m = tt
+ended_so (ended.Left v line) m = left_so line (leaving v (world_view m.frames m.heap)) v (world_view m.frames m.heap)
+ended_so ended.Spent m = tt
+ended_so (ended.Outside what line) m = (refl, refl)
+
+-- what is put into an empty list is all that is there
+all_new : (w w1 : Writes) (ws : List Write) → pieces_of w ≡ [] → Adds w w1 ws → pieces_of w1 ≡ kept w.events ws
+all_new w w1 ws empty adds = adds.pieces ∙ ap (λ ps. ps ++ kept w.events ws) empty
+
+-- nothing was taken yet
+pub front_none : (oo on lo ln : Pieces → Pieces → Type 0) (ws : List Write) → ((g h : Pieces) → oo g h → on g h)
+    → ((g h : Pieces) → lo g h → ln g h) → TookFront oo on lo ln ws
+front_none oo on lo ln ws a b = front_before oo on lo ln [] ws (front_of_all oo on lo ln [] (took_nothing oo on lo ln a b))
+
+-- the start is told, of the block that stands there
+module _ (w w1 : Writes) (block known : BlockCode) (m : Machine) (empty : pieces_of w ≡ []) (same : block ≡ known)
+    (adds : Adds w w1 (events_of (codes "call") [] block m)) where
+  told : pieces_of w1 ≡ kept w.events (events_of (codes "call") [] known m)
+  told =
+      all_new w w1 (events_of (codes "call") [] block m) empty adds
+      ∙ ap (λ b. kept w.events (events_of (codes "call") [] b m)) same
+
+  module _ (oo on lo ln : Pieces → Pieces → Type 0) where
+    pub told_whole : {T E : Type 0} (x : Result T E) → OnOk x (Took oo on lo ln (pieces_of w1))
+        → OnOk x (Took oo on lo ln (kept w.events (events_of (codes "call") [] known m)))
+    told_whole x t = subst (λ ws. OnOk x (Took oo on lo ln ws)) told t
+
+    pub told_front : {T E : Type 0} (x : Result T E) → OnErr x (TookFront oo on lo ln (pieces_of w1))
+        → OnErr x (TookFront oo on lo ln (kept w.events (events_of (codes "call") [] known m)))
+    told_front x t = subst (λ ws. OnErr x (TookFront oo on lo ln ws)) told t
+
+module _ (tables : CodeTables) (n : ℕ) (old : Machine) (w : Writes) (empty : pieces_of w ≡ []) where
+  abbrev Bare : Type 0
+  Bare = bare.Stride (State Value) Names Value World
+
+  module _ (p : Point) where
+    abbrev Turned : Bare → Stride → Machine → Writes → Type 0
+    Turned s r new w1 = Strode p.program p.code s r w new w1
+
+    strode : (at : StandsAt tables n old p) (r : Stride) (new : Machine) (w1 : Writes) → Strides tables n r old w new w1
+        → Turned (stride_at n p old) r new w1
+    unfolding Strides
+    strode at r new w1 all = all p.program p.code p.beside at.tables_are at.waits
+
+    -- what the stride of the run has, where it isn't stuck
+    module _ (oo on lo ln : Pieces → Pieces → Type 0) (r : Stride) (new : Machine) (w1 : Writes) where
+      broke_within : (s : Bare) → stride_at n p old ≡ s → (s ≡ is_stuck → ⊥) → Turned s r new w1 → TookFront oo on lo ln (pieces_of w1)
+          → BrokeOffAt n w.events p old oo on lo ln
+      broke_within (goes ws t) e some (is, (adds, rest)) took = record {
+        written = ws;
+        writes_first = within (stride_at n p old) ws [] (ap written_by e ∙ sym (append-nil ws));
+        took = subst (TookFront oo on lo ln) (all_new w w1 ws empty adds) took;
+      }
+      broke_within (ends ws u f) e some (x, (is, (adds, rest))) took = record {
+        written = ws;
+        writes_first = within (stride_at n p old) ws [] (ap written_by e ∙ sym (append-nil ws));
+        took = subst (TookFront oo on lo ln) (all_new w w1 ws empty adds) took;
+      }
+      broke_within is_stuck e some done took = absurd (some refl)
+
+      went : (s : Bare) → stride_at n p old ≡ s → (s ≡ is_stuck → ⊥) → r ≡ stride.Goes → Turned s r new w1 → Took oo on lo ln (pieces_of w1)
+          → WentOn n w.events p old new oo on lo ln
+      went (goes ws t) e some goes_on (is, (adds, (x, (comes, waits)))) took = record {
+        written = ws;
+        state = t;
+        goes_on = e;
+        beside = x;
+        comes = comes;
+        waits = waits;
+        took = subst (Took oo on lo ln) (all_new w w1 ws empty adds) took;
+      }
+      went (ends ws u f) e some goes_on (x, (is, rest)) took = let no : stride.Goes ≡ stride.Ends x = sym goes_on ∙ is in absurd cc
+      went is_stuck e some goes_on done took = absurd (some refl)
+
+      came : (s : Bare) → stride_at n p old ≡ s → (s ≡ is_stuck → ⊥) → (x : MachineEnd) → r ≡ stride.Ends x → Turned s r new w1
+          → Took oo on lo ln (pieces_of w1) → CameToEnd n w.events p old new oo on lo ln (end_of x new)
+      came (goes ws t) e some x is_end (is, rest) took = let no : stride.Ends x ≡ stride.Goes = sym is_end ∙ is in absurd cc
+      came (ends ws u f) e some x is_end (y, (is, (adds, (units, ending)))) took =
+          let same : stride.Ends x ≡ stride.Ends y = sym is_end ∙ is in
+          let is_x : x ≡ y = cc in
+          record {
+            written = ws;
+            units = u;
+            ending = f;
+            is_end = e;
+            units_are = units;
+            ends_so = subst (IsEnding (end_of x new)) (sym (ending ∙ ap (λ k. ending_of k new) (sym is_x))) (ended_so x new);
+            took = subst (Took oo on lo ln) (all_new w w1 ws empty adds) took;
+          }
+      came is_stuck e some x is_end done took = absurd (some refl)
+
+    same_events : (s : Bare) → (s ≡ is_stuck → ⊥) → (r : Stride) (new : Machine) (w1 : Writes) → Turned s r new w1 → w1.events ≡ w.events
+    same_events (goes ws t) some r new w1 (is, (adds, rest)) = adds.events
+    same_events (ends ws u f) some r new w1 (x, (is, (adds, rest))) = adds.events
+    same_events is_stuck some r new w1 done = absurd (some refl)
+
+    lacking : (s : Bare) → (s ≡ is_stuck → ⊥) → (r : Stride) → r ≡ stride.Lacks → (new : Machine) (w1 : Writes) → Turned s r new w1 → ⊥
+    lacking (goes ws t) some r lacks new w1 (is, rest) = let no : stride.Lacks ≡ stride.Goes = sym lacks ∙ is in absurd cc
+    lacking (ends ws u f) some r lacks new w1 (x, (is, rest)) = let no : stride.Lacks ≡ stride.Ends x = sym lacks ∙ is in absurd cc
+    lacking is_stuck some r lacks new w1 done = some refl
+
+  -- what the machine says of all points at which it stands
+  pub broken_before : (oo on lo ln : Pieces → Pieces → Type 0) → ((g h : Pieces) → oo g h → on g h) → ((g h : Pieces) → lo g h → ln g h)
+      → (p : Point) → StandsAt tables n old p → BrokeOffAt n w.events p old oo on lo ln
+  broken_before oo on lo ln a b p at = record {
+    written = [];
+    writes_first = within (stride_at n p old) [] (written_by (stride_at n p old)) refl;
+    took = front_none oo on lo ln (kept w.events []) a b;
+  }
+
+  module _ (r : Stride) (new : Machine) (w1 : Writes) (all : Strides tables n r old w new w1) where
+    module _ (oo on lo ln : Pieces → Pieces → Type 0) where
+      pub broken_within : TookFront oo on lo ln (pieces_of w1) → (p : Point) → StandsAt tables n old p → BrokeOffAt n w.events p old oo on lo ln
+      broken_within took p at =
+          broke_within p oo on lo ln r new w1 (stride_at n p old) refl at.not_stuck (strode p at r new w1 all) took
+
+      pub went_on : r ≡ stride.Goes → Took oo on lo ln (pieces_of w1) → (p : Point) → StandsAt tables n old p
+          → WentOn n w.events p old new oo on lo ln
+      went_on is took p at = went p oo on lo ln r new w1 (stride_at n p old) refl at.not_stuck is (strode p at r new w1 all) took
+
+      pub came_to_end : (x : MachineEnd) → r ≡ stride.Ends x → (e : RunEnd) → e ≡ end_of x new → Took oo on lo ln (pieces_of w1)
+          → (p : Point) → StandsAt tables n old p → CameToEnd n w.events p old new oo on lo ln e
+      came_to_end x is e same took p at =
+          subst (CameToEnd n w.events p old new oo on lo ln) (sym same)
+          (came p oo on lo ln r new w1 (stride_at n p old) refl at.not_stuck x is (strode p at r new w1 all) took)
+
+    pub events_stay : (p : Point) × StandsAt tables n old p → w1.events ≡ w.events
+    events_stay (p, at) = same_events p (stride_at n p old) at.not_stuck r new w1 (strode p at r new w1 all)
+
+    -- nothing is lacking where it stands
+    pub lacks_nothing : r ≡ stride.Lacks → (p : Point) × StandsAt tables n old p → ⊥
+    lacks_nothing lacks (p, at) = lacking p (stride_at n p old) at.not_stuck r lacks new w1 (strode p at r new w1 all)

@@ -1,0 +1,5 @@
+pub mod ChainLemmas
+pub mod DrainLemmas
+pub mod AdvanceLemmas
+pub mod GoesTo
+pub mod RunLemmas

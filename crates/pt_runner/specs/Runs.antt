@@ -1,0 +1,55 @@
+-- What the run of code under a bound on acts is: the bare run of a block, of which it writes all, or a front where it is broken off.
+use Rattle.std.specs.Prelude.{◌≡◌, ℕ, List, [], Bool}
+use Rattle.pt_base.specs.Taken.{Pieces}
+use Rattle.pt_heap.specs.declared.value.Value.{Value}
+use Rattle.pt_run.specs.Machine.{BlockId}
+use Rattle.pt_run.specs.Run.{Write}
+use Rattle.pt_host.specs.World.{Names, World, Program}
+use Rattle.pt_host.specs.HeapHost.{heap_host}
+use Rattle.pt_bare_runs.specs.Strides as bare
+use Rattle.pt_bare_runs.specs.Strides.{Outcome}
+use Rattle.pt_bare_runs.specs.Laws.{NeverStuck}
+use Rattle.pt_bare_writes.specs.Fronts.{RunWritesFirst}
+use Rattle.pt_sinks.specs.Writing.{Took, TookFront}
+use Rattle.pt_code_machine.specs.CodeBlocks.{CodeBlocks, machine}
+use Rattle.pt_machine_state.specs.declared.machine.Machine.{Machine}
+use Rattle.pt_machine_state.specs.Views.{Beside, run_of}
+use Rattle.pt_machine_state.specs.Writing.{kept}
+use Rattle.pt_code_tables.specs.declared.tables.CodeTables.{CodeTables}
+use Rattle.pt_code_tables.specs.Tables.{AreTablesOf}
+use Rattle.pt_runner.specs.declared.ending.Ended.{Ended}
+use Rattle.pt_runner.specs.Ends.{IsEnding}
+
+-- a block that is run as the module's, over code of a program, with these names and in this world
+pub record ModuleRun : Type 0 where
+  pub program : Program
+  pub code : CodeBlocks Value
+  pub block : BlockId
+  pub names : Names
+  pub world : World
+
+-- the machine stands where the run starts, the tables are those of its code, and it is stuck nowhere
+pub record IsReady (tables : CodeTables) (n : ℕ) (m : Machine) (r : ModuleRun) : Type 0 where
+  pub tables_are : AreTablesOf r.program r.code tables
+  pub beside : Beside
+  pub starts : run_of r.program m beside ≡ bare.start (machine r.code) (heap_host r.program) r.block r.names r.world
+  pub none_waits : m.frames.activations ≡ []
+  pub never_stuck : NeverStuck (machine r.code) (heap_host r.program) n r.block r.names r.world
+
+-- out and the log, each as it was and as it is
+module _ (r : ModuleRun) (n : ℕ) (events : Bool) where
+  module _ (x : Ended) (out_old out_new log_old log_new : Pieces → Pieces → Type 0) where
+    -- the run came to this outcome, and all that it writes was taken, of the log's lines those that are wanted
+    pub record Finished : Type 0 where
+      pub outcome : Outcome Value World
+      pub runs : bare.Runs (machine r.code) (heap_host r.program) n r.block r.names r.world outcome
+      pub units : outcome.units ≡ x.totals.acts
+      pub ends : IsEnding x.end outcome.ending
+      pub took : Took out_old out_new log_old log_new (kept events outcome.written)
+
+  module _ (out_old out_new log_old log_new : Pieces → Pieces → Type 0) where
+    -- the run writes this first, and of that a front was taken
+    pub record BrokeOff : Type 0 where
+      pub written : List Write
+      pub writes_first : RunWritesFirst (machine r.code) (heap_host r.program) n r.block r.names r.world written
+      pub took : TookFront out_old out_new log_old log_new (kept events written)

@@ -1,0 +1,134 @@
+ghost use Rattle.std.specs.Prelude.{◌≡◌, [], ◌∷◌, slice_get, IfOk};
+ghost use Rattle.std.specs.Option.{option_copied};
+ghost use Rattle.pt_host.specs.Leaving.{derives, error_at, exits_with, exits_with_object};
+ghost use Rattle.pt_host.specs.Leaving.{leaves_by, status_of};
+ghost use Rattle.pt_runner.specs.Ends.{end_by};
+
+use crate::ending::RunEnd;
+use pt_base::{Dup, Line, Memory, ObjId, What};
+use pt_dicts::{class_at, object_at};
+use pt_heap::{Error, Heap, Object, Value};
+use pt_host::SYSTEM_EXIT;
+use std::alloc::Global;
+
+/// Whether a class is another one or has it among its bases.
+fn derives(heap: &Heap, from: ObjId, class: ObjId) -> bool
+    ensures { result ≡ derives heap.now from class }
+{
+    let mut at = class;
+    for _step in 0..class.0 as u64 + 1 {
+        if at.0 == from.0 {
+            return true;
+        }
+        let Some(class) = class_at(heap, at) else {
+            return false;
+        };
+        let Some(base) = class.base else {
+            return false;
+        };
+        at = base;
+    }
+    false
+}
+
+/// The exception that a value is, if it is one.
+fn error_at(heap: &Heap, value: Value) -> Option<&Error>
+    ensures { option_copied result ≡ error_at heap.now value }
+{
+    let Value::Obj(id) = value else {
+        return None;
+    };
+    match object_at(heap, id) {
+        Some(Object::Error(error)) => Some(error),
+        _ => None,
+    }
+}
+
+/// An integer modulo 256, as an exit status.
+fn status(number: i128) -> u8
+    ensures { result ≡ status_of number }
+{
+    number.rem_euclid(256) as u8
+}
+
+/// An exit with an object: a text is told, and the status is 1.
+fn exit_with_object(alloc: Global, heap: &Heap, id: ObjId, line: Line) -> Result<RunEnd, Memory>
+    ensures { IfOk result
+        (λ end. end ≡ end_by line (exits_with_object (slice_get heap.now id.0))) }
+{
+    match object_at(heap, id) {
+        Some(Object::Str(text)) => Ok(RunEnd::Exited {
+            status: 1,
+            text: Some(text.text().dup(alloc)?),
+        }),
+        _ => Ok(RunEnd::Outside {
+            what: What::Exit,
+            line,
+        }),
+    }
+}
+
+/// An exit with one argument of a SystemExit.
+fn exit_with_value(alloc: Global, heap: &Heap, value: Value, line: Line) -> Result<RunEnd, Memory>
+    ensures { IfOk result (λ end. end ≡ end_by line (exits_with heap.now (value ∷ []))) }
+{
+    match value {
+        Value::None => Ok(RunEnd::Exited {
+            status: 0,
+            text: None,
+        }),
+        Value::Bool(truth) => Ok(RunEnd::Exited {
+            status: truth as u8,
+            text: None,
+        }),
+        Value::Int(number) => Ok(RunEnd::Exited {
+            status: status(number),
+            text: None,
+        }),
+        Value::Obj(id) => exit_with_object(alloc, heap, id, line),
+        Value::Ellipsis | Value::NotImplemented => Ok(RunEnd::Outside {
+            what: What::Exit,
+            line,
+        }),
+    }
+}
+
+/// An exit by a SystemExit with these arguments (Library Reference, `sys.exit`,
+/// "Built-in Exceptions").
+fn exit_with(alloc: Global, heap: &Heap, args: &[Value], line: Line) -> Result<RunEnd, Memory>
+    ensures { IfOk result (λ end. end ≡ end_by line (exits_with heap.now args.now)) }
+{
+    match args.len() {
+        0 => Ok(RunEnd::Exited {
+            status: 0,
+            text: None,
+        }),
+        1 => exit_with_value(alloc, heap, args[0], line),
+        _ => Ok(RunEnd::Outside {
+            what: What::Exit,
+            line,
+        }),
+    }
+}
+
+/// What becomes of an exception that leaves the module, in whose frame this line stands.
+pub(crate) fn leaving(
+    alloc: Global,
+    heap: &Heap,
+    exception: Value,
+    line: Line,
+) -> Result<RunEnd, Memory>
+    ensures { IfOk result
+        (λ end. end ≡ end_by line (leaves_by heap.now (error_at heap.now exception))) }
+{
+    match error_at(heap, exception) {
+        Some(error) => {
+            if derives(heap, SYSTEM_EXIT, error.class) {
+                exit_with(alloc, heap, error.args.as_slice(), line)
+            } else {
+                Ok(RunEnd::Raised)
+            }
+        }
+        None => Ok(RunEnd::Raised),
+    }
+}
