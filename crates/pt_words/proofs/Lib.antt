@@ -1,0 +1,5 @@
+pub mod NumberLemmas
+pub mod Rows
+pub mod Rules
+pub mod Walking
+pub mod ReaderLemmas

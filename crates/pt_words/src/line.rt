@@ -1,0 +1,32 @@
+/// What is done with a file.
+#[derive(Clone, Copy, Debug, PartialEq, Eq)]
+pub enum Command {
+    /// A script is run.
+    Run,
+    /// A script is run, and its events are told on the log.
+    Trace,
+    /// A script's code is listed.
+    Dis,
+}
+
+/// What the words of a command line ask for.
+#[derive(Clone, Copy, Debug, PartialEq, Eq)]
+pub struct CommandLine<'a> {
+    pub command: Command,
+    /// The name of the script's file. It isn't empty and doesn't begin with `-`.
+    pub script: &'a str,
+    /// How many acts the run may take.
+    pub steps: u64,
+    /// Whether the log has a line for each event.
+    pub events: bool,
+    /// Whether the log has the run's totals.
+    pub stats: bool,
+}
+
+/// Why words are no command line.
+#[derive(Clone, Copy, Debug, PartialEq, Eq)]
+pub enum WordsErr {
+    /// The words break the rule, or don't suit the command.
+    Usage,
+    Memory,
+}
