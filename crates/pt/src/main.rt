@@ -18,24 +18,20 @@ fn words(rt: &HostRuntime) -> io::Result<Vec<String>> {
     Ok(words)
 }
 
-/// The end where the words cannot be had, as where one isn't UTF-8.
-fn end_without_words(error: &io::Error) -> End {
-    if error.kind() == ErrorKind::OutOfMemory {
-        End::Memory
-    } else {
-        End::Usage
-    }
-}
-
 fn main(rt: HostRuntime) -> ExitCode {
-    let end = match words(&rt) {
-        Ok(words) => {
-            let mut shelf = FileShelf::new(&rt);
-            let mut out = StreamSink::new(rt.stdout());
-            let mut log = StreamSink::new(rt.stderr());
-            top(rt.alloc(), words.as_slice(), &mut shelf, &mut out, &mut log)
+    let words = match words(&rt) {
+        Ok(words) => words,
+        Err(error) => {
+            if error.kind() == ErrorKind::OutOfMemory {
+                return ExitCode::from(status(&End::Memory));
+            }
+            // One isn't UTF-8. No words are no command line either, and `top` says so.
+            Vec::new(rt.alloc())
         }
-        Err(error) => end_without_words(&error),
     };
+    let mut shelf = FileShelf::new(&rt);
+    let mut out = StreamSink::new(rt.stdout());
+    let mut log = StreamSink::new(rt.stderr());
+    let end = top(rt.alloc(), words.as_slice(), &mut shelf, &mut out, &mut log);
     ExitCode::from(status(&end))
 }

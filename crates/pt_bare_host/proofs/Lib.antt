@@ -1,1 +1,1 @@
-mod BlocksOnly
+pub mod BlocksOnly

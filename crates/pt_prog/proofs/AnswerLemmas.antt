@@ -1,141 +1,116 @@
--- From the run of a script to the answer for its text.
-use Rattle.std.proofs.Common.{◌≡◌, ◌∙◌, ◌⊎◌, ap, ℕ, ◌≤◌, List, [], length, Option, None, inl, inr, option_map, sym, subst, refl}
-use Rattle.pt_base.specs.declared.numbers.Line.{Line}
-use Rattle.pt_base.specs.Taken.{Pieces, Takes, TakesFront}
+-- From the answer for a text to the answer to words.
+use Rattle.std.proofs.Common.{◌≡◌, ◌∙◌, ◌⊎◌, ◌≤◌, ℕ, [], List, Option, Some, None, Result, Ok, Err, IfOk, IfErr, OnErr, inl, inr, refl, sym, ap, subst, length}
+use Rattle.std.specs.declared.string.String.{String}
+use Rattle.std.specs.declared.alloc.Global.{Global}
+use Rattle.pt_base.specs.Taken.{Pieces}
 use Rattle.pt_base.specs.Told.{Told, IsWhole}
-use Rattle.pt_tree.specs.Syntax.{Stms}
-use Rattle.pt_control.specs.Turn.{gave, left_by}
-use Rattle.pt_meaning.specs.Built.{Built, unbuilt_of}
-use Rattle.pt_meaning.specs.declared.value.Value.{Value}
-use Rattle.pt_meaning.specs.Run.{Ending, ended, outside, spent}
-use Rattle.pt_session.specs.declared.runner.RunEnd.{RunEnd}
-use Rattle.pt_session.specs.declared.runner.RunEnd.TheVariants as run
-use Rattle.pt_session.specs.Running.{IsEnding, Finished, meaning_of as meaning_under}
+use Rattle.pt_run.specs.Run.{Write}
+use Rattle.pt_heap.specs.declared.value.Value.{Value}
+use Rattle.pt_host.specs.World.{World}
+use Rattle.pt_bare_runs.specs.Strides as bare
+use Rattle.pt_bare_runs.specs.Strides.{Ending}
+use Rattle.pt_sinks.specs.Writing.{Took, TookFront}
+use Rattle.pt_base.specs.Told.Told.{Holds}
+use Rattle.pt_sinks.specs.declared.writing.Out.{Out}
+use Rattle.pt_sinks.specs.declared.writing.Out.TheVariants as out
+use Rattle.pt_sinks.specs.declared.writing.WriteErr.{WriteErr}
+use Rattle.pt_sinks.specs.declared.writing.WriteErr.TheVariants as error
+use Rattle.pt_words.specs.Words.{Asked}
 use Rattle.pt_prog.specs.declared.end.End.{End}
 use Rattle.pt_prog.specs.declared.end.End.TheVariants as end
-use Rattle.pt_prog.specs.declared.end.Out.TheVariants as out
-use Rattle.pt_prog.specs.declared.command.Command.{Command}
-use Rattle.pt_prog.specs.declared.command.Command.TheVariants.{Run, Dis}
-use Rattle.pt_prog.specs.Limits.{act_limit, script_limit}
-use Rattle.pt_prog.specs.RunEnds.{end_of_run}
-use Rattle.pt_prog.specs.Answer.{meaning_of, IsEndOf, IsBuilt, IsUnrun, Ran, WroteFront, IsRunFor, Ends, IsUnlisted, IsListedFor, IsAnsweredFor, IsAnswered, OfNamed, HasRunEnd, HasListingEnd, IsEndFor}
+use Rattle.pt_prog.specs.LogText.{Text}
+use Rattle.pt_prog.specs.RunEnds.{ended}
+use Rattle.pt_prog.specs.Answer.{BrokeOffFor, IsAnswer, IsAnswerFor, IsEndFor, IsTextOf, WroteAll, WroteAllFor, WroteFront, WroteFrontFor, Wrote, asked_for, end_of, of_no_text, of_its_text, of_text, refused, unbuilt, ran, listed, usage, read_fault, too_long}
 
--- where no line is told of a script, all of it is built
-pub built : (script : Stms) (o : Option Line) → option_map (λ (l : Line). l.0) o ≡ unbuilt_of script → o ≡ None → Built script
-built script o told none = sym told ∙ ap (option_map (λ (l : Line). l.0)) none
+-- an answer is neither a fault of a write nor want of memory
+abbrev IsOrdinary : End → Type 0
+IsOrdinary (end.WriteFault which) = ⊥
+IsOrdinary end.Memory = ⊥
+IsOrdinary e = Unit {0}
 
--- nothing is written for a text that isn't run
-pub unrun : (text : List ℕ) (old new : Pieces → Pieces → Type 0) (e : End) → IsUnrun text e → Takes old new [] → IsRunFor text old new e
-unrun text old new (end.Refused error) is took = (is, took)
-unrun text old new (end.Unbuilt line) is took = (is, took)
-unrun text old new end.Memory is took = inl took
-unrun text old new e is took = absurd is
+ordinary_end : (n : ℕ) (e : Ending Value World) → IsOrdinary (end_of n e)
+ordinary_end n bare.done = tt
+ordinary_end n (bare.exited status text) = tt
+ordinary_end n (bare.raised v w) = tt
+ordinary_end n bare.spent = tt
+ordinary_end n (bare.outside_at what line) = tt
 
-pub unrun_cause : (text : List ℕ) (e : End) → IsUnrun text e → e ≡ end.WriteFault out.Out → ⊥
-unrun_cause text e is fails = subst (IsUnrun text) fails is
+ordinary_for : (a : Asked) (text : Text) (e : End) (ws : List Write) → IsAnswerFor a text e ws → IsOrdinary e
+ordinary_for a text e ws (refused error r is w) = subst IsOrdinary (sym is) tt
+ordinary_for a text e ws (unbuilt line r u is w) = subst IsOrdinary (sym is) tt
+ordinary_for a text e ws (ran ss o i d r b runs is w) = subst IsOrdinary (sym is) (ordinary_end a.steps o.ending)
+ordinary_for a text e ws (listed lines r l is w) = subst IsOrdinary (sym is) tt
 
--- nothing is written for a text whose code isn't listed
-pub unlisted : (text : List ℕ) (old new : Pieces → Pieces → Type 0) (e : End) → IsUnlisted text e → Takes old new [] → IsListedFor text old new e
-unlisted text old new (end.Refused error) is took = (is, took)
-unlisted text old new end.Memory is took = inl took
-unlisted text old new e is took = absurd is
+ordinary : (misread : Type 0) (words : List (String Global)) (told : Text → Told) (e : End) (ws : List Write) → IsAnswer misread words told e ws → IsOrdinary e
+ordinary misread words told e ws (usage n is w) = subst IsOrdinary (sym is) tt
+ordinary misread words told e ws (read_fault a n m is w) = subst IsOrdinary (sym is) tt
+ordinary misread words told e ws (too_long a n l is w) = subst IsOrdinary (sym is) tt
+ordinary misread words told e ws (of_text a text t i) = ordinary_for a text e ws i
 
-pub unlisted_cause : (text : List ℕ) (e : End) → IsUnlisted text e → e ≡ end.WriteFault out.Out → ⊥
-unlisted_cause text e is fails = subst (IsUnlisted text) fails is
+module _ (misread : Type 0) (words : List (String Global)) (told : Text → Told) (out_old out_new log_old log_new : Pieces → Pieces → Type 0) where
+  abbrev WroteBy : End → Type 0
+  WroteBy e = Wrote out_old out_new log_old log_new misread words told e
+
+  -- all of an answer was written
+  wrote_all : (e : End) (ws : List Write) → IsAnswer misread words told e ws → Took out_old out_new log_old log_new ws → WroteBy e
+  wrote_all (end.WriteFault which) ws i t = absurd (ordinary misread words told (end.WriteFault which) ws i)
+  wrote_all end.Memory ws i t = absurd (ordinary misread words told end.Memory ws i)
+  wrote_all end.Done ws i t = record { writes = ws; is_answer = i; took = t }
+  wrote_all (end.Exited code) ws i t = record { writes = ws; is_answer = i; took = t }
+  wrote_all end.Raised ws i t = record { writes = ws; is_answer = i; took = t }
+  wrote_all (end.Spent acts) ws i t = record { writes = ws; is_answer = i; took = t }
+  wrote_all (end.Outside what line) ws i t = record { writes = ws; is_answer = i; took = t }
+  wrote_all end.Usage ws i t = record { writes = ws; is_answer = i; took = t }
+  wrote_all (end.Refused error) ws i t = record { writes = ws; is_answer = i; took = t }
+  wrote_all (end.TooLong which) ws i t = record { writes = ws; is_answer = i; took = t }
+  wrote_all end.ReadFault ws i t = record { writes = ws; is_answer = i; took = t }
+  wrote_all (end.Unbuilt line) ws i t = record { writes = ws; is_answer = i; took = t }
+
+  -- where no text is read, the end's final text is all
+  pub no_text : (r : Result End WriteErr) (e : End) (ws : List Write) → IsAnswer misread words told e ws
+      → IfOk r (λ x. (x ≡ e) × Took out_old out_new log_old log_new ws) → OnErr r (TookFront out_old out_new log_old log_new ws) → WroteBy (ended r)
+  no_text (Ok x) e ws i t f = wrote_all x ws (subst (λ y. IsAnswer misread words told y ws) (sym t.0) i) t.1
+  no_text (Err (error.Failed which)) e ws i t f = of_no_text e ws i f
+  no_text (Err error.Memory) e ws i t f = inr (of_no_text e ws i f)
+
+  module _ (a : Asked) (text : Text) (is : IsTextOf words told a text) where
+    pub its_text : (r : Result End WriteErr) → IfOk r (WroteAllFor out_old out_new log_old log_new a text)
+        → IfErr r (BrokeOffFor out_old out_new log_old log_new a text) → WroteBy (ended r)
+    its_text (Ok e) t f = wrote_all e t.writes (of_text a text is t.is_answer) t.took
+    its_text (Err (error.Failed which)) t f = of_its_text a text is f
+    its_text (Err error.Memory) t (inl f) = inl f
+    its_text (Err error.Memory) t (inr f) = inr (of_its_text a text is f)
 
 -- where no write failed, the end is the one that the text says
-module _ (text : List ℕ) (old new : Pieces → Pieces → Type 0) where
-  ended_by : {e : End} → Ran text e old new → Ends text e
-  ended_by a = record { script = a.script; is = a.is; is_end = a.is_end }
+module _ (a : Asked) (text : Text) (out_old out_new log_old log_new : Pieces → Pieces → Type 0) where
+  pub end_said : (r : Result End WriteErr) → IfOk r (WroteAllFor out_old out_new log_old log_new a text)
+      → ((which : _) → r ≡ Err (error.Failed which) → ⊥) → IsEndFor a text (ended r) ⊎ (ended r ≡ end.Memory)
+  end_said (Ok e) t never = inl (t.writes, t.is_answer)
+  end_said (Err (error.Failed which)) t never = absurd (never which refl)
+  end_said (Err error.Memory) t never = inr refl
 
-  run_end : (e : End) → IsRunFor text old new e → (e ≡ end.WriteFault out.Out → ⊥) → HasRunEnd text e ⊎ (e ≡ end.Memory)
-  run_end end.Done a no_fault = inl (ended_by a)
-  run_end end.Raised a no_fault = inl (ended_by a)
-  run_end (end.Spent acts) a no_fault = inl (ended_by a)
-  run_end (end.Outside what line) a no_fault = inl (ended_by a)
-  run_end (end.Refused error) a no_fault = inl a.0
-  run_end (end.Unbuilt line) a no_fault = inl a.0
-  run_end (end.WriteFault out.Out) a no_fault = absurd (no_fault refl)
-  run_end (end.WriteFault out.Log) a no_fault = absurd a
-  run_end end.Memory a no_fault = inr refl
-  run_end end.Usage a no_fault = absurd a
-  run_end (end.TooLong which) a no_fault = absurd a
-  run_end end.ReadFault a no_fault = absurd a
+-- only want of memory and a fault of the log come in place of a final text
+pub final_only : (r : Result End WriteErr) (e : End) (P : End → Type 0) → IfOk r (λ x. (x ≡ e) × P x) → (r ≡ Err (error.Failed out.Out) → ⊥)
+    → (ended r ≡ e) ⊎ ((ended r ≡ end.WriteFault out.Log) ⊎ (ended r ≡ end.Memory))
+final_only (Ok x) e P t only = inl t.0
+final_only (Err (error.Failed out.Out)) e P t only = absurd (only refl)
+final_only (Err (error.Failed out.Log)) e P t only = inr (inl refl)
+final_only (Err error.Memory) e P t only = inr (inr refl)
 
-  listing_end : (e : End) → IsListedFor text old new e → (e ≡ end.WriteFault out.Out → ⊥) → HasListingEnd text e ⊎ (e ≡ end.Memory)
-  listing_end end.Done a no_fault = inl (record { script = a.is.script; is_script = a.is.is_script })
-  listing_end (end.Refused error) a no_fault = inl a.0
-  listing_end (end.WriteFault out.Out) a no_fault = absurd (no_fault refl)
-  listing_end (end.WriteFault out.Log) a no_fault = absurd a
-  listing_end end.Memory a no_fault = inr refl
-  listing_end end.Raised a no_fault = absurd a
-  listing_end (end.Spent acts) a no_fault = absurd a
-  listing_end (end.Outside what line) a no_fault = absurd a
-  listing_end (end.Unbuilt line) a no_fault = absurd a
-  listing_end end.Usage a no_fault = absurd a
-  listing_end (end.TooLong which) a no_fault = absurd a
-  listing_end end.ReadFault a no_fault = absurd a
+pub no_fault : (r : Result End WriteErr) → (r ≡ Err (error.Failed out.Out) → ⊥) → (r ≡ Err (error.Failed out.Log) → ⊥) → (which : Out) → r ≡ Err (error.Failed which) → ⊥
+no_fault r a b out.Out = a
+no_fault r a b out.Log = b
 
-  pub end_said : (c : Command) (e : End) → IsAnsweredFor c text old new e → (e ≡ end.WriteFault out.Out → ⊥) → IsEndFor c text e ⊎ (e ≡ end.Memory)
-  end_said Run e a no_fault = run_end e a no_fault
-  end_said Dis e a no_fault = listing_end e a no_fault
+-- a text that is told is the one that was read
+module _ (words : List (String Global)) (told : Text → Told) (b : Asked) (bytes : Text) (asked : asked_for words ≡ Some b) (whole : IsWhole (told b.script) bytes) where
+  same_text : (a : Asked) (text : Text) → asked_for words ≡ Some a → told a.script ≡ Holds text → (b ≡ a) × (bytes ≡ text)
+  same_text a text is holds =
+      let same : b ≡ a = cc in
+      let held : IsWhole (Holds text) bytes = subst (λ t. IsWhole t bytes) (ap (λ c. told c.script) same ∙ holds) whole in
+      (same, sym held)
 
-is_end : (r : RunEnd) (E : Ending Value) → IsEnding r E → IsEndOf E (end_of_run r)
-is_end run.Done (ended (gave v)) i = refl
-is_end run.Done (ended (left_by v)) i = absurd i
-is_end run.Done (outside what line) i = absurd i
-is_end run.Done spent i = absurd i
-is_end run.Raised (ended (gave v)) i = absurd i
-is_end run.Raised (ended (left_by v)) i = refl
-is_end run.Raised (outside what line) i = absurd i
-is_end run.Raised spent i = absurd i
-is_end (run.Outside what line) (ended (gave v)) i = absurd i
-is_end (run.Outside what line) (ended (left_by v)) i = absurd i
-is_end (run.Outside what line) (outside what' line') i = λ k. end.Outside (sym i.0 k) (record { 0 = sym i.1 k })
-is_end (run.Outside what line) spent i = absurd i
-is_end run.Spent (ended (gave v)) i = absurd i
-is_end run.Spent (ended (left_by v)) i = absurd i
-is_end run.Spent (outside what line) i = absurd i
-is_end run.Spent spent i = refl
-
-module _ (text : List ℕ) (ss : Stms) (is : IsBuilt text ss) (limit : ℕ) (bound : limit ≡ act_limit) (old new : Pieces → Pieces → Type 0) where
-  ran : (r : RunEnd) → Finished (meaning_under limit ss) r old new → Ran text (end_of_run r) old new
-  ran r f =
-      let g = subst (λ n. Finished (meaning_under n ss) r old new) bound f in
-      record { script = ss; is = is; is_end = is_end r (meaning_of ss).ending g.0; wrote = g.1 }
-
-  pub answered : (r : RunEnd) → Finished (meaning_under limit ss) r old new → IsRunFor text old new (end_of_run r)
-  answered run.Done f = ran run.Done f
-  answered run.Raised f = ran run.Raised f
-  answered (run.Outside what line) f = ran (run.Outside what line) f
-  answered run.Spent f = ran run.Spent f
-
-  pub wrote_front : TakesFront old new (meaning_under limit ss).world.written → WroteFront text old new
-  wrote_front f = record { script = ss; is = is; wrote = subst (λ n. TakesFront old new (meaning_under n ss).world.written) bound f }
-
--- the answer for a text that the shelf tells of is that of the program
-module _ (name : Option (List ℕ)) (told : List ℕ → Told) (text : List ℕ) (old new : Pieces → Pieces → Type 0) where
-  of_text : (c : Command) (e : End) → OfNamed name told (λ t. IsWhole t text) → length text ≤ script_limit → IsAnsweredFor c text old new e
-      → IsAnswered c name told old new e
-  of_text Run end.Usage n l a = absurd a
-  of_text Dis end.Usage n l a = absurd a
-  of_text Run end.ReadFault n l a = absurd a
-  of_text Dis end.ReadFault n l a = absurd a
-  of_text Run (end.TooLong which) n l a = absurd a
-  of_text Dis (end.TooLong which) n l a = absurd a
-  of_text Run end.Memory n l (inl t) = inl t
-  of_text Run end.Memory n l (inr f) = inr (text, n, l, f)
-  of_text Dis end.Memory n l (inl t) = inl t
-  of_text Dis end.Memory n l (inr f) = inr (text, n, l, f)
-  of_text c end.Done n l a = (text, n, l, a)
-  of_text c end.Raised n l a = (text, n, l, a)
-  of_text c (end.Spent acts) n l a = (text, n, l, a)
-  of_text c (end.Outside what line) n l a = (text, n, l, a)
-  of_text c (end.Refused error) n l a = (text, n, l, a)
-  of_text c (end.Unbuilt line) n l a = (text, n, l, a)
-  of_text c (end.WriteFault which) n l a = (text, n, l, a)
-
-  pub answered_by : (c k : Command) (e : End) (bytes : List ℕ) → k ≡ c → bytes ≡ text → OfNamed name told (λ t. IsWhole t text) → length text ≤ script_limit
-      → IsAnsweredFor k bytes old new e → IsAnswered c name told old new e
-  answered_by c k e bytes is same n l a =
-      of_text c e n l (subst (λ j. IsAnsweredFor j text old new e) is (subst (λ t. IsAnsweredFor k t old new e) same a))
+  pub complete : (e : End) → IsEndFor b bytes e ⊎ (e ≡ end.Memory) → (a : Asked) (text : Text) → asked_for words ≡ Some a → told a.script ≡ Holds text
+      → IsEndFor a text e ⊎ (e ≡ end.Memory)
+  complete e said a text is holds =
+      let same = same_text a text is holds in
+      elim said [ inl s ↦ inl (subst (λ t. IsEndFor a t e) same.1 (subst (λ c. IsEndFor c bytes e) same.0 s)) | inr m ↦ inr m ]

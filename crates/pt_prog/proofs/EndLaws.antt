@@ -1,107 +1,110 @@
 -- A text says one end at most.
-use Rattle.std.proofs.Common.{◌≡◌, ℕ, List, Some, refl, sym, ap, ◌∙◌, subst}
-use Rattle.pt_tree.specs.Syntax.{Stms}
-use Rattle.pt_control.specs.Turn.{gave, left_by}
-use Rattle.pt_meaning.specs.declared.value.Value.{Value}
-use Rattle.pt_meaning.specs.Built.{Built, unbuilt_of}
-use Rattle.pt_meaning.specs.Run.{Ending, ended, outside, spent}
-use Rattle.pt_meaning.proofs.BuiltLemmas.{told}
+use Rattle.std.proofs.Common.{◌≡◌, ◌++◌, ℕ, List, [], Bool, true, false, Some, None, refl, sym, ap, ◌∙◌, subst}
+use Rattle.std.proofs.lemmas.Bool.{true≢false}
 use Rattle.pt_base.specs.declared.numbers.Line.{Line}
-use Rattle.pt_front.specs.Text.{IsRefused}
-use Rattle.pt_front.specs.declared.refusal.Refusal.{Refusal}
+use Rattle.pt_base.specs.Taken.{Pieces}
+use Rattle.pt_tree.specs.Syntax.{Stms}
+use Rattle.pt_heap.specs.declared.value.Value.{Value}
+use Rattle.pt_heap.specs.declared.value.Value.TheVariants as value
+use Rattle.pt_host.specs.HeapHost.{heap_host}
+use Rattle.pt_host.specs.World.{World, no_names, start_world}
+use Rattle.pt_run.specs.Run.{Write}
+use Rattle.pt_bare_runs.specs.Strides.{Outcome}
+use Rattle.pt_bare_runs.proofs.BareRuns.{bare_runs_once}
+use Rattle.pt_machine_state.specs.Writing.{kept}
+use Rattle.pt_sinks.specs.Writing.{outs}
+use Rattle.pt_sinks.proofs.WritingLemmas.{outs_append}
+use Rattle.pt_script_program.specs.ScriptProgram.{program_of}
+use Rattle.pt_script_runs.specs.Blocks.{the_module}
+use Rattle.pt_script_runs.specs.Laws.{tree_machine}
+use Rattle.pt_run_script.specs.ScriptRun.{RunsTo}
+use Rattle.pt_built.specs.Built.{Built, unbuilt_of}
 use Rattle.pt_front.proofs.Once.{one_script, one_refusal, never_both}
+use Rattle.pt_words.specs.Words.{Asked}
 use Rattle.pt_prog.specs.declared.end.End.{End}
 use Rattle.pt_prog.specs.declared.end.End.TheVariants as end
-use Rattle.pt_prog.specs.declared.command.Command.{Command}
-use Rattle.pt_prog.specs.declared.command.Command.TheVariants.{Run, Dis}
-use Rattle.pt_prog.specs.Answer.{meaning_of, IsEndOf, IsUnbuilt, Ends, HasRunEnd, HasListingEnd, IsEndFor}
+use Rattle.pt_prog.specs.LogText.{Text, final, line_of, totals}
+use Rattle.pt_prog.specs.Answer.{IsAnswerFor, IsEndFor, IsUnbuilt, IsBuilt, end_of, is_run, last_text, run_writes, tells_events, refused, unbuilt, ran, listed}
 
--- what an end says of the text
-data Says (text : List ℕ) (e : End) : Type 0 where
-  refused : (r : Refusal) → IsRefused text r → e ≡ end.Refused r → Says text e
-  unbuilt : (line : Line) → IsUnbuilt text line.0 → e ≡ end.Unbuilt line → Says text e
-  ends : Ends text e → Says text e
+one_ending : (ss : Stms) (n : ℕ) (o p : Outcome Value World) → RunsTo ss n o → RunsTo ss n p → o ≡ p
+one_ending ss n o p a b = bare_runs_once (tree_machine value.None ss) (heap_host (program_of ss)) n the_module no_names (start_world (program_of ss)) o p a b
 
-says : (text : List ℕ) (e : End) → HasRunEnd text e → Says text e
-says text (end.Refused r) i = refused r i refl
-says text (end.Unbuilt line) i = unbuilt line i refl
-says text end.Done i = ends i
-says text end.Raised i = ends i
-says text (end.Spent acts) i = ends i
-says text (end.Outside what line) i = ends i
-says text end.Usage i = absurd i
-says text (end.TooLong which) i = absurd i
-says text end.ReadFault i = absurd i
-says text (end.WriteFault which) i = absurd i
-says text end.Memory i = absurd i
-
-one_end : (E : Ending Value) (e f : End) → IsEndOf E e → IsEndOf E f → e ≡ f
-one_end (ended (left_by v)) e f i j = i ∙ sym j
-one_end (ended (gave v)) e f i j = i ∙ sym j
-one_end (outside what line) e f i j = i ∙ sym j
-one_end spent e f i j = i ∙ sym j
-
-module _ (text : List ℕ) where
-  one_line : (k l : Line) → IsUnbuilt text k.0 → IsUnbuilt text l.0 → end.Unbuilt k ≡ end.Unbuilt l
+module _ (a : Asked) (text : Text) where
+  one_line : (k l : Line) → IsUnbuilt text k → IsUnbuilt text l → end.Unbuilt k ≡ end.Unbuilt l
   one_line k l u v =
       let same : u.script ≡ v.script = one_script text u.script v.script u.is_script v.is_script in
       let first : Some k.0 ≡ Some l.0 = sym u.is_first ∙ ap unbuilt_of same ∙ v.is_first in
       let line : k.0 ≡ l.0 = cc in λ i. end.Unbuilt (record { 0 = line i })
 
-  not_both : (k : ℕ) (e : End) → IsUnbuilt text k → Ends text e → ⊥
-  not_both k e u r =
-      let built : Built u.script = subst Built (one_script text r.script u.script r.is.is_script u.is_script) r.is.is_built in
-      told (sym u.is_first ∙ built)
+  not_both : (line : Line) (ss : Stms) → IsUnbuilt text line → IsBuilt text ss → ⊥
+  not_both line ss u b =
+      let none : unbuilt_of u.script ≡ None = ap unbuilt_of (one_script text u.script ss u.is_script b.is_script) ∙ b.is_built in
+      let bad : Some line.0 ≡ None = sym u.is_first ∙ none in absurd cc
 
-  said_once : (e f : End) → Says text e → Says text f → e ≡ f
-  said_once e f (refused q x i) (refused r y j) = i ∙ ap (λ r. end.Refused r) (one_refusal text q r x y) ∙ sym j
-  said_once e f (refused q x i) (unbuilt l v j) = absurd (never_both text v.script q v.is_script x)
-  said_once e f (refused q x i) (ends r) = absurd (never_both text r.script q r.is.is_script x)
-  said_once e f (unbuilt k u i) (refused r y j) = absurd (never_both text u.script r u.is_script y)
-  said_once e f (unbuilt k u i) (unbuilt l v j) = i ∙ one_line k l u v ∙ sym j
-  said_once e f (unbuilt k u i) (ends r) = absurd (not_both k.0 f u r)
-  said_once e f (ends q) (refused r y j) = absurd (never_both text q.script r q.is.is_script y)
-  said_once e f (ends q) (unbuilt l v j) = absurd (not_both l.0 e v q)
-  said_once e f (ends q) (ends r) =
-      let same = one_script text q.script r.script q.is.is_script r.is.is_script in
-      one_end (meaning_of r.script).ending e f (subst (λ s. IsEndOf (meaning_of s).ending e) same q.is_end) r.is_end
+  one_end : (ss zz : Stms) (o p : Outcome Value World) → IsBuilt text ss → IsBuilt text zz → RunsTo ss a.steps o → RunsTo zz a.steps p
+      → end_of a.steps o.ending ≡ end_of a.steps p.ending
+  one_end ss zz o p b c r q =
+      let same : ss ≡ zz = one_script text ss zz b.is_script c.is_script in
+      ap (λ z. end_of a.steps z.ending) (one_ending zz a.steps o p (subst (λ s. RunsTo s a.steps o) same r) q)
 
-  run_once : (e f : End) → HasRunEnd text e → HasRunEnd text f → e ≡ f
-  run_once e f i j = said_once e f (says text e i) (says text f j)
+  run_or_listed : is_run a.command ≡ true → is_run a.command ≡ false → ⊥
+  run_or_listed r l = true≢false (sym r ∙ l)
 
-  listed_once : (e f : End) → HasListingEnd text e → HasListingEnd text f → e ≡ f
-  listed_once (end.Refused q) (end.Refused r) i j = ap (λ r. end.Refused r) (one_refusal text q r i j)
-  listed_once (end.Refused q) end.Done i j = absurd (never_both text j.script q j.is_script i)
-  listed_once end.Done (end.Refused r) i j = absurd (never_both text i.script r i.is_script j)
-  listed_once end.Done end.Done i j = refl
-  listed_once (end.Unbuilt line) f i j = absurd i
-  listed_once end.Raised f i j = absurd i
-  listed_once (end.Spent acts) f i j = absurd i
-  listed_once (end.Outside what line) f i j = absurd i
-  listed_once end.Usage f i j = absurd i
-  listed_once (end.TooLong which) f i j = absurd i
-  listed_once end.ReadFault f i j = absurd i
-  listed_once (end.WriteFault which) f i j = absurd i
-  listed_once end.Memory f i j = absurd i
-  listed_once (end.Refused q) (end.Unbuilt line) i j = absurd j
-  listed_once (end.Refused q) end.Raised i j = absurd j
-  listed_once (end.Refused q) (end.Spent acts) i j = absurd j
-  listed_once (end.Refused q) (end.Outside what line) i j = absurd j
-  listed_once (end.Refused q) end.Usage i j = absurd j
-  listed_once (end.Refused q) (end.TooLong which) i j = absurd j
-  listed_once (end.Refused q) end.ReadFault i j = absurd j
-  listed_once (end.Refused q) (end.WriteFault which) i j = absurd j
-  listed_once (end.Refused q) end.Memory i j = absurd j
-  listed_once end.Done (end.Unbuilt line) i j = absurd j
-  listed_once end.Done end.Raised i j = absurd j
-  listed_once end.Done (end.Spent acts) i j = absurd j
-  listed_once end.Done (end.Outside what line) i j = absurd j
-  listed_once end.Done end.Usage i j = absurd j
-  listed_once end.Done (end.TooLong which) i j = absurd j
-  listed_once end.Done end.ReadFault i j = absurd j
-  listed_once end.Done (end.WriteFault which) i j = absurd j
-  listed_once end.Done end.Memory i j = absurd j
+  answers_once : (e f : End) (ws vs : List Write) → IsAnswerFor a text e ws → IsAnswerFor a text f vs → e ≡ f
+  answers_once e f ws vs (refused q x i u) (refused r y j v) = i ∙ ap (λ r. end.Refused r) (one_refusal text q r x y) ∙ sym j
+  answers_once e f ws vs (refused q x i u) (unbuilt l b y j v) = absurd (never_both text y.script q y.is_script x)
+  answers_once e f ws vs (refused q x i u) (ran ss o n d b y r j v) = absurd (never_both text ss q y.is_script x)
+  answers_once e f ws vs (refused q x i u) (listed ls b y j v) = absurd (never_both text y.script q y.is_script x)
+  answers_once e f ws vs (unbuilt k a x i u) (refused r y j v) = absurd (never_both text x.script r x.is_script y)
+  answers_once e f ws vs (unbuilt k a x i u) (unbuilt l b y j v) = i ∙ one_line k l x y ∙ sym j
+  answers_once e f ws vs (unbuilt k a x i u) (ran ss o n d b y r j v) = absurd (not_both k ss x y)
+  answers_once e f ws vs (unbuilt k a x i u) (listed ls b y j v) = absurd (run_or_listed a b)
+  answers_once e f ws vs (ran ss o n d a x r i u) (refused q y j v) = absurd (never_both text ss q x.is_script y)
+  answers_once e f ws vs (ran ss o n d a x r i u) (unbuilt l b y j v) = absurd (not_both l ss y x)
+  answers_once e f ws vs (ran ss o n d a x r i u) (ran zz p m g b y q j v) = i ∙ one_end ss zz o p x y r q ∙ sym j
+  answers_once e f ws vs (ran ss o n d a x r i u) (listed ls b y j v) = absurd (run_or_listed a b)
+  answers_once e f ws vs (listed ls a x i u) (refused q y j v) = absurd (never_both text x.script q x.is_script y)
+  answers_once e f ws vs (listed ls a x i u) (unbuilt l b y j v) = absurd (run_or_listed b a)
+  answers_once e f ws vs (listed ls a x i u) (ran zz p m g b y q j v) = absurd (run_or_listed b a)
+  answers_once e f ws vs (listed ls a x i u) (listed ms b y j v) = i ∙ sym j
 
-  pub once : (c : Command) (e f : End) → IsEndFor c text e → IsEndFor c text f → e ≡ f
-  once Run e f i j = run_once e f i j
-  once Dis e f i j = listed_once e f i j
+  pub once : (e f : End) → IsEndFor a text e → IsEndFor a text f → e ≡ f
+  once e f i j = answers_once e f i.0 j.0 i.1 j.1
+
+  -- and its run prints one output, whatever the log has
+  no_prints : (b : Bool) (acts instructions depth : ℕ) → outs (totals b acts instructions depth) ≡ []
+  no_prints true acts instructions depth = refl
+  no_prints false acts instructions depth = refl
+
+  prints : (o : Outcome Value World) → Pieces
+  prints o = outs (kept (tells_events a) o.written) ++ outs (line_of (last_text a.steps o.ending))
+
+  are_prints : (o : Outcome Value World) (instructions depth : ℕ) → outs (run_writes a o instructions depth) ≡ prints o
+  unfolding prints
+  are_prints o instructions depth =
+      outs_append (kept (tells_events a) o.written) (totals a.stats o.units instructions depth ++ line_of (last_text a.steps o.ending))
+      ∙ ap (λ q. outs (kept (tells_events a) o.written) ++ q)
+      (outs_append (totals a.stats o.units instructions depth) (line_of (last_text a.steps o.ending))
+      ∙ ap (λ q. q ++ outs (line_of (last_text a.steps o.ending))) (no_prints a.stats o.units instructions depth))
+
+  one_output : (ss zz : Stms) (o p : Outcome Value World) (i d j g : ℕ) → IsBuilt text ss → IsBuilt text zz → RunsTo ss a.steps o → RunsTo zz a.steps p
+      → outs (run_writes a o i d) ≡ outs (run_writes a p j g)
+  one_output ss zz o p i d j g b c r q =
+      let same : ss ≡ zz = one_script text ss zz b.is_script c.is_script in
+      are_prints o i d ∙ ap prints (one_ending zz a.steps o p (subst (λ s. RunsTo s a.steps o) same r) q) ∙ sym (are_prints p j g)
+
+  same_final : (e f : End) (ws vs : List Write) → e ≡ f → ws ≡ final e → vs ≡ final f → outs ws ≡ outs vs
+  same_final e f ws vs same u v = ap outs (u ∙ ap final same ∙ sym v)
+
+  pub prints_once : (e f : End) (ws vs : List Write) → is_run a.command ≡ true → IsAnswerFor a text e ws → IsAnswerFor a text f vs → outs ws ≡ outs vs
+  prints_once e f ws vs runs (refused q x i u) (refused r y j v) = same_final e f ws vs (answers_once e f ws vs (refused q x i u) (refused r y j v)) u v
+  prints_once e f ws vs runs (refused q x i u) (unbuilt l b y j v) = absurd (never_both text y.script q y.is_script x)
+  prints_once e f ws vs runs (refused q x i u) (ran ss o n d b y r j v) = absurd (never_both text ss q y.is_script x)
+  prints_once e f ws vs runs (unbuilt k b x i u) (refused r y j v) = absurd (never_both text x.script r x.is_script y)
+  prints_once e f ws vs runs (unbuilt k b x i u) (unbuilt l c y j v) = same_final e f ws vs (answers_once e f ws vs (unbuilt k b x i u) (unbuilt l c y j v)) u v
+  prints_once e f ws vs runs (unbuilt k b x i u) (ran ss o n d c y r j v) = absurd (not_both k ss x y)
+  prints_once e f ws vs runs (ran ss o n d b x r i u) (refused q y j v) = absurd (never_both text ss q x.is_script y)
+  prints_once e f ws vs runs (ran ss o n d b x r i u) (unbuilt l c y j v) = absurd (not_both l ss y x)
+  prints_once e f ws vs runs (ran ss o n d b x r i u) (ran zz p m g c y q j v) = ap outs u ∙ one_output ss zz o p n d m g x y r q ∙ sym (ap outs v)
+  prints_once e f ws vs runs (listed ls b x i u) y = absurd (run_or_listed runs b)
+  prints_once e f ws vs runs x (listed ms b y j v) = absurd (run_or_listed runs b)

@@ -1,3 +1,4 @@
-pub mod AnswerLemmas
 pub mod EndLaws
 pub mod ListingLemmas
+pub mod RunLemmas
+pub mod AnswerLemmas

@@ -9,12 +9,10 @@ use Rattle.pt_wide.specs.StatementFold.{stms_from}
 use Rattle.pt_numbering.specs.Numbered.{IsNumbered}
 use Rattle.pt_script_numbers.proofs.Scripts.{numbered}
 use Rattle.pt_front.specs.Text.{IsScript}
-use Rattle.pt_listing.specs.Listing.{IsListing}
 use Rattle.pt_compile.specs.ScriptCode.{code_of}
 use Rattle.pt_code_files.specs.Numbers.{NumbersFit}
 use Rattle.pt_code_files.proofs.Marks.{marks_rise}
 use Rattle.pt_code_files.proofs.Whole.{script_has_file}
-use Rattle.pt_prog.specs.Answer.{IsListed}
 
 module _ (text : List ℕ) (script : Stms) (is : IsScript text script) (code : Code) (has : (code ≡ code_of script) × NumbersFit code) where
   is_numbered : IsNumbered script
@@ -25,6 +23,3 @@ module _ (text : List ℕ) (script : Stms) (is : IsScript text script) (code : C
 
   pub rise : AllByRecursion (λ b. Rises b.marks) code.blocks
   rise = let P : Code → Type 0 = λ c. AllByRecursion (λ b. Rises b.marks) c.blocks in subst P (sym has.0) (marks_rise script)
-
-  pub listed : (lines : List ℕ) → IsListing code lines → IsListed text lines
-  listed lines l = record { script = script; is_script = is; is_listing = subst (λ c. IsListing c lines) has.0 l }

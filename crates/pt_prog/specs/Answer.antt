@@ -1,192 +1,160 @@
--- What the program answers to its words and files, and what it writes.
-use Rattle.std.specs.Prelude.{◌≡◌, ◌≤◌, ℕ, List, [], ◌∷◌, codes, Option, Some, None, Bool, not, ◌&&◌, ◌||◌, ◌==◌, ◌⊎◌, length, if◌then◌else◌, string_bytes, slice_index}
-use Rattle.std.specs.Str.{bytes_eq}
+-- What the program answers to its words and files, and what it writes: to out and to the log, to each in its order.
+use Rattle.std.specs.Prelude.{◌≡◌, ◌≤◌, ℕ, List, [], ◌∷◌, ◌++◌, Option, Some, None, Bool, true, false, ◌||◌, ◌⊎◌, length, map, option_map, string_bytes}
 use Rattle.std.specs.declared.string.String.{String}
 use Rattle.std.specs.declared.alloc.Global.{Global}
-use Rattle.pt_base.specs.Told.{Told, IsWhole}
-use Rattle.pt_base.specs.Taken.{Pieces, Takes, TakesFront}
+use Rattle.pt_base.specs.declared.numbers.Line.{Line}
+use Rattle.pt_base.specs.Told.{Told, IsLacked, IsLonger, IsWhole}
+use Rattle.pt_base.specs.Told.Told.{Holds}
+use Rattle.pt_base.specs.Taken.{Pieces}
 use Rattle.pt_tree.specs.Syntax.{Stms}
-use Rattle.pt_control.specs.Turn.{gave, left_by}
-use Rattle.pt_meaning.specs.Built.{Built, unbuilt_of}
-use Rattle.pt_meaning.specs.Run.{Ending, ended, outside, spent}
-use Rattle.pt_meaning.specs.declared.value.Value.{Value}
+use Rattle.pt_run.specs.Run.{Write, write, to_out, to_log}
+use Rattle.pt_sinks.specs.Writing.{Took, TookFront}
+use Rattle.pt_sinks.specs.declared.writing.WriteErr.{WriteErr}
+use Rattle.pt_sinks.specs.declared.writing.WriteErr.TheVariants as error
+use Rattle.pt_bare_runs.specs.Strides as bare
+use Rattle.pt_bare_runs.specs.Strides.{Ending, Outcome}
+use Rattle.pt_heap.specs.declared.value.Value.{Value}
+use Rattle.pt_host.specs.World.{World}
+use Rattle.pt_machine_state.specs.Writing.{kept}
+use Rattle.pt_run_script.specs.ScriptRun.{RunsTo, ScriptWritesFirst}
+use Rattle.pt_built.specs.Built.{Built, unbuilt_of}
 use Rattle.pt_front.specs.Text.{IsScript, IsRefused}
+use Rattle.pt_front.specs.declared.refusal.Refusal.{Refusal}
 use Rattle.pt_compile.specs.ScriptCode.{code_of}
 use Rattle.pt_listing.specs.Listing.{IsListing}
-use Rattle.pt_prog.specs.declared.command.Command.{Command}
-use Rattle.pt_prog.specs.declared.command.Command.TheVariants.{Run, Dis}
+use Rattle.pt_words.specs.Words.{Asked, command_line}
+use Rattle.pt_words.specs.declared.line.Command.{Command}
+use Rattle.pt_words.specs.declared.line.Command.TheVariants as command
 use Rattle.pt_prog.specs.declared.end.End.{End}
 use Rattle.pt_prog.specs.declared.end.End.TheVariants as end
 use Rattle.pt_prog.specs.declared.end.File.TheVariants as file
-use Rattle.pt_prog.specs.declared.end.Out.TheVariants as out
-use Rattle.pt_prog.specs.Limits.{act_limit}
 use Rattle.pt_prog.specs.Limits.{script_limit}
-use Rattle.pt_session.specs.Running.{Whole, meaning_of as meaning_under}
+use Rattle.pt_prog.specs.LogText.{Text, final_text, line_of, final, totals}
 
--- what is done with the script
-abbrev pub command_of : List (String Global) → Command
-command_of [] = Run
-command_of (word ∷ words) = if bytes_eq (string_bytes word) (codes "dis") then Dis else Run
+-- what the words ask for, where they are a command line
+abbrev pub asked_for : List (String Global) → Option Asked
+asked_for words = command_line (map string_bytes words)
 
--- the words are `run` or `dis` and the name of a script, which isn't empty and doesn't begin with `-`
-abbrev pub is_command : (command name : List ℕ) → Bool
-is_command command name =
-    (bytes_eq command (codes "run") || bytes_eq command (codes "dis")) && not (length name == 0) && not (slice_index name 0 == 45)
-
-abbrev pub script_named : List (String Global) → Option (List ℕ)
-script_named (command ∷ name ∷ []) = if is_command (string_bytes command) (string_bytes name) then Some (string_bytes name) else None
-script_named words = None
+-- the name of the script in it
+abbrev pub script_named : List (String Global) → Option Text
+script_named words = option_map (λ a. a.script) (asked_for words)
 
 -- the shelf tells P of the named text
-abbrev pub OfNamed : Option (List ℕ) → (told : List ℕ → Told) → (Told → Type 0) → Type 0
+abbrev pub OfNamed : Option Text → (told : Text → Told) → (Told → Type 0) → Type 0
 OfNamed None told P = ⊥
 OfNamed (Some name) told P = P (told name)
 
--- the meaning of a script, under the bound of the program
-abbrev pub meaning_of : Stms → Whole
-meaning_of ss = meaning_under act_limit ss
+-- a script is run, or its code is listed
+abbrev pub is_run : Command → Bool
+is_run command.Run = true
+is_run command.Trace = true
+is_run command.Dis = false
 
--- the program's end for a run's
-abbrev pub IsEndOf : Ending Value → End → Type 0
-IsEndOf (ended (gave v)) e = e ≡ end.Done
-IsEndOf (ended (left_by v)) e = e ≡ end.Raised
-IsEndOf (outside what line) e = e ≡ end.Outside what (record { 0 = line })
--- all acts of the bound are taken, and another would begin
-IsEndOf spent e = e ≡ end.Spent act_limit
+abbrev pub traces : Command → Bool
+traces command.Run = false
+traces command.Trace = true
+traces command.Dis = false
+
+-- the log has a line for each event: `trace` is `run --events`
+abbrev pub tells_events : Asked → Bool
+tells_events a = traces a.command || a.events
 
 -- the text is this script, all of which is built
-pub record IsBuilt (text : List ℕ) (script : Stms) : Type 0 where
+pub record IsBuilt (text : Text) (script : Stms) : Type 0 where
   pub is_script : IsScript text script
   pub is_built : Built script
 
 -- the text is a script, and this is the line of its first node that isn't built
-pub record IsUnbuilt (text : List ℕ) (line : ℕ) : Type 0 where
+pub record IsUnbuilt (text : Text) (line : Line) : Type 0 where
   pub script : Stms
   pub is_script : IsScript text script
-  pub is_first : unbuilt_of script ≡ Some line
-
--- the end of a text that isn't run; want of memory may be told at any time
-abbrev pub IsUnrun : List ℕ → End → Type 0
-IsUnrun text (end.Refused error) = IsRefused text error
-IsUnrun text (end.Unbuilt line) = IsUnbuilt text line.0
-IsUnrun text end.Memory = Unit {0}
-IsUnrun text e = ⊥
-
--- the text is a built script whose meaning has this end
-pub record Ends (text : List ℕ) (e : End) : Type 0 where
-  pub script : Stms
-  pub is : IsBuilt text script
-  pub is_end : IsEndOf (meaning_of script).ending e
-
--- the same, and all that it writes was written
-pub record Ran (text : List ℕ) (e : End) (old new : Pieces → Pieces → Type 0) : Type 0 where
-  pub script : Stms
-  pub is : IsBuilt text script
-  pub is_end : IsEndOf (meaning_of script).ending e
-  pub wrote : Takes old new (meaning_of script).world.written
-
--- the text is a built script, and a front of what it writes was written
-pub record WroteFront (text : List ℕ) (old new : Pieces → Pieces → Type 0) : Type 0 where
-  pub script : Stms
-  pub is : IsBuilt text script
-  pub wrote : TakesFront old new (meaning_of script).world.written
-
--- the answer of a run of the text, and what was written to out
-abbrev pub IsRunFor : List ℕ → (old new : Pieces → Pieces → Type 0) → End → Type 0
-IsRunFor text old new end.Done = Ran text end.Done old new
-IsRunFor text old new end.Raised = Ran text end.Raised old new
-IsRunFor text old new (end.Spent acts) = Ran text (end.Spent acts) old new
-IsRunFor text old new (end.Outside what line) = Ran text (end.Outside what line) old new
-IsRunFor text old new (end.Refused error) = IsRefused text error × Takes old new []
-IsRunFor text old new (end.Unbuilt line) = IsUnbuilt text line.0 × Takes old new []
-IsRunFor text old new (end.WriteFault out.Out) = WroteFront text old new
-IsRunFor text old new (end.WriteFault out.Log) = ⊥
-IsRunFor text old new end.Memory = Takes old new [] ⊎ WroteFront text old new
-IsRunFor text old new end.Usage = ⊥
-IsRunFor text old new (end.TooLong which) = ⊥
-IsRunFor text old new end.ReadFault = ⊥
+  pub is_first : unbuilt_of script ≡ Some line.0
 
 -- the text is a script, and this is the listing of its code
-pub record IsListed (text lines : List ℕ) : Type 0 where
+pub record IsListed (text lines : Text) : Type 0 where
   pub script : Stms
   pub is_script : IsScript text script
   pub is_listing : IsListing (code_of script) lines
 
--- the end of a text whose code isn't listed; want of memory may be told at any time
-abbrev pub IsUnlisted : List ℕ → End → Type 0
-IsUnlisted text (end.Refused error) = IsRefused text error
-IsUnlisted text end.Memory = Unit {0}
-IsUnlisted text e = ⊥
+-- the program's end for that of a run of at most n acts
+abbrev pub end_of : (n : ℕ) → Ending Value World → End
+end_of n bare.done = end.Done
+end_of n (bare.exited status text) = end.Exited status
+end_of n (bare.raised v w) = end.Raised
+end_of n bare.spent = end.Spent n
+end_of n (bare.outside_at what line) = end.Outside what (record { 0 = line })
 
--- the listing of its code was written in one piece, or a front of it
-pub record Listed (text : List ℕ) (old new : Pieces → Pieces → Type 0) : Type 0 where
-  pub lines : List ℕ
-  pub is : IsListed text lines
-  pub wrote : Takes old new (lines ∷ [])
+-- the log's last text: that of a SystemExit, which the script gives, or that of the end
+abbrev pub last_text : (n : ℕ) → Ending Value World → Option Text
+last_text n (bare.exited status text) = text
+last_text n e = final_text (end_of n e)
 
-pub record ListedFront (text : List ℕ) (old new : Pieces → Pieces → Type 0) : Type 0 where
-  pub lines : List ℕ
-  pub is : IsListed text lines
-  pub wrote : TakesFront old new (lines ∷ [])
+-- all that a run of a script writes that comes to an outcome: what the script prints and its events, the totals, and the last text. Of the totals a script
+-- says the acts alone: instructions and depth are any numbers
+abbrev pub run_writes : Asked → Outcome Value World → (instructions depth : ℕ) → List Write
+run_writes a o instructions depth = kept (tells_events a) o.written ++ (totals a.stats o.units instructions depth ++ line_of (last_text a.steps o.ending))
 
--- the answer where the code of the text is asked for, and what was written to out
-abbrev pub IsListedFor : List ℕ → (old new : Pieces → Pieces → Type 0) → End → Type 0
-IsListedFor text old new end.Done = Listed text old new
-IsListedFor text old new (end.Refused error) = IsRefused text error × Takes old new []
-IsListedFor text old new (end.WriteFault out.Out) = ListedFront text old new
-IsListedFor text old new end.Memory = Takes old new [] ⊎ ListedFront text old new
-IsListedFor text old new e = ⊥
+-- the answer for a text: the end, and all that is written
+pub data IsAnswerFor (a : Asked) (text : Text) (e : End) (ws : List Write) : Type 0 where
+  refused : (error : Refusal) → IsRefused text error → e ≡ end.Refused error → ws ≡ final e → IsAnswerFor a text e ws
+  unbuilt : (line : Line) → is_run a.command ≡ true → IsUnbuilt text line → e ≡ end.Unbuilt line → ws ≡ final e → IsAnswerFor a text e ws
+  ran : (script : Stms) (o : Outcome Value World) (instructions depth : ℕ) → is_run a.command ≡ true → IsBuilt text script → RunsTo script a.steps o
+      → e ≡ end_of a.steps o.ending → ws ≡ run_writes a o instructions depth → IsAnswerFor a text e ws
+  listed : (lines : Text) → is_run a.command ≡ false → IsListed text lines → e ≡ end.Done → ws ≡ write to_out lines ∷ [] → IsAnswerFor a text e ws
 
--- the answer for a text, by the command
-abbrev pub IsAnsweredFor : Command → List ℕ → (old new : Pieces → Pieces → Type 0) → End → Type 0
-IsAnsweredFor Run text old new e = IsRunFor text old new e
-IsAnsweredFor Dis text old new e = IsListedFor text old new e
+-- the end is the one that the text says
+abbrev pub IsEndFor : Asked → Text → End → Type 0
+IsEndFor a text e = (ws : List Write) × IsAnswerFor a text e ws
 
--- a front of what the command writes was written
-abbrev pub HasFront : Command → List ℕ → (old new : Pieces → Pieces → Type 0) → Type 0
-HasFront Run text old new = WroteFront text old new
-HasFront Dis text old new = ListedFront text old new
+-- the text of the script that the words name: the one that the shelf tells, or any within the limit where it doesn't tell
+pub record IsTextOf (words : List (String Global)) (told : Text → Told) (a : Asked) (text : Text) : Type 0 where
+  pub asked : asked_for words ≡ Some a
+  pub is_whole : IsWhole (told a.script) text
+  pub within : length text ≤ script_limit
 
--- the same where the text is the one that the shelf told of, or any within the limit where it doesn't tell
-abbrev pub OfText : Option (List ℕ) → (told : List ℕ → Told) → (List ℕ → Type 0) → Type 0
-OfText name told P = (text : List ℕ) × OfNamed name told (λ t. IsWhole t text) × (length text ≤ script_limit) × P text
+-- the answer to words, over a shelf that tells so, whose reading may have failed by a fault
+pub data IsAnswer (misread : Type 0) (words : List (String Global)) (told : Text → Told) (e : End) (ws : List Write) : Type 0 where
+  usage : asked_for words ≡ None → e ≡ end.Usage → ws ≡ final e → IsAnswer misread words told e ws
+  read_fault : (a : Asked) → asked_for words ≡ Some a → misread ⊎ IsLacked (told a.script) → e ≡ end.ReadFault → ws ≡ final e → IsAnswer misread words told e ws
+  too_long : (a : Asked) → asked_for words ≡ Some a → IsLonger (told a.script) script_limit → e ≡ end.TooLong file.First → ws ≡ final e
+      → IsAnswer misread words told e ws
+  of_text : (a : Asked) (text : Text) → IsTextOf words told a text → IsAnswerFor a text e ws → IsAnswer misread words told e ws
 
-abbrev pub IsAnswered : Command → Option (List ℕ) → (told : List ℕ → Told) → (old new : Pieces → Pieces → Type 0) → End → Type 0
-IsAnswered c name told old new end.Usage = Takes old new []
-IsAnswered c name told old new end.ReadFault = Takes old new []
-IsAnswered c name told old new (end.TooLong file.First) = Takes old new []
-IsAnswered c name told old new (end.TooLong file.Second) = ⊥
-IsAnswered c name told old new end.Memory = Takes old new [] ⊎ OfText name told (λ text. HasFront c text old new)
-IsAnswered c name told old new end.Done = OfText name told (λ text. IsAnsweredFor c text old new end.Done)
-IsAnswered c name told old new end.Raised = OfText name told (λ text. IsAnsweredFor c text old new end.Raised)
-IsAnswered c name told old new (end.Spent acts) = OfText name told (λ text. IsAnsweredFor c text old new (end.Spent acts))
-IsAnswered c name told old new (end.Outside what line) = OfText name told (λ text. IsAnsweredFor c text old new (end.Outside what line))
-IsAnswered c name told old new (end.Refused error) = OfText name told (λ text. IsAnsweredFor c text old new (end.Refused error))
-IsAnswered c name told old new (end.Unbuilt line) = OfText name told (λ text. IsAnsweredFor c text old new (end.Unbuilt line))
-IsAnswered c name told old new (end.WriteFault which) = OfText name told (λ text. IsAnsweredFor c text old new (end.WriteFault which))
+-- out and the log, each as it was and as it is
+module _ (out_old out_new log_old log_new : Pieces → Pieces → Type 0) where
+  -- all of an answer was written
+  pub record WroteAllFor (a : Asked) (text : Text) (e : End) : Type 0 where
+    pub writes : List Write
+    pub is_answer : IsAnswerFor a text e writes
+    pub took : Took out_old out_new log_old log_new writes
 
--- the end is the one that a run of the text has
-abbrev pub HasRunEnd : List ℕ → End → Type 0
-HasRunEnd text (end.Refused error) = IsRefused text error
-HasRunEnd text (end.Unbuilt line) = IsUnbuilt text line.0
-HasRunEnd text end.Done = Ends text end.Done
-HasRunEnd text end.Raised = Ends text end.Raised
-HasRunEnd text (end.Spent acts) = Ends text (end.Spent acts)
-HasRunEnd text (end.Outside what line) = Ends text (end.Outside what line)
-HasRunEnd text e = ⊥
+  pub record WroteAll (misread : Type 0) (words : List (String Global)) (told : Text → Told) (e : End) : Type 0 where
+    pub writes : List Write
+    pub is_answer : IsAnswer misread words told e writes
+    pub took : Took out_old out_new log_old log_new writes
 
--- the text is some script
-pub record IsSomeScript (text : List ℕ) : Type 0 where
-  pub script : Stms
-  pub is_script : IsScript text script
+  -- a front of what an answer writes was written, or of what a run writes, whether or not that comes to an end
+  pub data WroteFrontFor (a : Asked) (text : Text) : Type 0 where
+    of_answer : (e : End) (ws : List Write) → IsAnswerFor a text e ws → TookFront out_old out_new log_old log_new ws → WroteFrontFor a text
+    of_run : (script : Stms) (ws : List Write) → is_run a.command ≡ true → IsBuilt text script → ScriptWritesFirst script a.steps ws
+        → TookFront out_old out_new log_old log_new (kept (tells_events a) ws) → WroteFrontFor a text
 
--- the end is the one that the listing of the text's code has
-abbrev pub HasListingEnd : List ℕ → End → Type 0
-HasListingEnd text (end.Refused error) = IsRefused text error
-HasListingEnd text end.Done = IsSomeScript text
-HasListingEnd text e = ⊥
+  pub data WroteFront (misread : Type 0) (words : List (String Global)) (told : Text → Told) : Type 0 where
+    of_no_text : (e : End) (ws : List Write) → IsAnswer misread words told e ws → TookFront out_old out_new log_old log_new ws → WroteFront misread words told
+    of_its_text : (a : Asked) (text : Text) → IsTextOf words told a text → WroteFrontFor a text → WroteFront misread words told
 
--- the end is the one that the text says, by the command
-abbrev pub IsEndFor : Command → List ℕ → End → Type 0
-IsEndFor Run text e = HasRunEnd text e
-IsEndFor Dis text e = HasListingEnd text e
+  -- what was written where a write failed, and where memory ran out
+  abbrev pub BrokeOffFor : Asked → Text → WriteErr → Type 0
+  BrokeOffFor a text (error.Failed which) = WroteFrontFor a text
+  BrokeOffFor a text error.Memory = Took out_old out_new log_old log_new [] ⊎ WroteFrontFor a text
+
+  -- what was written, by the end of the call
+  abbrev pub Wrote : (misread : Type 0) → List (String Global) → (Text → Told) → End → Type 0
+  Wrote misread words told (end.WriteFault which) = WroteFront misread words told
+  Wrote misread words told end.Memory = Took out_old out_new log_old log_new [] ⊎ WroteFront misread words told
+  Wrote misread words told e = WroteAll misread words told e
+
+-- the end is the one that each text within the limit says that the shelf tells of
+abbrev pub IsComplete : List (String Global) → (Text → Told) → End → Type 0
+IsComplete words told e = (a : Asked) (text : Text) → asked_for words ≡ Some a → told a.script ≡ Holds text → length text ≤ script_limit
+    → IsEndFor a text e ⊎ (e ≡ end.Memory)

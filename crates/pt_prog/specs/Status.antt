@@ -1,10 +1,11 @@
 -- The exit status of each end.
 use Rattle.std.specs.Prelude.{ℕ}
 use Rattle.pt_prog.specs.declared.end.End.{End}
-use Rattle.pt_prog.specs.declared.end.End.TheVariants.{Done, Raised, Usage, Spent, Outside, Refused, TooLong, ReadFault, WriteFault, Memory, Unbuilt}
+use Rattle.pt_prog.specs.declared.end.End.TheVariants.{Done, Exited, Raised, Usage, Spent, Outside, Refused, TooLong, ReadFault, WriteFault, Memory, Unbuilt}
 
 abbrev pub status_of : End → ℕ
 status_of Done = 0
+status_of (Exited code) = code
 status_of Raised = 1
 status_of Usage = 2
 status_of (Spent acts) = 3

@@ -1,52 +1,23 @@
 //! The listing of a script's code, for people (Library Reference, "dis").
 
-ghost use Rattle.std.specs.Prelude.{◌≡◌, ◌≤◌, length, string_bytes, MatchResult};
-ghost use Rattle.pt_base.specs.Faults.{Rose};
-ghost use Rattle.pt_prog.specs.Answer.{IsListed, IsListedFor, IsUnlisted};
-ghost use Rattle.pt_prog.specs.Limits.{script_limit};
+ghost use Rattle.std.specs.Prelude.{ℕ, List, IfOk, string_bytes};
+ghost use Rattle.pt_compile.specs.ScriptCode.{code_of};
+ghost use Rattle.pt_front.specs.Text.{IsScript};
+ghost use Rattle.pt_listing.specs.Listing.{IsListing};
+ghost use Rattle.pt_tree.specs.StatementFold.{script_of};
 
-use crate::end::{End, Out};
-use pt_base::{Failure, Sink, SinkErr};
-use pt_front::front;
+use pt_base::Memory;
 use pt_listing::listing;
+use pt_tree::Script;
 use pt_write_script::compile;
 use std::alloc::Global;
 
-/// The listing of the code of the script that a text is, or the end where there is none.
-fn listing_of(alloc: Global, text: &[u8]) -> Result<String, End>
-    requires { length text.now ≤ script_limit }
-    ensures { MatchResult result (λ lines. IsListed text.now (string_bytes lines))
-        (IsUnlisted text.now) }
+/// The listing of the code of a script that a text is.
+pub fn listing_of(alloc: Global, script: &Script) -> Result<String, Memory>
+    requires { (text : List ℕ) × IsScript text (script_of script.now) }
+    ensures { IfOk result (λ lines.
+        IsListing (code_of (script_of script.now)) (string_bytes lines)) }
 {
-    let script = match front(alloc, text) {
-        Ok((script, _)) => script,
-        Err(Failure::Refused(error)) => return Err(End::Refused { error }),
-        Err(Failure::Memory) => return Err(End::Memory),
-    };
-    let Ok(code) = compile(alloc, &script) else {
-        return Err(End::Memory);
-    };
-    let Ok(lines) = listing(alloc, &code) else {
-        return Err(End::Memory);
-    };
-    Ok(lines)
-}
-
-/// Answers for the text of a script whose code is asked for: the listing is one write.
-pub fn list_text<O: Sink>(alloc: Global, text: &[u8], out: &mut O) -> End
-    requires { length text.now ≤ script_limit }
-    ensures answer { IsListedFor text.now (O.taken out.old) (O.taken out.new) result }
-    ensures cause { result ≡ End.WriteFault Out.Out → Rose (O.faults out.old) (O.faults out.new) × (O.faults out.new ≤ O.most out.new) }
-    ensures most { O.most out.new ≡ O.most out.old }
-    ensures later { O.faults out.old ≤ O.faults out.new }
-{
-    let lines = match listing_of(alloc, text) {
-        Ok(lines) => lines,
-        Err(end) => return end,
-    };
-    match out.write(lines.as_str().as_bytes()) {
-        Ok(()) => End::Done,
-        Err(SinkErr::Failed) => End::WriteFault { which: Out::Out },
-        Err(SinkErr::Memory) => End::Memory,
-    }
+    let code = compile(alloc, script)?;
+    listing(alloc, &code)
 }

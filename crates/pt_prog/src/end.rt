@@ -3,13 +3,16 @@ ghost use Rattle.pt_prog.specs.Status.{status_of};
 
 use pt_base::{Line, What};
 use pt_front::Refusal;
+use pt_sinks::Out;
 
 /// How a call of the program ends.
 #[derive(Debug, Drop)]
 pub enum End {
     /// The script came to its end.
     Done,
-    /// An exception left the script.
+    /// A SystemExit left the script, with this status (Library Reference, `sys.exit`).
+    Exited { code: u8 },
+    /// Another exception left the script.
     Raised,
     /// So many acts, the bound of the run, are taken, and another would begin.
     Spent { acts: u64 },
@@ -38,19 +41,13 @@ pub enum File {
     Second,
 }
 
-/// A stream that is written to.
-#[derive(Clone, Copy, Debug, PartialEq, Eq)]
-pub enum Out {
-    Out,
-    Log,
-}
-
 /// The exit status of an end.
 pub fn status(end: &End) -> u8
     ensures { result ≡ status_of end.now }
 {
     match end {
         End::Done => 0,
+        End::Exited { code } => *code,
         End::Raised => 1,
         End::Usage => 2,
         End::Spent { .. } => 3,

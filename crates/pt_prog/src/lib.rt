@@ -2,12 +2,15 @@
 //! how it ends.
 #![tactic(auto)]
 
-mod command;
 mod dis;
 mod end;
+mod ending;
 mod laws;
+mod log_text;
 mod program;
+mod running;
 
-pub use end::{End, File, Out, status};
-pub use laws::a_text_says_one_end;
+pub use end::{End, File, status};
+pub use laws::{a_text_prints_one_output, a_text_says_one_end};
 pub use program::{SCRIPT_LIMIT, top};
+pub use pt_sinks::Out;

@@ -1,89 +1,74 @@
-ghost use Rattle.std.specs.Prelude.{◌≡◌, ◌≢◌, ◌≤◌, ◌⊎◌, ◌↔◌, [], None, Some, length, Err, IfOk, MatchResult, OnErr};
+ghost use Rattle.std.specs.Prelude.{◌≡◌, ◌≢◌, ◌≤◌, ◌⊎◌, None, Some, Err, IfErr, IfOk, length};
 ghost use Rattle.pt_base.specs.Faults.{Rose};
-ghost use Rattle.pt_base.specs.Taken.{Takes, TakesFront};
 ghost use Rattle.pt_base.specs.Told.{IsLacked, IsLonger};
-ghost use Rattle.pt_base.specs.Told.Told.{Holds};
-ghost use Rattle.pt_prog.specs.Answer.{command_of, script_named, OfNamed, IsBuilt, IsUnrun, IsRunFor, IsEndFor, IsAnsweredFor, IsAnswered};
+ghost use Rattle.pt_prog.specs.Answer.{BrokeOffFor, IsComplete, OfNamed, WroteAllFor, Wrote};
+ghost use Rattle.pt_prog.specs.Answer.{asked_for, script_named};
 ghost use Rattle.pt_prog.specs.Limits.{script_limit};
-ghost use Rattle.pt_prog.specs.RunEnds.{end_of_run};
-ghost use Rattle.pt_tree.specs.StatementFold.{script_of};
+ghost use Rattle.pt_prog.specs.RunEnds.{ended};
+ghost use Rattle.pt_sinks.specs.declared.writing.Out.TheVariants as stream;
+ghost use Rattle.pt_words.specs.Asked.{asked};
 
-use crate::command::{Command, leading_command, script_name};
-use crate::dis::list_text;
-use crate::end::{End, File, Out};
-use pt_base::{Budget, Failure, Shelf, ShelfErr, Sink};
+use crate::dis::listing_of;
+use crate::end::{End, File};
+use crate::ending::write_final;
+use crate::running::run_built;
+use pt_base::{Failure, Shelf, ShelfErr, Sink};
 use pt_front::front;
-use pt_session::{RunEnd, RunErr, first_unsupported, run};
-use pt_tree::Script;
+use pt_sinks::{Out, WriteErr, put};
+use pt_words::{Command, CommandLine, WordsErr, parse};
 use std::alloc::Global;
 
 /// How many bytes a script may have.
 pub const SCRIPT_LIMIT: u64 = 1_048_576;
 
-/// How many acts a run may take.
-const ACT_LIMIT: u64 = 10_000_000;
-
-/// The end of a run that was not broken off.
-fn end_of(end: RunEnd) -> End
-    ensures { result ≡ end_of_run end }
-{
-    match end {
-        RunEnd::Done => End::Done,
-        RunEnd::Raised => End::Raised,
-        RunEnd::Outside { what, line } => End::Outside { what, line },
-        RunEnd::Spent => End::Spent { acts: ACT_LIMIT },
-    }
-}
-
-/// The script that a text is, all of which is built, or the end where there is none to run.
-fn built_script(alloc: Global, text: &[u8]) -> Result<Script, End>
+/// Answers for the text of a script: runs it, or lists its code in one write to out.
+fn answer_text<O: Sink, L: Sink>(
+    alloc: Global,
+    line: &CommandLine,
+    text: &[u8],
+    out: &mut O,
+    log: &mut L,
+) -> Result<End, WriteErr>
     requires { length text.now ≤ script_limit }
-    ensures { MatchResult result (λ script. IsBuilt text.now (script_of script)) (IsUnrun text.now) }
+    ensures ok { IfOk result
+        (WroteAllFor (O.taken out.old) (O.taken out.new) (L.taken log.old) (L.taken log.new)
+        (asked line.now) text.now) }
+    ensures err { IfErr result
+        (BrokeOffFor (O.taken out.old) (O.taken out.new) (L.taken log.old) (L.taken log.new)
+        (asked line.now) text.now) }
+    ensures out_failed { result ≡ Err (WriteErr.Failed stream.Out)
+        → Rose (O.faults out.old) (O.faults out.new) × (O.faults out.new ≤ O.most out.new) }
+    ensures log_failed { result ≡ Err (WriteErr.Failed stream.Log)
+        → Rose (L.faults log.old) (L.faults log.new) × (L.faults log.new ≤ L.most log.new) }
+    ensures most { (O.most out.new ≡ O.most out.old) × (L.most log.new ≡ L.most log.old) }
+    ensures later { (O.faults out.old ≤ O.faults out.new)
+        × (L.faults log.old ≤ L.faults log.new) }
 {
     let script = match front(alloc, text) {
         Ok((script, _)) => script,
-        Err(Failure::Refused(error)) => return Err(End::Refused { error }),
-        Err(Failure::Memory) => return Err(End::Memory),
+        Err(Failure::Refused(error)) => {
+            return write_final(alloc, End::Refused { error }, out, log);
+        }
+        Err(Failure::Memory) => return Err(WriteErr::Memory),
     };
-    match first_unsupported(&script) {
-        Some(line) => Err(End::Unbuilt { line }),
-        None => Ok(script),
+    match line.command {
+        Command::Run | Command::Trace => run_built(alloc, line, text, &script, out, log),
+        Command::Dis => {
+            let lines = listing_of(alloc, &script)?;
+            put(Out::Out, lines.as_str().as_bytes(), out, log)?;
+            Ok(End::Done)
+        }
     }
 }
 
-/// Answers for the text of a script.
-fn run_text<O: Sink>(alloc: Global, text: &[u8], out: &mut O) -> End
-    requires { length text.now ≤ script_limit }
-    ensures answer { IsRunFor text.now (O.taken out.old) (O.taken out.new) result }
-    ensures cause { result ≡ End.WriteFault Out.Out → Rose (O.faults out.old) (O.faults out.new) × (O.faults out.new ≤ O.most out.new) }
-    ensures most { O.most out.new ≡ O.most out.old }
-    ensures later { O.faults out.old ≤ O.faults out.new }
+/// A write that failed, and want of memory, as ends.
+fn ended(answer: Result<End, WriteErr>) -> End
+    ensures { result ≡ ended answer }
 {
-    let script = match built_script(alloc, text) {
-        Ok(script) => script,
-        Err(end) => return end,
-    };
-    let mut budget = Budget::new(ACT_LIMIT);
-    match run(alloc, &script, &mut budget, out) {
-        Ok(end) => end_of(end),
-        Err(RunErr::Write) => End::WriteFault { which: Out::Out },
-        Err(RunErr::Memory) => End::Memory,
-    }
-}
-
-/// Answers for the text of a script, by the command.
-fn answer_text<O: Sink>(alloc: Global, command: Command, text: &[u8], out: &mut O) -> End
-    requires { length text.now ≤ script_limit }
-    ensures answer { IsAnsweredFor command text.now (O.taken out.old) (O.taken out.new) result }
-    ensures end { (Rose (O.faults out.old) (O.faults out.new) → ⊥)
-        → IsEndFor command text.now result ⊎ (result ≡ End.Memory) }
-    ensures cause { result ≡ End.WriteFault Out.Out → Rose (O.faults out.old) (O.faults out.new) × (O.faults out.new ≤ O.most out.new) }
-    ensures most { O.most out.new ≡ O.most out.old }
-    ensures later { O.faults out.old ≤ O.faults out.new }
-{
-    match command {
-        Command::Run => run_text(alloc, text, out),
-        Command::Dis => list_text(alloc, text, out),
+    match answer {
+        Ok(end) => end,
+        Err(WriteErr::Failed { which }) => End::WriteFault { which },
+        Err(WriteErr::Memory) => End::Memory,
     }
 }
 
@@ -91,7 +76,8 @@ fn answer_text<O: Sink>(alloc: Global, command: Command, text: &[u8], out: &mut 
 /// its code.
 ///
 /// The order of answers is Usage, ReadFault, TooLong, Refused, for a run Unbuilt, and then those of
-/// the run. After a write that failed nothing more is written. Nothing is written to the log.
+/// the run. Behind what a run writes the log gets the totals, where they are asked for, and the
+/// text of the end. After a write that failed nothing more is written.
 pub fn top<F: Shelf, O: Sink, L: Sink>(
     alloc: Global,
     words: &[String],
@@ -99,30 +85,49 @@ pub fn top<F: Shelf, O: Sink, L: Sink>(
     out: &mut O,
     log: &mut L,
 ) -> End
-    ensures usage { (result ≡ End.Usage) ↔ (script_named words.now ≡ None) }
+    ensures usage { result ≡ End.Usage → asked_for words.now ≡ None }
+    ensures only_usage { asked_for words.now ≡ None → (result ≡ End.Usage)
+        ⊎ ((result ≡ End.WriteFault stream.Log) ⊎ (result ≡ End.Memory)) }
 
     // Each fault has its cause, and objects that cannot fail give none.
-    ensures read_fault { result ≡ End.ReadFault → Rose (F.faults shelf.old) (F.faults shelf.new) ⊎ OfNamed (script_named words.now) (F.told shelf.old) IsLacked }
-    ensures too_long { result ≡ End.TooLong File.First → OfNamed (script_named words.now) (F.told shelf.old) (λ t. IsLonger t script_limit) }
-    ensures write_fault { result ≡ End.WriteFault Out.Out → Rose (O.faults out.old) (O.faults out.new) }
-    ensures no_read_fault { F.most shelf.old ≡ 0 → result ≡ End.ReadFault → OfNamed (script_named words.now) (F.told shelf.old) IsLacked }
-    ensures no_write_fault { O.most out.old ≡ 0 → result ≢ End.WriteFault Out.Out }
+    ensures read_fault { result ≡ End.ReadFault → Rose (F.faults shelf.old) (F.faults shelf.new)
+        ⊎ OfNamed (script_named words.now) (F.told shelf.old) IsLacked }
+    ensures too_long { result ≡ End.TooLong File.First
+        → OfNamed (script_named words.now) (F.told shelf.old) (λ t. IsLonger t script_limit) }
+    ensures out_fault { result ≡ End.WriteFault stream.Out
+        → Rose (O.faults out.old) (O.faults out.new) }
+    ensures log_fault { result ≡ End.WriteFault stream.Log
+        → Rose (L.faults log.old) (L.faults log.new) }
+    ensures no_read_fault { F.most shelf.old ≡ 0 → result ≡ End.ReadFault
+        → OfNamed (script_named words.now) (F.told shelf.old) IsLacked }
+    ensures no_out_fault { O.most out.old ≡ 0 → result ≢ End.WriteFault stream.Out }
+    ensures no_log_fault { L.most log.old ≡ 0 → result ≢ End.WriteFault stream.Log }
 
-    // What was written to out, for every answer, and the text and script whose meaning or code it is.
-    ensures writes { IsAnswered (command_of words.now) (script_named words.now) (F.told shelf.old) (O.taken out.old) (O.taken out.new) result }
-    ensures log { Takes (L.taken log.old) (L.taken log.new) [] × (L.faults log.new ≡ L.faults log.old) }
+    // What was written to out and to the log, to each in its order, for every answer, and the text
+    // and script whose meaning or code it is.
+    ensures writes { Wrote
+        (O.taken out.old) (O.taken out.new) (L.taken log.old) (L.taken log.new)
+        (Rose (F.faults shelf.old) (F.faults shelf.new)) words.now (F.told shelf.old) result }
     ensures kept { F.told shelf.new ≡ F.told shelf.old }
 
     // Where no count of faults rose, the end of a text that is told is the one that the text says.
-    ensures complete { (text : _) → OfNamed (script_named words.now) (F.told shelf.old) (λ t. t ≡ Holds text) → length text ≤ script_limit → (Rose (F.faults shelf.old) (F.faults shelf.new) → ⊥) → (Rose (O.faults out.old) (O.faults out.new) → ⊥) → IsEndFor (command_of words.now) text result ⊎ (result ≡ End.Memory) }
+    ensures complete { (Rose (F.faults shelf.old) (F.faults shelf.new) → ⊥)
+        → (Rose (O.faults out.old) (O.faults out.new) → ⊥)
+        → (Rose (L.faults log.old) (L.faults log.new) → ⊥)
+        → IsComplete words.now (F.told shelf.old) result }
 {
-    let Some(name) = script_name(words) else {
-        return End::Usage;
+    let line = match parse(alloc, words) {
+        Ok(line) => line,
+        Err(WordsErr::Usage) => return ended(write_final(alloc, End::Usage, out, log)),
+        Err(WordsErr::Memory) => return End::Memory,
     };
-    match shelf.read(alloc, name, SCRIPT_LIMIT) {
-        Ok(text) => answer_text(alloc, leading_command(words), text.as_slice(), out),
-        Err(ShelfErr::Failed) => End::ReadFault,
-        Err(ShelfErr::TooLong) => End::TooLong { which: File::First },
+    match shelf.read(alloc, line.script, SCRIPT_LIMIT) {
+        Ok(text) => ended(answer_text(alloc, &line, text.as_slice(), out, log)),
+        Err(ShelfErr::Failed) => ended(write_final(alloc, End::ReadFault, out, log)),
+        Err(ShelfErr::TooLong) => {
+            let which = File::First;
+            ended(write_final(alloc, End::TooLong { which }, out, log))
+        }
         Err(ShelfErr::Memory) => End::Memory,
     }
 }

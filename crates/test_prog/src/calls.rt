@@ -17,6 +17,7 @@ fn shelf(alloc: Global, text: &[u8], fails: Seq<u64>) -> Result<MemShelf, NoRow>
 fn tell(line: &mut String, end: &End) -> Result<(), AllocError> {
     match end {
         End::Done => line.push_str("done"),
+        End::Exited { code } => write!(line, "exited {code}"),
         End::Raised => line.push_str("raised"),
         End::Spent { acts } => write!(line, "spent {acts}"),
         End::Outside { what, line: at } => write!(line, "outside {what} {}", at.0),
@@ -37,10 +38,11 @@ pub fn answer(line: &mut String, alloc: Global, text: &str) -> Result<(), NoRow>
         text: script,
         read_fails,
         write_fails,
+        log_fails,
     } = read_row(alloc, text)?;
     let mut shelf = shelf(alloc, script.as_slice(), read_fails)?;
     let mut out = MemSink::new(alloc, write_fails);
-    let mut log = MemSink::new(alloc, Seq::new(alloc));
+    let mut log = MemSink::new(alloc, log_fails);
     let end = top(alloc, words.as_slice(), &mut shelf, &mut out, &mut log);
     write!(line, "{} ", status(&end))?;
     tell(line, &end)?;

@@ -1,5 +1,5 @@
 //! What `top` answers of tables of calls, over a shelf and sinks in memory: the exit status and the
-//! end, and what out has taken, each piece behind a bar.
+//! end, and what out and the log have taken, each piece behind a bar.
 #![tactic(auto)]
 
 mod calls;

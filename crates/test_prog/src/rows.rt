@@ -1,5 +1,5 @@
-//! The rows of a table, as `run a.py, read 1, write 2: TEXT`: the words of the call, the numbers of
-//! the calls that fail, and the text of the file a.py.
+//! The rows of a table, as `run a.py, read 1, write 2, log 3: TEXT`: the words of the call, the
+//! numbers of the calls that fail, and the text of the file a.py.
 
 use crate::notation::bytes_of;
 use pt_base::{Memory, Seq};
@@ -35,6 +35,8 @@ pub struct Row {
     pub read_fails: Seq<u64>,
     /// The numbers of the calls of out that fail, from 1.
     pub write_fails: Seq<u64>,
+    /// The numbers of the calls of the log that fail, from 1.
+    pub log_fails: Seq<u64>,
     pub text: Vec<u8>,
 }
 
@@ -67,6 +69,7 @@ pub fn read_row(alloc: Global, line: &str) -> Result<Row, NoRow> {
         words: words(alloc, head.split(',').next().unwrap_or_default())?,
         read_fails: fails(alloc, head, "read")?,
         write_fails: fails(alloc, head, "write")?,
+        log_fails: fails(alloc, head, "log")?,
         text: bytes_of(alloc, text.strip_prefix(" ").unwrap_or(text))?,
     })
 }

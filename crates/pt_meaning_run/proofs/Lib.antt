@@ -1,4 +1,0 @@
-pub mod BuiltControl
-pub mod RunSteps
-pub mod Answered
-pub mod RunMeans

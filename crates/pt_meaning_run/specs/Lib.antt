@@ -1,2 +1,0 @@
-pub mod RunHost
-pub mod Means

@@ -1,0 +1,50 @@
+use Rattle.std.proofs.Common.{rules, ◌≡◌, ◌∷◌, [], ap, refl, string_bytes, subst}
+use Rattle.pt_base.specs.Failures.{IfRefused}
+use Rattle.pt_compile.specs.ScriptCode.{code_of}
+use Rattle.pt_front.specs.Text.{IsRefused}
+use Rattle.pt_listing.specs.Listing.{IsListing}
+use Rattle.pt_run.specs.Run.{to_out, write}
+use Rattle.pt_tree.specs.StatementFold.{script_of}
+use Rattle.pt_words.specs.Asked.{asked}
+use Rattle.pt_prog.specs.LogText.{final}
+use Rattle.pt_prog.specs.Answer.{is_run, listed, of_answer, refused}
+use Rattle.pt_prog.specs.declared.end.End.TheVariants as end
+use Rattle.pt_prog.proofs.RunLemmas.{every_err, every_err_of, every_ok_of}
+use Rattle.pt_prog.proofs.program.answer_text.Goals as goal
+
+pub returns-in-Err-Refused-clause-ok : goal.returns-in-Err-Refused-clause-ok
+returns-in-Err-Refused-clause-ok g c =
+    every_ok_of (asked c.args.line.now) c.args.text.now _ _ _ _ c.write_final.result (final (end.Refused c.in-Err-Refused.error)) (end.Refused c.in-Err-Refused.error)
+    (refused c.in-Err-Refused.error (subst (IfRefused (IsRefused c.args.text.now)) c.in-Err-Refused.field-0-is c.in-Err-Refused.ensures) refl refl) c.write_final.ensures.ok
+
+pub returns-in-Err-Refused-clause-err : goal.returns-in-Err-Refused-clause-err
+returns-in-Err-Refused-clause-err g c =
+    every_err_of (asked c.args.line.now) c.args.text.now _ _ _ _ c.write_final.result (final (end.Refused c.in-Err-Refused.error)) (end.Refused c.in-Err-Refused.error)
+    (refused c.in-Err-Refused.error (subst (IfRefused (IsRefused c.args.text.now)) c.in-Err-Refused.field-0-is c.in-Err-Refused.ensures) refl refl) c.write_final.ensures.err
+
+pub returns-in_err-put-in-Dis-clause-err : goal.returns-in_err-put-in-Dis-clause-err
+returns-in_err-put-in-Dis-clause-err g c =
+    let same : string_bytes c.in_ok-lines-in-Dis.lines ≡ c.as_bytes.result.now = search rules in
+    every_err (asked c.args.line.now) c.args.text.now _ _ _ _ c.from_residual-in_err-put-in-Dis.result
+    (of_answer end.Done (write to_out c.as_bytes.result.now ∷ [])
+    (listed c.as_bytes.result.now (ap is_run c.in-Dis.is)
+    (record {
+      script = script_of c.in-Ok.script;
+      is_script = c.in-Ok.ensures.is_script;
+      is_listing = subst (IsListing (code_of (script_of c.in-Ok.script))) same c.in_ok-lines-in-Dis.ensures;
+    }) refl refl)
+    c.in_err-put-in-Dis.ensures.err)
+
+pub returns-clause-ok : goal.returns-clause-ok
+returns-clause-ok g c =
+    let same : string_bytes c.in_ok-lines-in-Dis.lines ≡ c.as_bytes.result.now = search rules in
+    record {
+      writes = write to_out c.as_bytes.result.now ∷ [];
+      is_answer = listed c.as_bytes.result.now (ap is_run c.in-Dis.is)
+          (record {
+            script = script_of c.in-Ok.script;
+            is_script = c.in-Ok.ensures.is_script;
+            is_listing = subst (IsListing (code_of (script_of c.in-Ok.script))) same c.in_ok-lines-in-Dis.ensures;
+          }) refl refl;
+      took = c.in_ok-put-in-Dis.ensures.ok;
+    }

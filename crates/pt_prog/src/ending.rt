@@ -1,0 +1,148 @@
+//! The last writes of a call, which go to the log.
+
+ghost use Rattle.std.specs.Prelude.{◌≡◌, ◌≢◌, ◌≤◌, ◌∷◌, ◌++◌, [], Err, Some, IfOk, OnOk, OnErr};
+ghost use Rattle.pt_base.specs.Faults.{Rose};
+ghost use Rattle.pt_prog.specs.LogText.{final, line_of, totals};
+ghost use Rattle.pt_prog.specs.RunEnds.{end_of_run, last_of_run};
+ghost use Rattle.pt_sinks.specs.Writing.{Took, TookFront};
+ghost use Rattle.pt_sinks.specs.declared.writing.Out.TheVariants as stream;
+
+use crate::end::End;
+use crate::log_text::{final_text, totals_text};
+use pt_base::Sink;
+use pt_runner::{RunEnd, Totals};
+use pt_sinks::{Out, WriteErr, put};
+use std::alloc::Global;
+
+/// Writes a text and a newline to the log, in one write.
+fn write_line<O: Sink, L: Sink>(
+    alloc: Global,
+    text: &str,
+    out: &mut O,
+    log: &mut L,
+) -> Result<(), WriteErr>
+    ensures ok { OnOk result
+        (Took (O.taken out.old) (O.taken out.new) (L.taken log.old) (L.taken log.new)
+        (line_of (Some text.now))) }
+    ensures err { OnErr result
+        (TookFront (O.taken out.old) (O.taken out.new) (L.taken log.old) (L.taken log.new)
+        (line_of (Some text.now))) }
+    ensures log_only { result ≢ Err (WriteErr.Failed stream.Out) }
+    ensures out_failed { result ≡ Err (WriteErr.Failed stream.Out)
+        → Rose (O.faults out.old) (O.faults out.new) × (O.faults out.new ≤ O.most out.new) }
+    ensures log_failed { result ≡ Err (WriteErr.Failed stream.Log)
+        → Rose (L.faults log.old) (L.faults log.new) × (L.faults log.new ≤ L.most log.new) }
+    ensures most { (O.most out.new ≡ O.most out.old) × (L.most log.new ≡ L.most log.old) }
+    ensures later { (O.faults out.old ≤ O.faults out.new)
+        × (L.faults log.old ≤ L.faults log.new) }
+{
+    let Ok(line) = format!(in alloc; "{text}\n") else {
+        return Err(WriteErr::Memory);
+    };
+    put(Out::Log, line.as_str().as_bytes(), out, log)
+}
+
+/// Writes the final text of an end, if it has one, and gives the end.
+///
+/// # Errors
+///
+/// Failed where a sink's count of faults rose, and Memory. A front of the text is then written.
+pub fn write_final<O: Sink, L: Sink>(
+    alloc: Global,
+    end: End,
+    out: &mut O,
+    log: &mut L,
+) -> Result<End, WriteErr>
+    ensures ok { IfOk result (λ e. (e ≡ end)
+        × Took (O.taken out.old) (O.taken out.new) (L.taken log.old) (L.taken log.new)
+        (final end)) }
+    ensures err { OnErr result
+        (TookFront (O.taken out.old) (O.taken out.new) (L.taken log.old) (L.taken log.new)
+        (final end)) }
+    ensures log_only { result ≢ Err (WriteErr.Failed stream.Out) }
+    ensures out_failed { result ≡ Err (WriteErr.Failed stream.Out)
+        → Rose (O.faults out.old) (O.faults out.new) × (O.faults out.new ≤ O.most out.new) }
+    ensures log_failed { result ≡ Err (WriteErr.Failed stream.Log)
+        → Rose (L.faults log.old) (L.faults log.new) × (L.faults log.new ≤ L.most log.new) }
+    ensures most { (O.most out.new ≡ O.most out.old) × (L.most log.new ≡ L.most log.old) }
+    ensures later { (O.faults out.old ≤ O.faults out.new)
+        × (L.faults log.old ≤ L.faults log.new) }
+{
+    let Ok(text) = final_text(alloc, &end) else {
+        return Err(WriteErr::Memory);
+    };
+    if let Some(text) = text {
+        write_line(alloc, text.as_str(), out, log)?;
+    }
+    Ok(end)
+}
+
+/// Writes the last text of a run, that of a SystemExit or that of the end, and gives the end.
+pub fn write_last<O: Sink, L: Sink>(
+    alloc: Global,
+    end: RunEnd,
+    bound: u64,
+    out: &mut O,
+    log: &mut L,
+) -> Result<End, WriteErr>
+    ensures ok { IfOk result (λ e. (e ≡ end_of_run bound end)
+        × Took (O.taken out.old) (O.taken out.new) (L.taken log.old) (L.taken log.new)
+        (line_of (last_of_run bound end))) }
+    ensures err { OnErr result
+        (TookFront (O.taken out.old) (O.taken out.new) (L.taken log.old) (L.taken log.new)
+        (line_of (last_of_run bound end))) }
+    ensures log_only { result ≢ Err (WriteErr.Failed stream.Out) }
+    ensures out_failed { result ≡ Err (WriteErr.Failed stream.Out)
+        → Rose (O.faults out.old) (O.faults out.new) × (O.faults out.new ≤ O.most out.new) }
+    ensures log_failed { result ≡ Err (WriteErr.Failed stream.Log)
+        → Rose (L.faults log.old) (L.faults log.new) × (L.faults log.new ≤ L.most log.new) }
+    ensures most { (O.most out.new ≡ O.most out.old) × (L.most log.new ≡ L.most log.old) }
+    ensures later { (O.faults out.old ≤ O.faults out.new)
+        × (L.faults log.old ≤ L.faults log.new) }
+{
+    let end = match end {
+        RunEnd::Exited { status, text } => {
+            if let Some(last) = text {
+                write_line(alloc, last.as_str(), out, log)?;
+            }
+            return Ok(End::Exited { code: status });
+        }
+        RunEnd::Done => End::Done,
+        RunEnd::Raised => End::Raised,
+        RunEnd::Spent => End::Spent { acts: bound },
+        RunEnd::Outside { what, line } => End::Outside { what, line },
+    };
+    write_final(alloc, end, out, log)
+}
+
+/// Writes the totals of a run, where they are asked for.
+pub fn write_totals<O: Sink, L: Sink>(
+    alloc: Global,
+    stats: bool,
+    of_run: &Totals,
+    out: &mut O,
+    log: &mut L,
+) -> Result<(), WriteErr>
+    ensures ok { OnOk result
+        (Took (O.taken out.old) (O.taken out.new) (L.taken log.old) (L.taken log.new)
+        (totals stats of_run.now.acts of_run.now.instructions of_run.now.depth)) }
+    ensures err { OnErr result
+        (TookFront (O.taken out.old) (O.taken out.new) (L.taken log.old) (L.taken log.new)
+        (totals stats of_run.now.acts of_run.now.instructions of_run.now.depth)) }
+    ensures log_only { result ≢ Err (WriteErr.Failed stream.Out) }
+    ensures out_failed { result ≡ Err (WriteErr.Failed stream.Out)
+        → Rose (O.faults out.old) (O.faults out.new) × (O.faults out.new ≤ O.most out.new) }
+    ensures log_failed { result ≡ Err (WriteErr.Failed stream.Log)
+        → Rose (L.faults log.old) (L.faults log.new) × (L.faults log.new ≤ L.most log.new) }
+    ensures most { (O.most out.new ≡ O.most out.old) × (L.most log.new ≡ L.most log.old) }
+    ensures later { (O.faults out.old ≤ O.faults out.new)
+        × (L.faults log.old ≤ L.faults log.new) }
+{
+    if !stats {
+        return Ok(());
+    }
+    let Ok(text) = totals_text(alloc, of_run) else {
+        return Err(WriteErr::Memory);
+    };
+    put(Out::Log, text.as_str().as_bytes(), out, log)
+}

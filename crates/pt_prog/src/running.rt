@@ -1,0 +1,70 @@
+//! The run of a script that a text is, with what the log gets behind it.
+
+ghost use Rattle.std.specs.Prelude.{◌≡◌, ◌≤◌, Err, IfErr, IfOk, true};
+ghost use Rattle.pt_base.specs.Faults.{Rose};
+ghost use Rattle.pt_front.specs.Text.{IsScript};
+ghost use Rattle.pt_prog.specs.Answer.{BrokeOffFor, WroteAllFor, is_run, tells_events, traces};
+ghost use Rattle.pt_sinks.specs.declared.writing.Out.TheVariants as stream;
+ghost use Rattle.pt_tree.specs.StatementFold.{script_of};
+ghost use Rattle.pt_words.specs.Asked.{asked};
+
+use crate::end::End;
+use crate::ending::{write_final, write_last, write_totals};
+use pt_base::Sink;
+use pt_built::first_unbuilt;
+use pt_heap::Seed;
+use pt_run_script::run_script;
+use pt_sinks::WriteErr;
+use pt_tree::Script;
+use pt_words::{Command, CommandLine};
+use std::alloc::Global;
+
+/// Whether the log has a line for each event.
+fn tells_events(line: &CommandLine) -> bool
+    ensures { result ≡ tells_events (asked line.now) }
+{
+    let traces = match line.command {
+        Command::Trace => true,
+        Command::Run | Command::Dis => false,
+    };
+    traces || line.events
+}
+
+/// Runs the script that a text is, if all of it is built, and writes what the log gets behind it.
+///
+/// # Errors
+///
+/// Failed where a sink's count of faults rose, and Memory.
+pub fn run_built<O: Sink, L: Sink>(
+    alloc: Global,
+    line: &CommandLine,
+    text: &[u8],
+    script: &Script,
+    out: &mut O,
+    log: &mut L,
+) -> Result<End, WriteErr>
+    requires is_script { IsScript text.now (script_of script.now) }
+    requires is_run { is_run line.now.command ≡ true }
+    ensures ok { IfOk result
+        (WroteAllFor (O.taken out.old) (O.taken out.new) (L.taken log.old) (L.taken log.new)
+        (asked line.now) text.now) }
+    ensures err { IfErr result
+        (BrokeOffFor (O.taken out.old) (O.taken out.new) (L.taken log.old) (L.taken log.new)
+        (asked line.now) text.now) }
+    ensures out_failed { result ≡ Err (WriteErr.Failed stream.Out)
+        → Rose (O.faults out.old) (O.faults out.new) × (O.faults out.new ≤ O.most out.new) }
+    ensures log_failed { result ≡ Err (WriteErr.Failed stream.Log)
+        → Rose (L.faults log.old) (L.faults log.new) × (L.faults log.new ≤ L.most log.new) }
+    ensures most { (O.most out.new ≡ O.most out.old) × (L.most log.new ≡ L.most log.old) }
+    ensures later { (O.faults out.old ≤ O.faults out.new)
+        × (L.faults log.old ≤ L.faults log.new) }
+{
+    if let Some(first) = first_unbuilt(script) {
+        return write_final(alloc, End::Unbuilt { line: first }, out, log);
+    }
+    let seed = Seed::of(text);
+    let events = tells_events(line);
+    let ended = run_script(alloc, seed, script, line.steps, events, out, log)?;
+    write_totals(alloc, line.stats, &ended.totals, out, log)?;
+    write_last(alloc, ended.end, line.steps, out, log)
+}

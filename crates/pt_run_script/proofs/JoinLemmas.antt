@@ -1,0 +1,140 @@
+-- The code of a script that a text is has the runs of the script, and is ready to run.
+use Rattle.std.proofs.Common.{◌≡◌, ◌<◌, ◌++◌, ℕ, Bool, [], List, Result, Ok, Err, length, sym, subst}
+use Rattle.std.specs.Prelude.{IfOk, OnErr}
+use Rattle.pt_base.specs.Taken.{Pieces}
+use Rattle.pt_tree.specs.Syntax.{Stms}
+use Rattle.pt_wide.specs.Syntax as wide
+use Rattle.pt_script_numbers.proofs.Scripts.{numbered}
+use Rattle.pt_code.specs.declared.Code.{Code}
+use Rattle.pt_compile.specs.ScriptCode.{code_of}
+use Rattle.pt_code_files.specs.Numbers.{NumbersFit}
+use Rattle.pt_operands_fit.specs.Laws.{CellsFit}
+use Rattle.pt_heap.specs.declared.value.Value.{Value}
+use Rattle.pt_heap.specs.declared.value.Value.TheVariants as value
+use Rattle.pt_host.specs.HeapHost.{heap_host}
+use Rattle.pt_host.specs.World.{no_names, start_world}
+use Rattle.pt_bare_runs.specs.Laws.{NeverStuck}
+use Rattle.pt_bare_host.proofs.BlocksOnly.{opens_only}
+use Rattle.pt_built.specs.Built.{Built}
+use Rattle.pt_built.proofs.Silent.{built_blocks_give_nothing_on}
+use Rattle.pt_front.specs.Text.{IsScript}
+use Rattle.pt_read_forms.specs.Laws.{IsWideOf}
+use Rattle.pt_read_forms.proofs.Texts.{scripts_of_texts_are_formed}
+use Rattle.pt_slot_names.proofs.Different.{cells_are_different}
+use Rattle.pt_slot_names.proofs.Written.{blocks_have_names}
+use Rattle.pt_script_program.specs.ScriptProgram.{program_of}
+use Rattle.pt_script_runs.specs.Blocks.{script_code, the_module}
+use Rattle.pt_script_runs.specs.Laws.{code_machine}
+use Rattle.pt_read_runs.specs.Laws.{IsReadWith}
+use Rattle.pt_free_pieces.proofs.Script.{blocks_have_free_names}
+use Rattle.pt_formed_scripts.proofs.Statements.{scripts_are_formed}
+use Rattle.pt_script_objects.proofs.Objects.{objects_have_their_code}
+use Rattle.pt_script_runs.specs.Laws.{AreItsObjects}
+use Rattle.pt_script_runs.proofs.Objects.{script_has_its_bare_runs, code_of_script_writes_nothing_else, code_is_never_stuck}
+use Rattle.pt_machine_state.specs.declared.machine.Machine.{Machine}
+use Rattle.pt_code_loader.specs.declared.loading.Loaded.{Loaded}
+use Rattle.pt_code_loader.specs.Loaded.{IsLoadedCode}
+use Rattle.pt_code_loader.specs.Starting.{Begins, at_start}
+use Rattle.pt_loaded_scripts.specs.Laws.{HasTables, IsLoadable}
+use Rattle.pt_loaded_scripts.proofs.Loading.{code_has_its_module, loaded_script_has_tables, loaded_script_is_read}
+use Rattle.pt_runner.specs.declared.ending.Ended.{Ended}
+use Rattle.pt_runner.specs.Runs.{IsReady, ModuleRun}
+use Rattle.pt_runner.specs.Runs as coded
+use Rattle.pt_sinks.specs.declared.writing.WriteErr.{WriteErr}
+use Rattle.pt_run_script.specs.ScriptRun.{ScriptBrokeOff, ScriptFinished}
+
+pub has_its_module : (ss : Stms) (code : Code) → code ≡ code_of ss → 0 < length code.blocks
+has_its_module ss code is = subst (λ c. 0 < length c.blocks) (sym is) (code_has_its_module ss)
+
+module _ (text : List ℕ) (ss : Stms) (is : IsScript text ss) (built : Built ss) (code : Code) (has : (code ≡ code_of ss) × NumbersFit code) (l : Loaded)
+    (loaded : IsLoadedCode code l) (room : CellsFit code) where
+  tree : wide.Stms
+  tree = let w = scripts_of_texts_are_formed text ss is in w.0
+
+  is_tree : IsWideOf tree ss
+  unfolding tree
+  is_tree = let w = scripts_of_texts_are_formed text ss is in w.1
+
+  loadable : IsLoadable tree ss
+  loadable = record {
+    is_script = is_tree.is_script;
+    is_formed = is_tree.is_formed;
+    no_fault = is.no_fault;
+    class_name_is_unused = is_tree.class_name_is_unused;
+    numbers_fit = subst NumbersFit has.0 has.1;
+    cells_fit = subst CellsFit has.0 room;
+    names = λ n b at. let h = blocks_have_names ss is.no_fault (numbered tree ss is_tree.is_script) is_tree.class_name_is_unused built n b at in record {
+      locals = h.locals;
+      cells = h.cells;
+      frees = h.frees;
+    };
+    cells_are_different = cells_are_different ss built;
+  }
+
+  tables : HasTables ss l
+  tables = loaded_script_has_tables tree ss l loadable (subst (λ c. IsLoadedCode c l) has.0 loaded)
+
+  read : IsReadWith value.None tree ss tables.object
+  read = loaded_script_is_read tree ss l loadable tables
+
+  are_its_objects : AreItsObjects value.None ss tables.object
+  are_its_objects =
+      let frees = blocks_have_free_names ss read.no_fault (numbered tree ss read.is_script) read.class_name_is_unused in
+      let formed = scripts_are_formed tree ss read.is_formed read.is_script in
+      record {
+        no_fault = read.no_fault;
+        free_names = frees;
+        of_blocks = λ n block e. objects_have_their_code value.None ss n block (tables.object n) read.no_fault formed frees (read.of_blocks n block e);
+      }
+
+  -- the run of the script's code
+  pub code_run : ModuleRun
+  code_run = record { program = program_of ss; code = script_code ss tables.object; block = the_module; names = no_names; world = start_world (program_of ss) }
+
+  never_stuck : (n : ℕ) → NeverStuck (code_machine ss tables.object) (heap_host (program_of ss)) n the_module no_names (start_world (program_of ss))
+  never_stuck n =
+      code_is_never_stuck value.None ss tables.object are_its_objects (built_blocks_give_nothing_on ss built) (heap_host (program_of ss)) (opens_only (program_of ss)) n no_names
+      (start_world (program_of ss))
+
+  pub is_ready : (m : Machine) → Begins l m → m.frames.activations ≡ [] → (n : ℕ) → IsReady l.tables n m code_run
+  unfolding code_run
+  is_ready m begins alone n = record {
+    tables_are = tables.tables;
+    beside = at_start;
+    starts = begins (program_of ss) (script_code ss tables.object) tables.tables tables.texts;
+    none_waits = alone;
+    never_stuck = never_stuck n;
+  }
+
+  module _ (n : ℕ) (events : Bool) (out_old out_new log_old log_new : Pieces → Pieces → Type 0) where
+    pub finished : (x : Ended) → coded.Finished code_run n events x out_old out_new log_old log_new → ScriptFinished ss n events out_old out_new log_old log_new x
+    unfolding code_run
+    finished x f = record {
+      outcome = f.outcome;
+      runs = (script_has_its_bare_runs value.None ss tables.object are_its_objects (heap_host (program_of ss)) n no_names (start_world (program_of ss)) f.outcome).1 f.runs;
+      units = f.units;
+      ends = f.ends;
+      took = f.took;
+    }
+
+    pub broke_off : coded.BrokeOff code_run n events out_old out_new log_old log_new → ScriptBrokeOff ss n events out_old out_new log_old log_new
+    unfolding code_run
+    broke_off b = record {
+      written = b.written;
+      first = code_of_script_writes_nothing_else value.None ss tables.object are_its_objects (heap_host (program_of ss)) n no_names (start_world (program_of ss)) b.written b.writes_first;
+      took = b.took;
+    }
+
+    -- what the run of code says of each run that is ready
+    module _ (m : Machine) (ready : IsReady l.tables n m code_run) where
+      pub all_finished : (x : Result Ended WriteErr)
+          → IfOk x (λ e. (r : ModuleRun) → IsReady l.tables n m r → coded.Finished r n events e out_old out_new log_old log_new)
+          → IfOk x (ScriptFinished ss n events out_old out_new log_old log_new)
+      all_finished (Ok e) says = finished e (says code_run ready)
+      all_finished (Err e) says = tt
+
+      pub all_broke_off : (x : Result Ended WriteErr)
+          → OnErr x ((r : ModuleRun) → IsReady l.tables n m r → coded.BrokeOff r n events out_old out_new log_old log_new)
+          → OnErr x (ScriptBrokeOff ss n events out_old out_new log_old log_new)
+      all_broke_off (Ok e) says = tt
+      all_broke_off (Err e) says = broke_off (says code_run ready)

@@ -1,0 +1,55 @@
+use Rattle.pt_tree.specs.StatementFold.{script_of}
+use Rattle.pt_runner.proofs.AdvanceLemmas.{on_err}
+use Rattle.pt_run_script.proofs.JoinLemmas.{code_run, is_ready, all_finished, all_broke_off, has_its_module}
+use Rattle.pt_run_script.proofs.RunLemmas.{broke_off_at_once}
+use Rattle.pt_run_script.proofs.run.run_script.Goals as goal
+
+pub compile-requires : goal.compile-requires
+compile-requires g c = c.requires.read.1.no_fault
+
+pub load-requires : goal.load-requires
+load-requires g c = has_its_module (script_of c.args.script.now) c.in_ok-code.code c.in_ok-code.ensures.0
+
+pub run-requires : goal.run-requires
+run-requires g c = record {
+  ready = (
+    code_run c.requires.read.0 (script_of c.args.script.now) c.requires.read.1 c.requires.built c.in_ok-code.code c.in_ok-code.ensures c.in_ok-loaded.loaded
+        c.in_ok-loaded.ensures.tables c.in_ok-loaded.ensures.room,
+    is_ready c.requires.read.0 (script_of c.args.script.now) c.requires.read.1 c.requires.built c.in_ok-code.code c.in_ok-code.ensures c.in_ok-loaded.loaded
+        c.in_ok-loaded.ensures.tables c.in_ok-loaded.ensures.room
+        c.in_ok-machine.machine c.in_ok-machine.ensures.begins c.in_ok-machine.ensures.alone c.args.bound,
+  );
+}
+
+-- nothing is written before the run
+pub returns-in_err-code-clause-err : goal.returns-in_err-code-clause-err
+returns-in_err-code-clause-err g c =
+    on_err c.from_residual.result (broke_off_at_once (script_of c.args.script.now) c.args.bound c.args.events _ _ _ _ (λ _ _ t. t) (λ _ _ t. t))
+
+pub returns-in_err-loaded-clause-err : goal.returns-in_err-loaded-clause-err
+returns-in_err-loaded-clause-err g c =
+    on_err c.from_residual-in_err-loaded.result
+    (broke_off_at_once (script_of c.args.script.now) c.args.bound c.args.events _ _ _ _ (λ _ _ t. t) (λ _ _ t. t))
+
+pub returns-in_err-machine-clause-err : goal.returns-in_err-machine-clause-err
+returns-in_err-machine-clause-err g c =
+    on_err c.from_residual-in_err-machine.result
+    (broke_off_at_once (script_of c.args.script.now) c.args.bound c.args.events _ _ _ _ (λ _ _ t. t) (λ _ _ t. t))
+
+pub returns-clause-ok : goal.returns-clause-ok
+returns-clause-ok g c =
+    all_finished c.requires.read.0 (script_of c.args.script.now) c.requires.read.1 c.requires.built c.in_ok-code.code c.in_ok-code.ensures c.in_ok-loaded.loaded
+    c.in_ok-loaded.ensures.tables c.in_ok-loaded.ensures.room
+    c.args.bound c.args.events _ _ _ _ c.in_ok-machine.machine
+    (is_ready c.requires.read.0 (script_of c.args.script.now) c.requires.read.1 c.requires.built c.in_ok-code.code c.in_ok-code.ensures c.in_ok-loaded.loaded
+    c.in_ok-loaded.ensures.tables c.in_ok-loaded.ensures.room
+    c.in_ok-machine.machine c.in_ok-machine.ensures.begins c.in_ok-machine.ensures.alone c.args.bound) c.run.result c.run.ensures.ok
+
+pub returns-clause-err : goal.returns-clause-err
+returns-clause-err g c =
+    all_broke_off c.requires.read.0 (script_of c.args.script.now) c.requires.read.1 c.requires.built c.in_ok-code.code c.in_ok-code.ensures c.in_ok-loaded.loaded
+    c.in_ok-loaded.ensures.tables c.in_ok-loaded.ensures.room
+    c.args.bound c.args.events _ _ _ _ c.in_ok-machine.machine
+    (is_ready c.requires.read.0 (script_of c.args.script.now) c.requires.read.1 c.requires.built c.in_ok-code.code c.in_ok-code.ensures c.in_ok-loaded.loaded
+    c.in_ok-loaded.ensures.tables c.in_ok-loaded.ensures.room
+    c.in_ok-machine.machine c.in_ok-machine.ensures.begins c.in_ok-machine.ensures.alone c.args.bound) c.run.result c.run.ensures.err
