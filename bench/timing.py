@@ -41,17 +41,22 @@ def blocks(size):
     return repeated("".join(lines) + " " * 100 + "x\n", size)
 
 
+def run_once(words, output=None, log=None):
+    """Seconds and peak KiB of one run, with what it writes into these files, where they are given."""
+    with open(output or os.devnull, "wb") as out, open(log or os.devnull, "wb") as err:
+        start = time.perf_counter()
+        child = subprocess.Popen(words, stdout=out if output else None, stderr=err if log else None)
+        _, status, usage = os.wait4(child.pid, 0)
+        seconds = time.perf_counter() - start
+    child.returncode = os.waitstatus_to_exitcode(status)
+    if child.returncode != 0:
+        sys.exit(f"{words} ended with status {child.returncode}")
+    return seconds, usage.ru_maxrss
+
+
 def run(words):
     """Seconds and peak KiB: the median and the greatest of the runs."""
-    rows = []
-    for _ in range(RUNS):
-        start = time.perf_counter()
-        child = subprocess.Popen(words)
-        _, status, usage = os.wait4(child.pid, 0)
-        rows.append((time.perf_counter() - start, usage.ru_maxrss))
-        child.returncode = os.waitstatus_to_exitcode(status)
-        if child.returncode != 0:
-            sys.exit(f"{words} ended with status {child.returncode}")
+    rows = [run_once(words) for _ in range(RUNS)]
     return statistics.median(r[0] for r in rows), max(r[1] for r in rows)
 
 

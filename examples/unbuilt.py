@@ -1,2 +1,2 @@
 print("nothing is run where a form is not built")
-x = -1
+squares = [1, 4, 9]

@@ -11,7 +11,7 @@ import sys
 import tempfile
 
 PROGRAM = os.path.join(os.path.dirname(os.path.dirname(os.path.realpath(__file__))), "crates", "pt")
-# The status of a program whose output isn't taken: what it wrote is passed on here in its place.
+# The status of a program whose output or log isn't taken: what it wrote is passed on here in its place.
 WRITE_FAULT = 10
 NO_ANSWER = 70
 SECONDS = 600
@@ -42,6 +42,12 @@ def handed_on(name, folder):
     return name, ["--data", f"{name}={copy}"]
 
 
+def place_of_script(words):
+    """The second of the words that are neither options nor values of them, if there are two."""
+    plain = [i for i, word in enumerate(words) if word and not word.startswith("-") and (i == 0 or words[i - 1] != "--steps")]
+    return plain[1] if len(plain) == 2 else None
+
+
 def is_text(word):
     try:
         word.encode()
@@ -54,9 +60,10 @@ def tried(words):
     """What `rt try` writes to both streams, and its status. A signal that would end this ends it first."""
     with tempfile.TemporaryDirectory(prefix="pt-unproved-") as folder:
         flags = ["--seconds", str(SECONDS)]
-        if len(words) == 2 and words[1] and not words[1].startswith("-"):
-            name, more = handed_on(words[1], folder)
-            words, flags = [words[0], name], flags + more
+        at = place_of_script(words)
+        if at is not None:
+            name, more = handed_on(words[at], folder)
+            words, flags = [*words[:at], name, *words[at + 1 :]], flags + more
         # The program reads nothing from its standard input.
         how = {"stdin": subprocess.DEVNULL, "stdout": subprocess.PIPE, "stderr": subprocess.PIPE}
         tool = subprocess.Popen(["rt", "try", *flags, "--", *words], cwd=PROGRAM, start_new_session=True, **how)
@@ -113,7 +120,9 @@ def main(words):
         status = WRITE_FAULT
         # What the stream still holds can't be written at the end either.
         os.dup2(os.open(os.devnull, os.O_WRONLY), 1)
-    is_taken(sys.stderr, log[: report.start()])
+    if not is_taken(sys.stderr, log[: report.start()]):
+        status = WRITE_FAULT
+        os.dup2(os.open(os.devnull, os.O_WRONLY), 2)
     return status
 
 

@@ -1,4 +1,4 @@
-"""How much stack the built program takes to read each of the deepest scripts, the most first.
+"""How much stack the built program takes to read each of the deepest scripts, and to make the code of those that it runs, the most first.
 
     python3 need.py [--front] [--by-rattle] [--program FILE] [WORD ..]      of the scripts whose names have one of these words, or of all
 
@@ -21,7 +21,7 @@ DEFAULT = 8192 * KIB
 MOST = 8 * DEFAULT
 
 # the words before the name of a text, and the status where it is no script
-WORDS = {"pt": (["run"], 6), "test_depth": (["time", "answers"], 1)}
+WORDS = {"pt": (["run", "--steps", "0"], 6), "test_depth": (["time", "answers"], 1)}
 
 
 def status(command, script, stack):

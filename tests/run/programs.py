@@ -32,9 +32,11 @@ class Block:
 
 
 class Program:
-    def __init__(self, seed):
+    """`supported` says that `print` is called with one argument and stands nowhere else."""
+
+    def __init__(self, seed, supported=False):
         self.r = random.Random(seed)
-        self.lines, self.fresh = list(HEAD), 0
+        self.lines, self.fresh, self.supported = list(HEAD), 0, supported
 
     def name(self, stem):
         self.fresh += 1
@@ -50,7 +52,7 @@ class Program:
             return self.r.choice(names)
         chance = self.r.random()
         if chance < 0.006:
-            return self.r.choice(["unbound", "None", "...", "'a'", "print"])
+            return self.r.choice(["unbound", "None", "...", "'a'", "same" if self.supported else "print"])
         if chance < 0.1:
             return self.r.choice(["True", "False"])
         return str(self.r.choice([0, 1, 2, 3, 5] if chance < 0.99 else [17, 2 ** 64, 2 ** 127 - 1]))
@@ -149,7 +151,7 @@ class Program:
             case 14:
                 put(self.call(block, 1))
             case _:
-                put(f"print({', '.join(self.exp(block, 2) for _ in range(self.r.randrange(1, 3)))})")
+                put(f"print({', '.join(self.exp(block, 2) for _ in range(1 if self.supported else self.r.randrange(1, 3)))})")
 
     def body(self, block, deeper, room):
         names = list(block.names)
@@ -220,5 +222,5 @@ class Program:
         return "\n".join(self.lines) + "\n"
 
 
-def program(seed):
-    return Program(seed).text()
+def program(seed, supported=False):
+    return Program(seed, supported).text()

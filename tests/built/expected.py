@@ -1,0 +1,64 @@
+"""The line of the first node of a script that isn't supported, from CPython's ast: a list of the nodes in the order of the source, and what
+of a node tells whether it is supported."""
+import ast
+
+SUPPORTED = (
+    ast.Module, ast.Expr, ast.Assign, ast.AugAssign, ast.AnnAssign, ast.Delete, ast.Pass, ast.Break, ast.Continue, ast.If, ast.While, ast.Return,
+    ast.Global, ast.Nonlocal, ast.FunctionDef, ast.Constant, ast.Name, ast.UnaryOp, ast.BinOp, ast.BoolOp, ast.Compare, ast.IfExp, ast.Call, ast.keyword,
+    ast.Lambda, ast.arg)
+
+
+def place(node):
+    return node.lineno, node.col_offset
+
+
+def parts(node):
+    """The parts of a node in the order of the source; annotations are none, and the parameters of a function are."""
+    found = []
+    for field, value in ast.iter_fields(node):
+        if field not in ("annotation", "returns"):
+            found += [x for x in (value if isinstance(value, list) else [value]) if isinstance(x, ast.AST)]
+    found += [x for a in found if isinstance(a, ast.arguments) for x in ast.iter_child_nodes(a)]
+    return sorted((x for x in found if hasattr(x, "lineno")), key=place)
+
+
+def nodes(node, calls=None):
+    """A node and those in it, each with the call that it is the callee of."""
+    yield node, calls
+    for part in parts(node):
+        yield from nodes(part, node if isinstance(node, ast.Call) and part is node.func else None)
+
+
+def names(node):
+    """The names that a node reads, binds, deletes or declares."""
+    match node:
+        case ast.Name(x) | ast.FunctionDef(x) | ast.arg(x):
+            return [x]
+        case ast.Global(xs) | ast.Nonlocal(xs):
+            return xs
+    return []
+
+
+def is_print(node, call):
+    return isinstance(node, ast.Name) and node.id == "print" and call is not None and len(call.args) == 1 and not call.keywords
+
+
+def is_supported(node, call, listed, stars):
+    match node:
+        case ast.Compare(_, operators) if any(isinstance(o, (ast.In, ast.NotIn)) for o in operators):
+            return False
+        case ast.Call(_, arguments, keywords) if any(isinstance(a, ast.Starred) for a in arguments) or any(k.arg is None for k in keywords):
+            return False
+        case ast.arg() if node in stars:
+            return False
+    return isinstance(node, SUPPORTED) and (is_print(node, call) or not any(x in listed for x in names(node)))
+
+
+def line_of(node):
+    return node.decorator_list[0].lineno if getattr(node, "decorator_list", None) else node.lineno
+
+
+def first_unsupported(tree, listed):
+    """None where there is none; `listed` are the names that mean something by themselves."""
+    stars = {p for a in ast.walk(tree) if isinstance(a, ast.arguments) for p in (a.vararg, a.kwarg)}
+    return next((line_of(n) for n, call in nodes(tree) if not is_supported(n, call, listed, stars)), None)

@@ -1,0 +1,119 @@
+"""Compares what the program answers to `run` and `trace` of scripts of the supported forms with what CPython 3.12.1 tells of them: output,
+ending and events, but for what docs/DECISIONS.md lists under "What CPython tells otherwise".
+
+  check.py [--definitions] [--from N] [--many N] [--show SEED] [--jobs N]
+"""
+import argparse
+import collections
+import glob
+import multiprocessing
+import os
+import sys
+import warnings
+
+from answers import DONE, HERE, OUTSIDE, RAISED, SPENT, ByDefinitions, ByProgram, by_cpython, events_of
+import deep
+from layout import broken, compared
+from programs import program
+
+ENDINGS = {DONE: "done", RAISED: "raised", SPENT: "spent", OUTSIDE: "outside"}
+
+
+def is_alike(event, wanted):
+    return event == wanted or wanted[2] is None and (event[0], event[1], event[3]) == (wanted[0], wanted[1], wanted[3])
+
+
+def first_difference(events, wanted, is_whole):
+    """The place of the first event that differs; those of a run that isn't whole are the first ones."""
+    for i, (one, other) in enumerate(zip(events, wanted)):
+        if not is_alike(one, other):
+            return i
+    if len(events) > len(wanted) or is_whole and len(events) < len(wanted):
+        return min(len(events), len(wanted))
+    return None
+
+
+def differences(run, trace, text):
+    """What the answers to `run` and to `trace` differ in from one another and from CPython, each as a line."""
+    found = []
+    if trace.status not in ENDINGS:
+        return [f"trace ends with status {trace.status}: {trace.log[-1:]}"]
+    events, last = events_of(text, trace.log)
+    if (run.status, run.out, run.log) != (trace.status, trace.out, last):
+        found.append(f"run answers {run.status}, {run.log}, and trace {trace.status}, {last}")
+    if bool(last) != (trace.status in (SPENT, OUTSIDE)):
+        found.append(f"the log ends with {last} at status {trace.status}")
+    out, end, wanted = by_cpython(text)
+    is_whole = trace.status in (DONE, RAISED)
+    if is_whole and trace.out != out or not out.startswith(trace.out):
+        found.append(f"printed {trace.out[-200:]!r}, CPython {out[-200:]!r}")
+    if is_whole and (end == "done") != (trace.status == DONE):
+        found.append(f"ended {ENDINGS[trace.status]}, CPython {end}")
+    raised = next((e[3] for e in reversed(events) if e[0] == "exception"), None)
+    if trace.status == RAISED and raised != end:
+        found.append(f"raised {raised}, CPython {end}")
+    events, wanted = compared(events, text), compared(wanted, text)
+    at = first_difference(events, wanted, is_whole)
+    if at is not None:
+        found.append(f"event {at}: {events[max(0, at - 3):at + 2]}, CPython {wanted[max(0, at - 3):at + 2]}")
+    return found
+
+
+def random_script(seed):
+    """Every second one has line ends within parentheses."""
+    text = program(seed, supported=True)
+    return broken(text, seed) if seed % 2 else text
+
+
+class Compare:
+    def __init__(self, by):
+        self.by = by
+
+    def one(self, text):
+        """How a script ended, how many events it told, and what differs."""
+        try:
+            run, trace = self.by.answer("run", text), self.by.answer("trace", text)
+            found = differences(run, trace, text)
+        except Exception as e:
+            return "broke", 0, [repr(e)]
+        return ENDINGS.get(trace.status, str(trace.status)), len(trace.log), found
+
+
+def asked(one):
+    """A script by its name and text, in a process of its own."""
+    warnings.simplefilter("ignore")
+    name, text = one
+    return name, deep.call(lambda: COMPARE.one(text))
+
+
+def main():
+    global COMPARE
+    p = argparse.ArgumentParser()
+    p.add_argument("--definitions", action="store_true")
+    p.add_argument("--from", type=int, default=0, dest="first")
+    p.add_argument("--many", type=int, default=2000)
+    p.add_argument("--show", type=int)
+    p.add_argument("--jobs", type=int, default=2)
+    a = p.parse_args()
+    COMPARE = Compare(ByDefinitions() if a.definitions else ByProgram())
+    seeds = [a.show] if a.show is not None else range(a.first, a.first + a.many)
+    written = [] if a.show is not None else sorted(glob.glob(os.path.join(HERE, "scripts", "*.py")))
+    scripts = [(os.path.basename(f), open(f, encoding="utf-8").read()) for f in written] + [(f"seed {s}", random_script(s)) for s in seeds]
+    endings, events, bad = collections.Counter(), 0, 0
+    with multiprocessing.get_context("fork").Pool(a.jobs) as pool:
+        for name, (ending, told, found) in pool.imap(asked, scripts, chunksize=8):
+            endings[ending] += 1
+            events += told
+            bad += bool(found)
+            for line in found:
+                print(f"{name}: {line}")
+    if a.show is not None:
+        print("\n".join(f"{i + 1:3} {line}" for i, line in enumerate(scripts[0][1].split("\n"))))
+    print(", ".join(f"{k} {n}" for k, n in sorted(endings.items())))
+    print(f"{len(written)} written and {len(seeds)} random scripts, {events} events, {bad} with a difference")
+    return bad > 0
+
+
+if __name__ == "__main__":
+    warnings.simplefilter("ignore")
+    sys.exit(main())

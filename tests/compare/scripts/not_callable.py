@@ -1,0 +1,5 @@
+x = 3
+def f():
+    return x
+print(f())
+f()()

@@ -1,0 +1,6 @@
+print(True + True)
+print("a" + "b" == "ab")
+print("a" != 1)
+print(1 == True)
+print(None == 0)
+print(1 + None)
