@@ -21,7 +21,7 @@ use Rattle.pt_code_machine.specs.CodeBlocks.{CodeBlocks, machine}
 use Rattle.pt_heap_rows.specs.declared.progress.Progress.{Progress}
 use Rattle.pt_machine_state.specs.declared.blocks.BlockCode.{BlockCode}
 use Rattle.pt_machine_state.specs.declared.machine.Machine.{Machine}
-use Rattle.pt_machine_state.specs.declared.machine.RunEnd.TheVariants as end
+use Rattle.pt_machine_state.specs.declared.machine.MachineEnd.TheVariants as end
 use Rattle.pt_machine_state.specs.declared.machine.Standing.TheVariants as standing
 use Rattle.pt_machine_state.specs.declared.machine.Stride.{Stride}
 use Rattle.pt_machine_state.specs.declared.machine.Stride.TheVariants as stride

@@ -10,7 +10,7 @@ ghost use Rattle.pt_places.specs.PlaceTable.{entry};
 use crate::instructions::perform;
 use pt_base::Memory;
 use pt_code_tables::CodeTables;
-use pt_machine_state::{BlockCode, Machine, RunEnd, Standing, Stride, Writes};
+use pt_machine_state::{BlockCode, Machine, MachineEnd, Standing, Stride, Writes};
 use pt_places::Place;
 use pt_progress::{apply, close};
 use pt_transfers::{begin_act, block_of};
@@ -52,7 +52,7 @@ fn step(
         return go_on(tables, machine, writes, block, place);
     };
     if machine.units >= bound {
-        return Ok(Stride::Ends(RunEnd::Spent));
+        return Ok(Stride::Ends(MachineEnd::Spent));
     }
     begin_act(machine, writes, block, mark)?;
     go_on(tables, machine, writes, block, place)

@@ -37,7 +37,7 @@ use Rattle.pt_heap_rows.specs.Views.{slots_view, world_view}
 use Rattle.pt_machine_state.specs.declared.blocks.BlockCode.{BlockCode}
 use Rattle.pt_machine_state.specs.declared.blocks.Blocks.{Blocks}
 use Rattle.pt_machine_state.specs.declared.machine.Machine.{Machine}
-use Rattle.pt_machine_state.specs.declared.machine.RunEnd.TheVariants as end
+use Rattle.pt_machine_state.specs.declared.machine.MachineEnd.TheVariants as end
 use Rattle.pt_machine_state.specs.declared.machine.Stride.{Stride}
 use Rattle.pt_machine_state.specs.declared.machine.Stride.TheVariants as stride
 use Rattle.pt_machine_state.specs.declared.writes.Writes.{Writes}

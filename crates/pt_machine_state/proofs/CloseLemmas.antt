@@ -27,8 +27,8 @@ use Rattle.pt_heap_rows.specs.Views.{slots_view, world_view}
 use Rattle.pt_machine_state.specs.declared.blocks.BlockCode.{BlockCode}
 use Rattle.pt_machine_state.specs.declared.blocks.Blocks.{Blocks}
 use Rattle.pt_machine_state.specs.declared.machine.Machine.{Machine}
-use Rattle.pt_machine_state.specs.declared.machine.RunEnd.{RunEnd}
-use Rattle.pt_machine_state.specs.declared.machine.RunEnd.TheVariants as end
+use Rattle.pt_machine_state.specs.declared.machine.MachineEnd.{MachineEnd}
+use Rattle.pt_machine_state.specs.declared.machine.MachineEnd.TheVariants as end
 use Rattle.pt_machine_state.specs.declared.machine.Stride.{Stride}
 use Rattle.pt_machine_state.specs.declared.machine.Stride.TheVariants as stride
 use Rattle.pt_machine_state.specs.declared.machine.Standing.{Standing}
@@ -59,7 +59,7 @@ module _ (program : Program) (code : CodeBlocks Value) (blocks : Blocks) (known 
   abbrev end_events : BlockCode → Machine → List run.Write
   end_events block m = events_of (codes "return") [] block m
 
-  abbrev end_by : End Value → Line → RunEnd
+  abbrev end_by : End Value → Line → MachineEnd
   end_by (gave v) line = end.Done
   end_by (left_by v) line = end.Left v line
 

@@ -13,8 +13,8 @@ use Rattle.pt_host.specs.HeapHost.{heap_host}
 use Rattle.pt_code_machine.specs.CodeBlocks.{CodeBlocks, machine}
 use Rattle.pt_heap_rows.specs.Views.{world_view}
 use Rattle.pt_machine_state.specs.declared.machine.Machine.{Machine}
-use Rattle.pt_machine_state.specs.declared.machine.RunEnd.{RunEnd}
-use Rattle.pt_machine_state.specs.declared.machine.RunEnd.TheVariants as end
+use Rattle.pt_machine_state.specs.declared.machine.MachineEnd.{MachineEnd}
+use Rattle.pt_machine_state.specs.declared.machine.MachineEnd.TheVariants as end
 use Rattle.pt_machine_state.specs.declared.machine.Stride.{Stride}
 use Rattle.pt_machine_state.specs.declared.machine.Stride.TheVariants as stride
 use Rattle.pt_machine_state.specs.declared.writes.Writes.{Writes}
@@ -30,7 +30,7 @@ left (H.exits n x) v l w = exited n x
 left H.exits_oddly v l w = outside_at Exit l
 left (H.fails es) v l w = raised v w
 
-abbrev pub ending_of : RunEnd → Machine → Ending
+abbrev pub ending_of : MachineEnd → Machine → Ending
 ending_of end.Done m = done
 ending_of (end.Left v line) m = left (leaving v (world_view m.frames m.heap)) v line.0 (world_view m.frames m.heap)
 ending_of end.Spent m = spent
@@ -45,5 +45,5 @@ module _ (program : Program) (code : CodeBlocks Value) where
   abbrev pub Strode : bare.Stride (State Value) Names Value World → Stride → (old : Writes) → Machine → (new : Writes) → Type 0
   Strode (goes ws s) r old m new =
       (r ≡ stride.Goes) × (Adds old new ws × ((x : Beside) × (ComesTo s (run_of program m x) × AllWait program code m.frames.activations x.waiting)))
-  Strode (ends ws u e) r old m new = (x : RunEnd) × ((r ≡ stride.Ends x) × (Adds old new ws × ((u ≡ m.units) × (e ≡ ending_of x m))))
+  Strode (ends ws u e) r old m new = (x : MachineEnd) × ((r ≡ stride.Ends x) × (Adds old new ws × ((u ≡ m.units) × (e ≡ ending_of x m))))
   Strode is_stuck r old m new = Unit {0}

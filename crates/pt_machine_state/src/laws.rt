@@ -32,7 +32,7 @@ ghost use Rattle.pt_machine_state.specs.Writing.{Adds, print_piece};
 ghost use Rattle.pt_machine_state.specs.declared.blocks.BlockCode.{BlockCode};
 ghost use Rattle.pt_machine_state.specs.declared.blocks.Blocks.{Blocks};
 ghost use Rattle.pt_machine_state.specs.declared.machine.Machine.{Machine};
-ghost use Rattle.pt_machine_state.specs.declared.machine.RunEnd.TheVariants as ending;
+ghost use Rattle.pt_machine_state.specs.declared.machine.MachineEnd.TheVariants as ending;
 ghost use Rattle.pt_machine_state.specs.declared.machine.Standing.TheVariants as standing;
 ghost use Rattle.pt_machine_state.specs.declared.machine.Stride.TheVariants as stride;
 ghost use Rattle.pt_machine_state.specs.declared.machine.Stride.{Stride};

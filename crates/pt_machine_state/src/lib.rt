@@ -12,5 +12,5 @@ pub use laws::{
     blocks_end_as_in_a_run, blocks_open_as_in_a_run, exceptions_arise_as_in_a_run,
     instructions_are_strides, the_machine_goes_where_instructions_lead,
 };
-pub use machine::{Machine, RunEnd, Standing, Stride};
+pub use machine::{Machine, MachineEnd, Standing, Stride};
 pub use writes::{Write, Writes};

@@ -31,7 +31,7 @@ pub struct Machine {
 
 /// How a run ends that is not broken off.
 #[derive(Clone, Copy, Debug, PartialEq, Eq)]
-pub enum RunEnd {
+pub enum MachineEnd {
     /// The module came to its end.
     Done,
     /// An exception left the module, in whose frame this line stands.
@@ -46,7 +46,7 @@ pub enum RunEnd {
 #[derive(Clone, Copy, Debug, PartialEq, Eq)]
 pub enum Stride {
     Goes,
-    Ends(RunEnd),
+    Ends(MachineEnd),
     /// The code or its slots lack what the stride needs.
     Lacks,
 }

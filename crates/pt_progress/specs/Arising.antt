@@ -8,7 +8,7 @@ use Rattle.pt_host.specs.World.{Allotted, IsAllotted}
 use Rattle.pt_machine_state.specs.declared.blocks.BlockCode.{BlockCode}
 use Rattle.pt_machine_state.specs.declared.blocks.Blocks.{Blocks}
 use Rattle.pt_machine_state.specs.declared.machine.Machine.{Machine}
-use Rattle.pt_machine_state.specs.declared.machine.RunEnd.TheVariants.{Outside}
+use Rattle.pt_machine_state.specs.declared.machine.MachineEnd.TheVariants.{Outside}
 use Rattle.pt_machine_state.specs.declared.machine.Stride.{Stride}
 use Rattle.pt_machine_state.specs.declared.machine.Stride.TheVariants.{Goes, Ends}
 use Rattle.pt_machine_state.specs.declared.writes.Writes.{Writes}

@@ -5,7 +5,7 @@ ghost use Rattle.pt_machine_state.specs.declared.machine.Standing.TheVariants as
 
 use pt_base::Memory;
 use pt_heap::Value;
-use pt_machine_state::{Blocks, Machine, RunEnd, Standing, Stride, Writes};
+use pt_machine_state::{Blocks, Machine, MachineEnd, Standing, Stride, Writes};
 use pt_transfers::{block_of, give_back, raise, resume, tell, visible_line};
 
 /// The block returned: the call of the activation that waits has the value, or the module is done.
@@ -23,7 +23,7 @@ fn close_by_return(
     let block = block_of(machine, blocks);
     tell(machine, block, "return", "", writes)?;
     if !resume(machine) {
-        return Ok(Stride::Ends(RunEnd::Done));
+        return Ok(Stride::Ends(MachineEnd::Done));
     }
     let caller = block_of(machine, blocks);
     match caller.places.at(machine.here.pc) {
@@ -51,7 +51,7 @@ fn close_by_raise(
     tell(machine, block, "return", "", writes)?;
     let line = visible_line(machine, blocks);
     if !resume(machine) {
-        return Ok(Stride::Ends(RunEnd::Left { exception, line }));
+        return Ok(Stride::Ends(MachineEnd::Left { exception, line }));
     }
     let caller = block_of(machine, blocks);
     match caller.places.at(machine.here.pc) {

@@ -5,7 +5,7 @@ ghost use Rattle.pt_host.specs.Errors.{error, error_saying};
 ghost use Rattle.pt_host.specs.World.{allot};
 ghost use Rattle.pt_machine_state.specs.Changes.{visible_line};
 ghost use Rattle.pt_machine_state.specs.Views.{active_of};
-ghost use Rattle.pt_machine_state.specs.declared.machine.RunEnd.TheVariants as ending;
+ghost use Rattle.pt_machine_state.specs.declared.machine.MachineEnd.TheVariants as ending;
 ghost use Rattle.pt_machine_state.specs.declared.machine.Stride.TheVariants as stride;
 ghost use Rattle.pt_base.specs.declared.numbers.Line.{Line};
 ghost use Rattle.pt_progress.specs.Arising.{Arises, ArisesOf};
@@ -13,7 +13,7 @@ ghost use Rattle.pt_progress.specs.Arising.{Arises, ArisesOf};
 use pt_base::{Memory, ObjId, Seq, Text, What};
 use pt_heap::Value;
 use pt_host::{allot, error, error_saying};
-use pt_machine_state::{BlockCode, Blocks, Machine, RunEnd, Stride, Writes};
+use pt_machine_state::{BlockCode, Blocks, Machine, MachineEnd, Stride, Writes};
 use pt_transfers::{active, raise, visible_line};
 use std::alloc::Global;
 
@@ -22,7 +22,7 @@ pub fn outside(machine: &Machine, blocks: &Blocks, what: What) -> Stride
     ensures { (line : Line) × (result ≡ stride.Ends (ending.Outside what line))
         × (line.0 ≡ visible_line blocks.now machine.now) }
 {
-    Stride::Ends(RunEnd::Outside {
+    Stride::Ends(MachineEnd::Outside {
         what,
         line: visible_line(machine, blocks),
     })

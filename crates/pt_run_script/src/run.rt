@@ -16,7 +16,9 @@ use pt_write_script::compile;
 use std::alloc::Global;
 
 /// Runs a script that a text is, all of which is built, under a bound on acts. What it prints goes
-/// to out, and with `events` the lines of events to the log, each in one write and in one order.
+/// to out, and with `events` the lines of events to the log, each in one write. Each of the two
+/// takes its own in the order of the run; how they lie beside each other is told only where a
+/// write breaks off.
 ///
 /// Where it isn't broken off, it ends as the run of the script's tree does under this bound, it has
 /// taken as many acts, and all that the run writes was written.

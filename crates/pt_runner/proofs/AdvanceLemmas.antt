@@ -18,8 +18,8 @@ use Rattle.pt_sinks.proofs.WritingLemmas.{took_nothing, front_of_all, front_befo
 use Rattle.pt_heap_rows.specs.Views.{world_view}
 use Rattle.pt_machine_state.specs.declared.blocks.BlockCode.{BlockCode}
 use Rattle.pt_machine_state.specs.declared.machine.Machine.{Machine}
-use Rattle.pt_machine_state.specs.declared.machine.RunEnd.{RunEnd as MachineEnd}
-use Rattle.pt_machine_state.specs.declared.machine.RunEnd.TheVariants as ended
+use Rattle.pt_machine_state.specs.declared.machine.MachineEnd.{MachineEnd}
+use Rattle.pt_machine_state.specs.declared.machine.MachineEnd.TheVariants as ended
 use Rattle.pt_machine_state.specs.declared.machine.Stride.{Stride}
 use Rattle.pt_machine_state.specs.declared.machine.Stride.TheVariants as stride
 use Rattle.pt_machine_state.specs.declared.writes.Writes.{Writes}

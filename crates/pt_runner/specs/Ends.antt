@@ -9,8 +9,8 @@ use Rattle.pt_bare_runs.specs.Strides.{Ending}
 use Rattle.pt_host.specs.Leaving.{leaving}
 use Rattle.pt_heap_rows.specs.Views.{world_view}
 use Rattle.pt_machine_state.specs.declared.machine.Machine.{Machine}
-use Rattle.pt_machine_state.specs.declared.machine.RunEnd.{RunEnd as MachineEnd}
-use Rattle.pt_machine_state.specs.declared.machine.RunEnd.TheVariants as machine
+use Rattle.pt_machine_state.specs.declared.machine.MachineEnd.{MachineEnd}
+use Rattle.pt_machine_state.specs.declared.machine.MachineEnd.TheVariants as machine
 use Rattle.pt_runner.specs.declared.ending.RunEnd.{RunEnd}
 use Rattle.pt_runner.specs.declared.ending.RunEnd.TheVariants as end
 

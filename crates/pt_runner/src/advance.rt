@@ -13,7 +13,7 @@ use crate::leaving::leaving;
 use pt_base::{Memory, Sink};
 use pt_code_tables::CodeTables;
 use pt_machine::stride;
-use pt_machine_state::{Machine, RunEnd as MachineEnd, Stride, Writes};
+use pt_machine_state::{Machine, MachineEnd, Stride, Writes};
 use pt_sinks::WriteErr;
 
 impl Totals {

@@ -54,7 +54,8 @@ fn begin<O: Sink, L: Sink>(
 }
 
 /// Runs code that is ready from its start, under a bound on acts. What it prints goes to out, and
-/// with `events` the lines of events to the log, each in one call and in one order.
+/// with `events` the lines of events to the log, each in one call. Each of the two takes its own in
+/// the order of the run; how they lie beside each other is told only where a write breaks off.
 ///
 /// Where it isn't broken off, it ends as the bare run of the code does under this bound, it has
 /// taken as many units, and all that the run writes was written.

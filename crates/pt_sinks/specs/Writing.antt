@@ -1,4 +1,4 @@
--- What out and the log take of writes that are made in one order.
+-- What out and the log take of the writes of a run. Each takes its own in their order; a front is one of the writes to both.
 use Rattle.std.specs.Prelude.{◌≡◌, ℕ, List, [], ◌∷◌, ◌++◌}
 use Rattle.pt_base.specs.Taken.{Pieces, Takes}
 use Rattle.pt_base.specs.Taken as one

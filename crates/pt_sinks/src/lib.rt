@@ -1,4 +1,4 @@
-//! Out and the log, two sinks that are written to in one order.
+//! Out and the log, two sinks that a run writes to.
 #![tactic(auto)]
 
 mod writing;
