@@ -300,6 +300,7 @@ module _ (rows : List Handler) (count : ℕ) where
     known = λ pc row w. let x = b.known w.level (up w.level pc) row w.among in (x.0, x.1 pc refl);
     whole = λ pc row lt c u. elim (b.whole row c) [ inl x ↦ absurd (none_in_empty row x) | inr w ↦ w pc lt u ];
     sorted = b.sorted;
+    tall = b.tall;
   }
 
 -- the deepest row that covers a place

@@ -45,6 +45,11 @@ abbrev pub levels_size : List Level → ℕ
 levels_size [] = 0
 levels_size (level ∷ levels) = level_size level + levels_size levels
 
+-- there are so many levels that the last has one stretch, and each has a stretch for each place
+pub record IsTall (count : ℕ) (levels : List Level) : Type 0 where
+  pub tall : up (length levels) count ≡ 0
+  pub wide : (k : ℕ) → k < length levels → up k count < length (slice_index_or levels k [])
+
 -- the rows wait at all places below a count that they cover
 pub record Index (rows : List Handler) (count : ℕ) (levels : List Level) : Type 0 where
   pub known : (pc : ℕ) (row : Handler) → Waits levels pc row → Contains rows row
@@ -52,6 +57,7 @@ pub record Index (rows : List Handler) (count : ℕ) (levels : List Level) : Typ
   pub whole : (pc : ℕ) (row : Handler) → pc < count → Contains rows row → is_under row pc ≡ true
       → Waits levels pc row
   pub sorted : AllDescend levels
+  pub tall : IsTall count levels
 
 -- how deep the deepest row is that covers a place
 pub record IsDeepest (rows : List Handler) (pc depth : ℕ) : Type 0 where
@@ -148,11 +154,6 @@ at_high low high = nat_lt low high && nat_eq (high % 2) 1
 abbrev pub placed : Level → (low high : ℕ) → Handler → Level
 placed level low high row = put (at_high low high) (put (at_low low high) level low row)
     (high - 1) row
-
--- there are so many levels that the last has one stretch, and each has a stretch for each place
-pub record IsTall (count : ℕ) (levels : List Level) : Type 0 where
-  pub tall : up (length levels) count ≡ 0
-  pub wide : (k : ℕ) → k < length levels → up k count < length (slice_index_or levels k [])
 
 pub record Empty (count size : ℕ) (levels : List Level) : Type 0 where
   pub size_is : size ≡ up (length levels) count

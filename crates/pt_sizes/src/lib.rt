@@ -8,3 +8,4 @@ mod waiting;
 
 pub use flow::{Sizes, sizes_of};
 pub use places::{Place, SizeStep};
+pub use waiting::Waiting;

@@ -1,0 +1,4 @@
+pub mod DepthLemmas
+pub mod Steps
+pub mod SilentLemmas
+pub mod ExitLemmas

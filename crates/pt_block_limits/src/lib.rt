@@ -1,0 +1,9 @@
+//! What a block of code must not pass: the depth of its slots, and cycles on which no act begins.
+#![tactic(auto)]
+
+mod depth;
+mod loops;
+
+pub use depth::is_too_deep;
+pub use loops::silent_loops;
+pub use pt_step_graph::Cycles;
