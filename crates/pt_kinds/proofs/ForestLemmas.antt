@@ -1,5 +1,5 @@
 -- A forest keeps its lists while it grows, and no two of them are the same.
-use Rattle.std.proofs.Common.{◌≡◌, ℕ, zero, suc, ◌+◌, ◌-◌, ◌<◌, ◌≤◌, List, [], ◌∷◌, ◌++◌, length, take, replicate, Option, Some, None, refl, sym, ap, ◌∙◌, subst, arith, append_assoc, length-append, ◌⊎◌, inl, inr, get_or}
+use Rattle.std.proofs.Common.{◌≡◌, ℕ, zero, suc, ◌+◌, ◌<◌, List, [], ◌∷◌, ◌++◌, length, replicate, Some, None, refl, sym, ap, ◌∙◌, subst, arith, append_assoc, length-append, ◌⊎◌, inl, inr, get_or}
 use Rattle.std.specs.Prelude.{slice_get}
 use Rattle.std.proofs.lemmas.Bool.{cases_eq}
 use Rattle.std.proofs.lemmas.List.{get_or_append_left, length-replicate}
@@ -9,10 +9,10 @@ use Rattle.pt_instr.specs.Effects.{Kinds}
 use Rattle.pt_kinds.specs.declared.forest.Node.{Node}
 use Rattle.pt_kinds.specs.declared.forest.Forest.{Forest}
 use Rattle.pt_kinds.specs.declared.known.Known.{Known}
-use Rattle.pt_kinds.specs.Known.{known_at, rank, Adds, IsEmpty}
-use Rattle.pt_kinds.specs.Forest.{list_in, lists_from, lists_of, list_at, IsInside, Begins, IsApart, IsRun, IsRoot, HasRoot, IsKnown, AreNodes, IsForest, Has, AreDistinct, IsFloor, IsStandingOn, IsLower}
+use Rattle.pt_kinds.specs.Known.{known_at, rank, Adds}
+use Rattle.pt_kinds.specs.Forest.{list_in, lists_from, lists_of, Begins, IsApart, IsRun, IsKnown, AreNodes, IsForest, AreDistinct}
 use Rattle.pt_kinds.proofs.KnownLemmas.{one_rank}
-use Rattle.pt_kinds.proofs.RunLemmas.{get_left, get_last, get_push, same_runs, take_all, take_front, take_run, replicate_more}
+use Rattle.pt_kinds.proofs.RunLemmas.{get_left, get_last, get_push, same_runs}
 
 abbrev with_run : List Kinds → Node → Kinds
 with_run before n = list_in before n.parent ++ replicate n.count n.kind

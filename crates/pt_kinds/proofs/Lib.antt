@@ -2,3 +2,4 @@ mod KnownLemmas
 mod RunLemmas
 mod ForestLemmas
 mod WayLemmas
+mod CommonLemmas

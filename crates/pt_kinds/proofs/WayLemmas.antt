@@ -1,5 +1,5 @@
 -- What the calls of a forest answer.
-use Rattle.std.proofs.Common.{◌≡◌, ℕ, zero, suc, ◌+◌, ◌-◌, ◌<◌, ◌≤◌, Bool, true, false, List, [], ◌∷◌, ◌++◌, length, take, replicate, Option, Some, None, refl, sym, ap, ◌∙◌, subst, arith, append_assoc, append-nil, length-append, ◌⊎◌, inl, inr}
+use Rattle.std.proofs.Common.{◌≡◌, ℕ, zero, suc, ◌+◌, ◌-◌, ◌<◌, ◌≤◌, Bool, true, false, List, [], ◌∷◌, ◌++◌, length, take, replicate, Some, None, refl, sym, ap, ◌∙◌, subst, arith, append_assoc, append-nil, length-append, ◌⊎◌, inl, inr}
 use Rattle.std.specs.Prelude.{slice_get, MatchBool}
 use Rattle.std.specs.Prelude.{nat_eq, nat_le, not}
 use Rattle.std.proofs.lemmas.Bool.{eqb-true, leb-true}
@@ -12,9 +12,9 @@ use Rattle.pt_kinds.specs.declared.forest.Node.{Node}
 use Rattle.pt_kinds.specs.declared.forest.Forest.{Forest}
 use Rattle.pt_kinds.specs.declared.known.Known.{Known}
 use Rattle.pt_kinds.specs.Known.{known_at, Adds, IsEmpty}
-use Rattle.pt_kinds.specs.Forest.{list_in, lists_of, list_at, IsInside, Begins, IsApart, IsRun, IsRoot, HasRoot, IsKnown, AreNodes, IsForest, Has, IsFloor, IsStandingOn, IsLower, HasTop}
+use Rattle.pt_kinds.specs.Forest.{list_in, lists_of, list_at, IsInside, Begins, IsApart, IsRun, IsRoot, AreNodes, IsForest, Has, IsFloor, IsStandingOn, IsLower, HasTop}
 use Rattle.pt_kinds.proofs.RunLemmas.{last_same, replicate_last, replicate_more, take_all, take_front, take_run}
-use Rattle.pt_kinds.proofs.ForestLemmas.{old_list, new_list, more_long, more_nodes, node_at, are_distinct}
+use Rattle.pt_kinds.proofs.ForestLemmas.{old_list, new_list, more_long, more_nodes, are_distinct}
 
 -- the list of none is alone at first
 pub root_forest : (nodes : List Node) (known : Known) (n : Node) → nodes ≡ n ∷ [] → IsRoot n → IsEmpty known → AreNodes nodes known

@@ -53,7 +53,7 @@ impl Forest {
         })
     }
 
-    fn at(&self, node: usize) -> Node
+    pub(crate) fn at(&self, node: usize) -> Node
         requires { IsInside self.now node }
         ensures { slice_get self.now.nodes.items node ≡ Some result }
     {
@@ -164,8 +164,8 @@ impl Forest {
         !is_kind(self.at(list).kind, kind)
     }
 
-    /// A list on which one stands and that has so many slots: the one that its shortcut leads to, else
-    /// the one below.
+    /// A list on which one stands and that has so many slots: the one that its shortcut leads to,
+    /// else the one below.
     fn lower(&self, node: usize, depth: u64) -> usize
         requires forest { IsForest self.now }
         requires inside { IsInside self.now node }
@@ -195,7 +195,7 @@ impl Forest {
         below.length >= depth
     }
 
-    fn floor(&self, list: usize, depth: u64) -> usize
+    pub(crate) fn floor(&self, list: usize, depth: u64) -> usize
         requires forest { IsForest self.now }
         requires inside { IsInside self.now list }
         ensures { IsFloor self.now list depth result }

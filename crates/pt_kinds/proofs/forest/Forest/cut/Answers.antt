@@ -1,4 +1,4 @@
-use Rattle.std.proofs.Common.{◌≡◌, ◌++◌, ◌<◌, ◌≤◌, ◌∙◌, length, replicate, ap, subst, arith}
+use Rattle.std.proofs.Common.{◌++◌, ◌<◌, ◌∙◌, replicate, ap, subst, arith}
 use Rattle.std.specs.Prelude.{IfOk}
 use Rattle.pt_kinds.specs.Forest.{Has, list_at}
 use Rattle.pt_kinds.proofs.WayLemmas.{length_is, low_inside, floor_whole, floor_behind, floor_part}

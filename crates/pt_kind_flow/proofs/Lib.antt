@@ -1,0 +1,5 @@
+mod Beginnings
+mod Forests
+mod Leading
+mod Theory
+mod Stages

@@ -1,0 +1,217 @@
+//! The longest list with which all lists begin that come to a vertex.
+ghost use Rattle.std.specs.Prelude.{◌≡◌, ◌++◌, ◌<◌, ◌∷◌, [], length, replicate, map, set, IfOk, Option, None, option_map};
+ghost use Rattle.std.specs.List.{flat_map};
+ghost use Rattle.pt_instr.specs.Runs.{kinds_of};
+ghost use Rattle.pt_kinds.specs.Forest.{IsForest, IsInside, list_at};
+ghost use Rattle.pt_kind_flow.specs.Flow.{AreLongest, Descends, edges_at, edges_of, entry, graph, told};
+ghost use Rattle.pt_kind_flow.specs.Search.{AllDescend, GoesOn, GoneOn, IsFirstTable, IsFlow, IsSearch, Leads, Open, Opens, Settled};
+
+use crate::edges::{Edge, led, push_runs};
+use pt_base::Memory;
+use pt_instr::Run;
+use pt_kinds::Forest;
+use std::alloc::Global;
+
+/// A list that comes to a vertex.
+#[derive(Clone, Copy, Debug)]
+pub struct Arrival {
+    pub to: usize,
+    pub list: usize,
+}
+
+/// A graph along whose edges lists of kinds go, and for each vertex the longest list with which
+/// all of those begin that come there.
+#[derive(Debug, Drop)]
+pub struct Flow {
+    pub forest: Forest,
+    /// The kinds with which the first vertex starts.
+    pub first: usize,
+    pub edges: Vec<Vec<Edge>>,
+    pub table: Vec<Option<usize>>,
+    pub work: Vec<Arrival>,
+    /// The vertices of which a list was told since one got its edges last.
+    pub changed: Vec<usize>,
+}
+
+/// Adds an arrival along each edge of a vertex, but for those that it had before.
+fn add_led(
+    forest: &mut Forest,
+    work: &mut Vec<Arrival>,
+    edges: &[Edge],
+    list: usize,
+    told: Option<u64>,
+) -> Result<(), Memory>
+    requires forest { IsForest forest.old }
+    requires inside { IsInside forest.old list }
+    requires sorted { Descends edges.now }
+    ensures { IfOk result (λ _. Leads forest.old forest.new edges.now list told work.old.items
+        work.new.items) }
+{
+    for edge in edges.iter() {
+        if edge.is_told(told) {
+            return Ok(());
+        }
+        let there = led(forest, edge, list)?;
+        work.push(Arrival {
+            to: edge.to,
+            list: there,
+        })?;
+    }
+    Ok(())
+}
+
+/// So many vertices without edges.
+fn edges_of_none(alloc: Global, count: usize) -> Result<Vec<Vec<Edge>>, Memory>
+    ensures { IfOk result (λ edges. edges_of edges ≡ replicate count []) }
+{
+    let mut edges = Vec::new(alloc);
+    for counter in 0..count {
+        edges.push(Vec::new(alloc))?;
+    }
+    Ok(edges)
+}
+
+/// A table in which the first vertex alone has its list.
+fn first_table(alloc: Global, count: usize, first: usize) -> Result<Vec<Option<usize>>, Memory>
+    ensures { IfOk result (λ table. IsFirstTable count first table.items) }
+{
+    let mut table = vec![in alloc; None; count]?;
+    if count == 0 {
+        return Ok(table);
+    }
+    table[0] = Some(first);
+    Ok(table)
+}
+
+impl Flow {
+    /// A graph of so many vertices without edges, of which the first starts with these kinds.
+    ///
+    /// # Errors
+    ///
+    /// `Memory` for want of it.
+    pub fn new(alloc: Global, count: usize, first: &[Run]) -> Result<Flow, Memory>
+        ensures flow { IfOk result (λ flow. IsFlow flow) }
+        ensures edges { IfOk result (λ flow. (graph flow).edges ≡ replicate count []) }
+        ensures first { IfOk result (λ flow. (graph flow).first ≡ flat_map kinds_of first.now) }
+    {
+        let mut forest = Forest::new(alloc)?;
+        let first = push_runs(&mut forest, 0, first)?;
+        let edges = edges_of_none(alloc, count)?;
+        let table = first_table(alloc, count, first)?;
+        Ok(Flow {
+            forest,
+            first,
+            edges,
+            table,
+            work: Vec::new(alloc),
+            changed: Vec::new(alloc),
+        })
+    }
+
+    /// The longest list with which all lists begin that come to a vertex; None where none comes.
+    pub fn longest(&self, vertex: usize) -> Option<usize>
+        ensures { result ≡ entry self.now.table.items vertex }
+    {
+        if vertex < self.table.len() {
+            self.table[vertex]
+        } else {
+            None
+        }
+    }
+
+    /// Tells a list of a vertex, and goes on along its edges. So many of its slots were told
+    /// before.
+    fn go_on(&mut self, vertex: usize, list: usize, told: Option<u64>) -> Result<(), Memory>
+        requires forest { IsForest self.old.forest }
+        requires inside { IsInside self.old.forest list }
+        requires room { vertex < length self.old.table.items }
+        requires edges { vertex < length self.old.edges.items }
+        requires sorted { Descends (edges_at (graph self.old).edges vertex) }
+        ensures { IfOk result (λ _. GoneOn self.old self.new vertex list told) }
+    {
+        self.table[vertex] = Some(list);
+        self.changed.push(vertex)?;
+        add_led(
+            &mut self.forest,
+            &mut self.work,
+            self.edges[vertex].as_slice(),
+            list,
+            told,
+        )
+    }
+
+    /// Sees to one arrival.
+    fn arrive(&mut self, arrival: Arrival) -> Result<(), Memory>
+        requires opens { Open (graph self.old) self.old.forest self.old.table.items
+            (self.old.work.items ++ arrival ∷ []) }
+        requires first { IsInside self.old.forest self.old.first }
+        requires sorted { AllDescend (graph self.old) }
+        ensures { IfOk result (λ _. GoesOn self.old self.new) }
+    {
+        if arrival.to >= self.table.len() {
+            return Ok(());
+        }
+        match self.table[arrival.to] {
+            None => {
+                self.go_on(arrival.to, arrival.list, None)?;
+                Ok(())
+            }
+            Some(known) => {
+                let count = self.forest.common(known, arrival.list);
+                if count == self.forest.len(known) {
+                    return Ok(());
+                }
+                let list = self.forest.cut(known, count)?;
+                self.go_on(arrival.to, list, Some(count))?;
+                Ok(())
+            }
+        }
+    }
+
+    /// Sees to all arrivals.
+    fn settle(&mut self) -> Result<(), Memory>
+        requires { IsSearch self.old }
+        ensures { IfOk result (λ _. Settled self.old self.new) }
+    {
+        let mut left = u64::MAX;
+        while left > 0 {
+            let Some(arrival) = self.work.pop() else {
+                return Ok(());
+            };
+            self.arrive(arrival)?;
+            left -= 1;
+        }
+        Err(Memory)
+    }
+
+    /// Gives a vertex its edges, and sees to all that comes along them. Those that depend on fewer
+    /// slots come later, so that they aren't looked at where its list gets shorter above these.
+    /// What is told of other vertices than those that changed stays the same, and so do lists by
+    /// their numbers.
+    ///
+    /// # Errors
+    ///
+    /// `Memory` for want of it, and where a list would pass 2^64 slots or 2^64 lists have come
+    /// along edges.
+    pub fn open(&mut self, vertex: usize, edges: Vec<Edge>) -> Result<(), Memory>
+        requires flow { IsFlow self.old }
+        requires inside { vertex < length self.old.edges.items }
+        requires none { edges_at (graph self.old).edges vertex ≡ [] }
+        requires sorted { Descends edges.items }
+        ensures { IfOk result (λ _. Opens self.old self.new vertex edges.items) }
+    {
+        self.changed.clear();
+        self.edges[vertex] = edges;
+        let Some(list) = self.table[vertex] else {
+            return Ok(());
+        };
+        self.go_on(vertex, list, None)?;
+        self.settle()?;
+        Ok(())
+    }
+}
+
+/// What is told of vertices is the longest list with which all begin that come there.
+pub fn flows_tell_the_longest()
+    ensures { (flow : Flow) → IsFlow flow → AreLongest flow }
+{}

@@ -1,0 +1,9 @@
+//! How lists of kinds go along the edges of a graph, and with what all of them begin that come to
+//! a vertex.
+#![tactic(auto)]
+
+mod edges;
+mod flow;
+
+pub use edges::Edge;
+pub use flow::Flow;
