@@ -62,23 +62,23 @@ count (Some ks) = length ks
 
 module _ {V : Type 0} (around : Around (Unit {0})) (c : Code) (texts : List Name) (constants : List Const) (lists : List (List ℕ)) (locals cells free : List TextNo)
     (file : CodeFile) (blk : CodeBlock) (object : CodeObject V) where
-  abbrev piece : Piece
+  abbrev pub piece : Piece
   piece = code_piece around c
 
-  abbrev start : Written
+  abbrev pub start : Written
   start = begun texts constants lists locals cells free (slots_of c)
 
-  abbrev F : Written
+  abbrev pub F : Written
   F = layout piece [] start
 
-  abbrev B : Block
+  abbrev pub B : Block
   B = block_of file blk object.at
 
-  abbrev table : Table
+  abbrev pub table : Table
   table = table_of B piece (first_slots c)
 
   -- the object that knows how many slots the table has at each place
-  abbrev counting : CodeObject V
+  abbrev pub counting : CodeObject V
   counting = record object { depth_at = λ pc. count (table pc) }
 
   module _ (takes : TakesCells around) (named : Code_named around c) (parts : CodeHasParts c) (loops : StandsInLoops c)
@@ -91,7 +91,7 @@ module _ {V : Type 0} (around : Around (Unit {0})) (c : Code) (texts : List Name
     typed : IsWhole B piece (first_slots c)
     typed = pieces_are_typed around B takes captures c named
 
-    all_lead : LeadAll F table F.instrs
+    pub all_lead : LeadAll F table F.instrs
     all_lead = leading F B.links (next_of B) follows table piece [] start (record { around = None; depth = slots_of c }) kinds.outermost [] (λ e. false) [] (Some (first_slots c)) false refl
         (record {
           within = begins_same F.instrs;
@@ -109,10 +109,10 @@ module _ {V : Type 0} (around : Around (Unit {0})) (c : Code) (texts : List Name
           let h : Comes table (label_at F k) = one_of F table before behind k a (subst (LeadAll F table) e all_lead) in ap count h.there ∙ h.depth;
     }
 
-    rises : Rises B
+    pub rises : Rises B
     rises pc i e = laid_rise blk 0 (instrs_of F) pc i (ap (λ f. f pc) (sym view) ∙ e)
 
-    stands : Piece_at counting blk.starts piece [] (outermost (slots_of c)) 0 B.size
+    pub stands : Piece_at counting blk.starts piece [] (outermost (slots_of c)) 0 B.size
     stands = subst (λ m. Piece_at counting blk.starts piece [] (outermost (slots_of c)) 0 m) (sym (ap length whole.instructions ∙ bytes_wide F F.instrs))
         (stands_where_laid piece texts constants lists locals cells free (slots_of c) file blk counting (pieces_fit around c takes loops named) whole shows)
 
@@ -122,7 +122,7 @@ module _ {V : Type 0} (around : Around (Unit {0})) (c : Code) (texts : List Name
     inside : Strays B B.size → ⊥
     inside s = leaves_lead_inside around c counting blk.starts B takes captures named (λ pc. refl) rises stands begins (agrees.inside s)
 
-    tables : IsTableOf B table
+    pub tables : IsTableOf B table
     tables = have_tables around c counting blk.starts B takes captures named (λ pc. refl) rises stands begins
 
     some : (i : Ins) × (object.at 0 ≡ Some i)
