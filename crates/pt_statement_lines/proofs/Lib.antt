@@ -1,0 +1,3 @@
+mod Expressions
+mod Wider
+pub mod Statements

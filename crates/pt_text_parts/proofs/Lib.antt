@@ -1,0 +1,5 @@
+mod Ways
+mod Narrow
+mod Blocks
+mod Apart
+pub mod Texts

@@ -1,0 +1,4 @@
+mod Spots
+mod Words
+pub mod Rising
+pub mod Tokens
