@@ -1,5 +1,5 @@
 pub mod TakeLemmas
 pub mod MoveLemmas
-mod ConstantLemmas
-mod TruthLemmas
-mod BranchLemmas
+pub mod ConstantLemmas
+pub mod TruthLemmas
+pub mod BranchLemmas

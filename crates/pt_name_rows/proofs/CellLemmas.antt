@@ -136,7 +136,7 @@ module _ (facts : BlockFacts) (own : List ℕ) (x : SlotNo) (cells : List (Optio
   push_lacks_of : (old new : List Slot) → slice_get own x.0 ≡ None → RowsCell facts own x.0 (instr.PushCell x) old cells progress.Lacks new cells
   unfolding RowsCell RowsIn
   push_lacks_of old new e locals of_class w has within s pc i truths knows =
-      absurd (let h : length own ≤ x.0 = past_end own x.0 e in let k : length own ≡ length (facts.cells ++ facts.frees) = has.count in omega (arith, h, k, within))
+      absurd (let h : length own ≤ x.0 = past_end own x.0 e in let k : length (facts.cells ++ facts.frees) ≤ length own = has.count in omega (arith, h, k, within))
 
 -- another cell for a cell name, and no value for a free one
 module _ (facts : BlockFacts) (x : SlotNo) (own : List ℕ) (cells : List (Option Value)) where

@@ -1,6 +1,6 @@
-mod DotLemmas
+pub mod DotLemmas
 pub mod AskLemmas
-mod LocalLemmas
-mod CellLemmas
-mod GlobalLemmas
-mod NameLemmas
+pub mod LocalLemmas
+pub mod CellLemmas
+pub mod GlobalLemmas
+pub mod NameLemmas

@@ -29,7 +29,7 @@ pub fn global(
         slots.new) }
     ensures active { OnOk result (active_in slots.new ≡ active_in slots.old) }
 {
-    match globals.get(name) {
+    match globals.get_numbered(text.0 as usize, name) {
         Some(value) => {
             slots.push(Slot::Value(value))?;
             Ok(Progress::Next)
@@ -63,7 +63,7 @@ pub fn set_global(
 {
     match take_one(slots) {
         Some(value) => {
-            globals.set(alloc, name, Some(value))?;
+            globals.set_numbered(alloc, text.0 as usize, name, Some(value))?;
             Ok(Progress::Next)
         }
         None => Ok(Progress::Lacks),
@@ -83,9 +83,9 @@ pub fn delete_global(
         → RowsGlobal name.now (instr.DelGlobal text) text.0 slots globals.old p slots
         globals.new) }
 {
-    match globals.get(name) {
+    match globals.get_numbered(text.0 as usize, name) {
         Some(_) => {
-            globals.set(alloc, name, None)?;
+            globals.set_numbered(alloc, text.0 as usize, name, None)?;
             Ok(Progress::Next)
         }
         None => unbound_global(alloc, name),

@@ -50,7 +50,7 @@ by_text-take (suc n) [] = refl
 by_text-take (suc n) (e ∷ es) = ap (λ l. (string_bytes e.0, e.1) ∷ l) (by_text-take n es)
 
 -- texts differ where names do
-distinct_texts : {A : Type 0} (es : Entries A) → IsDistinct string_eq (keys_of es) → IsDistinct bytes_eq (keys_of (by_text es))
+pub distinct_texts : {A : Type 0} (es : Entries A) → IsDistinct string_eq (keys_of es) → IsDistinct bytes_eq (keys_of (by_text es))
 unfolding IsDistinct
 distinct_texts [] d = tt
 distinct_texts {A} (e ∷ es) d = (apart es d.0, distinct_texts es d.1)

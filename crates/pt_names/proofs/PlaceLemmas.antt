@@ -1,9 +1,11 @@
 -- Where names stand among others.
-use Rattle.std.proofs.Common.{◌≡◌, ◌∙◌, ◌++◌, ℕ, zero, suc, Bool, true, false, cond, not, nat_lt, List, [], ◌∷◌, length, map, Option, None, Some, position, take, refl, ap, sym, arith, lt-ltb, ◌<◌}
-use Rattle.std.specs.Prelude.{◌+◌, slice_get, String, string_bytes}
-use Rattle.std.specs.List.{position_or_len}
+use Rattle.std.proofs.Common.{◌≡◌, ◌∙◌, ◌++◌, ℕ, zero, suc, Bool, true, false, cond, not, nat_lt, List, [], ◌∷◌, length, map, Option, None, Some, position, take, refl, ap, sym, subst, arith, lt-ltb, ◌<◌}
+use Rattle.std.specs.Prelude.{◌+◌, slice_get, String, string_bytes, string_eq}
+use Rattle.std.specs.List.{position_or_len, IsDistinct, AllByRecursion}
 use Rattle.std.specs.Map.{lookup, keys_of, values_of}
-use Rattle.std.specs.Option.{option_flatten}
+use Rattle.std.specs.Option.{option_flatten, option_map}
+use Rattle.std.proofs.lemmas.Option.{slice_get-map}
+use Rattle.std.proofs.lemmas.Slice.Eq.{bytes_eq-Decides}
 use Rattle.std.specs.Str.{bytes_eq}
 use Rattle.indexmap.specs.IndexMap.{insert_entry, set_value_at}
 use Rattle.indexmap.proofs.MapLemmas.{Found-position, Missing-position, insert_entry-first}
@@ -11,7 +13,7 @@ use Rattle.pt_heap.proofs.HoleLemmas.{bytes_eq_equiv}
 use Rattle.pt_heap.specs.declared.value.Value.{Value}
 use Rattle.pt_heap.specs.declared.view.Binding.{Binding}
 use Rattle.pt_names.specs.Names.{Named, by_text, place_of, entry_value, unless_placed, with_place, bound_first, bindings_of, StandsFor, KeepsPlace}
-use Rattle.pt_names.proofs.NameLemmas.{Entries, by_text-next}
+use Rattle.pt_names.proofs.NameLemmas.{Entries, by_text-next, distinct_texts}
 
 -- a test passes at this place and at none before it
 abbrev First : (List ℕ → Bool) → Named → ℕ → Type 0
@@ -174,3 +176,25 @@ set-none (e ∷ es) (suc at) v h = ap (λ l. e ∷ l) (set-none es at v h)
 pub bindings-next : {A : Type 0} (es : Entries A) (n : ℕ) (e : String A × Option Value) → Some e ≡ slice_get es n
     → bindings_of (by_text (take n es)) ++ bindings_of ((string_bytes e.0, e.1) ∷ []) ≡ bindings_of (by_text (take (n + 1) es))
 bindings-next es n e h = sym (bindings-append (by_text (take n es)) ((string_bytes e.0, e.1) ∷ [])) ∙ ap bindings_of (by_text-next es n e h)
+
+-- a name that stands at a place of names that differ is the first of its text
+
+all-at : (x : List ℕ) (ns : Named) (i : ℕ) (e : List ℕ × Option Value) → AllByRecursion (λ y. bytes_eq x y ≡ false) (keys_of ns) → Some e ≡ slice_get ns i
+    → bytes_eq x e.0 ≡ false
+all-at x [] i e d h = absurd (cc)
+all-at x (n ∷ ns) zero e d h = let same : n ≡ e = cc in ap (λ m. bytes_eq x m.0) (sym same) ∙ d.0
+all-at x (n ∷ ns) (suc i) e d h = all-at x ns i e d.1 h
+
+first-there : (ns : Named) (i : ℕ) (e : List ℕ × Option Value) → IsDistinct bytes_eq (keys_of ns) → Some e ≡ slice_get ns i → First (bytes_eq e.0) ns i
+unfolding IsDistinct
+first-there [] i e d h = absurd (cc)
+first-there (n ∷ ns) zero e d h = let same : n ≡ e = cc in ap (λ m. bytes_eq e.0 m.0) same ∙ bytes_eq_equiv.refl e.0
+first-there (n ∷ ns) (suc i) e d h = (bytes_eq_equiv.symm e.0 n.0 ∙ all-at n.0 ns i e d.0 h, first-there ns i e d.1 h)
+
+pub stands_there : {A : Type 0} (name : List ℕ) (es : Entries A) (i : ℕ) (e : String A × Option Value) → IsDistinct string_eq (keys_of es) → Some e ≡ slice_get es i
+    → bytes_eq (string_bytes e.0) name ≡ true → place_of name (by_text es) ≡ Some i
+stands_there name es i e d h is =
+    let at : Some (string_bytes e.0, e.1) ≡ slice_get (by_text es) i =
+    ap (option_map (λ e. (string_bytes e.0, e.1))) h ∙ sym (slice_get-map (λ e. (string_bytes e.0, e.1)) es i) in
+    subst (λ n. place_of n (by_text es) ≡ Some i) ((bytes_eq-Decides (string_bytes e.0) name).0 is)
+    (index-first (bytes_eq (string_bytes e.0)) (by_text es) i (first-there (by_text es) i (string_bytes e.0, e.1) (distinct_texts es d) at))

@@ -1,6 +1,7 @@
 //! Names with their values, each at a place that it keeps.
 #![tactic(auto)]
 
+mod hints;
 mod laws;
 mod names;
 

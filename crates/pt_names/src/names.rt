@@ -1,11 +1,12 @@
 ghost use Rattle.std.specs.Prelude.{◌≡◌, ◌++◌, ◌∷◌, [], None, Some, IsSome, IfOk, OnOk, OnErr};
-ghost use Rattle.std.specs.Prelude.{take, length, ◌<◌, ◌+◌, string_bytes, string_eq};
+ghost use Rattle.std.specs.Prelude.{take, true, length, ◌<◌, ◌+◌, string_bytes, string_eq};
 ghost use Rattle.std.specs.Str.{bytes_eq};
 ghost use Rattle.std.specs.Map.{set_value};
 ghost use Rattle.indexmap.specs.IndexMap.{get_by_text, insert_entry, set_value_at, IsUnique};
 ghost use Rattle.pt_names.specs.Names.{bindings_of, by_text, name_value, place_of, value_in_place};
 ghost use Rattle.pt_names.specs.Names.{with_place};
 
+use crate::hints::{give_hint, hint_at, make_hint};
 use indexmap::IndexMap;
 use pt_base::{Dup, Memory, Seq, Text};
 use pt_heap::{Binding, Seed, Value};
@@ -73,6 +74,17 @@ fn place_in(map: &NameMap, name: &str) -> Option<usize>
     ensures { result ≡ place_of name.now (by_text map.now.entries) }
 {
     map.get_index_of(name)
+}
+
+/// Whether a name stands at a place.
+fn stands_at(map: &NameMap, place: usize, name: &str) -> bool
+    requires { IsUnique string_eq map.now }
+    ensures { result ≡ true → place_of name.now (by_text map.now.entries) ≡ Some place }
+{
+    match map.get_index(place) {
+        Some((there, _)) => there.as_str() == name,
+        None => false,
+    }
 }
 
 /// The value of the name at a place, if the place and a value are there.
@@ -148,6 +160,9 @@ fn bindings_in(alloc: Global, map: &NameMap) -> Result<Seq<Binding>, Memory>
 #[derive(Drop)]
 pub struct Names {
     map: NameMap,
+    /// By the number of its text, the place that a name had when it was last looked up by its text.
+    /// It is tried first, and nothing is answered by it alone.
+    hints: Seq<u32>,
 }
 
 impl Model for Names {
@@ -170,6 +185,7 @@ impl Names {
     {
         Names {
             map: IndexMap::with_hasher(alloc, seed),
+            hints: Seq::new(alloc),
         }
     }
 
@@ -237,11 +253,49 @@ impl Names {
             }
         }
     }
+
+    /// The value of a name, as `get` gives it. Where the name was bound by the number of its text,
+    /// it is found without a hash.
+    pub fn get_numbered(&self, number: usize, name: &str) -> Option<Value>
+        ensures { result ≡ name_value name.now self.now }
+    {
+        let place = hint_at(&self.hints, number);
+        if stands_at(&self.map, place, name) {
+            return value_in(&self.map, place);
+        }
+        self.get(name)
+    }
+
+    /// Binds a name, or unbinds it, as `set` does. From then on it is found by the number of its
+    /// text.
+    pub fn set_numbered(
+        &mut self,
+        alloc: Global,
+        number: usize,
+        name: &str,
+        value: Option<Value>,
+    ) -> Result<(), Memory>
+        ensures ok { OnOk result (self.new ≡ insert_entry bytes_eq self.old name.now value) }
+        ensures err { OnErr result (self.new ≡ self.old) }
+    {
+        let place = hint_at(&self.hints, number);
+        if stands_at(&self.map, place, name) {
+            write_at(&mut self.map, place, value);
+            return Ok(());
+        }
+        make_hint(&mut self.hints, number)?;
+        self.set(alloc, name, value)?;
+        give_hint(&mut self.hints, number, place_in(&self.map, name));
+        Ok(())
+    }
 }
 
 impl Dup for Names {
     fn dup(&self, alloc: Global) -> Result<Names, Memory> {
         let map = copy_of(alloc, &self.map)?;
-        Ok(Names { map })
+        Ok(Names {
+            map,
+            hints: Seq::new(alloc),
+        })
     }
 }

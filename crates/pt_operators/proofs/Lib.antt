@@ -1,1 +1,1 @@
-mod OperatorLemmas
+pub mod OperatorLemmas

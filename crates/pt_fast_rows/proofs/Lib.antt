@@ -1,0 +1,5 @@
+mod TakeLemmas
+mod ValueLemmas
+mod IntegerLemmas
+mod BranchLemmas
+mod NameLemmas
