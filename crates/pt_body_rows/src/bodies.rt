@@ -1,6 +1,6 @@
 //! Names of the bodies of the module and of classes (Language Reference 4.2.2): the body of a class
 //! reads a name of the module that it doesn't bind.
-ghost use Rattle.std.specs.Prelude.{◌≡◌, IfOk, OnOk};
+ghost use Rattle.std.specs.Prelude.{◌≡◌, false, IfOk, OnOk};
 ghost use Rattle.pt_body_rows.specs.Bodies.{RowsLoadName, RowsName};
 ghost use Rattle.pt_frames.specs.Slots.{active_in};
 ghost use Rattle.pt_instr.specs.declared.Instr.TheVariants as instr;
@@ -63,6 +63,7 @@ pub fn set_name(
         (λ p. RowsName name.now in_class facts.now (instr.SetName text) text.0 slots.old
         locals.old own.old globals.old p slots.new locals.new own.new globals.new) }
     ensures active { OnOk result (active_in slots.new ≡ active_in slots.old) }
+    ensures of_class { in_class ≡ false → own.new ≡ own.old }
 {
     if !in_class {
         return set_global(alloc, text, name, globals, slots);
@@ -88,10 +89,11 @@ pub fn delete_name(
     own: &mut Names,
     globals: &mut Names,
 ) -> Result<Progress, Memory>
-    ensures { IfOk result
+    ensures row { IfOk result
         (λ p. (slots : _)
         → RowsName name.now in_class facts.now (instr.DelName text) text.0 slots locals.old
         own.old globals.old p slots locals.new own.new globals.new) }
+    ensures of_class { in_class ≡ false → own.new ≡ own.old }
 {
     if !in_class {
         return delete_global(alloc, text, name, globals);

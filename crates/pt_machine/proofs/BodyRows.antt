@@ -1,5 +1,5 @@
 -- What was done with names of a body is what the machine did.
-use Rattle.std.proofs.Common.{◌≡◌, ℕ, List, Bool, Option, refl, subst}
+use Rattle.std.proofs.Common.{◌≡◌, ◌∙◌, ℕ, List, Bool, false, Option, refl, subst}
 use Rattle.pt_tree.specs.Syntax.{Name}
 use Rattle.pt_instr.specs.declared.Instr.{Instr}
 use Rattle.pt_heap.specs.declared.value.Value.{Value}
@@ -35,33 +35,36 @@ module _ (tables : CodeTables) (j : Instr) (p : Progress) (m : Machine) (f : Blo
     name-told : RowsName (text_in tables t) in_class f j t m.here.slots m.here.locals m.here.names m.frames.globals p slots locals own globals
         → IsTold tables j p m (with_names slots locals own globals)
     unfolding RowsName RowsIn
-    name-told row program code known i h is =
+    name-told row program code known can i h is =
         by-facts tables j p m f are program code known slots (λ g. stores_in g m.here.locals m.here.cells m.here.names (world_view m.frames m.heap))
         (λ g. stores_in g locals m.here.cells own (world_view (record m.frames { globals = globals }) m.heap)) i h
         (row m.here.cells (world_view m.frames m.heap) (stands tables j p m program code h) m.here.pc.0 i (known.blocks (block_of m.here)).truths (named program code known h))
 
     pub set_name : RowsName (text_in tables t) in_class f j t m.here.slots m.here.locals m.here.names m.frames.globals p slots locals own globals
-        → active_in slots ≡ active_in m.here.slots → Performs tables j p m (with_names slots locals own globals)
-    set_name row same = record { rest = refl; active = keeps p same; row = told_row tables j p m (with_names slots locals own globals) (name-told row) }
+        → active_in slots ≡ active_in m.here.slots → (in_class ≡ false → own ≡ m.here.names) → Performs tables j p m (with_names slots locals own globals)
+    set_name row same kept =
+        record { rest = refl; active = keeps p same; row = told_row tables j p m (with_names slots locals own globals) (name-told row); names = kept }
 
   deleted_name : (locals : List (Option Value)) (own globals : Named)
       → ((slots : List Slot) → RowsName (text_in tables t) in_class f j t slots m.here.locals m.here.names m.frames.globals p slots locals own globals)
+      → (in_class ≡ false → own ≡ m.here.names)
       → Performs tables j p m (record m { here = record m.here { locals = locals; names = own }; frames = record m.frames { globals = globals } })
-  deleted_name locals own globals row = set_name m.here.slots locals own globals (row m.here.slots) refl
+  deleted_name locals own globals row kept = set_name m.here.slots locals own globals (row m.here.slots) refl kept
 
   pub deleted_by : (x : Name) (b : Bool) → x ≡ text_in tables t → b ≡ in_class → (locals : List (Option Value)) (own globals : Named)
-      → ((slots : List Slot) → RowsName x b f j t slots m.here.locals m.here.names m.frames.globals p slots locals own globals)
+      → ((slots : List Slot) → RowsName x b f j t slots m.here.locals m.here.names m.frames.globals p slots locals own globals) → (b ≡ false → own ≡ m.here.names)
       → Performs tables j p m (record m { here = record m.here { locals = locals; names = own }; frames = record m.frames { globals = globals } })
-  deleted_by x b is is_class locals own globals row =
+  deleted_by x b is is_class locals own globals row kept =
       deleted_name locals own globals (λ slots. subst (λ y. RowsName y in_class f j t slots m.here.locals m.here.names m.frames.globals p slots locals own globals) is
       (subst (λ d. RowsName x d f j t slots m.here.locals m.here.names m.frames.globals p slots locals own globals) is_class (row slots)))
+      (λ no. kept (is_class ∙ no))
 
   load-told : (slots : List Slot) → RowsLoadName (text_in tables t) (builtin_in tables t) in_class f j t m.here.slots m.here.locals m.here.names m.frames.globals p slots
       → IsTold tables j p m (with_names slots m.here.locals m.here.names m.frames.globals)
   unfolding RowsLoadName
-  load-told slots row program code known = name-told slots m.here.locals m.here.names m.frames.globals (row (known.builtins t)) program code known
+  load-told slots row program code known can = name-told slots m.here.locals m.here.names m.frames.globals (row (known.builtins t)) program code known can
 
   pub loaded_name : (slots : List Slot) → RowsLoadName (text_in tables t) (builtin_in tables t) in_class f j t m.here.slots m.here.locals m.here.names m.frames.globals p slots
       → active_in slots ≡ active_in m.here.slots → Performs tables j p m (record m { here = record m.here { slots = slots } })
   loaded_name slots row same =
-      record { rest = refl; active = keeps p same; row = told_row tables j p m (with_names slots m.here.locals m.here.names m.frames.globals) (load-told slots row) }
+      record { rest = refl; active = keeps p same; row = told_row tables j p m (with_names slots m.here.locals m.here.names m.frames.globals) (load-told slots row); names = λ no. refl }

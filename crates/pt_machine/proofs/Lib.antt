@@ -2,4 +2,5 @@ pub mod RowLemmas
 pub mod NameRows
 pub mod BodyRows
 pub mod CallRows
+pub mod FastRows
 pub mod StepLemmas

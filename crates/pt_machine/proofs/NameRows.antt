@@ -24,15 +24,16 @@ use Rattle.pt_machine_state.specs.declared.machine.Machine.{Machine}
 use Rattle.pt_machine_state.specs.Views.{block_of, stores_of}
 use Rattle.pt_code_tables.specs.declared.tables.CodeTables.{CodeTables}
 use Rattle.pt_code_tables.specs.Tables.{AreTablesOf, HasDifferentNames, text_in, builtin_in}
+use Rattle.pt_run_names.specs.Operands.{OperandsNameIn}
 use Rattle.pt_machine.specs.Performing.{Performs}
 use Rattle.pt_machine.proofs.RowLemmas.{IsTold, keeps, told_row}
 
--- so many are those of two lists
-pub counted_both : {A B : Type 0} (xs ys : List A) (zs : List B) → length xs ≤ length zs → length ys ≡ length zs - length xs → length zs ≡ length (xs ++ ys)
-counted_both xs ys zs h e = let l : length (xs ++ ys) ≡ length xs + length ys = length-append xs ys in omega (arith, h, e, l)
+-- the instruction names a local name by this number, or one in a cell or a free one
+abbrev pub NamesLocal : Instr → ℕ → Type 0
+NamesLocal j n = (locals cells : ℕ) (defaults : ℕ → ℕ) → OperandsNameIn locals cells defaults j → n < locals
 
-pub counted_within : {A B : Type 0} (xs ys : List A) (zs : List B) (n : ℕ) → length xs ≤ length zs → length ys ≡ length zs - length xs → n < length zs → n < length (xs ++ ys)
-counted_within xs ys zs n h e k = let l : length (xs ++ ys) ≡ length xs + length ys = length-append xs ys in omega (arith, h, e, k, l)
+abbrev pub NamesCell : Instr → ℕ → Type 0
+NamesCell j n = (locals cells : ℕ) (defaults : ℕ → ℕ) → OperandsNameIn locals cells defaults j → n < cells
 
 -- facts of the block, whether it is hidden or not
 abbrev pub AreFacts : CodeTables → Machine → BlockFacts → Type 0
@@ -48,6 +49,19 @@ module _ (tables : CodeTables) (j : Instr) (p : Progress) (m : Machine) (f : Blo
 
     different : HasDifferentNames (facts_view f)
     different = subst (λ g. HasDifferentNames g) facts-are (known.are_different (block_of m.here))
+
+    locals-counted : length (program.facts (block_of m.here)).locals ≤ length m.here.locals → length f.locals ≤ length m.here.locals
+    locals-counted h = subst (λ (g : CodeFacts). length g.locals ≤ length m.here.locals) facts-are h
+
+    local-within : (n : ℕ) → n < length (program.facts (block_of m.here)).locals → n < length f.locals
+    local-within n h = subst (λ (g : CodeFacts). n < length g.locals) facts-are h
+
+    cells-counted : length ((program.facts (block_of m.here)).cells ++ (program.facts (block_of m.here)).frees) ≤ length m.here.cells
+        → length (f.cells ++ f.frees) ≤ length m.here.cells
+    cells-counted h = subst (λ (g : CodeFacts). length (g.cells ++ g.frees) ≤ length m.here.cells) facts-are h
+
+    cell-within : (n : ℕ) → n < length ((program.facts (block_of m.here)).cells ++ (program.facts (block_of m.here)).frees) → n < length (f.cells ++ f.frees)
+    cell-within n h = subst (λ (g : CodeFacts). n < length (g.cells ++ g.frees)) facts-are h
 
     abbrev at : Here Value → Standpoint
     at h = record { program = program; code = code.object (block_of m.here); here = h }
@@ -67,45 +81,46 @@ module _ (tables : CodeTables) (j : Instr) (p : Progress) (m : Machine) (f : Blo
   abbrev with_locals : List Slot → List (Option Value) → Machine
   with_locals slots locals = record m { here = record m.here { slots = slots; locals = locals } }
 
-  module _ (n : ℕ) (slots : List Slot) (locals : List (Option Value)) (count : length m.here.locals ≡ length f.locals) (within : n < length f.locals) where
+  module _ (n : ℕ) (slots : List Slot) (locals : List (Option Value)) (named : NamesLocal j n) where
     local-told : RowsLocal f n j m.here.slots m.here.locals p slots locals → IsTold tables j p m (with_locals slots locals)
     unfolding RowsLocal RowsIn
-    local-told row program code known i h is =
+    local-told row program code known can i h is =
         by-facts program code known slots (λ g. stores_in g m.here.locals m.here.cells m.here.names (world_view m.frames m.heap))
         (λ g. stores_in g locals m.here.cells m.here.names (world_view m.frames m.heap)) i h
-        (row m.here.cells m.here.names (world_view m.frames m.heap) (record { are_different = (different program code known).locals; count = count }) within
-        (at program code known h) m.here.pc.0 i (known.blocks (block_of m.here)).truths (knows program code known))
+        (row m.here.cells m.here.names (world_view m.frames m.heap) (record { are_different = (different program code known).locals; count = locals-counted program code known can.locals })
+        (local-within program code known n (named _ _ _ can.operands)) (at program code known h) m.here.pc.0 i (known.blocks (block_of m.here)).truths (knows program code known))
 
     pub local_row : RowsLocal f n j m.here.slots m.here.locals p slots locals → active_in slots ≡ active_in m.here.slots → Performs tables j p m (with_locals slots locals)
-    local_row row same = record { rest = refl; active = keeps p same; row = told_row tables j p m (with_locals slots locals) (local-told row) }
+    local_row row same = record { rest = refl; active = keeps p same; row = told_row tables j p m (with_locals slots locals) (local-told row); names = λ no. refl }
 
     pub set_local : ((g : BlockFacts) → RowsLocal g n j m.here.slots m.here.locals p slots locals) → active_in slots ≡ active_in m.here.slots → Performs tables j p m (with_locals slots locals)
     set_local row same = local_row (row f) same
 
-  module _ (n : ℕ) (locals : List (Option Value)) (count : length m.here.locals ≡ length f.locals) (within : n < length f.locals) where
+  module _ (n : ℕ) (locals : List (Option Value)) (named : NamesLocal j n) where
     pub deleted_local : ((slots : List Slot) → RowsLocal f n j slots m.here.locals p slots locals) → Performs tables j p m (with_locals m.here.slots locals)
-    deleted_local row = local_row n m.here.slots locals count within (row m.here.slots) refl
+    deleted_local row = local_row n m.here.slots locals named (row m.here.slots) refl
 
     pub fresh_local : ((g : BlockFacts) (slots : List Slot) → RowsLocal g n j slots m.here.locals p slots locals) → Performs tables j p m (with_locals m.here.slots locals)
-    fresh_local row = local_row n m.here.slots locals count within (row f m.here.slots) refl
+    fresh_local row = local_row n m.here.slots locals named (row f m.here.slots) refl
 
   -- cells
 
   abbrev with_cells : List Slot → (own : List ℕ) → List (Option Value) → Machine
   with_cells slots own cells = record m { here = record m.here { slots = slots; cells = own }; frames = record m.frames { cells = cells } }
 
-  module _ (n : ℕ) (count : length m.here.cells ≡ length (f.cells ++ f.frees)) (within : n < length (f.cells ++ f.frees)) where
+  module _ (n : ℕ) (named : NamesCell j n) where
     module _ (slots : List Slot) (cells : List (Option Value)) where
       cell-told : RowsCell f m.here.cells n j m.here.slots m.frames.cells p slots cells → IsTold tables j p m (with_cells slots m.here.cells cells)
       unfolding RowsCell RowsIn
-      cell-told row program code known i h is =
+      cell-told row program code known can i h is =
           by-facts program code known slots (λ g. stores_in g m.here.locals m.here.cells m.here.names (world_view m.frames m.heap))
           (λ g. stores_in g m.here.locals m.here.cells m.here.names (world_view (record m.frames { cells = cells }) m.heap)) i h
-          (row m.here.locals m.here.names (world_view m.frames m.heap) (record { are_different = (different program code known).cells; count = count }) within
+          (row m.here.locals m.here.names (world_view m.frames m.heap) (record { are_different = (different program code known).cells; count = cells-counted program code known can.cells })
+          (cell-within program code known n (named _ _ _ can.operands))
           (at program code known h) m.here.pc.0 i (known.blocks (block_of m.here)).truths (knows program code known))
 
       pub cell_row : RowsCell f m.here.cells n j m.here.slots m.frames.cells p slots cells → active_in slots ≡ active_in m.here.slots → Performs tables j p m (with_cells slots m.here.cells cells)
-      cell_row row same = record { rest = refl; active = keeps p same; row = told_row tables j p m (with_cells slots m.here.cells cells) (cell-told row) }
+      cell_row row same = record { rest = refl; active = keeps p same; row = told_row tables j p m (with_cells slots m.here.cells cells) (cell-told row); names = λ no. refl }
 
       pub set_cell : ((g : BlockFacts) → RowsCell g m.here.cells n j m.here.slots m.frames.cells p slots cells) → active_in slots ≡ active_in m.here.slots
           → Performs tables j p m (with_cells slots m.here.cells cells)
@@ -125,15 +140,16 @@ module _ (tables : CodeTables) (j : Instr) (p : Progress) (m : Machine) (f : Blo
 
     own-told : (own : List ℕ) (cells : List (Option Value)) → RowsOwnCell f n j m.here.cells m.frames.cells p own cells → IsTold tables j p m (with_cells m.here.slots own cells)
     unfolding RowsOwnCell RowsIn
-    own-told own cells row program code known i h is =
+    own-told own cells row program code known can i h is =
         by-facts program code known m.here.slots (λ g. stores_in g m.here.locals m.here.cells m.here.names (world_view m.frames m.heap))
         (λ g. stores_in g m.here.locals own m.here.names (world_view (record m.frames { cells = cells }) m.heap)) i h
-        (row m.here.slots m.here.locals m.here.names (world_view m.frames m.heap) (record { are_different = (different program code known).cells; count = count }) within
+        (row m.here.slots m.here.locals m.here.names (world_view m.frames m.heap) (record { are_different = (different program code known).cells; count = cells-counted program code known can.cells })
+        (cell-within program code known n (named _ _ _ can.operands))
         (at program code known h) m.here.pc.0 i (known.blocks (block_of m.here)).truths (knows program code known))
 
     pub fresh_cell : (own : List ℕ) (cells : List (Option Value)) → RowsOwnCell f n j m.here.cells m.frames.cells p own cells
         → Performs tables j p m (record m { here = record m.here { cells = own }; frames = record m.frames { cells = cells } })
-    fresh_cell own cells row = record { rest = refl; active = keeps p refl; row = told_row tables j p m (with_cells m.here.slots own cells) (own-told own cells row) }
+    fresh_cell own cells row = record { rest = refl; active = keeps p refl; row = told_row tables j p m (with_cells m.here.slots own cells) (own-told own cells row); names = λ no. refl }
 
 -- names of the module
 
@@ -147,12 +163,12 @@ module _ (tables : CodeTables) (j : Instr) (p : Progress) (m : Machine) where
   module _ (t : ℕ) where
     global-told : (slots : List Slot) (globals : Named) → RowsGlobal (text_in tables t) j t m.here.slots m.frames.globals p slots globals → IsTold tables j p m (with_globals slots globals)
     unfolding RowsGlobal RowsIn
-    global-told slots globals row program code known i h is =
+    global-told slots globals row program code known can i h is =
         row (stores_of program m) (stands program code h) m.here.pc.0 i (known.blocks (block_of m.here)).truths ((known.pools (block_of m.here)).texts t)
 
     pub global_row : (slots : List Slot) (globals : Named) → RowsGlobal (text_in tables t) j t m.here.slots m.frames.globals p slots globals
         → active_in slots ≡ active_in m.here.slots → Performs tables j p m (with_globals slots globals)
-    global_row slots globals row same = record { rest = refl; active = keeps p same; row = told_row tables j p m (with_globals slots globals) (global-told slots globals row) }
+    global_row slots globals row same = record { rest = refl; active = keeps p same; row = told_row tables j p m (with_globals slots globals) (global-told slots globals row); names = λ no. refl }
 
     deleted_global : (globals : Named) → ((slots : List Slot) → RowsGlobal (text_in tables t) j t slots m.frames.globals p slots globals)
         → Performs tables j p m (record m { frames = record m.frames { globals = globals } })
@@ -164,9 +180,9 @@ module _ (tables : CodeTables) (j : Instr) (p : Progress) (m : Machine) where
 
     load-told : (slots : List Slot) → RowsLoadGlobal (text_in tables t) (builtin_in tables t) j t m.here.slots m.frames.globals p slots → IsTold tables j p m (with_globals slots m.frames.globals)
     unfolding RowsLoadGlobal RowsIn
-    load-told slots row program code known i h is =
+    load-told slots row program code known can i h is =
         row (stores_of program m) (known.builtins t) (stands program code h) m.here.pc.0 i (known.blocks (block_of m.here)).truths ((known.pools (block_of m.here)).texts t)
 
     pub load_row : (slots : List Slot) → RowsLoadGlobal (text_in tables t) (builtin_in tables t) j t m.here.slots m.frames.globals p slots
         → active_in slots ≡ active_in m.here.slots → Performs tables j p m (record m { here = record m.here { slots = slots } })
-    load_row slots row same = record { rest = refl; active = keeps p same; row = told_row tables j p m (with_globals slots m.frames.globals) (load-told slots row) }
+    load_row slots row same = record { rest = refl; active = keeps p same; row = told_row tables j p m (with_globals slots m.frames.globals) (load-told slots row); names = λ no. refl }

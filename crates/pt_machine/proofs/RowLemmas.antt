@@ -26,7 +26,7 @@ use Rattle.pt_machine_state.specs.Views.{block_of, stores_of}
 use Rattle.pt_machine_state.specs.Laws.{behind_row}
 use Rattle.pt_code_tables.specs.declared.tables.CodeTables.{CodeTables}
 use Rattle.pt_code_tables.specs.Tables.{AreTablesOf, constant_in}
-use Rattle.pt_machine.specs.Performing.{Performs, IsRowIn, row_done}
+use Rattle.pt_machine.specs.Performing.{NamesPlaces, Performs, IsRowIn, row_done}
 
 pub keeps : {A : Type 0} (p : Progress) → A → IfActive p A
 keeps (progress.Fails class arg) a = a
@@ -43,14 +43,15 @@ keeps progress.Lacks a = tt
 -- the row of an instruction that stands in code of which the tables are
 abbrev pub IsTold : CodeTables → Instr → Progress → (old new : Machine) → Type 0
 IsTold tables j p old new =
-    (program : Program) (code : CodeBlocks Value) → AreTablesOf program code tables → (i : Ins) (h : Here Value) → h.block ≡ block_of old.here
+    (program : Program) (code : CodeBlocks Value) → AreTablesOf program code tables → NamesPlaces program code j old → (i : Ins) (h : Here Value)
+    → h.block ≡ block_of old.here
     → told program (code.object (block_of old.here)) i h p (slots_view new.here.slots) (stores_of program (behind_row (row_done p new) old))
     ≡ row_of (heap_host program) (code.object (block_of old.here)) old.here.pc.0 i j (slots_view old.here.slots) h (stores_of program old)
 
 pub told_row : (tables : CodeTables) (j : Instr) (p : Progress) (old new : Machine) → IsTold tables j p old new → IsRowIn tables j p old new
 unfolding IsRowIn
-told_row tables j p old new row program code known i is h at =
-    inr (row program code known i h at ∙ ap (λ k. row_of (heap_host program) (code.object (block_of old.here)) old.here.pc.0 i k (slots_view old.here.slots) h (stores_of program old)) (sym is))
+told_row tables j p old new row program code known can i is h at =
+    inr (row program code known can i h at ∙ ap (λ k. row_of (heap_host program) (code.object (block_of old.here)) old.here.pc.0 i k (slots_view old.here.slots) h (stores_of program old)) (sym is))
 
 module _ (tables : CodeTables) (j : Instr) (p : Progress) (m : Machine) where
   abbrev with_slots : List Slot → Machine
@@ -64,8 +65,9 @@ module _ (tables : CodeTables) (j : Instr) (p : Progress) (m : Machine) where
   still_row row = record {
     rest = refl;
     active = keeps p refl;
-    row = told_row tables j p m m (λ program code known i h at.
+    row = told_row tables j p m m (λ program code known can i h at.
         row m.here.slots program (code.object (block_of m.here)) m.here.pc.0 i h (stores_of program m) (known.blocks (block_of m.here)).truths);
+    names = λ no. refl;
   }
 
   pub slots_row : (slots : List Slot) → RowsSlots j m.here.slots p slots → active_in slots ≡ active_in m.here.slots → Performs tables j p m (with_slots slots)
@@ -73,8 +75,9 @@ module _ (tables : CodeTables) (j : Instr) (p : Progress) (m : Machine) where
   slots_row slots row same = record {
     rest = refl;
     active = keeps p same;
-    row = told_row tables j p m (with_slots slots) (λ program code known i h at.
+    row = told_row tables j p m (with_slots slots) (λ program code known can i h at.
         row program (code.object (block_of m.here)) m.here.pc.0 i h (stores_of program m) (known.blocks (block_of m.here)).truths);
+    names = λ no. refl;
   }
 
   -- a handler's exception may be taken off
@@ -83,8 +86,9 @@ module _ (tables : CodeTables) (j : Instr) (p : Progress) (m : Machine) where
   handler_row slots row kept = record {
     rest = refl;
     active = kept;
-    row = told_row tables j p m (with_slots slots) (λ program code known i h at.
+    row = told_row tables j p m (with_slots slots) (λ program code known can i h at.
         row program (code.object (block_of m.here)) m.here.pc.0 i h (stores_of program m) (known.blocks (block_of m.here)).truths);
+    names = λ no. refl;
   }
 
   pub heap_row : (slots : List Slot) (heap : List Object) → RowsHeap j m.here.slots m.heap p slots heap → active_in slots ≡ active_in m.here.slots → Performs tables j p m (with_heap slots heap)
@@ -92,8 +96,9 @@ module _ (tables : CodeTables) (j : Instr) (p : Progress) (m : Machine) where
   heap_row slots heap row same = record {
     rest = refl;
     active = keeps p same;
-    row = told_row tables j p m (with_heap slots heap) (λ program code known i h at.
+    row = told_row tables j p m (with_heap slots heap) (λ program code known can i h at.
         row program (code.object (block_of m.here)) m.here.pc.0 i h (stores_of program m) (known.blocks (block_of m.here)).truths);
+    names = λ no. refl;
   }
 
 pub constant_row : (tables : CodeTables) (k : ConstNo) (p : Progress) (m : Machine) (slots : List Slot) → RowsConstant (constant_in tables k.0) m.here.slots p slots
@@ -103,21 +108,22 @@ constant_row tables k p m slots row same =
     record {
       rest = refl;
       active = keeps p same;
-      row = told_row tables (instr.Const k) p m (record m { here = record m.here { slots = slots } }) (λ program code known i h at.
+      row = told_row tables (instr.Const k) p m (record m { here = record m.here { slots = slots } }) (λ program code known can i h at.
           row k program (code.object (block_of m.here)) m.here.pc.0 i h (stores_of program m) (known.blocks (block_of m.here)).truths ((known.pools (block_of m.here)).constants k.0));
+      names = λ no. refl;
     }
 
 -- what isn't supported leaves the profile, with all as it was
 outside-is : (tables : CodeTables) (j : Instr) (p : Progress) (m : Machine) → RowsOutside j p → IsRowIn tables j p m m
 unfolding RowsOutside IsRowIn
-outside-is tables j p m row program code known i same h at =
+outside-is tables j p m row program code known can i same h at =
     subst (λ k. IsStuck (row_of (heap_host program) (code.object (block_of m.here)) m.here.pc.0 i k (slots_view m.here.slots) h (stores_of program m))
     ⊎ (told program (code.object (block_of m.here)) i h p (slots_view m.here.slots) (stores_of program m)
     ≡ row_of (heap_host program) (code.object (block_of m.here)) m.here.pc.0 i k (slots_view m.here.slots) h (stores_of program m))) (sym same)
     (row program (code.object (block_of m.here)) m.here.pc.0 i h (stores_of program m) m.here.slots (known.extras (block_of m.here)))
 
 pub outside_row : (tables : CodeTables) (j : Instr) (p : Progress) (m : Machine) → ((k : Instr) → is_supported k ≡ false → RowsOutside k p) → is_supported j ≡ false → Performs tables j p m m
-outside_row tables j p m rows is = record { rest = refl; active = keeps p refl; row = outside-is tables j p m (rows j is) }
+outside_row tables j p m rows is = record { rest = refl; active = keeps p refl; row = outside-is tables j p m (rows j is); names = λ no. refl }
 
 -- of an answer, by what holds of its value
 

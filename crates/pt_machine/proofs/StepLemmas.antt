@@ -1,24 +1,30 @@
 -- The machine did a stride where it did what stands at its place, or closed its block.
-use Rattle.std.proofs.Common.{◌≡◌, ◌∙◌, ℕ, true, false, Option, Some, None, refl, sym, ap, subst}
+use Rattle.std.proofs.Common.{◌≡◌, ◌∙◌, ℕ, ◌≤◌, List, [], ◌∷◌, ◌++◌, Bool, true, false, Option, Some, None, length, drop, refl, sym, ap, subst, append-nil, arith}
 use Rattle.std.specs.Prelude.{nat_lt}
 use Rattle.std.specs.Option.{option_map}
+use Rattle.std.specs.Map.{keys_of}
+use Rattle.pt_tree.specs.Syntax.{Name}
 use Rattle.pt_heap.specs.declared.value.Value.{Value}
 use Rattle.pt_ranges.specs.declared.lines.ActMark.{ActMark}
 use Rattle.pt_code.specs.View.{Ins}
+use Rattle.pt_control.specs.Turn as T
 use Rattle.pt_control.specs.Turn.{Turn}
 use Rattle.pt_slots.specs.Slots.{State, on}
 use Rattle.pt_slots.specs.Steps.{mark_of}
 use Rattle.pt_slots.specs.Machine as slots
 use Rattle.pt_slots.specs.Needs.{Begins}
 use Rattle.pt_slots.proofs.MarkLaw.{begins_at}
-use Rattle.pt_heap_rows.specs.Views.{slots_view}
+use Rattle.pt_heap_rows.specs.Views.{paired, slots_view}
 use Rattle.pt_places.specs.declared.places.Place.{Place}
 use Rattle.pt_places.specs.PlaceTable.{entry, place_at, place_of}
-use Rattle.pt_host.specs.World.{Program}
+use Rattle.pt_host.specs.World.{CodeFacts, Program}
 use Rattle.pt_host.specs.HeapHost.{heap_host}
 use Rattle.pt_bare_runs.specs.Strides.{take_turn, stride as stride_of}
 use Rattle.pt_code_machine.specs.CodeBlocks.{CodeBlocks, machine}
 use Rattle.pt_heap_rows.specs.declared.progress.Progress.{Progress}
+use Rattle.pt_heap_rows.specs.declared.progress.Progress.TheVariants as progress
+use Rattle.pt_base.specs.declared.numbers.Pc.{Pc}
+use Rattle.pt_fast_rows.specs.FastPaths.{Led, place_behind}
 use Rattle.pt_machine_state.specs.declared.blocks.BlockCode.{BlockCode}
 use Rattle.pt_machine_state.specs.declared.machine.Machine.{Machine}
 use Rattle.pt_machine_state.specs.declared.machine.MachineEnd.TheVariants as end
@@ -30,16 +36,17 @@ use Rattle.pt_machine_state.specs.Writing.{Adds}
 use Rattle.pt_machine_state.specs.Blocks.{block_at}
 use Rattle.pt_machine_state.specs.Views.{Bare, Beside, block_of, state_of, run_in, run_of}
 use Rattle.pt_machine_state.specs.Strode.{Strode}
-use Rattle.pt_machine_state.specs.Changes.{at_act, line_events}
+use Rattle.pt_machine_state.specs.Changes.{at_act, line_events, gone_to}
 use Rattle.pt_machine_state.specs.Applies.{Applied, Closes}
 use Rattle.pt_machine_state.specs.Laws as laws
 use Rattle.pt_machine_state.specs.Laws.{AtRow, behind_row}
+use Rattle.pt_machine_state.proofs.ApplyLemmas.{applied_next, applied_goto}
 use Rattle.pt_machine_state.proofs.TurnLemmas.{spent}
 use Rattle.pt_machine_state.proofs.StrideLemmas.{unmarked_done, marked_done}
 use Rattle.pt_code_tables.specs.declared.tables.CodeTables.{CodeTables}
-use Rattle.pt_code_tables.specs.Tables.{AreTablesOf}
-use Rattle.pt_machine.specs.Strides.{Strides}
-use Rattle.pt_machine.specs.Performing.{Performs, GoesOn, IsRowIn, row_done}
+use Rattle.pt_code_tables.specs.Tables.{AreTablesOf, is_class_in, scope_by}
+use Rattle.pt_machine.specs.Strides.{MachineHasNames, Strides}
+use Rattle.pt_machine.specs.Performing.{NamesPlaces, Performs, GoesOn, IsRowIn, row_done}
 
 -- the turn of a run at a place
 
@@ -68,6 +75,44 @@ spent-done program code n m x w i is there k is_mark none =
     (subst (λ o. Begins (option_map mark_of i.mark) (turned program code n m x (stride.Ends end.Spent) w m w o)) there
     (begins_at (code.object (block_of m.here)) m.here.pc.0 i (slots_view m.here.slots) there))) refl none)
 
+-- names of an activation that are all there have places
+places-of : {A : Type 0} (xs : List Name) (vs : List A) → keys_of (paired xs vs) ≡ xs → length xs ≤ length vs
+places-of [] vs e = omega arith
+places-of (x ∷ xs) [] e = absurd (cc)
+places-of (x ∷ xs) (v ∷ vs) e =
+    let same : keys_of (paired xs vs) ≡ xs = ap (drop 1) e in
+    let rest : length xs ≤ length vs = places-of xs vs same in omega (arith, rest)
+
+scope-is : (b : Bool) → scope_by b ≡ T.global → b ≡ false
+scope-is false e = refl
+scope-is true e = absurd (cc)
+
+module _ (program : Program) (code : CodeBlocks Value) (m : Machine) (names : MachineHasNames program code m) where
+  abbrev facts : CodeFacts
+  facts = program.facts (block_of m.here)
+
+  locals-placed : length facts.locals ≤ length m.here.locals
+  locals-placed =
+      places-of facts.locals m.here.locals
+      (ap (λ es. keys_of es) (sym (append-nil (paired facts.locals m.here.locals)))
+      ∙ (ap (λ es. keys_of (paired facts.locals m.here.locals ++ es)) (sym names.no_names) ∙ names.here.values))
+
+  -- an instruction that stands at the place of the machine names places of its activation
+  names-places : (i : Ins) → (code.object (block_of m.here)).at m.here.pc.0 ≡ Some i → NamesPlaces program code i.instr m
+  names-places i there = record {
+    operands = names.names_blocks.operands (block_of m.here) m.here.pc.0 i there;
+    locals = locals-placed;
+    cells = places-of (facts.cells ++ facts.frees) m.here.cells names.here.cells;
+  }
+
+  -- and its block is no class
+  no-class : (tables : CodeTables) → AreTablesOf program code tables → is_class_in tables m.here.block.0 ≡ false
+  no-class tables known =
+      scope-is (is_class_in tables m.here.block.0) (sym (known.scopes (block_of m.here)) ∙ names.names_blocks.scopes (block_of m.here))
+
+named-act : (program : Program) (code : CodeBlocks Value) (m : Machine) (k : ActMark) → MachineHasNames program code m → MachineHasNames program code (at_act k m)
+named-act program code m k names = record { names_blocks = names.names_blocks; here = names.here; no_names = names.no_names }
+
 -- what stands at the place of the machine
 record Found (code : CodeBlocks Value) (m : Machine) (place : Place) : Type 0 where
   pub ins : Ins
@@ -87,11 +132,22 @@ module _ (tables : CodeTables) (block : BlockCode) (place : Place) (m : Machine)
       by (Some i) e f = record { ins = i; there = e; is = sym (some-same _ place f) }
       by None e f = absurd (cc)
 
+  -- it names places of the activation
+  can : (program : Program) (code : CodeBlocks Value) → AreTablesOf program code tables → MachineHasNames program code m → NamesPlaces program code place.instr m
+  can program code known names =
+      let f = found program code known in
+      subst (λ j. NamesPlaces program code j m) (ap (λ q. q.instr) (sym f.is)) (names-places program code m names f.ins f.there)
+
+  can-act : (program : Program) (code : CodeBlocks Value) → AreTablesOf program code tables → MachineHasNames program code m → (k : ActMark)
+      → NamesPlaces program code place.instr (at_act k m)
+  can-act program code known names k =
+      let c = can program code known names in record { operands = c.operands; locals = c.locals; cells = c.cells }
+
   -- without an act
   unmarked-by : (p : Progress) (mid new : Machine) (w w1 : Writes) (r : Stride) (n : ℕ) → place.mark ≡ None → Performs tables place.instr p m mid
       → Applied tables.blocks block place.next p r mid w new w1 → Strides tables n r m w new w1
   unfolding Strides IsRowIn laws.UnmarkedStrides
-  unmarked-by p mid new w w1 r n none performs applied program code x known waits =
+  unmarked-by p mid new w w1 r n none performs applied program code x known names waits =
       let f = found program code known in
       unmarked_done program code tables.blocks block place.next n m f.ins (row_done p mid) (record {
         known = known.blocks;
@@ -100,7 +156,8 @@ module _ (tables : CodeTables) (block : BlockCode) (place : Place) (m : Machine)
         there = f.there;
         next_is = ap (λ q. q.next.0) (sym f.is);
         same_active = performs.active;
-        row = performs.row program code known f.ins (ap (λ q. q.instr) (sym f.is));
+        no_names = performs.names (no-class program code m names tables known) ∙ names.no_names;
+        row = performs.row program code known (can program code known names) f.ins (ap (λ q. q.instr) (sym f.is));
       }) (ap (λ q. q.mark) (sym f.is) ∙ none) x waits r w w1 new
       (subst (λ o. Applied tables.blocks block place.next p r o w new w1) performs.rest applied)
 
@@ -109,7 +166,7 @@ module _ (tables : CodeTables) (block : BlockCode) (place : Place) (m : Machine)
       → Adds w w0 (line_events k block m) → Performs tables place.instr p (at_act k m) mid
       → Applied tables.blocks block place.next p r mid w0 new w1 → Strides tables n r m w new w1
   unfolding Strides IsRowIn laws.MarkedStrides
-  marked-by p mid new w w0 w1 r n k is_mark left adds performs applied program code x known waits =
+  marked-by p mid new w w0 w1 r n k is_mark left adds performs applied program code x known names waits =
       let f = found program code known in
       marked_done program code tables.blocks block place.next n m f.ins (row_done p mid) k (record {
         known = known.blocks;
@@ -118,7 +175,8 @@ module _ (tables : CodeTables) (block : BlockCode) (place : Place) (m : Machine)
         there = f.there;
         next_is = ap (λ q. q.next.0) (sym f.is);
         same_active = performs.active;
-        row = performs.row program code known f.ins (ap (λ q. q.instr) (sym f.is));
+        no_names = performs.names (no-class program code m names tables known) ∙ names.no_names;
+        row = performs.row program code known (can-act program code known names k) f.ins (ap (λ q. q.instr) (sym f.is));
       }) (ap (λ q. q.mark) (sym f.is) ∙ is_mark) left x waits r w w0 w1 new adds
       (subst (λ o. Applied tables.blocks block place.next p r o w0 new w1) performs.rest applied)
 
@@ -132,7 +190,7 @@ module _ (tables : CodeTables) (block : BlockCode) (place : Place) (m : Machine)
   -- no unit is left for it
   pub spent_stride : (w : Writes) (n : ℕ) (k : ActMark) → place.mark ≡ Some k → nat_lt m.units n ≡ false → Strides tables n (stride.Ends end.Spent) m w m w
   unfolding Strides
-  spent_stride w n k is_mark none program code x known waits =
+  spent_stride w n k is_mark none program code x known names waits =
       let f = found program code known in
       spent-done program code n m x w f.ins at_place f.there k (ap (λ q. q.mark) (sym f.is) ∙ is_mark) none
 
@@ -143,7 +201,7 @@ none_there f o e a b = sym a ∙ ap (λ q. option_map f q) b
 pub stuck_stride : (tables : CodeTables) (block : BlockCode) (m new : Machine) (w w1 : Writes) (r : Stride) (n : ℕ) → m.standing ≡ standing.AtPlace
     → block ≡ block_at tables.blocks (block_of m.here) → entry block.places m.here.pc.0 ≡ None → Strides tables n r m w new w1
 unfolding Strides
-stuck_stride tables block m new w w1 r n at_place is_block none program code x known waits =
+stuck_stride tables block m new w w1 r n at_place is_block none program code x known names waits =
     by ((code.object (block_of m.here)).at m.here.pc.0) refl
     (sym ((known.blocks (block_of m.here)).places m.here.pc.0) ∙ (ap (λ b. entry b.places m.here.pc.0) (sym is_block) ∙ none))
   where
@@ -157,7 +215,28 @@ pub done_there : (tables : CodeTables) (block : BlockCode) (place : Place) (p : 
     → Performs tables place.instr p old mid → Applied tables.blocks block place.next p r mid w new w1 → GoesOn tables block place r old w new w1
 done_there tables block place p r old mid new w w1 performed applied = record { progress = p; mid = mid; performed = performed; applied = applied }
 
+-- what was done by a fast path
+pub done_fast : (tables : CodeTables) (block : BlockCode) (place : Place) (pc : Pc) (old mid : Machine) (w : Writes)
+    → Led place.next pc (λ p. Performs tables place.instr p old mid) → GoesOn tables block place stride.Goes old w (gone_to pc mid) w
+done_fast tables block place pc old mid w led = record { progress = led.progress; mid = mid; performed = led.row; applied = applied led.progress led.to }
+  where
+    applied : (p : Progress) → place_behind place.next p ≡ Some pc → Applied tables.blocks block place.next p stride.Goes mid w (gone_to pc mid) w
+    applied progress.Next e =
+        subst (λ q. Applied tables.blocks block place.next progress.Next stride.Goes mid w (gone_to q mid) w) (some-same place.next pc e)
+        (applied_next tables.blocks block place.next mid w)
+    applied (progress.Goto to) e =
+        subst (λ q. Applied tables.blocks block place.next (progress.Goto to) stride.Goes mid w (gone_to q mid) w) (some-same to pc e)
+        (applied_goto tables.blocks block place.next mid w to)
+    applied (progress.Leaves how) e = absurd (cc)
+    applied (progress.Reraises v) e = absurd (cc)
+    applied (progress.Print t) e = absurd (cc)
+    applied (progress.Calls b hidden ls) e = absurd (cc)
+    applied (progress.Fails class arg) e = absurd (cc)
+    applied (progress.FailsSaying class t) e = absurd (cc)
+    applied (progress.Outside what) e = absurd (cc)
+    applied progress.Lacks e = absurd (cc)
+
 -- the block ended
 pub closed_stride : (tables : CodeTables) (m new : Machine) (w w1 : Writes) (r : Stride) (n : ℕ) → Closes tables.blocks r m w new w1 → Strides tables n r m w new w1
 unfolding Strides Closes
-closed_stride tables m new w w1 r n closes program code x known waits = closes program code n x known.blocks waits
+closed_stride tables m new w w1 r n closes program code x known names waits = closes program code n x known.blocks waits

@@ -1,5 +1,5 @@
 -- When what the machine does at an instruction is the row of that.
-use Rattle.std.specs.Prelude.{◌≡◌}
+use Rattle.std.specs.Prelude.{◌≡◌, ◌≤◌, ◌++◌, false, length}
 use Rattle.pt_instr.specs.declared.Instr.{Instr}
 use Rattle.pt_heap.specs.declared.value.Value.{Value}
 use Rattle.pt_code.specs.View.{Ins}
@@ -12,10 +12,12 @@ use Rattle.pt_machine_state.specs.declared.blocks.BlockCode.{BlockCode}
 use Rattle.pt_machine_state.specs.declared.machine.Stride.{Stride}
 use Rattle.pt_machine_state.specs.declared.writes.Writes.{Writes}
 use Rattle.pt_machine_state.specs.Applies.{Applied}
+use Rattle.pt_machine_state.specs.Views.{block_of}
 use Rattle.pt_places.specs.declared.places.Place.{Place}
 use Rattle.pt_machine_state.specs.Laws.{RowDone, behind_row, IsRow}
 use Rattle.pt_code_tables.specs.declared.tables.CodeTables.{CodeTables}
-use Rattle.pt_code_tables.specs.Tables.{AreTablesOf}
+use Rattle.pt_code_tables.specs.Tables.{AreTablesOf, is_class_in}
+use Rattle.pt_run_names.specs.Operands.{OperandsName}
 
 -- what an instruction came to, with what is left of the machine
 abbrev pub row_done : Progress → Machine → RowDone
@@ -30,16 +32,24 @@ row_done p m = record {
   heap = m.heap;
 }
 
--- in all code of which the tables are that is the row of the instruction
+-- the instruction names what its block has, and the newest activation has a place for each name of its block
+pub record NamesPlaces (program : Program) (code : CodeBlocks Value) (j : Instr) (m : Machine) : Type 0 where
+  pub operands : OperandsName (program.facts (block_of m.here)) (code.object (block_of m.here)).pool j
+  pub locals : length (program.facts (block_of m.here)).locals ≤ length m.here.locals
+  pub cells : length ((program.facts (block_of m.here)).cells ++ (program.facts (block_of m.here)).frees) ≤ length m.here.cells
+
+-- in all code of which the tables are that is the row of the instruction, if it names places
 unfoldable pub IsRowIn : CodeTables → Instr → Progress → (old new : Machine) → Type 0
 IsRowIn tables j p old new =
-    (program : Program) (code : CodeBlocks Value) → AreTablesOf program code tables → (i : Ins) → i.instr ≡ j → IsRow program code i (row_done p new) old
+    (program : Program) (code : CodeBlocks Value) → AreTablesOf program code tables → NamesPlaces program code j old → (i : Ins) → i.instr ≡ j
+    → IsRow program code i (row_done p new) old
 
--- the machine did the row of the instruction and nothing else
+-- the machine did the row of the instruction and nothing else; names of a class change in its body alone
 pub record Performs (tables : CodeTables) (j : Instr) (p : Progress) (old new : Machine) : Type 0 where
   pub rest : new ≡ behind_row (row_done p new) old
   pub active : KeepsActive p old.here.slots new.here.slots
   pub row : IsRowIn tables j p old new
+  pub names : is_class_in tables old.here.block.0 ≡ false → new.here.names ≡ old.here.names
 
 -- the machine did what stands at a place of a block, and went on where that leads
 pub record GoesOn (tables : CodeTables) (block : BlockCode) (place : Place) (r : Stride) (old : Machine) (written : Writes) (new : Machine) (writes : Writes) : Type 0 where

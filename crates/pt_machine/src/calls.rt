@@ -1,27 +1,15 @@
 //! Instructions that make functions and call.
-ghost use Rattle.std.specs.Prelude.{◌≡◌, length, true, IfOk, OnOk};
+ghost use Rattle.std.specs.Prelude.{◌≡◌, true, IfOk};
 ghost use Rattle.pt_machine.specs.Groups.{calls};
 ghost use Rattle.pt_machine.specs.Performing.{Performs};
 
-use pt_base::{Memory, Text};
+use pt_base::Memory;
 use pt_call_rows::{call, call_with_names, call_with_roles};
 use pt_code_tables::CodeTables;
 use pt_function_rows::make_function;
 use pt_heap_rows::Progress;
 use pt_instr::Instr;
 use pt_machine_state::Machine;
-
-/// Code takes as many defaults as it names. In place of code that doesn't, which no script has,
-/// there is no memory for the rest.
-fn has_names(names: &[Text], count: u32) -> Result<(), Memory>
-    ensures { OnOk result (count ≡ length names.now) }
-{
-    if names.len() == count as usize {
-        Ok(())
-    } else {
-        Err(Memory)
-    }
-}
 
 /// Does the row of an instruction that makes a function or calls.
 #[tactic(auto, using(crate::proofs::CallRows::called, crate::proofs::CallRows::called_with_names))]
@@ -49,9 +37,8 @@ pub fn perform_call(
             let names = tables.list(list);
             call_with_roles(alloc, count, list, names, facts, cells, slots, heap)
         }
-        Instr::MakeFunction(block, count, list) => {
+        Instr::MakeFunction(block, _count, list) => {
             let names = tables.list(list);
-            has_names(names, count)?;
             let captures = tables.captures(block);
             make_function(alloc, block, list, names, captures, hidden, slots, heap)
         }

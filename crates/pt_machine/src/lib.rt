@@ -5,6 +5,7 @@
 mod bodies;
 mod calls;
 mod cells;
+mod fast;
 mod globals;
 mod instructions;
 mod locals;

@@ -62,6 +62,14 @@ landed-frames block m (completion.Raise v) Out = refl
 landed-frames block m (completion.Return v) Out = refl
 landed-frames block m (completion.Leave t) Out = refl
 
+landed-names : (block : BlockCode) (m : Machine) (how : Completion) (l : Landing) → (landed_at block how l m).here.names ≡ m.here.names
+landed-names block m how (Enter pc depth holds) = refl
+landed-names block m how (Jump pc) = refl
+landed-names block m completion.Normal Out = refl
+landed-names block m (completion.Raise v) Out = refl
+landed-names block m (completion.Return v) Out = refl
+landed-names block m (completion.Leave t) Out = refl
+
 -- it goes on in a state of the newest activation, with nothing written
 
 module _ (blocks : Blocks) (block : BlockCode) (next : Pc) (m : Machine) where
@@ -70,9 +78,20 @@ module _ (blocks : Blocks) (block : BlockCode) (next : Pc) (m : Machine) where
   IsIn q new c = run_of q.program new q.beside ≡ run_in q.program c m q.beside
 
   pub to_state : (q : Asking) → Stands blocks block next m q → (w : Writes) (new : Machine) (c : State Value) → IsIn q new c → new.frames.activations ≡ m.frames.activations
-      → LedTo (leads.to c (stores_of q.program m)) q stride.Goes m w new w
-  to_state q stands w new c is_in same s stored =
-      (refl, (adds_none w, (q.beside, (inl (ap (λ t. in_state c t) stored ∙ sym is_in), subst (λ os. AllWait q.program q.code os q.beside.waiting) (sym same) stands.waiting))))
+      → new.here.names ≡ m.here.names → LedTo (leads.to c (stores_of q.program m)) q stride.Goes m w new w
+  to_state q stands w new c is_in same names s stored = (
+    refl,
+    (
+      adds_none w,
+      (
+        q.beside,
+        (
+          inl (ap (λ t. in_state c t) stored ∙ sym is_in),
+          (subst (λ os. AllWait q.program q.code os q.beside.waiting) (sym same) stands.waiting, names ∙ stands.no_names),
+        ),
+      ),
+    ),
+  )
 
   gone-in : (q : Asking) → Stands blocks block next m q → (pc : Pc) → IsIn q (gone_to pc m) (on pc.0 (slots_view m.here.slots))
   gone-in q stands pc = ap (λ s. run_in q.program (state_of s (gone_to pc m).here) m q.beside) stands.at_place
@@ -90,19 +109,20 @@ module _ (blocks : Blocks) (block : BlockCode) (next : Pc) (m : Machine) where
   landed-to q stands w a =
       to_state q stands w (landed block (completion_of a) m) (land (object_of q m) q.ins.rows a (slots_view m.here.slots)) (landed-in q stands a)
       (landed-frames block m (completion_of a) (landing_of block.handlers m.here.pc (completion_of a)))
+      (landed-names block m (completion_of a) (landing_of block.handlers m.here.pc (completion_of a)))
 
   module _ (w : Writes) where
     pub applied_next : Applied blocks block next progress.Next stride.Goes m w (gone_to next m) w
     unfolding Applied
-    applied_next q stands active = to_state q stands w (gone_to next m) (on q.ins.next (slots_view m.here.slots)) (gone-next q stands) refl
+    applied_next q stands active = to_state q stands w (gone_to next m) (on q.ins.next (slots_view m.here.slots)) (gone-next q stands) refl refl
 
     pub applied_goto : (pc : Pc) → Applied blocks block next (progress.Goto pc) stride.Goes m w (gone_to pc m) w
     unfolding Applied
-    applied_goto pc q stands active = to_state q stands w (gone_to pc m) (on pc.0 (slots_view m.here.slots)) (gone-in q stands pc) refl
+    applied_goto pc q stands active = to_state q stands w (gone_to pc m) (on pc.0 (slots_view m.here.slots)) (gone-in q stands pc) refl refl
 
     pub applied_leaves : (how : Completion) → Applied blocks block next (progress.Leaves how) stride.Goes m w (left_place block next how m) w
     unfolding Applied
-    applied_leaves completion.Normal q stands active = to_state q stands w (gone_to next m) (on q.ins.next (slots_view m.here.slots)) (gone-next q stands) refl
+    applied_leaves completion.Normal q stands active = to_state q stands w (gone_to next m) (on q.ins.next (slots_view m.here.slots)) (gone-next q stands) refl refl
     applied_leaves (completion.Raise v) q stands active = landed-to q stands w (S.raise v)
     applied_leaves (completion.Return v) q stands active = landed-to q stands w (S.return v)
     applied_leaves (completion.Leave t) q stands active = landed-to q stands w (S.jump_to t.0)
@@ -119,9 +139,15 @@ module _ (blocks : Blocks) (block : BlockCode) (next : Pc) (m : Machine) where
             (
               q.beside,
               (
-                inr (λ n. ap (λ t. stride_of (machine q.code) (heap_host q.program) n (in_state (reraises v q.ins.rows (slots_view m.here.slots)) t)) stored ∙ ap (λ t. goes [] t) is_landed),
-                subst (λ os. AllWait q.program q.code os q.beside.waiting)
-                    (sym (landed-frames block m (completion.Raise v) (landing_of block.handlers m.here.pc (completion.Raise v)))) stands.waiting,
+                inr (
+                  (v, q.ins.rows, slots_view m.here.slots, refl),
+                  (λ n. ap (λ t. stride_of (machine q.code) (heap_host q.program) n (in_state (reraises v q.ins.rows (slots_view m.here.slots)) t)) stored ∙ ap (λ t. goes [] t) is_landed),
+                ),
+                (
+                  subst (λ os. AllWait q.program q.code os q.beside.waiting)
+                      (sym (landed-frames block m (completion.Raise v) (landing_of block.handlers m.here.pc (completion.Raise v)))) stands.waiting,
+                  landed-names block m (completion.Raise v) (landing_of block.handlers m.here.pc (completion.Raise v)) ∙ stands.no_names,
+                ),
               ),
             ),
           ),
@@ -134,7 +160,7 @@ module _ (blocks : Blocks) (block : BlockCode) (next : Pc) (m : Machine) where
     pub applied_print : (t : List ℕ) (w1 : Writes) → Adds w w1 (print_piece t ∷ []) → Applied blocks block next (progress.Print t) stride.Goes m w (gone_to next m) w1
     unfolding Applied
     applied_print t w1 adds q stands active s stored =
-        (refl, (adds, (q.beside, (inl (ap (λ s1. in_state (on q.ins.next (slots_view m.here.slots)) s1) stored ∙ sym (gone-next q stands)), stands.waiting))))
+        (refl, (adds, (q.beside, (inl (ap (λ s1. in_state (on q.ins.next (slots_view m.here.slots)) s1) stored ∙ sym (gone-next q stands)), (stands.waiting, stands.no_names)))))
 
 -- what is told of an event, and the line of the frame
 
@@ -201,6 +227,7 @@ module _ (blocks : Blocks) (block : BlockCode) (next : Pc) (m : Machine) (w : Wr
     at_place = stands.at_place;
     plain = stands.plain;
     waiting = stands.waiting;
+    no_names = stands.no_names;
   }
 
   module _ (v : Value) (w1 : Writes) (q : Asking) (stands : Stands blocks block next m q) where
@@ -224,8 +251,11 @@ module _ (blocks : Blocks) (block : BlockCode) (next : Pc) (m : Machine) (w : Wr
     all-wait = subst (λ os. AllWait q.program q.code os q.beside.waiting)
         (sym (landed-frames block (entered block v m) (completion.Raise v) (landing_of block.handlers m.here.pc (completion.Raise v)))) stands.waiting
 
+    no-names : (raised_at block v m).here.names ≡ []
+    no-names = landed-names block (entered block v m) (completion.Raise v) (landing_of block.handlers m.here.pc (completion.Raise v)) ∙ stands.no_names
+
     pub raise-led : Adds w w1 (raise_events v block m) → LedTo (leads.arises v landing (stores_of q.program m)) q stride.Goes m w (raised_at block v m) w1
     raise-led adds s stored =
         subst (λ t. Done (arise (machine q.code) (heap_host q.program) (E.arisen (here_of (machine q.code) (heap_host q.program) t).active q.ask v) landing t)) (sym stored)
         (subst (λ e. Done (arise (machine q.code) (heap_host q.program) e landing (run_at q m))) (sym (stands.plain (here_of (machine q.code) (heap_host q.program) (run_at q m)).active v))
-        (refl, (subst (λ ws. Adds w w1 ws) (sym written) adds, (q.beside, (inl goes-to, all-wait)))))
+        (refl, (subst (λ ws. Adds w w1 ws) (sym written) adds, (q.beside, (inl goes-to, (all-wait, no-names))))))

@@ -91,7 +91,7 @@ module _ (blocks : Blocks) (block : BlockCode) (next : Pc) (m : Machine) (w : Wr
     callee-known = stands.blocks_known (block_id b hidden)
 
     waits-here : active_at q.before ≡ active_in m.here.slots → WaitsFor q.program q.code m.here the_waiting
-    waits-here active = record { state = q.before; act = q.beside.act; seen = refl; active = active; ins = q.ins; there = stands.there; leads = refl; plain = stands.plain }
+    waits-here active = record { state = q.before; act = q.beside.act; seen = refl; active = active; ins = q.ins; there = stands.there; leads = refl; plain = stands.plain; no_names = stands.no_names }
 
     opens-above : open_above (machine q.code) (heap_host q.program) q.ask rest o (run_at q m) ≡ run_of q.program above beside
     opens-above =
@@ -111,7 +111,7 @@ module _ (blocks : Blocks) (block : BlockCode) (next : Pc) (m : Machine) (w : Wr
       refl,
       (
         subst (λ ws. Adds w w1 ws) (sym (logged-start q.program q.code callee above beside (state_of above.standing above.here) callee-known)) adds,
-        (beside, (inl refl, more (record { activation = m.here; why = Result }) the_waiting m.frames.activations q.beside.waiting (waits-here active) stands.waiting)),
+        (beside, (inl refl, (more (record { activation = m.here; why = Result }) the_waiting m.frames.activations q.beside.waiting (waits-here active) stands.waiting, refl))),
       ),
     )
 

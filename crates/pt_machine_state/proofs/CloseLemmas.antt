@@ -113,6 +113,7 @@ module _ (program : Program) (code : CodeBlocks Value) (blocks : Blocks) (known 
       at_place = at_place;
       plain = waits.plain;
       waiting = rest;
+      no_names = waits.no_names;
     }
 
     module _ (r : Stride) (w w1 : Writes) (new : Machine) (e : End Value) (s : Standing) (act : ℕ) (W : Waits) (ws : List Waits) (waits : WaitsFor program code m.here W) where
@@ -187,7 +188,7 @@ module _ (program : Program) (code : CodeBlocks Value) (blocks : Blocks) (known 
           (subst (λ y. LedTo (leads.to (on at.waits.ins.next (S.value v ∷ slots_view m.here.slots)) (stores_of program m)) the_asking stride.Goes m y (given_back next v m) w1) (sym same)
           (to_state blocks block next m the_asking the-stands w1 (given_back next v m) (on at.waits.ins.next (S.value v ∷ slots_view m.here.slots))
           (ap (λ t. run_in program (state_of t (given_back next v m).here) m (record { act = at.waits.act; waiting = at.others })) at_place
-          ∙ ap (λ k. run_in program (on k (S.value v ∷ slots_view m.here.slots)) m (record { act = at.waits.act; waiting = at.others })) (sym (next-of at.first at.waits p is next_is))) refl)) n
+          ∙ ap (λ k. run_in program (on k (S.value v ∷ slots_view m.here.slots)) m (record { act = at.waits.act; waiting = at.others })) (sym (next-of at.first at.waits p is next_is))) refl refl)) n
 
       raised : (v : Value) → Adds w w0 (end_events (block_at blocks (block_of a)) (before (standing.Raises v))) → Adds w0 w1 (raise_events v block m)
           → (n : ℕ) → Strode program code (stride_of (machine code) (heap_host program) n (run_of program (before (standing.Raises v)) x)) stride.Goes w (raised_at block v m) w1

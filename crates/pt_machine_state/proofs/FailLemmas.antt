@@ -96,6 +96,7 @@ module _ (blocks : Blocks) (block : BlockCode) (next : Pc) (m : Machine) (w : Wr
     at_place = stands.at_place;
     plain = stands.plain;
     waiting = stands.waiting;
+    no_names = stands.no_names;
   }
 
   -- with an exception that was made

@@ -128,6 +128,7 @@ module _ (program : Program) (code : CodeBlocks Value) (blocks : Blocks) (block 
     at_place = at.at_place;
     plain = plain;
     waiting = waits;
+    no_names = at.no_names;
   }
 
   -- what it needs to know of the active exception
@@ -178,6 +179,7 @@ at-act program code blocks block next m i d k at = record {
   there = at.there;
   next_is = at.next_is;
   same_active = at.same_active;
+  no_names = at.no_names;
   row = at.row;
 }
 

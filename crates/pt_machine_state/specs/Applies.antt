@@ -1,5 +1,5 @@
 -- When the machine did what an instruction comes to, wherever that stands and whatever waits.
-use Rattle.std.specs.Prelude.{◌≡◌, ℕ, Some}
+use Rattle.std.specs.Prelude.{◌≡◌, ℕ, [], Some}
 use Rattle.pt_base.specs.declared.numbers.Pc.{Pc}
 use Rattle.pt_heap.specs.declared.value.Value.{Value}
 use Rattle.pt_code.specs.View.{Ins}
@@ -43,7 +43,7 @@ object_of q m = q.code.object (block_of m.here)
 abbrev pub run_at : Asking → Machine → Bare
 run_at q m = run_in q.program q.before m q.beside
 
--- the machine stands at the instruction of a block that it knows, whose ask tells an exception plainly
+-- the machine stands at the instruction of a block that it knows, whose ask tells an exception plainly; there are no names of a class
 pub record Stands (blocks : Blocks) (block : BlockCode) (next : Pc) (m : Machine) (q : Asking) : Type 0 where
   pub blocks_known : AreBlocksOf q.program q.code blocks
   pub known : IsBlockOf q.program q.code (block_of m.here) block
@@ -52,6 +52,7 @@ pub record Stands (blocks : Blocks) (block : BlockCode) (next : Pc) (m : Machine
   pub at_place : m.standing ≡ standing.AtPlace
   pub plain : IsPlain q.ask
   pub waiting : AllWait q.program q.code m.frames.activations q.beside.waiting
+  pub no_names : m.here.names ≡ []
 
 -- where that leads the machine went: from a run that is that of the machine but for names and world, which are stored first
 abbrev pub LedTo : HeapSuccessor → Asking → Stride → (old : Machine) (written : Writes) → (new : Machine) (writes : Writes) → Type 0

@@ -1,5 +1,5 @@
 -- That the machine does strides of runs over code.
-use Rattle.std.specs.Prelude.{◌≡◌, ◌⊎◌, ℕ, List, true, Option, Some, None, nat_lt}
+use Rattle.std.specs.Prelude.{◌≡◌, ◌⊎◌, ℕ, List, [], true, Option, Some, None, nat_lt}
 use Rattle.pt_base.specs.declared.numbers.Pc.{Pc}
 use Rattle.pt_heap.specs.declared.value.Value.{Value}
 use Rattle.pt_heap.specs.declared.object.Object.{Object}
@@ -62,6 +62,7 @@ module _ (program : Program) (code : CodeBlocks Value) where
     pub there : (code.object (block_of m.here)).at m.here.pc.0 ≡ Some i
     pub next_is : i.next ≡ next.0
     pub same_active : KeepsActive d.progress m.here.slots d.slots
+    pub no_names : d.names ≡ []
     pub row : IsRow i d before_row
 
 -- the machine does a stride where what comes behind the row is applied; with a mark behind its unit and its line

@@ -1,8 +1,9 @@
 -- When the machine did a stride of a run.
-use Rattle.std.specs.Prelude.{◌≡◌, ◌⊎◌, ℕ, []}
+use Rattle.std.specs.Prelude.{◌≡◌, ◌⊎◌, ℕ, List, []}
 use Rattle.pt_base.specs.declared.what.What.TheVariants.{Exit}
 use Rattle.pt_heap.specs.declared.value.Value.{Value}
-use Rattle.pt_slots.specs.Slots.{State}
+use Rattle.pt_ranges.specs.declared.handlers.Handler.{Handler}
+use Rattle.pt_slots.specs.Slots.{State, Slots, reraises}
 use Rattle.pt_run.specs.Host as H
 use Rattle.pt_run.specs.Host.{Leaving}
 use Rattle.pt_host.specs.World.{Names, World, Program}
@@ -36,14 +37,19 @@ ending_of (end.Left v line) m = left (leaving v (world_view m.frames m.heap)) v 
 ending_of end.Spent m = spent
 ending_of (end.Outside what line) m = outside_at what line.0
 
-module _ (program : Program) (code : CodeBlocks Value) where
-  -- a run is another one, or comes to it by a stride that writes nothing, whatever units may be taken
-  abbrev pub ComesTo : Bare → Bare → Type 0
-  ComesTo s t = (s ≡ t) ⊎ ((n : ℕ) → stride_of (machine code) (heap_host program) n s ≡ goes [] t)
+-- a raise goes on there that was held, by no instruction
+abbrev pub GoesOnRaising : Bare → Type 0
+GoesOnRaising s = (e : Value) × (rows : List Handler) × (ss : Slots Value) × (s.here.state ≡ reraises e rows ss)
 
-  -- the run goes on as the machine does, which may do another stride of it beside this, or ends as it says; of a run that is stuck nothing is said
+module _ (program : Program) (code : CodeBlocks Value) where
+  -- a run is another one, or comes to it where a raise goes on, by a stride that writes nothing, whatever units may be taken
+  abbrev pub ComesTo : Bare → Bare → Type 0
+  ComesTo s t = (s ≡ t) ⊎ (GoesOnRaising s × ((n : ℕ) → stride_of (machine code) (heap_host program) n s ≡ goes [] t))
+
+  -- the run goes on as the machine does, which may do another stride of it beside this and has no names of a class, or ends as it says; of a run that
+  -- is stuck nothing is said
   abbrev pub Strode : bare.Stride (State Value) Names Value World → Stride → (old : Writes) → Machine → (new : Writes) → Type 0
   Strode (goes ws s) r old m new =
-      (r ≡ stride.Goes) × (Adds old new ws × ((x : Beside) × (ComesTo s (run_of program m x) × AllWait program code m.frames.activations x.waiting)))
+      (r ≡ stride.Goes) × (Adds old new ws × ((x : Beside) × (ComesTo s (run_of program m x) × (AllWait program code m.frames.activations x.waiting × (m.here.names ≡ [])))))
   Strode (ends ws u e) r old m new = (x : MachineEnd) × ((r ≡ stride.Ends x) × (Adds old new ws × ((u ≡ m.units) × (e ≡ ending_of x m))))
   Strode is_stuck r old m new = Unit {0}

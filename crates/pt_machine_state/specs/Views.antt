@@ -90,7 +90,8 @@ module _ (program : Program) (code : CodeBlocks Value) where
   abbrev pub led_to : BlockId → Ins → S.Slots Value → BlockResult Names Value → Store Names World → Successor (State Value) Names Value World
   led_to b i ss r st = by_tree (code.object b) i (giving (code.object b) i ss) ss (result_of r.end st)
 
-  -- an activation waits at a call for what a run says that waits: it goes on behind the call with the value, or where its exception lands
+  -- an activation without names of a class waits at a call for what a run says that waits: it goes on behind the call with the value, or where its
+  -- exception lands
   pub record WaitsFor (a : Activation) (w : Waits) : Type 0 where
     pub state : State Value
     pub act : ℕ
@@ -100,6 +101,7 @@ module _ (program : Program) (code : CodeBlocks Value) where
     pub there : (code.object (block_of a)).at a.pc.0 ≡ Some ins
     pub leads : w.leads ≡ led_to (block_of a) ins (slots_view a.slots)
     pub plain : IsPlain w.ask
+    pub no_names : a.names ≡ []
 
   pub data AllWait : List OpenActivation → List Waits → Type 0 where
     none : AllWait [] []

@@ -1,5 +1,5 @@
 mod Plain
-mod Homes
+pub mod Homes
 mod Shown
 mod Owned
 mod Listed

@@ -1,5 +1,5 @@
 -- The first name that is a given one stands at its number, since names are different.
-use Rattle.std.proofs.Common.{◌≡◌, ◌∙◌, ℕ, ◌<◌, zero, suc, Bool, true, false, cond, List, [], ◌∷◌, ◌++◌, length, Some, refl, sym, ap, subst, arith}
+use Rattle.std.proofs.Common.{◌≡◌, ◌∙◌, ℕ, ◌<◌, ◌≤◌, zero, suc, Bool, true, false, cond, List, [], ◌∷◌, ◌++◌, length, Some, refl, sym, ap, subst, arith}
 use Rattle.std.specs.Prelude.{slice_get, slice_set, slice_index_or}
 use Rattle.std.specs.List.{IsDistinct, AllByRecursion}
 use Rattle.std.specs.Map.{lookup}
@@ -28,7 +28,7 @@ apart x (y ∷ xs) zero all h = turned x y all.0
 apart x (y ∷ xs) (suc n) all h = apart x xs n all.1 (omega arith)
 
 module _ {A : Type 0} (ns : List (Name × A)) where
-  pub read_at : (xs : List Name) (vs : List A) (n : ℕ) → IsDistinct bytes_eq xs → n < length xs → length vs ≡ length xs
+  pub read_at : (xs : List Name) (vs : List A) (n : ℕ) → IsDistinct bytes_eq xs → n < length xs → length xs ≤ length vs
       → lookup (bytes_eq (slice_index_or xs n [])) (paired xs vs ++ ns) ≡ slice_get vs n
   unfolding IsDistinct
   read_at [] vs n d h l = absurd (omega arith)
@@ -38,7 +38,7 @@ module _ {A : Type 0} (ns : List (Name × A)) where
       ap (λ b. cond b (Some v) (lookup (bytes_eq (slice_index_or xs n [])) (paired xs vs ++ ns))) (apart x xs n d.0 (omega arith))
       ∙ read_at xs vs n d.1 (omega arith) (omega (arith, l))
 
-  pub written_at : (xs : List Name) (vs : List A) (n : ℕ) (w : A) → IsDistinct bytes_eq xs → n < length xs → length vs ≡ length xs
+  pub written_at : (xs : List Name) (vs : List A) (n : ℕ) (w : A) → IsDistinct bytes_eq xs → n < length xs → length xs ≤ length vs
       → insert_entry bytes_eq (paired xs vs ++ ns) (slice_index_or xs n []) w ≡ paired xs (slice_set vs n w) ++ ns
   unfolding IsDistinct
   written_at [] vs n w d h l = absurd (omega arith)

@@ -1,6 +1,6 @@
 -- Names of an activation by their numbers: the value of a local name, and the cell of a name that has one, stand at the place of the name in the
 -- block's list (Language Reference 4.2.2; Library Reference, "dis").
-use Rattle.std.specs.Prelude.{◌≡◌, ℕ, ◌<◌, List, [], ◌++◌, length, nat_lt, slice_get, slice_set, slice_index_or, Option, if◌then◌else◌}
+use Rattle.std.specs.Prelude.{◌≡◌, ℕ, ◌<◌, ◌≤◌, List, [], ◌++◌, length, nat_lt, slice_get, slice_set, slice_index_or, Option, if◌then◌else◌}
 use Rattle.std.specs.List.{IsDistinct}
 use Rattle.std.specs.Map.{lookup}
 use Rattle.std.specs.Str.{bytes_eq}
@@ -32,11 +32,11 @@ pub record KnowsNames (code : CodeObject Value) (facts : CodeFacts) : Type 0 whe
 -- the local names of the block are different, and an activation has a place for each; so are its cell and free names
 pub record HasLocals (facts : CodeFacts) (locals : List (Option Value)) : Type 0 where
   pub are_different : IsDistinct bytes_eq facts.locals
-  pub count : length locals ≡ length facts.locals
+  pub count : length facts.locals ≤ length locals
 
 pub record HasCells (facts : CodeFacts) (cells : List ℕ) : Type 0 where
   pub are_different : IsDistinct bytes_eq (facts.cells ++ facts.frees)
-  pub count : length cells ≡ length (facts.cells ++ facts.frees)
+  pub count : length (facts.cells ++ facts.frees) ≤ length cells
 
 -- what is read and written by a name is what is read and written at its number
 pub record LocalStands (facts : CodeFacts) (locals : List (Option Value)) (cells : List ℕ) (of_class : Named) (n : ℕ) : Type 0 where

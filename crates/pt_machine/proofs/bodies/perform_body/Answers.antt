@@ -5,7 +5,7 @@ use Rattle.pt_machine.proofs.bodies.perform_body.Goals as goal
 
 pub returns-in-DelName : goal.returns-in-DelName
 returns-in-DelName c =
-    row_ok c.delete_name.result c.delete_name.ensures (λ p row. of_instr c.in-DelName.is
+    row_ok c.delete_name.result c.delete_name.ensures.row (λ p row. of_instr c.in-DelName.is
     (deleted_by c.args.tables.now (instr.DelName c.in-DelName.text) p c.args.machine.now c.get-facts.result.now c.get-facts.ensures c.in-DelName.text.0
     c.text-x-in-DelName.result.now c.is_class-in_class.result c.text-x-in-DelName.ensures c.is_class-in_class.ensures
-    c.delete_name.new.locals c.delete_name.new.own c.delete_name.new.globals row))
+    c.delete_name.new.locals c.delete_name.new.own c.delete_name.new.globals row c.delete_name.ensures.of_class))

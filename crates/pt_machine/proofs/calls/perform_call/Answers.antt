@@ -2,9 +2,9 @@ use Rattle.pt_machine.proofs.RowLemmas.{both_ok, of_instr}
 use Rattle.pt_machine.proofs.CallRows.{made_by}
 use Rattle.pt_machine.proofs.calls.perform_call.Goals as goal
 
-pub returns-in_ok-has_names-in-MakeFunction : goal.returns-in_ok-has_names-in-MakeFunction
-returns-in_ok-has_names-in-MakeFunction c =
+pub returns-in-MakeFunction : goal.returns-in-MakeFunction
+returns-in-MakeFunction c =
     both_ok c.make_function.result c.make_function.ensures.row c.make_function.ensures.active (λ p row same. of_instr c.in-MakeFunction.is
     (made_by c.args.tables.now p c.args.machine.now c.in-MakeFunction.block c.in-MakeFunction.list c.make_function.new.slots c.make_function.new.heap
-    c.in-MakeFunction.count c.list-names-in-MakeFunction.result.now c.captures-captures.result c.in_ok-has_names-in-MakeFunction.ensures
+    c.in-MakeFunction._count c.list-names-in-MakeFunction.result.now c.captures-captures.result
     c.list-names-in-MakeFunction.ensures c.captures-captures.ensures row same))

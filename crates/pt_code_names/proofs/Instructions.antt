@@ -1,0 +1,81 @@
+-- What instructions of a script's code name, as they stand.
+use Rattle.std.proofs.Common.{◌≡◌, ◌∙◌, ◌+◌, ◌<◌, ◌^◌, ℕ, zero, suc, Bool, true, false, if◌then◌else◌, nat_eq, List, [], ◌∷◌, length, map, Option, Some, None, refl, sym, ap, subst}
+use Rattle.std.specs.Prelude.{slice_get}
+use Rattle.std.specs.List.{AllByRecursion}
+use Rattle.pt_tree.specs.Syntax.{Stms}
+use Rattle.pt_numbering.specs.Numbered.{IsNumbered}
+use Rattle.pt_instr.specs.declared.Instr.{Instr}
+use Rattle.pt_instr.specs.declared.Instr.TheVariants as instr
+use Rattle.pt_instr.specs.Encoding.{code_of as encoded, encoding, Fits as InstrFits}
+use Rattle.pt_code.specs.declared.Code.{Code}
+use Rattle.pt_code.specs.declared.CodeBlock.{CodeBlock}
+use Rattle.pt_code.specs.declared.parts.Operand.{Operand}
+use Rattle.pt_code.specs.declared.parts.Within.{Within}
+use Rattle.pt_code.specs.File.{AreBelow, NamesAll, naming, inside, names_of as names_of_block, operands}
+use Rattle.pt_code.specs.View.{Ins, IsView, ins_at, laid_from}
+use Rattle.pt_code.proofs.OneView.{one_view}
+use Rattle.pt_compile.specs.ScriptCode.{BlockLayout, script_layouts, code_block, code_of}
+use Rattle.pt_code_files.specs.Laws.{NamesInside}
+use Rattle.pt_code_files.proofs.Each.{each_at}
+use Rattle.pt_code_files.proofs.Instructions.{instructions_name_inside}
+use Rattle.pt_default_names.specs.Defaults.{TakesAsNamed}
+use Rattle.pt_run_names.specs.Operands.{OperandsNameIn}
+
+-- instructions whose operands are below their bounds have bytes
+
+fits-below : (within : Within) (os : List Operand) (ns : List ℕ) → AreBelow within os ns → AllByRecursion (λ n. n < 2 ^ 32) ns
+fits-below within [] [] h = tt
+fits-below within [] (n ∷ ns) h = absurd h
+fits-below within (o ∷ os) [] h = absurd h
+fits-below within (o ∷ os) (n ∷ ns) h = (h.0.0, fits-below within os ns h.1)
+
+all-fit : (within : Within) (is : List Instr) → AllByRecursion (NamesAll within) is → AllByRecursion InstrFits is
+all-fit within [] h = tt
+all-fit within (i ∷ is) h = (fits-below within (operands i) (encoded i).operands h.0, all-fit within is h.1)
+
+abbrev pub within_of : Code → CodeBlock → Within
+within_of c b = naming (inside (length c.texts) (length c.constants) (length c.lists) (length c.blocks) true) (names_of_block b)
+
+pub mapped-at : {A B : Type 0} (f : A → B) (xs : List A) (n : ℕ) (x : A) → slice_get xs n ≡ Some x → slice_get (map f xs) n ≡ Some (f x)
+mapped-at f [] n x e = absurd (let no : None ≡ Some x = e in cc)
+mapped-at f (y ∷ xs) zero x e = let same : y ≡ x = cc in ap (λ z. Some (f z)) same
+mapped-at f (y ∷ xs) (suc n) x e = mapped-at f xs n x e
+
+-- what stands at a place is one of the instructions that are laid out
+pub laid-is : (P : Instr → Type 0) (b : CodeBlock) (at : ℕ) (is : List Instr) (pc : ℕ) (i : Ins) → AllByRecursion P is → laid_from b at is pc ≡ Some i
+    → P i.instr
+laid-is P b at [] pc i all e = absurd (let no : None ≡ Some i = e in cc)
+laid-is P b at (j ∷ js) pc i all e = by (nat_eq at pc) e (laid-is P b (at + length (encoding j)) js pc i all.1)
+  where
+    by : (t : Bool) → (if t then Some (ins_at b pc j) else laid_from b (at + length (encoding j)) js pc) ≡ Some i
+        → (laid_from b (at + length (encoding j)) js pc ≡ Some i → P i.instr) → P i.instr
+    by true e f = let same : ins_at b pc j ≡ i = cc in subst (λ (k : Ins). P k.instr) same all.0
+    by false e f = f e
+
+-- so it names what the code and the block have
+pub seen-names : (ss : Stms) (n : ℕ) (b : BlockLayout) → slice_get (script_layouts ss) n ≡ Some b → IsNumbered ss → (view : ℕ → Option Ins)
+    → IsView (code_block b) view → (pc : ℕ) (i : Ins) → view pc ≡ Some i → NamesAll (within_of (code_of ss) (code_block b)) i.instr
+seen-names ss n b at numbered view seen pc i e =
+    let within = within_of (code_of ss) (code_block b) in
+    let names : NamesInside (code_of ss) true (code_block b) =
+    each_at (NamesInside (code_of ss) true) (code_of ss).blocks n (code_block b) (mapped-at code_block (script_layouts ss) n b at)
+    (instructions_name_inside ss numbered true) in
+    let again : IsView (code_block b) (laid_from (code_block b) 0 names.instrs) =
+    record { instrs = names.instrs; fits = all-fit within names.instrs names.named; spelled = names.spelled; view_is = refl } in
+    let same : view ≡ laid_from (code_block b) 0 names.instrs = one_view (code_block b) view (laid_from (code_block b) 0 names.instrs) seen again in
+    laid-is (NamesAll within) (code_block b) 0 names.instrs pc i names.named (ap (λ f. f pc) (sym same) ∙ e)
+
+module _ (within : Within) (names : ℕ → ℕ) where
+  pub operands-name : (i : Instr) → NamesAll within i → TakesAsNamed names i → OperandsNameIn within.locals within.cells names i
+  unfolding encoded
+  operands-name (instr.Local x) h t = h.0.1
+  operands-name (instr.SetLocal x) h t = h.0.1
+  operands-name (instr.DelLocal x) h t = h.0.1
+  operands-name (instr.FreshLocal x) h t = h.0.1
+  operands-name (instr.Cell x) h t = h.0.1
+  operands-name (instr.SetCell x) h t = h.0.1
+  operands-name (instr.DelCell x) h t = h.0.1
+  operands-name (instr.FreshCell x) h t = h.0.1
+  operands-name (instr.PushCell x) h t = h.0.1
+  operands-name (instr.MakeFunction b n l) h t = t
+  operands-name i h t = tt

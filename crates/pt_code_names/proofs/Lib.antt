@@ -1,0 +1,3 @@
+pub mod Module
+pub mod Instructions
+pub mod Blocks

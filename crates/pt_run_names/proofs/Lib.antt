@@ -1,0 +1,6 @@
+pub mod Stores
+pub mod Answers
+pub mod Turns
+pub mod Strides
+pub mod Runs
+pub mod Start

@@ -1,0 +1,3 @@
+pub mod RunNames
+pub mod Operands
+pub mod Laws
