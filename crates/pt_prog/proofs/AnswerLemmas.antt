@@ -1,5 +1,5 @@
 -- From the answer for a text to the answer to words.
-use Rattle.std.proofs.Common.{◌≡◌, ◌∙◌, ◌⊎◌, ◌≤◌, ℕ, [], List, Option, Some, None, Result, Ok, Err, IfOk, IfErr, OnErr, inl, inr, refl, sym, ap, subst, length}
+use Rattle.std.proofs.Common.{◌≡◌, ◌∙◌, ◌⊎◌, ◌≤◌, ℕ, [], List, Option, Some, None, Result, Ok, Err, IfOk, IfErr, inl, inr, refl, sym, ap, subst, length}
 use Rattle.std.specs.declared.string.String.{String}
 use Rattle.std.specs.declared.alloc.Global.{Global}
 use Rattle.pt_base.specs.Taken.{Pieces}
@@ -20,7 +20,7 @@ use Rattle.pt_prog.specs.declared.end.End.{End}
 use Rattle.pt_prog.specs.declared.end.End.TheVariants as end
 use Rattle.pt_prog.specs.LogText.{Text}
 use Rattle.pt_prog.specs.RunEnds.{ended}
-use Rattle.pt_prog.specs.Answer.{BrokeOffFor, IsAnswer, IsAnswerFor, IsEndFor, IsTextOf, WroteAll, WroteAllFor, WroteFront, WroteFrontFor, Wrote, asked_for, end_of, of_no_text, of_its_text, of_text, refused, unbuilt, ran, listed, usage, read_fault, too_long}
+use Rattle.pt_prog.specs.Answer.{BrokeOffFor, IsAnswer, IsAnswerFor, IsEndFor, IsTextOf, WroteAll, WroteAllFor, WroteFront, WroteFrontFor, Wrote, asked_for, end_of, of_no_text, of_its_text, of_text, refused, unbuilt, ran, wrote_code, usage, read_fault, too_long}
 
 -- an answer is neither a fault of a write nor want of memory
 abbrev IsOrdinary : End → Type 0
@@ -38,8 +38,8 @@ ordinary_end n (bare.outside_at what line) = tt
 ordinary_for : (a : Asked) (text : Text) (e : End) (ws : List Write) → IsAnswerFor a text e ws → IsOrdinary e
 ordinary_for a text e ws (refused error r is w) = subst IsOrdinary (sym is) tt
 ordinary_for a text e ws (unbuilt line r u is w) = subst IsOrdinary (sym is) tt
-ordinary_for a text e ws (ran ss o i d r b runs is w) = subst IsOrdinary (sym is) (ordinary_end a.steps o.ending)
-ordinary_for a text e ws (listed lines r l is w) = subst IsOrdinary (sym is) tt
+ordinary_for a text e ws (ran ss o k r b runs code is w) = subst IsOrdinary (sym is) (ordinary_end a.steps o.ending)
+ordinary_for a text e ws (wrote_code lines r l is w) = subst IsOrdinary (sym is) tt
 
 ordinary : (misread : Type 0) (words : List (String Global)) (told : Text → Told) (e : End) (ws : List Write) → IsAnswer misread words told e ws → IsOrdinary e
 ordinary misread words told e ws (usage n is w) = subst IsOrdinary (sym is) tt
@@ -68,7 +68,7 @@ module _ (misread : Type 0) (words : List (String Global)) (told : Text → Told
 
   -- where no text is read, the end's final text is all
   pub no_text : (r : Result End WriteErr) (e : End) (ws : List Write) → IsAnswer misread words told e ws
-      → IfOk r (λ x. (x ≡ e) × Took out_old out_new log_old log_new ws) → OnErr r (TookFront out_old out_new log_old log_new ws) → WroteBy (ended r)
+      → IfOk r (λ x. (x ≡ e) × Took out_old out_new log_old log_new ws) → IfErr r (λ why. TookFront out_old out_new log_old log_new why ws) → WroteBy (ended r)
   no_text (Ok x) e ws i t f = wrote_all x ws (subst (λ y. IsAnswer misread words told y ws) (sym t.0) i) t.1
   no_text (Err (error.Failed which)) e ws i t f = of_no_text e ws i f
   no_text (Err error.Memory) e ws i t f = inr (of_no_text e ws i f)

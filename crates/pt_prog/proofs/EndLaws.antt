@@ -1,5 +1,5 @@
 -- A text says one end at most.
-use Rattle.std.proofs.Common.{◌≡◌, ◌++◌, ℕ, List, [], Bool, true, false, Some, None, refl, sym, ap, ◌∙◌, subst}
+use Rattle.std.proofs.Common.{◌≡◌, ◌++◌, ◌-◌, ◌^◌, ℕ, min, List, [], Bool, true, false, Some, None, refl, sym, ap, ◌∙◌, subst}
 use Rattle.std.proofs.lemmas.Bool.{true≢false}
 use Rattle.pt_base.specs.declared.numbers.Line.{Line}
 use Rattle.pt_base.specs.Taken.{Pieces}
@@ -17,6 +17,7 @@ use Rattle.pt_sinks.proofs.WritingLemmas.{outs_append}
 use Rattle.pt_script_program.specs.ScriptProgram.{program_of}
 use Rattle.pt_script_runs.specs.Blocks.{the_module}
 use Rattle.pt_script_runs.specs.Laws.{tree_machine}
+use Rattle.pt_runner.specs.Work.{Work}
 use Rattle.pt_run_script.specs.ScriptRun.{RunsTo}
 use Rattle.pt_built.specs.Built.{Built, unbuilt_of}
 use Rattle.pt_front.proofs.Once.{one_script, one_refusal, never_both}
@@ -24,7 +25,7 @@ use Rattle.pt_words.specs.Words.{Asked}
 use Rattle.pt_prog.specs.declared.end.End.{End}
 use Rattle.pt_prog.specs.declared.end.End.TheVariants as end
 use Rattle.pt_prog.specs.LogText.{Text, final, line_of, totals}
-use Rattle.pt_prog.specs.Answer.{IsAnswerFor, IsEndFor, IsUnbuilt, IsBuilt, end_of, is_run, last_text, run_writes, tells_events, refused, unbuilt, ran, listed}
+use Rattle.pt_prog.specs.Answer.{IsAnswerFor, IsEndFor, IsUnbuilt, IsBuilt, end_of, is_run, last_text, run_writes, tells_events, refused, unbuilt, ran, wrote_code}
 
 one_ending : (ss : Stms) (n : ℕ) (o p : Outcome Value World) → RunsTo ss n o → RunsTo ss n p → o ≡ p
 one_ending ss n o p a b = bare_runs_once (tree_machine value.None ss) (heap_host (program_of ss)) n the_module no_names (start_world (program_of ss)) o p a b
@@ -47,26 +48,26 @@ module _ (a : Asked) (text : Text) where
       let same : ss ≡ zz = one_script text ss zz b.is_script c.is_script in
       ap (λ z. end_of a.steps z.ending) (one_ending zz a.steps o p (subst (λ s. RunsTo s a.steps o) same r) q)
 
-  run_or_listed : is_run a.command ≡ true → is_run a.command ≡ false → ⊥
-  run_or_listed r l = true≢false (sym r ∙ l)
+  run_or_code : is_run a.command ≡ true → is_run a.command ≡ false → ⊥
+  run_or_code r l = true≢false (sym r ∙ l)
 
   answers_once : (e f : End) (ws vs : List Write) → IsAnswerFor a text e ws → IsAnswerFor a text f vs → e ≡ f
   answers_once e f ws vs (refused q x i u) (refused r y j v) = i ∙ ap (λ r. end.Refused r) (one_refusal text q r x y) ∙ sym j
   answers_once e f ws vs (refused q x i u) (unbuilt l b y j v) = absurd (never_both text y.script q y.is_script x)
-  answers_once e f ws vs (refused q x i u) (ran ss o n d b y r j v) = absurd (never_both text ss q y.is_script x)
-  answers_once e f ws vs (refused q x i u) (listed ls b y j v) = absurd (never_both text y.script q y.is_script x)
+  answers_once e f ws vs (refused q x i u) (ran ss o k b y r c j v) = absurd (never_both text ss q y.is_script x)
+  answers_once e f ws vs (refused q x i u) (wrote_code ls b y j v) = absurd (never_both text y.script q y.is_script x)
   answers_once e f ws vs (unbuilt k a x i u) (refused r y j v) = absurd (never_both text x.script r x.is_script y)
   answers_once e f ws vs (unbuilt k a x i u) (unbuilt l b y j v) = i ∙ one_line k l x y ∙ sym j
-  answers_once e f ws vs (unbuilt k a x i u) (ran ss o n d b y r j v) = absurd (not_both k ss x y)
-  answers_once e f ws vs (unbuilt k a x i u) (listed ls b y j v) = absurd (run_or_listed a b)
-  answers_once e f ws vs (ran ss o n d a x r i u) (refused q y j v) = absurd (never_both text ss q x.is_script y)
-  answers_once e f ws vs (ran ss o n d a x r i u) (unbuilt l b y j v) = absurd (not_both l ss y x)
-  answers_once e f ws vs (ran ss o n d a x r i u) (ran zz p m g b y q j v) = i ∙ one_end ss zz o p x y r q ∙ sym j
-  answers_once e f ws vs (ran ss o n d a x r i u) (listed ls b y j v) = absurd (run_or_listed a b)
-  answers_once e f ws vs (listed ls a x i u) (refused q y j v) = absurd (never_both text x.script q x.is_script y)
-  answers_once e f ws vs (listed ls a x i u) (unbuilt l b y j v) = absurd (run_or_listed b a)
-  answers_once e f ws vs (listed ls a x i u) (ran zz p m g b y q j v) = absurd (run_or_listed b a)
-  answers_once e f ws vs (listed ls a x i u) (listed ms b y j v) = i ∙ sym j
+  answers_once e f ws vs (unbuilt k a x i u) (ran ss o m b y r c j v) = absurd (not_both k ss x y)
+  answers_once e f ws vs (unbuilt k a x i u) (wrote_code ls b y j v) = absurd (run_or_code a b)
+  answers_once e f ws vs (ran ss o k a x r c i u) (refused q y j v) = absurd (never_both text ss q x.is_script y)
+  answers_once e f ws vs (ran ss o k a x r c i u) (unbuilt l b y j v) = absurd (not_both l ss y x)
+  answers_once e f ws vs (ran ss o k a x r c i u) (ran zz p m b y q d j v) = i ∙ one_end ss zz o p x y r q ∙ sym j
+  answers_once e f ws vs (ran ss o k a x r c i u) (wrote_code ls b y j v) = absurd (run_or_code a b)
+  answers_once e f ws vs (wrote_code ls a x i u) (refused q y j v) = absurd (never_both text x.script q x.is_script y)
+  answers_once e f ws vs (wrote_code ls a x i u) (unbuilt l b y j v) = absurd (run_or_code b a)
+  answers_once e f ws vs (wrote_code ls a x i u) (ran zz p m b y q d j v) = absurd (run_or_code b a)
+  answers_once e f ws vs (wrote_code ls a x i u) (wrote_code ms b y j v) = i ∙ sym j
 
   pub once : (e f : End) → IsEndFor a text e → IsEndFor a text f → e ≡ f
   once e f i j = answers_once e f i.0 j.0 i.1 j.1
@@ -79,19 +80,20 @@ module _ (a : Asked) (text : Text) where
   prints : (o : Outcome Value World) → Pieces
   prints o = outs (kept (tells_events a) o.written) ++ outs (line_of (last_text a.steps o.ending))
 
-  are_prints : (o : Outcome Value World) (instructions depth : ℕ) → outs (run_writes a o instructions depth) ≡ prints o
+  are_prints : (o : Outcome Value World) (w : Work) → outs (run_writes a o w) ≡ prints o
   unfolding prints
-  are_prints o instructions depth =
-      outs_append (kept (tells_events a) o.written) (totals a.stats o.units instructions depth ++ line_of (last_text a.steps o.ending))
+  are_prints o w =
+      let told : List Write = totals a.stats o.units (min w.instructions (2 ^ 64 - 1)) w.depth in
+      outs_append (kept (tells_events a) o.written) (told ++ line_of (last_text a.steps o.ending))
       ∙ ap (λ q. outs (kept (tells_events a) o.written) ++ q)
-      (outs_append (totals a.stats o.units instructions depth) (line_of (last_text a.steps o.ending))
-      ∙ ap (λ q. q ++ outs (line_of (last_text a.steps o.ending))) (no_prints a.stats o.units instructions depth))
+      (outs_append told (line_of (last_text a.steps o.ending))
+      ∙ ap (λ q. q ++ outs (line_of (last_text a.steps o.ending))) (no_prints a.stats o.units (min w.instructions (2 ^ 64 - 1)) w.depth))
 
-  one_output : (ss zz : Stms) (o p : Outcome Value World) (i d j g : ℕ) → IsBuilt text ss → IsBuilt text zz → RunsTo ss a.steps o → RunsTo zz a.steps p
-      → outs (run_writes a o i d) ≡ outs (run_writes a p j g)
-  one_output ss zz o p i d j g b c r q =
+  one_output : (ss zz : Stms) (o p : Outcome Value World) (w v : Work) → IsBuilt text ss → IsBuilt text zz → RunsTo ss a.steps o → RunsTo zz a.steps p
+      → outs (run_writes a o w) ≡ outs (run_writes a p v)
+  one_output ss zz o p w v b c r q =
       let same : ss ≡ zz = one_script text ss zz b.is_script c.is_script in
-      are_prints o i d ∙ ap prints (one_ending zz a.steps o p (subst (λ s. RunsTo s a.steps o) same r) q) ∙ sym (are_prints p j g)
+      are_prints o w ∙ ap prints (one_ending zz a.steps o p (subst (λ s. RunsTo s a.steps o) same r) q) ∙ sym (are_prints p v)
 
   same_final : (e f : End) (ws vs : List Write) → e ≡ f → ws ≡ final e → vs ≡ final f → outs ws ≡ outs vs
   same_final e f ws vs same u v = ap outs (u ∙ ap final same ∙ sym v)
@@ -99,12 +101,12 @@ module _ (a : Asked) (text : Text) where
   pub prints_once : (e f : End) (ws vs : List Write) → is_run a.command ≡ true → IsAnswerFor a text e ws → IsAnswerFor a text f vs → outs ws ≡ outs vs
   prints_once e f ws vs runs (refused q x i u) (refused r y j v) = same_final e f ws vs (answers_once e f ws vs (refused q x i u) (refused r y j v)) u v
   prints_once e f ws vs runs (refused q x i u) (unbuilt l b y j v) = absurd (never_both text y.script q y.is_script x)
-  prints_once e f ws vs runs (refused q x i u) (ran ss o n d b y r j v) = absurd (never_both text ss q y.is_script x)
+  prints_once e f ws vs runs (refused q x i u) (ran ss o k b y r c j v) = absurd (never_both text ss q y.is_script x)
   prints_once e f ws vs runs (unbuilt k b x i u) (refused r y j v) = absurd (never_both text x.script r x.is_script y)
   prints_once e f ws vs runs (unbuilt k b x i u) (unbuilt l c y j v) = same_final e f ws vs (answers_once e f ws vs (unbuilt k b x i u) (unbuilt l c y j v)) u v
-  prints_once e f ws vs runs (unbuilt k b x i u) (ran ss o n d c y r j v) = absurd (not_both k ss x y)
-  prints_once e f ws vs runs (ran ss o n d b x r i u) (refused q y j v) = absurd (never_both text ss q x.is_script y)
-  prints_once e f ws vs runs (ran ss o n d b x r i u) (unbuilt l c y j v) = absurd (not_both l ss y x)
-  prints_once e f ws vs runs (ran ss o n d b x r i u) (ran zz p m g c y q j v) = ap outs u ∙ one_output ss zz o p n d m g x y r q ∙ sym (ap outs v)
-  prints_once e f ws vs runs (listed ls b x i u) y = absurd (run_or_listed runs b)
-  prints_once e f ws vs runs x (listed ms b y j v) = absurd (run_or_listed runs b)
+  prints_once e f ws vs runs (unbuilt k b x i u) (ran ss o m c y r d j v) = absurd (not_both k ss x y)
+  prints_once e f ws vs runs (ran ss o k b x r c i u) (refused q y j v) = absurd (never_both text ss q x.is_script y)
+  prints_once e f ws vs runs (ran ss o k b x r h i u) (unbuilt l c y j v) = absurd (not_both l ss y x)
+  prints_once e f ws vs runs (ran ss o k b x r h i u) (ran zz p m c y q d j v) = ap outs u ∙ one_output ss zz o p k m x y r q ∙ sym (ap outs v)
+  prints_once e f ws vs runs (wrote_code ls b x i u) y = absurd (run_or_code runs b)
+  prints_once e f ws vs runs x (wrote_code ms b y j v) = absurd (run_or_code runs b)

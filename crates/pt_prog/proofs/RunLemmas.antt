@@ -1,5 +1,6 @@
 -- From what was written of a run, and behind it, to the answer for a text.
-use Rattle.std.proofs.Common.{◌≡◌, ◌∙◌, ◌++◌, ℕ, Bool, true, List, Option, Some, None, Result, Ok, Err, IfOk, IfErr, OnErr, inl, inr, refl, sym, ap, subst}
+use Rattle.std.proofs.Common.{◌≡◌, ◌∙◌, ◌++◌, ◌-◌, ◌^◌, ℕ, min, Bool, true, List, Option, Some, None, Result, Ok, Err, IfOk, IfErr, inl, inr, refl, sym, ap, subst}
+use Rattle.std.specs.Prelude.{IsErr, IsErrAnd}
 use Rattle.pt_base.specs.Taken.{Pieces}
 use Rattle.pt_tree.specs.Syntax.{Stms}
 use Rattle.pt_run.specs.Run.{Write}
@@ -9,6 +10,7 @@ use Rattle.pt_bare_runs.specs.Strides as bare
 use Rattle.pt_bare_runs.specs.Strides.{Ending}
 use Rattle.pt_machine_state.specs.Writing.{kept}
 use Rattle.pt_runner.specs.Ends.{IsEnding}
+use Rattle.pt_runner.proofs.AdvanceLemmas.{if_err}
 use Rattle.pt_runner.specs.declared.ending.Ended.{Ended}
 use Rattle.pt_runner.specs.declared.ending.RunEnd.{RunEnd}
 use Rattle.pt_runner.specs.declared.ending.RunEnd.TheVariants as run
@@ -80,8 +82,8 @@ same_last n (run.Outside what line) bare.spent i = absurd i
 same_last n (run.Outside what line) (bare.outside_at w l) i = let same : end.Outside what line ≡ end.Outside w (record { 0 = l }) = λ k. end.Outside (sym i.0 k) (record { 0 = sym i.1 k }) in ap final_text same
 
 module _ (a : Asked) (text : Text) (out_old out_new log_old log_new : Pieces → Pieces → Type 0) where
-  abbrev Front : Type 0
-  Front = WroteFrontFor out_old out_new log_old log_new a text
+  abbrev Front : WriteErr → Type 0
+  Front why = WroteFrontFor out_old out_new log_old log_new why a text
 
   abbrev All : End → Type 0
   All e = WroteAllFor out_old out_new log_old log_new a text e
@@ -89,15 +91,15 @@ module _ (a : Asked) (text : Text) (out_old out_new log_old log_new : Pieces →
   abbrev Broke : WriteErr → Type 0
   Broke e = BrokeOffFor out_old out_new log_old log_new a text e
 
-  pub broke : (e : WriteErr) → Front → Broke e
+  pub broke : (e : WriteErr) → Front e → Broke e
   broke (error.Failed which) f = f
   broke error.Memory f = inr f
 
-  pub every_err : (r : Result End WriteErr) → Front → IfErr r Broke
-  every_err (Ok e) f = tt
-  every_err (Err e) f = broke e f
+  pub every_err : (r : Result End WriteErr) (e : WriteErr) → IsErr r × IsErrAnd r (λ f. f ≡ e) → Front e → IfErr r Broke
+  every_err r e from f = if_err Broke r e from (broke e f)
 
-  pub every_err_of : (r : Result End WriteErr) (ws : List Write) (e : End) → IsAnswerFor a text e ws → OnErr r (TookFront out_old out_new log_old log_new ws) → IfErr r Broke
+  pub every_err_of : (r : Result End WriteErr) (ws : List Write) (e : End) → IsAnswerFor a text e ws
+      → IfErr r (λ why. TookFront out_old out_new log_old log_new why ws) → IfErr r Broke
   every_err_of (Ok x) ws e i f = tt
   every_err_of (Err x) ws e i f = broke x (of_answer e ws i f)
 
@@ -121,26 +123,32 @@ module _ (a : Asked) (text : Text) (ss : Stms) (is : IsBuilt text ss) (runs : is
   abbrev all_written : List Write
   all_written = written ++ (totals_written ++ last_written)
 
-  is_all : all_written ≡ run_writes a f.outcome x.totals.instructions x.totals.depth
+  same_totals : totals_written ≡ totals a.stats f.outcome.units (min f.work.instructions (2 ^ 64 - 1)) f.work.depth
+  same_totals = λ i. totals a.stats (sym f.units i) (f.instructions i) (f.depth i)
+
+  is_all : all_written ≡ run_writes a f.outcome f.work
   is_all =
-      ap (λ u. written ++ (totals a.stats u x.totals.instructions x.totals.depth ++ last_written)) (sym f.units)
-      ∙ ap (λ t. written ++ (totals a.stats f.outcome.units x.totals.instructions x.totals.depth ++ line_of t)) (same_last a.steps x.end f.outcome.ending f.ends)
+      ap (λ ts. written ++ (ts ++ last_written)) same_totals
+      ∙ ap (λ t. written ++ (totals a.stats f.outcome.units (min f.work.instructions (2 ^ 64 - 1)) f.work.depth ++ line_of t))
+      (same_last a.steps x.end f.outcome.ending f.ends)
 
   pub answer : IsAnswerFor a text (end_of_run a.steps x.end) all_written
-  answer = ran ss f.outcome x.totals.instructions x.totals.depth runs is f.runs (same_end a.steps x.end f.outcome.ending f.ends) is_all
+  answer = ran ss f.outcome f.work runs is f.runs f.code_runs (same_end a.steps x.end f.outcome.ending f.ends) is_all
 
   module _ (out_new log_new : Pieces → Pieces → Type 0) where
-    pub front_of_totals : TookFront out_ran out_new log_ran log_new totals_written → WroteFrontFor out_old out_new log_old log_new a text
-    front_of_totals t =
+    pub front_of_totals : (why : WriteErr) → TookFront out_ran out_new log_ran log_new why totals_written
+        → WroteFrontFor out_old out_new log_old log_new why a text
+    front_of_totals why t =
         of_answer (end_of_run a.steps x.end) all_written answer
-        (front_behind out_old out_ran out_new log_old log_ran log_new written (totals_written ++ last_written) f.took
-        (front_before out_ran out_new log_ran log_new totals_written last_written t))
+        (front_behind out_old out_ran out_new log_old log_ran log_new why written (totals_written ++ last_written) f.took
+        (front_before out_ran out_new log_ran log_new why totals_written last_written t))
 
     module _ (out_told log_told : Pieces → Pieces → Type 0) (t : Took out_ran out_told log_ran log_told totals_written) where
-      front_of_last : TookFront out_told out_new log_told log_new last_written → TookFront out_old out_new log_old log_new all_written
-      front_of_last l =
-          front_behind out_old out_ran out_new log_old log_ran log_new written (totals_written ++ last_written) f.took
-          (front_behind out_ran out_told out_new log_ran log_told log_new totals_written last_written t l)
+      front_of_last : (why : WriteErr) → TookFront out_told out_new log_told log_new why last_written
+          → TookFront out_old out_new log_old log_new why all_written
+      front_of_last why l =
+          front_behind out_old out_ran out_new log_old log_ran log_new why written (totals_written ++ last_written) f.took
+          (front_behind out_ran out_told out_new log_ran log_told log_new why totals_written last_written t l)
 
       all_of_last : Took out_told out_new log_told log_new last_written → Took out_old out_new log_old log_new all_written
       all_of_last l =
@@ -153,12 +161,13 @@ module _ (a : Asked) (text : Text) (ss : Stms) (is : IsBuilt text ss) (runs : is
           record { writes = all_written; is_answer = subst (λ z. IsAnswerFor a text z all_written) (sym l.0) answer; took = all_of_last l.1 }
       ok_behind (Err e) l = tt
 
-      pub err_behind : (r : Result End WriteErr) → OnErr r (TookFront out_told out_new log_told log_new last_written)
+      pub err_behind : (r : Result End WriteErr) → IfErr r (λ why. TookFront out_told out_new log_told log_new why last_written)
           → IfErr r (BrokeOffFor out_old out_new log_old log_new a text)
       err_behind (Ok e) l = tt
-      err_behind (Err e) l = broke a text out_old out_new log_old log_new e (of_answer (end_of_run a.steps x.end) all_written answer (front_of_last l))
+      err_behind (Err e) l = broke a text out_old out_new log_old log_new e (of_answer (end_of_run a.steps x.end) all_written answer (front_of_last e l))
 
 -- a run that was broken off
 module _ (a : Asked) (text : Text) (ss : Stms) (is : IsBuilt text ss) (runs : is_run a.command ≡ true) (out_old out_new log_old log_new : Pieces → Pieces → Type 0) where
-  pub front_of_run : ScriptBrokeOff ss a.steps (tells_events a) out_old out_new log_old log_new → WroteFrontFor out_old out_new log_old log_new a text
-  front_of_run b = of_run ss b.written runs is b.first b.took
+  pub front_of_run : (why : WriteErr) → ScriptBrokeOff ss a.steps (tells_events a) out_old out_new log_old log_new why
+      → WroteFrontFor out_old out_new log_old log_new why a text
+  front_of_run why b = of_run ss b.written runs is b.first b.took

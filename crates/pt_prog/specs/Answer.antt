@@ -1,5 +1,5 @@
 -- What the program answers to its words and files, and what it writes: to out and to the log, to each in its order.
-use Rattle.std.specs.Prelude.{◌≡◌, ◌≤◌, ℕ, List, [], ◌∷◌, ◌++◌, Option, Some, None, Bool, true, false, ◌||◌, ◌⊎◌, length, map, option_map, string_bytes}
+use Rattle.std.specs.Prelude.{◌≡◌, ◌≤◌, ◌-◌, ◌^◌, ℕ, List, [], ◌∷◌, ◌++◌, Option, Some, None, Bool, true, false, ◌||◌, ◌⊎◌, length, map, min, option_map, string_bytes}
 use Rattle.std.specs.declared.string.String.{String}
 use Rattle.std.specs.declared.alloc.Global.{Global}
 use Rattle.pt_base.specs.declared.numbers.Line.{Line}
@@ -16,10 +16,13 @@ use Rattle.pt_bare_runs.specs.Strides.{Ending, Outcome}
 use Rattle.pt_heap.specs.declared.value.Value.{Value}
 use Rattle.pt_host.specs.World.{World}
 use Rattle.pt_machine_state.specs.Writing.{kept}
-use Rattle.pt_run_script.specs.ScriptRun.{RunsTo, ScriptWritesFirst}
+use Rattle.pt_runner.specs.Work.{Work}
+use Rattle.pt_run_script.specs.ScriptRun.{CodeRunsBy, RunsTo, ScriptWritesFirst}
 use Rattle.pt_built.specs.Built.{Built, unbuilt_of}
 use Rattle.pt_front.specs.Text.{IsScript, IsRefused}
 use Rattle.pt_front.specs.declared.refusal.Refusal.{Refusal}
+use Rattle.pt_code.specs.declared.Code.{Code}
+use Rattle.pt_code.specs.File.{HasFile, file}
 use Rattle.pt_compile.specs.ScriptCode.{code_of}
 use Rattle.pt_listing.specs.Listing.{IsListing}
 use Rattle.pt_words.specs.Words.{Asked, command_line}
@@ -44,16 +47,18 @@ abbrev pub OfNamed : Option Text → (told : Text → Told) → (Told → Type 0
 OfNamed None told P = ⊥
 OfNamed (Some name) told P = P (told name)
 
--- a script is run, or its code is listed
+-- a script is run, or its code is written
 abbrev pub is_run : Command → Bool
 is_run command.Run = true
 is_run command.Trace = true
 is_run command.Dis = false
+is_run command.Build = false
 
 abbrev pub traces : Command → Bool
 traces command.Run = false
 traces command.Trace = true
 traces command.Dis = false
+traces command.Build = false
 
 -- the log has a line for each event: `trace` is `run --events`
 abbrev pub tells_events : Asked → Bool
@@ -70,11 +75,18 @@ pub record IsUnbuilt (text : Text) (line : Line) : Type 0 where
   pub is_script : IsScript text script
   pub is_first : unbuilt_of script ≡ Some line.0
 
--- the text is a script, and this is the listing of its code
-pub record IsListed (text lines : Text) : Type 0 where
+-- how a command writes code: as a listing of it for people, or as its file, from which no other code is read
+abbrev pub IsWrittenBy : Command → Code → (bytes : Text) → Type 0
+IsWrittenBy command.Run code bytes = ⊥
+IsWrittenBy command.Trace code bytes = ⊥
+IsWrittenBy command.Dis code bytes = IsListing code bytes
+IsWrittenBy command.Build code bytes = HasFile code × (bytes ≡ file code)
+
+-- the text is a script, and so the command writes its code
+pub record IsCodeBy (command : Command) (text bytes : Text) : Type 0 where
   pub script : Stms
   pub is_script : IsScript text script
-  pub is_listing : IsListing (code_of script) lines
+  pub is_written : IsWrittenBy command (code_of script) bytes
 
 -- the program's end for that of a run of at most n acts
 abbrev pub end_of : (n : ℕ) → Ending Value World → End
@@ -89,18 +101,18 @@ abbrev pub last_text : (n : ℕ) → Ending Value World → Option Text
 last_text n (bare.exited status text) = text
 last_text n e = final_text (end_of n e)
 
--- all that a run of a script writes that comes to an outcome: what the script prints and its events, the totals, and the last text. Of the totals a script
--- says the acts alone: instructions and depth are any numbers
-abbrev pub run_writes : Asked → Outcome Value World → (instructions depth : ℕ) → List Write
-run_writes a o instructions depth = kept (tells_events a) o.written ++ (totals a.stats o.units instructions depth ++ line_of (last_text a.steps o.ending))
+-- all that a run of a script writes that comes to an outcome: what the script prints and its events, the totals, and the last text. Of the totals the
+-- acts are the script's, the others those of its code; the count of instructions stands still at the greatest u64
+abbrev pub run_writes : Asked → Outcome Value World → Work → List Write
+run_writes a o w = kept (tells_events a) o.written ++ (totals a.stats o.units (min w.instructions (2 ^ 64 - 1)) w.depth ++ line_of (last_text a.steps o.ending))
 
 -- the answer for a text: the end, and all that is written
 pub data IsAnswerFor (a : Asked) (text : Text) (e : End) (ws : List Write) : Type 0 where
   refused : (error : Refusal) → IsRefused text error → e ≡ end.Refused error → ws ≡ final e → IsAnswerFor a text e ws
   unbuilt : (line : Line) → is_run a.command ≡ true → IsUnbuilt text line → e ≡ end.Unbuilt line → ws ≡ final e → IsAnswerFor a text e ws
-  ran : (script : Stms) (o : Outcome Value World) (instructions depth : ℕ) → is_run a.command ≡ true → IsBuilt text script → RunsTo script a.steps o
-      → e ≡ end_of a.steps o.ending → ws ≡ run_writes a o instructions depth → IsAnswerFor a text e ws
-  listed : (lines : Text) → is_run a.command ≡ false → IsListed text lines → e ≡ end.Done → ws ≡ write to_out lines ∷ [] → IsAnswerFor a text e ws
+  ran : (script : Stms) (o : Outcome Value World) (w : Work) → is_run a.command ≡ true → IsBuilt text script → RunsTo script a.steps o
+      → CodeRunsBy script a.steps o w → e ≡ end_of a.steps o.ending → ws ≡ run_writes a o w → IsAnswerFor a text e ws
+  wrote_code : (bytes : Text) → is_run a.command ≡ false → IsCodeBy a.command text bytes → e ≡ end.Done → ws ≡ write to_out bytes ∷ [] → IsAnswerFor a text e ws
 
 -- the end is the one that the text says
 abbrev pub IsEndFor : Asked → Text → End → Type 0
@@ -133,25 +145,27 @@ module _ (out_old out_new log_old log_new : Pieces → Pieces → Type 0) where
     pub is_answer : IsAnswer misread words told e writes
     pub took : Took out_old out_new log_old log_new writes
 
-  -- a front of what an answer writes was written, or of what a run writes, whether or not that comes to an end
-  pub data WroteFrontFor (a : Asked) (text : Text) : Type 0 where
-    of_answer : (e : End) (ws : List Write) → IsAnswerFor a text e ws → TookFront out_old out_new log_old log_new ws → WroteFrontFor a text
+  -- a front of what an answer writes was written, or of what a run writes, whether or not that comes to an end; where a write failed, the next one goes to
+  -- its stream
+  pub data WroteFrontFor (why : WriteErr) (a : Asked) (text : Text) : Type 0 where
+    of_answer : (e : End) (ws : List Write) → IsAnswerFor a text e ws → TookFront out_old out_new log_old log_new why ws → WroteFrontFor why a text
     of_run : (script : Stms) (ws : List Write) → is_run a.command ≡ true → IsBuilt text script → ScriptWritesFirst script a.steps ws
-        → TookFront out_old out_new log_old log_new (kept (tells_events a) ws) → WroteFrontFor a text
+        → TookFront out_old out_new log_old log_new why (kept (tells_events a) ws) → WroteFrontFor why a text
 
-  pub data WroteFront (misread : Type 0) (words : List (String Global)) (told : Text → Told) : Type 0 where
-    of_no_text : (e : End) (ws : List Write) → IsAnswer misread words told e ws → TookFront out_old out_new log_old log_new ws → WroteFront misread words told
-    of_its_text : (a : Asked) (text : Text) → IsTextOf words told a text → WroteFrontFor a text → WroteFront misread words told
+  pub data WroteFront (why : WriteErr) (misread : Type 0) (words : List (String Global)) (told : Text → Told) : Type 0 where
+    of_no_text : (e : End) (ws : List Write) → IsAnswer misread words told e ws → TookFront out_old out_new log_old log_new why ws
+        → WroteFront why misread words told
+    of_its_text : (a : Asked) (text : Text) → IsTextOf words told a text → WroteFrontFor why a text → WroteFront why misread words told
 
   -- what was written where a write failed, and where memory ran out
   abbrev pub BrokeOffFor : Asked → Text → WriteErr → Type 0
-  BrokeOffFor a text (error.Failed which) = WroteFrontFor a text
-  BrokeOffFor a text error.Memory = Took out_old out_new log_old log_new [] ⊎ WroteFrontFor a text
+  BrokeOffFor a text (error.Failed which) = WroteFrontFor (error.Failed which) a text
+  BrokeOffFor a text error.Memory = Took out_old out_new log_old log_new [] ⊎ WroteFrontFor error.Memory a text
 
   -- what was written, by the end of the call
   abbrev pub Wrote : (misread : Type 0) → List (String Global) → (Text → Told) → End → Type 0
-  Wrote misread words told (end.WriteFault which) = WroteFront misread words told
-  Wrote misread words told end.Memory = Took out_old out_new log_old log_new [] ⊎ WroteFront misread words told
+  Wrote misread words told (end.WriteFault which) = WroteFront (error.Failed which) misread words told
+  Wrote misread words told end.Memory = Took out_old out_new log_old log_new [] ⊎ WroteFront error.Memory misread words told
   Wrote misread words told e = WroteAll misread words told e
 
 -- the end is the one that each text within the limit says that the shelf tells of

@@ -1,6 +1,6 @@
 //! The last writes of a call, which go to the log.
 
-ghost use Rattle.std.specs.Prelude.{◌≡◌, ◌≢◌, ◌≤◌, ◌∷◌, ◌++◌, [], Err, Some, IfOk, OnOk, OnErr};
+ghost use Rattle.std.specs.Prelude.{◌≡◌, ◌≢◌, ◌≤◌, ◌∷◌, ◌++◌, [], Err, Some, IfOk, OnOk, IfErr};
 ghost use Rattle.pt_base.specs.Faults.{Rose};
 ghost use Rattle.pt_prog.specs.LogText.{final, line_of, totals};
 ghost use Rattle.pt_prog.specs.RunEnds.{end_of_run, last_of_run};
@@ -24,9 +24,9 @@ fn write_line<O: Sink, L: Sink>(
     ensures ok { OnOk result
         (Took (O.taken out.old) (O.taken out.new) (L.taken log.old) (L.taken log.new)
         (line_of (Some text.now))) }
-    ensures err { OnErr result
-        (TookFront (O.taken out.old) (O.taken out.new) (L.taken log.old) (L.taken log.new)
-        (line_of (Some text.now))) }
+    ensures err { IfErr result (λ why.
+        TookFront (O.taken out.old) (O.taken out.new) (L.taken log.old) (L.taken log.new)
+        why (line_of (Some text.now))) }
     ensures log_only { result ≢ Err (WriteErr.Failed stream.Out) }
     ensures out_failed { result ≡ Err (WriteErr.Failed stream.Out)
         → Rose (O.faults out.old) (O.faults out.new) × (O.faults out.new ≤ O.most out.new) }
@@ -56,9 +56,9 @@ pub fn write_final<O: Sink, L: Sink>(
     ensures ok { IfOk result (λ e. (e ≡ end)
         × Took (O.taken out.old) (O.taken out.new) (L.taken log.old) (L.taken log.new)
         (final end)) }
-    ensures err { OnErr result
-        (TookFront (O.taken out.old) (O.taken out.new) (L.taken log.old) (L.taken log.new)
-        (final end)) }
+    ensures err { IfErr result (λ why.
+        TookFront (O.taken out.old) (O.taken out.new) (L.taken log.old) (L.taken log.new)
+        why (final end)) }
     ensures log_only { result ≢ Err (WriteErr.Failed stream.Out) }
     ensures out_failed { result ≡ Err (WriteErr.Failed stream.Out)
         → Rose (O.faults out.old) (O.faults out.new) × (O.faults out.new ≤ O.most out.new) }
@@ -88,9 +88,9 @@ pub fn write_last<O: Sink, L: Sink>(
     ensures ok { IfOk result (λ e. (e ≡ end_of_run bound end)
         × Took (O.taken out.old) (O.taken out.new) (L.taken log.old) (L.taken log.new)
         (line_of (last_of_run bound end))) }
-    ensures err { OnErr result
-        (TookFront (O.taken out.old) (O.taken out.new) (L.taken log.old) (L.taken log.new)
-        (line_of (last_of_run bound end))) }
+    ensures err { IfErr result (λ why.
+        TookFront (O.taken out.old) (O.taken out.new) (L.taken log.old) (L.taken log.new)
+        why (line_of (last_of_run bound end))) }
     ensures log_only { result ≢ Err (WriteErr.Failed stream.Out) }
     ensures out_failed { result ≡ Err (WriteErr.Failed stream.Out)
         → Rose (O.faults out.old) (O.faults out.new) × (O.faults out.new ≤ O.most out.new) }
@@ -126,9 +126,9 @@ pub fn write_totals<O: Sink, L: Sink>(
     ensures ok { OnOk result
         (Took (O.taken out.old) (O.taken out.new) (L.taken log.old) (L.taken log.new)
         (totals stats of_run.now.acts of_run.now.instructions of_run.now.depth)) }
-    ensures err { OnErr result
-        (TookFront (O.taken out.old) (O.taken out.new) (L.taken log.old) (L.taken log.new)
-        (totals stats of_run.now.acts of_run.now.instructions of_run.now.depth)) }
+    ensures err { IfErr result (λ why.
+        TookFront (O.taken out.old) (O.taken out.new) (L.taken log.old) (L.taken log.new)
+        why (totals stats of_run.now.acts of_run.now.instructions of_run.now.depth)) }
     ensures log_only { result ≢ Err (WriteErr.Failed stream.Out) }
     ensures out_failed { result ≡ Err (WriteErr.Failed stream.Out)
         → Rose (O.faults out.old) (O.faults out.new) × (O.faults out.new ≤ O.most out.new) }

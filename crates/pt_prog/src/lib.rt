@@ -2,6 +2,7 @@
 //! how it ends.
 #![tactic(auto)]
 
+mod build;
 mod dis;
 mod end;
 mod ending;

@@ -8,6 +8,7 @@ ghost use Rattle.pt_prog.specs.RunEnds.{ended};
 ghost use Rattle.pt_sinks.specs.declared.writing.Out.TheVariants as stream;
 ghost use Rattle.pt_words.specs.Asked.{asked};
 
+use crate::build::file_of;
 use crate::dis::listing_of;
 use crate::end::{End, File};
 use crate::ending::write_final;
@@ -21,7 +22,7 @@ use std::alloc::Global;
 /// How many bytes a script may have.
 pub const SCRIPT_LIMIT: u64 = 1_048_576;
 
-/// Answers for the text of a script: runs it, or lists its code in one write to out.
+/// Answers for the text of a script: runs it, or writes its code to out, in one write.
 fn answer_text<O: Sink, L: Sink>(
     alloc: Global,
     line: &CommandLine,
@@ -58,6 +59,11 @@ fn answer_text<O: Sink, L: Sink>(
             put(Out::Out, lines.as_str().as_bytes(), out, log)?;
             Ok(End::Done)
         }
+        Command::Build => {
+            let bytes = file_of(alloc, &script)?;
+            put(Out::Out, bytes.as_slice(), out, log)?;
+            Ok(End::Done)
+        }
     }
 }
 
@@ -72,8 +78,8 @@ fn ended(answer: Result<End, WriteErr>) -> End
     }
 }
 
-/// All that the program does: reads the words and the script that they name, and runs it, or lists
-/// its code.
+/// All that the program does: reads the words and the script that they name, and runs it, or writes
+/// the listing or the file of its code.
 ///
 /// The order of answers is Usage, ReadFault, TooLong, Refused, for a run Unbuilt, and then those of
 /// the run. Behind what a run writes the log gets the totals, where they are asked for, and the

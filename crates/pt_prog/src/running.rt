@@ -25,7 +25,7 @@ fn tells_events(line: &CommandLine) -> bool
 {
     let traces = match line.command {
         Command::Trace => true,
-        Command::Run | Command::Dis => false,
+        Command::Run | Command::Dis | Command::Build => false,
     };
     traces || line.events
 }

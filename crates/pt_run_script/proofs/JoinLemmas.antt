@@ -1,6 +1,6 @@
 -- The code of a script that a text is has the runs of the script, and is ready to run.
-use Rattle.std.proofs.Common.{◌≡◌, ◌<◌, ◌++◌, ℕ, Bool, [], List, Result, Ok, Err, length, sym, subst}
-use Rattle.std.specs.Prelude.{IfOk, OnErr}
+use Rattle.std.proofs.Common.{◌≡◌, ◌<◌, ◌++◌, ◌∷◌, ℕ, Bool, [], List, Result, Ok, Err, length, sym, ap, subst}
+use Rattle.std.specs.Prelude.{IfOk, IfErr}
 use Rattle.pt_base.specs.Taken.{Pieces}
 use Rattle.pt_tree.specs.Syntax.{Stms}
 use Rattle.pt_wide.specs.Syntax as wide
@@ -12,8 +12,13 @@ use Rattle.pt_operands_fit.specs.Laws.{CellsFit}
 use Rattle.pt_heap.specs.declared.value.Value.{Value}
 use Rattle.pt_heap.specs.declared.value.Value.TheVariants as value
 use Rattle.pt_host.specs.HeapHost.{heap_host}
-use Rattle.pt_host.specs.World.{no_names, start_world}
+use Rattle.pt_host.specs.World.{Program, World, no_names, start_world}
+use Rattle.pt_heap_rows.specs.Views.{paired}
+use Rattle.pt_machine_state.specs.Views.{Bare, Beside, block_of, run_of}
 use Rattle.pt_bare_runs.specs.Laws.{NeverStuck}
+use Rattle.pt_bare_runs.specs.Strides as bare
+use Rattle.pt_run.specs.Machine.{BlockId}
+use Rattle.pt_code_machine.specs.CodeBlocks.{CodeBlocks, machine}
 use Rattle.pt_bare_host.proofs.BlocksOnly.{opens_only}
 use Rattle.pt_built.specs.Built.{Built}
 use Rattle.pt_built.proofs.Silent.{built_blocks_give_nothing_on}
@@ -35,13 +40,25 @@ use Rattle.pt_machine_state.specs.declared.machine.Machine.{Machine}
 use Rattle.pt_code_loader.specs.declared.loading.Loaded.{Loaded}
 use Rattle.pt_code_loader.specs.Loaded.{IsLoadedCode}
 use Rattle.pt_code_loader.specs.Starting.{Begins, at_start}
+use Rattle.pt_code_names.proofs.Blocks.{code_names_blocks, module_begins}
 use Rattle.pt_loaded_scripts.specs.Laws.{HasTables, IsLoadable}
 use Rattle.pt_loaded_scripts.proofs.Loading.{code_has_its_module, loaded_script_has_tables, loaded_script_is_read}
 use Rattle.pt_runner.specs.declared.ending.Ended.{Ended}
 use Rattle.pt_runner.specs.Runs.{IsReady, ModuleRun}
 use Rattle.pt_runner.specs.Runs as coded
+use Rattle.pt_runner.proofs.GoesTo.{runs_so}
 use Rattle.pt_sinks.specs.declared.writing.WriteErr.{WriteErr}
 use Rattle.pt_run_script.specs.ScriptRun.{ScriptBrokeOff, ScriptFinished}
+
+nothing-behind : {A : Type 0} (xs ys : List A) → xs ++ ys ≡ [] → ys ≡ []
+nothing-behind [] ys e = e
+nothing-behind (x ∷ xs) ys e = absurd (cc)
+
+-- a run that begins without names has none of a class
+no-names : (program : Program) (code : CodeBlocks Value) (block : BlockId) (world : World) (m : Machine) (x : Beside)
+    → run_of program m x ≡ bare.start (machine code) (heap_host program) block no_names world → m.here.names ≡ []
+no-names program code block world m x starts =
+    nothing-behind (paired (program.facts (block_of m.here)).locals m.here.locals) m.here.names (ap (λ (t : Bare). t.here.frame.names.values) starts)
 
 pub has_its_module : (ss : Stms) (code : Code) → code ≡ code_of ss → 0 < length code.blocks
 has_its_module ss code is = subst (λ c. 0 < length c.blocks) (sym is) (code_has_its_module ss)
@@ -96,13 +113,22 @@ module _ (text : List ℕ) (ss : Stms) (is : IsScript text ss) (built : Built ss
       code_is_never_stuck value.None ss tables.object are_its_objects (built_blocks_give_nothing_on ss built) (heap_host (program_of ss)) (opens_only (program_of ss)) n no_names
       (start_world (program_of ss))
 
+  -- the run of the module begins where the machine is
+  starts : (m : Machine) → Begins l m
+      → run_of (program_of ss) m at_start
+      ≡ bare.start (machine (script_code ss tables.object)) (heap_host (program_of ss)) the_module no_names (start_world (program_of ss))
+  starts m begins = begins (program_of ss) (script_code ss tables.object) tables.tables tables.texts
+
   pub is_ready : (m : Machine) → Begins l m → m.frames.activations ≡ [] → (n : ℕ) → IsReady l.tables n m code_run
   unfolding code_run
   is_ready m begins alone n = record {
     tables_are = tables.tables;
     beside = at_start;
-    starts = begins (program_of ss) (script_code ss tables.object) tables.tables tables.texts;
+    starts = starts m begins;
     none_waits = alone;
+    no_names = no-names (program_of ss) (script_code ss tables.object) the_module (start_world (program_of ss)) m at_start (starts m begins);
+    names_blocks = code_names_blocks tree ss l loadable built tables;
+    has_names = module_begins ss built;
     never_stuck = never_stuck n;
   }
 
@@ -111,15 +137,21 @@ module _ (text : List ℕ) (ss : Stms) (is : IsScript text ss) (built : Built ss
     unfolding code_run
     finished x f = record {
       outcome = f.outcome;
-      runs = (script_has_its_bare_runs value.None ss tables.object are_its_objects (heap_host (program_of ss)) n no_names (start_world (program_of ss)) f.outcome).1 f.runs;
+      runs = (script_has_its_bare_runs value.None ss tables.object are_its_objects (heap_host (program_of ss)) n no_names (start_world (program_of ss)) f.outcome).1
+          (runs_so (code_machine ss tables.object) (heap_host (program_of ss)) n the_module no_names (start_world (program_of ss)) f.outcome f.work f.does);
+      work = f.work;
+      code_runs = record { object = tables.object; are_code = record { of_blocks = tables.of_blocks; truths = λ b. (tables.tables.blocks b).truths; extras = tables.tables.extras }; does = f.does };
       units = f.units;
+      instructions = f.instructions;
+      depth = f.depth;
       ends = f.ends;
       took = f.took;
     }
 
-    pub broke_off : coded.BrokeOff code_run n events out_old out_new log_old log_new → ScriptBrokeOff ss n events out_old out_new log_old log_new
+    pub broke_off : (why : WriteErr) → coded.BrokeOff code_run n events out_old out_new log_old log_new why
+        → ScriptBrokeOff ss n events out_old out_new log_old log_new why
     unfolding code_run
-    broke_off b = record {
+    broke_off why b = record {
       written = b.written;
       first = code_of_script_writes_nothing_else value.None ss tables.object are_its_objects (heap_host (program_of ss)) n no_names (start_world (program_of ss)) b.written b.writes_first;
       took = b.took;
@@ -134,7 +166,7 @@ module _ (text : List ℕ) (ss : Stms) (is : IsScript text ss) (built : Built ss
       all_finished (Err e) says = tt
 
       pub all_broke_off : (x : Result Ended WriteErr)
-          → OnErr x ((r : ModuleRun) → IsReady l.tables n m r → coded.BrokeOff r n events out_old out_new log_old log_new)
-          → OnErr x (ScriptBrokeOff ss n events out_old out_new log_old log_new)
+          → IfErr x (λ why. (r : ModuleRun) → IsReady l.tables n m r → coded.BrokeOff r n events out_old out_new log_old log_new why)
+          → IfErr x (ScriptBrokeOff ss n events out_old out_new log_old log_new)
       all_broke_off (Ok e) says = tt
-      all_broke_off (Err e) says = broke_off (says code_run ready)
+      all_broke_off (Err e) says = broke_off e (says code_run ready)

@@ -6,6 +6,7 @@ use Rattle.pt_run.specs.Run.{Write}
 use Rattle.pt_bare_writes.specs.Fronts.{within}
 use Rattle.pt_machine_state.specs.Writing.{kept}
 use Rattle.pt_sinks.specs.Writing.{TookFront}
+use Rattle.pt_sinks.specs.declared.writing.WriteErr.TheVariants as error
 use Rattle.pt_sinks.proofs.WritingLemmas.{took_nothing, front_of_all}
 use Rattle.pt_run_script.specs.ScriptRun.{ScriptBrokeOff, ScriptWritesFirst}
 
@@ -18,10 +19,10 @@ writes_nothing_first ss n = within _ [] _ refl
 
 module _ (ss : Stms) (n : ℕ) (events : Bool) (out_old out_new log_old log_new : Pieces → Pieces → Type 0) where
   pub broke_off_at_once : ((g h : Pieces) → out_old g h → out_new g h) → ((g h : Pieces) → log_old g h → log_new g h)
-      → ScriptBrokeOff ss n events out_old out_new log_old log_new
+      → ScriptBrokeOff ss n events out_old out_new log_old log_new error.Memory
   broke_off_at_once a b = record {
     written = [];
     first = writes_nothing_first ss n;
-    took = subst (TookFront out_old out_new log_old log_new) (sym (none_kept events))
+    took = subst (TookFront out_old out_new log_old log_new error.Memory) (sym (none_kept events))
         (front_of_all out_old out_new log_old log_new [] (took_nothing out_old out_new log_old log_new a b));
   }

@@ -1,22 +1,29 @@
 -- The run of a script: that of the control of its tree over the heap, into which nothing hooks (Language Reference 4, 6 to 8).
-use Rattle.std.specs.Prelude.{◌≡◌, ℕ, List, Bool}
+use Rattle.std.specs.Prelude.{◌≡◌, ◌-◌, ◌^◌, ℕ, List, Bool, Some, min, slice_get}
 use Rattle.pt_base.specs.Taken.{Pieces}
 use Rattle.pt_tree.specs.Syntax.{Stms}
+use Rattle.pt_tree.specs.Blocks.{Block, blocks_script}
 use Rattle.pt_heap.specs.declared.value.Value.{Value}
 use Rattle.pt_heap.specs.declared.value.Value.TheVariants as value
+use Rattle.pt_slots.specs.CodeObject.{CodeObject}
+use Rattle.pt_run.specs.Machine.{BlockId}
 use Rattle.pt_run.specs.Run.{Write}
 use Rattle.pt_bare_runs.specs.Strides as bare
 use Rattle.pt_bare_runs.specs.Strides.{Outcome}
 use Rattle.pt_bare_writes.specs.Fronts.{RunWritesFirst}
 use Rattle.pt_host.specs.HeapHost.{heap_host}
 use Rattle.pt_host.specs.World.{World, no_names, start_world}
+use Rattle.pt_heap_rows.specs.Leads.{HasHeapTruths, HasHeapExtras}
 use Rattle.pt_machine_state.specs.Writing.{kept}
 use Rattle.pt_runner.specs.Ends.{IsEnding}
+use Rattle.pt_runner.specs.Work.{Work, RunDoes}
 use Rattle.pt_runner.specs.declared.ending.Ended.{Ended}
+use Rattle.pt_script_objects.specs.Laws.{HasCode}
 use Rattle.pt_script_program.specs.ScriptProgram.{program_of}
-use Rattle.pt_script_runs.specs.Blocks.{the_module}
-use Rattle.pt_script_runs.specs.Laws.{tree_machine}
+use Rattle.pt_script_runs.specs.Blocks.{number_of, the_module}
+use Rattle.pt_script_runs.specs.Laws.{tree_machine, code_machine}
 use Rattle.pt_sinks.specs.Writing.{Took, TookFront}
+use Rattle.pt_sinks.specs.declared.writing.WriteErr.{WriteErr}
 
 -- the run of the script that may take n acts comes to this outcome
 abbrev pub RunsTo : Stms → (n : ℕ) → Outcome Value World → Type 0
@@ -26,18 +33,35 @@ RunsTo ss n o = bare.Runs (tree_machine value.None ss) (heap_host (program_of ss
 abbrev pub ScriptWritesFirst : Stms → (n : ℕ) → List Write → Type 0
 ScriptWritesFirst ss n ws = RunWritesFirst (tree_machine value.None ss) (heap_host (program_of ss)) n the_module no_names (start_world (program_of ss)) ws
 
+-- code objects of the blocks of the script's code, which know the None, True and False of the heap; operations that no tree asks for leave the profile
+pub record AreCodeOf (ss : Stms) (object : ℕ → CodeObject Value) : Type 0 where
+  pub of_blocks : (k : ℕ) (block : Block) → slice_get (blocks_script ss) k ≡ Some block → HasCode value.None ss k block (object k)
+  pub truths : (b : BlockId) → HasHeapTruths (object (number_of ss b))
+  pub extras : (b : BlockId) → HasHeapExtras (object (number_of ss b))
+
+-- the run of the script's code comes to this outcome by this work
+pub record CodeRunsBy (ss : Stms) (n : ℕ) (o : Outcome Value World) (w : Work) : Type 0 where
+  pub object : ℕ → CodeObject Value
+  pub are_code : AreCodeOf ss object
+  pub does : RunDoes (code_machine ss object) (heap_host (program_of ss)) n the_module no_names (start_world (program_of ss)) o w
+
 -- the sinks as they were and as they are
 module _ (ss : Stms) (n : ℕ) (events : Bool) (out_old out_new log_old log_new : Pieces → Pieces → Type 0) where
-  -- the run came to its outcome: this is how it ended and how many acts it took, and all that it writes was written
+  -- the run came to its outcome: this is how it ended and how many acts it took, how many instructions its code, and over how many slots; and all
+  -- that it writes was written
   pub record ScriptFinished (x : Ended) : Type 0 where
     pub outcome : Outcome Value World
     pub runs : RunsTo ss n outcome
+    pub work : Work
+    pub code_runs : CodeRunsBy ss n outcome work
     pub units : outcome.units ≡ x.totals.acts
+    pub instructions : x.totals.instructions ≡ min work.instructions (2 ^ 64 - 1)
+    pub depth : x.totals.depth ≡ work.depth
     pub ends : IsEnding x.end outcome.ending
     pub took : Took out_old out_new log_old log_new (kept events outcome.written)
 
   -- it was broken off, and a front of what it writes was written
-  pub record ScriptBrokeOff : Type 0 where
+  pub record ScriptBrokeOff (why : WriteErr) : Type 0 where
     pub written : List Write
     pub first : ScriptWritesFirst ss n written
-    pub took : TookFront out_old out_new log_old log_new (kept events written)
+    pub took : TookFront out_old out_new log_old log_new why (kept events written)

@@ -1,4 +1,4 @@
-ghost use Rattle.std.specs.Prelude.{◌≡◌, ◌≤◌, ℕ, List, Err, IfOk, OnErr};
+ghost use Rattle.std.specs.Prelude.{◌≡◌, ◌≤◌, ℕ, List, Err, IfOk, IfErr};
 ghost use Rattle.pt_base.specs.Faults.{Rose};
 ghost use Rattle.pt_built.specs.Built.{Built};
 ghost use Rattle.pt_front.specs.Text.{IsScript};
@@ -40,7 +40,7 @@ pub fn run_script<O: Sink, L: Sink>(
     requires built { Built (script_of script.now) }
     ensures ok { IfOk result (ScriptFinished (script_of script.now) bound events
         (O.taken out.old) (O.taken out.new) (L.taken log.old) (L.taken log.new)) }
-    ensures err { OnErr result (ScriptBrokeOff (script_of script.now) bound events
+    ensures err { IfErr result (ScriptBrokeOff (script_of script.now) bound events
         (O.taken out.old) (O.taken out.new) (L.taken log.old) (L.taken log.new)) }
     ensures out_failed { result ≡ Err (WriteErr.Failed stream.Out)
         → Rose (O.faults out.old) (O.faults out.new) × (O.faults out.new ≤ O.most out.new) }

@@ -1,6 +1,6 @@
 -- What a stride of the machine says of the run.
 use Rattle.std.proofs.Common.{◌≡◌, ℕ, List, [], ◌++◌, Result, Ok, Err, refl, sym, ap, ◌∙◌, subst, append-nil}
-use Rattle.std.specs.Prelude.{OnOk, OnErr, codes}
+use Rattle.std.specs.Prelude.{OnOk, IfErr, IsErr, IsErrAnd, codes}
 use Rattle.pt_base.specs.declared.numbers.Line.{Line}
 use Rattle.pt_base.specs.Taken.{Pieces}
 use Rattle.pt_heap.specs.declared.value.Value.{Value}
@@ -14,6 +14,8 @@ use Rattle.pt_bare_runs.specs.Strides as bare
 use Rattle.pt_bare_runs.specs.Strides.{goes, ends, is_stuck}
 use Rattle.pt_bare_writes.specs.Fronts.{written_by, within}
 use Rattle.pt_sinks.specs.Writing.{Took, TookFront}
+use Rattle.pt_sinks.specs.declared.writing.WriteErr.{WriteErr}
+use Rattle.pt_sinks.specs.declared.writing.WriteErr.TheVariants as error
 use Rattle.pt_sinks.proofs.WritingLemmas.{took_nothing, front_of_all, front_before}
 use Rattle.pt_heap_rows.specs.Views.{world_view}
 use Rattle.pt_machine_state.specs.declared.blocks.BlockCode.{BlockCode}
@@ -32,9 +34,10 @@ use Rattle.pt_runner.specs.declared.ending.RunEnd.{RunEnd}
 use Rattle.pt_runner.specs.Ends.{end_by, end_of, IsEnding}
 use Rattle.pt_runner.specs.Advancing.{Point, stride_at, StandsAt, WentOn, CameToEnd, BrokeOffAt}
 
-pub on_err : {T E P : Type 0} (r : Result T E) → P → OnErr r P
-on_err (Ok x) p = tt
-on_err (Err e) p = p
+-- what the exit of a `?` returns
+pub if_err : {T E : Type 0} (P : E → Type 0) (r : Result T E) (e : E) → IsErr r × IsErrAnd r (λ f. f ≡ e) → P e → IfErr r P
+if_err P (Ok x) e from p = tt
+if_err P (Err f) e from p = subst P (sym from.1) p
 
 -- the end that is told is that of the run
 left_so : (line : Line) (l : Leaving) (v : Value) (w : World) → IsEnding (end_by line l) (left l v line.0 w)
@@ -54,8 +57,8 @@ all_new w w1 ws empty adds = adds.pieces ∙ ap (λ ps. ps ++ kept w.events ws) 
 
 -- nothing was taken yet
 pub front_none : (oo on lo ln : Pieces → Pieces → Type 0) (ws : List Write) → ((g h : Pieces) → oo g h → on g h)
-    → ((g h : Pieces) → lo g h → ln g h) → TookFront oo on lo ln ws
-front_none oo on lo ln ws a b = front_before oo on lo ln [] ws (front_of_all oo on lo ln [] (took_nothing oo on lo ln a b))
+    → ((g h : Pieces) → lo g h → ln g h) → TookFront oo on lo ln error.Memory ws
+front_none oo on lo ln ws a b = front_before oo on lo ln error.Memory [] ws (front_of_all oo on lo ln [] (took_nothing oo on lo ln a b))
 
 -- the start is told, of the block that stands there
 module _ (w w1 : Writes) (block known : BlockCode) (m : Machine) (empty : pieces_of w ≡ []) (same : block ≡ known)
@@ -70,9 +73,9 @@ module _ (w w1 : Writes) (block known : BlockCode) (m : Machine) (empty : pieces
         → OnOk x (Took oo on lo ln (kept w.events (events_of (codes "call") [] known m)))
     told_whole x t = subst (λ ws. OnOk x (Took oo on lo ln ws)) told t
 
-    pub told_front : {T E : Type 0} (x : Result T E) → OnErr x (TookFront oo on lo ln (pieces_of w1))
-        → OnErr x (TookFront oo on lo ln (kept w.events (events_of (codes "call") [] known m)))
-    told_front x t = subst (λ ws. OnErr x (TookFront oo on lo ln ws)) told t
+    pub told_front : {T : Type 0} (x : Result T WriteErr) → IfErr x (λ why. TookFront oo on lo ln why (pieces_of w1))
+        → IfErr x (λ why. TookFront oo on lo ln why (kept w.events (events_of (codes "call") [] known m)))
+    told_front x t = subst (λ ws. IfErr x (λ why. TookFront oo on lo ln why ws)) told t
 
 module _ (tables : CodeTables) (n : ℕ) (old : Machine) (w : Writes) (empty : pieces_of w ≡ []) where
   abbrev Bare : Type 0
@@ -85,33 +88,34 @@ module _ (tables : CodeTables) (n : ℕ) (old : Machine) (w : Writes) (empty : p
     strode : (at : StandsAt tables n old p) (r : Stride) (new : Machine) (w1 : Writes) → Strides tables n r old w new w1
         → Turned (stride_at n p old) r new w1
     unfolding Strides
-    strode at r new w1 all = all p.program p.code p.beside at.tables_are at.waits
+    strode at r new w1 all = all p.program p.code p.beside at.tables_are at.names at.waits
 
     -- what the stride of the run has, where it isn't stuck
     module _ (oo on lo ln : Pieces → Pieces → Type 0) (r : Stride) (new : Machine) (w1 : Writes) where
-      broke_within : (s : Bare) → stride_at n p old ≡ s → (s ≡ is_stuck → ⊥) → Turned s r new w1 → TookFront oo on lo ln (pieces_of w1)
-          → BrokeOffAt n w.events p old oo on lo ln
-      broke_within (goes ws t) e some (is, (adds, rest)) took = record {
+      broke_within : (why : WriteErr) (s : Bare) → stride_at n p old ≡ s → (s ≡ is_stuck → ⊥) → Turned s r new w1
+          → TookFront oo on lo ln why (pieces_of w1) → BrokeOffAt n w.events p old oo on lo ln why
+      broke_within why (goes ws t) e some (is, (adds, rest)) took = record {
         written = ws;
         writes_first = within (stride_at n p old) ws [] (ap written_by e ∙ sym (append-nil ws));
-        took = subst (TookFront oo on lo ln) (all_new w w1 ws empty adds) took;
+        took = subst (TookFront oo on lo ln why) (all_new w w1 ws empty adds) took;
       }
-      broke_within (ends ws u f) e some (x, (is, (adds, rest))) took = record {
+      broke_within why (ends ws u f) e some (x, (is, (adds, rest))) took = record {
         written = ws;
         writes_first = within (stride_at n p old) ws [] (ap written_by e ∙ sym (append-nil ws));
-        took = subst (TookFront oo on lo ln) (all_new w w1 ws empty adds) took;
+        took = subst (TookFront oo on lo ln why) (all_new w w1 ws empty adds) took;
       }
-      broke_within is_stuck e some done took = absurd (some refl)
+      broke_within why is_stuck e some done took = absurd (some refl)
 
       went : (s : Bare) → stride_at n p old ≡ s → (s ≡ is_stuck → ⊥) → r ≡ stride.Goes → Turned s r new w1 → Took oo on lo ln (pieces_of w1)
           → WentOn n w.events p old new oo on lo ln
-      went (goes ws t) e some goes_on (is, (adds, (x, (comes, waits)))) took = record {
+      went (goes ws t) e some goes_on (is, (adds, (x, (comes, (waits, no_names))))) took = record {
         written = ws;
         state = t;
         goes_on = e;
         beside = x;
         comes = comes;
         waits = waits;
+        no_names = no_names;
         took = subst (Took oo on lo ln) (all_new w w1 ws empty adds) took;
       }
       went (ends ws u f) e some goes_on (x, (is, rest)) took = let no : stride.Goes ≡ stride.Ends x = sym goes_on ∙ is in absurd cc
@@ -146,7 +150,7 @@ module _ (tables : CodeTables) (n : ℕ) (old : Machine) (w : Writes) (empty : p
 
   -- what the machine says of all points at which it stands
   pub broken_before : (oo on lo ln : Pieces → Pieces → Type 0) → ((g h : Pieces) → oo g h → on g h) → ((g h : Pieces) → lo g h → ln g h)
-      → (p : Point) → StandsAt tables n old p → BrokeOffAt n w.events p old oo on lo ln
+      → (p : Point) → StandsAt tables n old p → BrokeOffAt n w.events p old oo on lo ln error.Memory
   broken_before oo on lo ln a b p at = record {
     written = [];
     writes_first = within (stride_at n p old) [] (written_by (stride_at n p old)) refl;
@@ -155,9 +159,10 @@ module _ (tables : CodeTables) (n : ℕ) (old : Machine) (w : Writes) (empty : p
 
   module _ (r : Stride) (new : Machine) (w1 : Writes) (all : Strides tables n r old w new w1) where
     module _ (oo on lo ln : Pieces → Pieces → Type 0) where
-      pub broken_within : TookFront oo on lo ln (pieces_of w1) → (p : Point) → StandsAt tables n old p → BrokeOffAt n w.events p old oo on lo ln
-      broken_within took p at =
-          broke_within p oo on lo ln r new w1 (stride_at n p old) refl at.not_stuck (strode p at r new w1 all) took
+      pub broken_within : (why : WriteErr) → TookFront oo on lo ln why (pieces_of w1) → (p : Point) → StandsAt tables n old p
+          → BrokeOffAt n w.events p old oo on lo ln why
+      broken_within why took p at =
+          broke_within p oo on lo ln r new w1 why (stride_at n p old) refl at.not_stuck (strode p at r new w1 all) took
 
       pub went_on : r ≡ stride.Goes → Took oo on lo ln (pieces_of w1) → (p : Point) → StandsAt tables n old p
           → WentOn n w.events p old new oo on lo ln

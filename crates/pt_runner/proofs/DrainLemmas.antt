@@ -4,6 +4,7 @@ use Rattle.std.specs.Prelude.{map}
 use Rattle.std.proofs.lemmas.List.{take_more, take-append-drop, map-append}
 use Rattle.pt_base.specs.Taken.{Pieces}
 use Rattle.pt_sinks.specs.Writing.{Took, TookFront}
+use Rattle.pt_sinks.specs.declared.writing.WriteErr.{WriteErr}
 use Rattle.pt_sinks.proofs.WritingLemmas.{took_behind, front_behind, front_before}
 use Rattle.pt_machine_state.specs.declared.writes.Write.{Write}
 use Rattle.pt_machine_state.specs.Writing.{piece_of}
@@ -25,8 +26,9 @@ module _ (items : List Write) (i : ℕ) (d : Write) (within : i < length items) 
         subst (Took oo on lo ln) (sym one_more)
         (took_behind oo om on lo lm ln (map piece_of (take i items)) (piece_of d ∷ []) before t)
 
-    pub front_of_one_more : (all : List Write) → items ≡ all → TookFront om on lm ln (piece_of d ∷ []) → TookFront oo on lo ln (map piece_of all)
-    front_of_one_more all same t =
-        subst (TookFront oo on lo ln) (sym all_pieces ∙ ap (map piece_of) same)
-        (front_before oo on lo ln (map piece_of (take i items) ++ piece_of d ∷ []) (map piece_of (drop (i + 1) items))
-        (front_behind oo om on lo lm ln (map piece_of (take i items)) (piece_of d ∷ []) before t))
+    pub front_of_one_more : (why : WriteErr) (all : List Write) → items ≡ all → TookFront om on lm ln why (piece_of d ∷ [])
+        → TookFront oo on lo ln why (map piece_of all)
+    front_of_one_more why all same t =
+        subst (TookFront oo on lo ln why) (sym all_pieces ∙ ap (map piece_of) same)
+        (front_before oo on lo ln why (map piece_of (take i items) ++ piece_of d ∷ []) (map piece_of (drop (i + 1) items))
+        (front_behind oo om on lo lm ln why (map piece_of (take i items)) (piece_of d ∷ []) before t))

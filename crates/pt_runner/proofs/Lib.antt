@@ -2,4 +2,5 @@ pub mod ChainLemmas
 pub mod DrainLemmas
 pub mod AdvanceLemmas
 pub mod GoesTo
+pub mod CountLemmas
 pub mod RunLemmas

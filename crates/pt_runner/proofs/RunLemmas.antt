@@ -1,5 +1,5 @@
 -- The run of code on its way from stride to stride.
-use Rattle.std.proofs.Common.{◌≡◌, ℕ, List, [], ◌++◌, Bool, Option, Some, None, refl, sym, ap, ◌∙◌, subst, append-nil, inl, inr}
+use Rattle.std.proofs.Common.{◌≡◌, ℕ, List, [], ◌++◌, Bool, false, Option, Some, None, refl, sym, ap, ◌∙◌, subst, append-nil, inl, inr}
 use Rattle.std.specs.Prelude.{codes}
 use Rattle.pt_base.specs.Taken.{Pieces}
 use Rattle.pt_heap.specs.declared.value.Value.{Value}
@@ -10,25 +10,33 @@ use Rattle.pt_run.specs.Run.{Write}
 use Rattle.pt_host.specs.World.{Names, World}
 use Rattle.pt_host.specs.HeapHost.{heap_host}
 use Rattle.pt_bare_runs.specs.Strides as bare
-use Rattle.pt_bare_runs.specs.Strides.{goes, stride, Outcome, ends_so}
+use Rattle.pt_bare_runs.specs.Strides.{goes, stride, Outcome}
+use Rattle.pt_bare_runs.specs.Laws.{Reaches}
 use Rattle.pt_bare_writes.specs.Fronts.{written_by, within}
 use Rattle.pt_sinks.specs.Writing.{Took, TookFront}
+use Rattle.pt_sinks.specs.declared.writing.WriteErr.{WriteErr}
+use Rattle.pt_sinks.specs.declared.writing.WriteErr.TheVariants as error
 use Rattle.pt_sinks.proofs.WritingLemmas.{took_behind, front_behind, front_of_all}
 use Rattle.pt_code_machine.specs.CodeBlocks.{machine}
 use Rattle.pt_machine_state.specs.declared.machine.Machine.{Machine}
 use Rattle.pt_machine_state.specs.Blocks.{block_at}
 use Rattle.pt_machine_state.specs.Views.{Bare, Beside, Waits, AllWait, none, block_of, state_of, run_of}
-use Rattle.pt_machine_state.specs.Strode.{ComesTo}
+use Rattle.pt_machine_state.specs.Strode.{ComesTo, GoesOnRaising}
 use Rattle.pt_machine_state.specs.Changes.{events_of}
 use Rattle.pt_machine_state.specs.Writing.{kept}
 use Rattle.pt_machine_state.proofs.ApplyLemmas.{logged-start}
 use Rattle.pt_machine_state.proofs.WriteLemmas.{kept-append}
 use Rattle.pt_code_tables.specs.declared.tables.CodeTables.{CodeTables}
+use Rattle.pt_run_names.specs.RunNames.{RunHasNames}
+use Rattle.pt_run_names.proofs.Runs.{reached_has_names}
 use Rattle.pt_runner.specs.declared.ending.Ended.{Ended}
 use Rattle.pt_runner.specs.declared.ending.RunEnd.{RunEnd}
+use Rattle.pt_runner.specs.declared.ending.Totals.{Totals}
 use Rattle.pt_runner.specs.Runs.{ModuleRun, IsReady, Finished, BrokeOff}
-use Rattle.pt_runner.specs.Advancing.{Point, StandsAt, WentOn, CameToEnd, Advanced, BrokeOffAt}
-use Rattle.pt_runner.proofs.GoesTo.{GoesTo, there, further, comes_behind, writes_behind, reaches}
+use Rattle.pt_runner.specs.Work.{Work, no_work, both, work_at, slots_next, ends_spent, work_of, Does, ends_so}
+use Rattle.pt_runner.specs.Advancing.{Point, StandsAt, WentOn, CameToEnd, Advanced, BrokeOffAt, counted, next_over, stopped_spent}
+use Rattle.pt_runner.proofs.GoesTo.{GoesTo, there, further, does_behind, writes_behind, reaches, both_none}
+use Rattle.pt_runner.proofs.CountLemmas.{TellsOf, tells_more, same_next, same_spent}
 
 module _ (r : ModuleRun) (n : ℕ) (events : Bool) where
   abbrev first_state : Bare
@@ -43,15 +51,21 @@ module _ (r : ModuleRun) (n : ℕ) (events : Bool) where
   abbrev stride_of : Bare → bare.Stride (State Value) Names Value World
   stride_of s = stride (machine r.code) (heap_host r.program) n s
 
-  abbrev Goes : List Write → Bare → Type 0
-  Goes ws s = GoesTo (machine r.code) (heap_host r.program) n begun ws s
+  abbrev stride_work : Bare → Work
+  stride_work s = work_of (machine r.code) (heap_host r.program) n s
 
-  -- the run came to where the machine stands, and what it wrote was taken
-  pub record Reached (m : Machine) (oo on lo ln : Pieces → Pieces → Type 0) : Type 0 where
+  abbrev Goes : List Write → Bare → Work → Type 0
+  Goes ws s w = GoesTo (machine r.code) (heap_host r.program) n begun ws s w
+
+  -- the run came to where the machine stands, what it wrote was taken, and the totals tell of what it did
+  pub record Reached (m : Machine) (t : Totals) (oo on lo ln : Pieces → Pieces → Type 0) : Type 0 where
     pub beside : Beside
     pub waits : AllWait r.program r.code m.frames.activations beside.waiting
+    pub no_names : m.here.names ≡ []
     pub written : List Write
-    pub goes : GoesTo (machine r.code) (heap_host r.program) n begun written (run_of r.program m beside)
+    pub work : Work
+    pub goes : GoesTo (machine r.code) (heap_host r.program) n begun written (run_of r.program m beside) work
+    pub tells : TellsOf t work
     pub took : Took oo on lo ln (kept events written)
 
   none_waits : (os : List OpenActivation) (ws : List Waits) → os ≡ [] → ws ≡ [] → AllWait r.program r.code os ws
@@ -69,46 +83,56 @@ module _ (r : ModuleRun) (n : ℕ) (events : Bool) where
 
     module _ (oo on lo ln : Pieces → Pieces → Type 0) where
       -- the start is told, whole or a front of it
-      pub started : Took oo on lo ln (kept events start_events) → Reached first oo on lo ln
-      started took = record {
+      pub started : (t : Totals) → TellsOf t no_work → Took oo on lo ln (kept events start_events) → Reached first t oo on lo ln
+      started t tells took = record {
         beside = ready.beside;
         waits = none_waits first.frames.activations ready.beside.waiting ready.none_waits (ap (λ s. s.waiting) ready.starts);
+        no_names = ready.no_names;
         written = told;
-        goes = subst (Goes told) (sym ready.starts) (there told first_state);
+        work = no_work;
+        goes = subst (λ s. Goes told s no_work) (sym ready.starts) (there told first_state);
+        tells = tells;
         took = subst (λ ws. Took oo on lo ln (kept events ws)) (sym told_so) took;
       }
 
-      pub broken_at_start : TookFront oo on lo ln (kept events start_events) → BrokeOff r n events oo on lo ln
-      broken_at_start took = record {
+      pub broken_at_start : (why : WriteErr) → TookFront oo on lo ln why (kept events start_events) → BrokeOff r n events oo on lo ln why
+      broken_at_start why took = record {
         written = told;
         writes_first = within begun told [] (sym (append-nil told));
-        took = subst (λ ws. TookFront oo on lo ln (kept events ws)) (sym told_so) took;
+        took = subst (λ ws. TookFront oo on lo ln why (kept events ws)) (sym told_so) took;
       }
 
-    module _ (m : Machine) (oo om lo lm : Pieces → Pieces → Type 0) (reached : Reached m oo om lo lm) where
+    module _ (m : Machine) (totals : Totals) (oo om lo lm : Pieces → Pieces → Type 0) (reached : Reached m totals oo om lo lm) where
       abbrev point : Point
       point = record { program = r.program; code = r.code; beside = reached.beside }
 
       abbrev state : Bare
       state = run_of r.program m reached.beside
 
+      is_reached : Reaches (machine r.code) (heap_host r.program) n first_state state
+      is_reached = reaches (machine r.code) (heap_host r.program) n told first_state reached.written state reached.work reached.goes
+
+      named : RunHasNames r.program state
+      named = reached_has_names r.program r.code ready.names_blocks n r.block r.names r.world ready.has_names state is_reached
+
       stands : StandsAt tables n m point
       stands = record {
         tables_are = ready.tables_are;
+        names = record { names_blocks = ready.names_blocks; here = named.here; no_names = reached.no_names };
         waits = reached.waits;
-        not_stuck = ready.never_stuck state (reaches (machine r.code) (heap_host r.program) n told first_state reached.written state reached.goes);
+        not_stuck = ready.never_stuck state is_reached;
       }
 
       pub standing : (p : Point) × StandsAt tables n m p
       standing = (point, stands)
 
       -- broken off between two strides
-      pub broken_between : BrokeOff r n events oo om lo lm
+      pub broken_between : BrokeOff r n events oo om lo lm error.Memory
       broken_between = record {
         written = reached.written ++ [];
-        writes_first = writes_behind (machine r.code) (heap_host r.program) n begun reached.written state reached.goes []
+        writes_first = writes_behind (machine r.code) (heap_host r.program) n begun reached.written state reached.work reached.goes []
             (within (stride_of state) [] (written_by (stride_of state)) refl);
-        took = subst (λ ws. TookFront oo om lo lm (kept events ws)) (sym (append-nil reached.written))
+        took = subst (λ ws. TookFront oo om lo lm error.Memory (kept events ws)) (sym (append-nil reached.written))
             (front_of_all oo om lo lm (kept events reached.written) reached.took);
       }
 
@@ -119,53 +143,83 @@ module _ (r : ModuleRun) (n : ℕ) (events : Bool) where
             subst (Took oo on lo ln) (sym (kept-append events reached.written ws))
             (took_behind oo om on lo lm ln (kept events reached.written) (kept events ws) reached.took t)
 
-        comes_to : (s t : Bare) (ws : List Write) → ComesTo r.program r.code s t → Goes ws s → Goes ws t
-        comes_to s t ws (inl e) g = subst (Goes ws) e g
-        comes_to s t ws (inr f) g = subst (λ k. Goes k t) (append-nil ws) (further begun ws s [] t g (f n))
+        -- where a raise goes on, no instruction is next
+        no_more : (s : Bare) (w : Work) → GoesOnRaising s → both w (stride_work s) ≡ w
+        no_more s w (e, rows, ss, is) = ap (λ c. both w (work_at (slots_next c) (ends_spent (stride_of s)))) is ∙ both_none w
 
-        went : (new : Machine) → WentOn n events point m new om on lm ln → Reached new oo on lo ln
+        comes_to : (s t : Bare) (ws : List Write) (w : Work) → ComesTo r.program r.code s t → Goes ws s w → Goes ws t w
+        comes_to s t ws w (inl e) g = subst (λ u. Goes ws u w) e g
+        comes_to s t ws w (inr (raises, f)) g =
+            subst (λ v. Goes ws t v) (no_more s w raises) (subst (λ k. Goes k t (both w (stride_work s))) (append-nil ws) (further begun ws s w [] t g (f n)))
+
+        -- the work of the next stride is what is counted of it
+        counts : (spent : Bool) → ends_spent (stride_of state) ≡ spent → work_at (next_over m.standing m.here) spent ≡ stride_work state
+        counts spent is = ap (λ k. work_at k spent) (same_next m.standing m.here) ∙ ap (λ b. work_at (slots_next state.here.state) b) (sym is)
+
+        abbrev totals_behind : Bool → (units : ℕ) → Totals
+        totals_behind spent units = counted (next_over m.standing m.here) spent units totals
+
+        tells_on : (spent : Bool) (units : ℕ) → ends_spent (stride_of state) ≡ spent → TellsOf (totals_behind spent units) (both reached.work (stride_work state))
+        tells_on spent units is =
+            subst (λ w. TellsOf (totals_behind spent units) (both reached.work w)) (counts spent is)
+            (tells_more totals reached.work (next_over m.standing m.here) spent units reached.tells)
+
+        went : (new : Machine) → WentOn n events point m new om on lm ln → Reached new (totals_behind false new.units) oo on lo ln
         went new x = record {
           beside = x.beside;
           waits = x.waits;
+          no_names = x.no_names;
           written = reached.written ++ x.written;
-          goes = comes_to x.state (run_of r.program new x.beside) (reached.written ++ x.written) x.comes
-              (further begun reached.written state x.written x.state reached.goes x.goes_on);
+          work = both reached.work (stride_work state);
+          goes = comes_to x.state (run_of r.program new x.beside) (reached.written ++ x.written) (both reached.work (stride_work state)) x.comes
+              (further begun reached.written state reached.work x.written x.state reached.goes x.goes_on);
+          tells = tells_on false new.units (ap ends_spent x.goes_on);
           took = taken x.written x.took;
         }
 
-        came : (new : Machine) (x : Ended) → x.totals.acts ≡ new.units → CameToEnd n events point m new om on lm ln x.end
+        came : (new : Machine) (x : Ended) → x.totals ≡ totals_behind (stopped_spent (Some x.end)) new.units → CameToEnd n events point m new om on lm ln x.end
             → Finished r n events x oo on lo ln
-        came new x acts e =
+        came new x are e =
             let o : Outcome Value World = record { written = e.written; units = e.units; ending = e.ending } in
-            let own : bare.Comes (machine r.code) (heap_host r.program) n (stride_of state) o =
-            subst (λ y. bare.Comes (machine r.code) (heap_host r.program) n y o) (sym e.is_end) (ends_so e.written e.units e.ending) in
+            let own : Does (machine r.code) (heap_host r.program) n (stride_of state) o no_work =
+            subst (λ y. Does (machine r.code) (heap_host r.program) n y o no_work) (sym e.is_end) (ends_so e.written e.units e.ending) in
+            let all : Does (machine r.code) (heap_host r.program) n begun (record o { written = reached.written ++ e.written }) (both reached.work (both (stride_work state) no_work))
+            = does_behind (machine r.code) (heap_host r.program) n begun reached.written state reached.work reached.goes o no_work own in
+            let tells : TellsOf x.totals (both reached.work (stride_work state)) =
+            subst (λ t. TellsOf t (both reached.work (stride_work state))) (sym are)
+            (tells_on (stopped_spent (Some x.end)) new.units (ap ends_spent e.is_end ∙ same_spent x.end e.ending e.ends_so)) in
             record {
               outcome = record { written = reached.written ++ e.written; units = e.units; ending = e.ending };
-              runs = comes_behind (machine r.code) (heap_host r.program) n begun reached.written state reached.goes o own;
-              units = e.units_are ∙ sym acts;
+              work = both reached.work (stride_work state);
+              does = subst (λ w. Does (machine r.code) (heap_host r.program) n begun (record o { written = reached.written ++ e.written }) (both reached.work w))
+                  (both_none (stride_work state)) all;
+              units = e.units_are ∙ sym (ap (λ t. t.acts) are);
+              instructions = tells.instructions;
+              depth = tells.depth;
               ends = e.ends_so;
               took = taken e.written e.took;
             }
 
-        broke : BrokeOffAt n events point m om on lm ln → BrokeOff r n events oo on lo ln
-        broke b = record {
+        broke : (why : WriteErr) → BrokeOffAt n events point m om on lm ln why → BrokeOff r n events oo on lo ln why
+        broke why b = record {
           written = reached.written ++ b.written;
-          writes_first = writes_behind (machine r.code) (heap_host r.program) n begun reached.written state reached.goes b.written b.writes_first;
-          took = subst (TookFront oo on lo ln) (sym (kept-append events reached.written b.written))
-              (front_behind oo om on lo lm ln (kept events reached.written) (kept events b.written) reached.took b.took);
+          writes_first = writes_behind (machine r.code) (heap_host r.program) n begun reached.written state reached.work reached.goes b.written b.writes_first;
+          took = subst (TookFront oo on lo ln why) (sym (kept-append events reached.written b.written))
+              (front_behind oo om on lo lm ln why (kept events reached.written) (kept events b.written) reached.took b.took);
         }
 
         module _ (b : Bool) (same : b ≡ events) where
-          pub broken : ((p : Point) → StandsAt tables n m p → BrokeOffAt n b p m om on lm ln) → BrokeOff r n events oo on lo ln
-          broken says = broke (subst (λ k. BrokeOffAt n k point m om on lm ln) same (says point stands))
+          pub broken : (why : WriteErr) → ((p : Point) → StandsAt tables n m p → BrokeOffAt n b p m om on lm ln why) → BrokeOff r n events oo on lo ln why
+          broken why says = broke why (subst (λ k. BrokeOffAt n k point m om on lm ln why) same (says point stands))
 
           module _ (new : Machine) (s : Option RunEnd) (says : (p : Point) → StandsAt tables n m p → Advanced n b p m new om on lm ln s) where
             advanced : (z : Option RunEnd) → s ≡ z → Advanced n events point m new om on lm ln z
             advanced z is =
                 subst (λ k. Advanced n k point m new om on lm ln z) same (subst (Advanced n b point m new om on lm ln) is (says point stands))
 
-            pub one_more : s ≡ None → Reached new oo on lo ln
-            one_more is = went new (advanced None is)
+            pub one_more : (t : Totals) → t ≡ totals_behind (stopped_spent s) new.units → s ≡ None → Reached new t oo on lo ln
+            one_more t are is =
+                subst (λ u. Reached new u oo on lo ln) (sym (are ∙ ap (λ z. totals_behind (stopped_spent z) new.units) is)) (went new (advanced None is))
 
-            pub finished : (x : Ended) → x.totals.acts ≡ new.units → s ≡ Some x.end → Finished r n events x oo on lo ln
-            finished x acts is = came new x acts (advanced (Some x.end) is)
+            pub finished : (x : Ended) → x.totals ≡ totals_behind (stopped_spent s) new.units → s ≡ Some x.end → Finished r n events x oo on lo ln
+            finished x are is = came new x (are ∙ ap (λ z. totals_behind (stopped_spent z) new.units) is) (advanced (Some x.end) is)

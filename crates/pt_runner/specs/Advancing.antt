@@ -1,5 +1,5 @@
 -- One stride of a run of code, with what it writes.
-use Rattle.std.specs.Prelude.{◌≡◌, ℕ, List, Bool, Option, Some, None, min, max, ◌+◌, ◌-◌, ◌^◌, length, if◌then◌else◌}
+use Rattle.std.specs.Prelude.{◌≡◌, ℕ, List, [], Bool, true, false, Option, Some, None, min, max, ◌+◌, ◌-◌, ◌^◌, length}
 use Rattle.pt_base.specs.Taken.{Pieces}
 use Rattle.pt_heap.specs.declared.value.Value.{Value}
 use Rattle.pt_slots.specs.Slots.{State}
@@ -10,16 +10,23 @@ use Rattle.pt_bare_runs.specs.Strides as bare
 use Rattle.pt_bare_runs.specs.Strides.{Ending, goes, ends, is_stuck, stride}
 use Rattle.pt_bare_writes.specs.Fronts.{WritesFirst}
 use Rattle.pt_sinks.specs.Writing.{Took, TookFront}
+use Rattle.pt_sinks.specs.declared.writing.WriteErr.{WriteErr}
 use Rattle.pt_code_machine.specs.CodeBlocks.{CodeBlocks, machine}
+use Rattle.pt_frames.specs.declared.activation.Activation.{Activation}
 use Rattle.pt_machine_state.specs.declared.machine.Machine.{Machine}
+use Rattle.pt_machine_state.specs.declared.machine.Standing.{Standing}
+use Rattle.pt_machine_state.specs.declared.machine.Standing.TheVariants as standing
 use Rattle.pt_machine_state.specs.Views.{Bare, Beside, AllWait, run_of}
 use Rattle.pt_machine_state.specs.Strode.{ComesTo}
 use Rattle.pt_machine_state.specs.Writing.{kept}
 use Rattle.pt_code_tables.specs.declared.tables.CodeTables.{CodeTables}
 use Rattle.pt_code_tables.specs.Tables.{AreTablesOf}
+use Rattle.pt_machine.specs.Strides.{MachineHasNames}
 use Rattle.pt_runner.specs.declared.ending.RunEnd.{RunEnd}
+use Rattle.pt_runner.specs.declared.ending.RunEnd.TheVariants as end
 use Rattle.pt_runner.specs.declared.ending.Totals.{Totals}
 use Rattle.pt_runner.specs.Ends.{IsEnding}
+use Rattle.pt_runner.specs.Work.{work_at}
 
 -- a place of a run: its program and code, and what it keeps beside the machine
 pub record Point : Type 0 where
@@ -30,9 +37,11 @@ pub record Point : Type 0 where
 abbrev pub stride_at : (n : ℕ) → Point → Machine → bare.Stride (State Value) Names Value World
 stride_at n p m = stride (machine p.code) (heap_host p.program) n (run_of p.program m p.beside)
 
--- the machine stands there: the tables are those of the code, what waits in the machine waits in the run, and the run isn't stuck
+-- the machine stands there: the tables are those of the code, the newest activation has its names, what waits in the machine waits in the run, and the
+-- run isn't stuck
 pub record StandsAt (tables : CodeTables) (n : ℕ) (m : Machine) (p : Point) : Type 0 where
   pub tables_are : AreTablesOf p.program p.code tables
+  pub names : MachineHasNames p.program p.code m
   pub waits : AllWait p.program p.code m.frames.activations p.beside.waiting
   pub not_stuck : stride_at n p m ≡ is_stuck → ⊥
 
@@ -46,6 +55,7 @@ module _ (n : ℕ) (events : Bool) (p : Point) (old : Machine) where
       pub beside : Beside
       pub comes : ComesTo p.program p.code state (run_of p.program new beside)
       pub waits : AllWait p.program p.code new.frames.activations beside.waiting
+      pub no_names : new.here.names ≡ []
       pub took : Took out_old out_new log_old log_new (kept events written)
 
     pub record CameToEnd (e : RunEnd) : Type 0 where
@@ -63,15 +73,25 @@ module _ (n : ℕ) (events : Bool) (p : Point) (old : Machine) where
 
   module _ (out_old out_new log_old log_new : Pieces → Pieces → Type 0) where
     -- of what the stride writes a front was taken
-    pub record BrokeOffAt : Type 0 where
+    pub record BrokeOffAt (why : WriteErr) : Type 0 where
       pub written : List Write
       pub writes_first : WritesFirst (machine p.code) (heap_host p.program) n (stride_at n p old) written
-      pub took : TookFront out_old out_new log_old log_new (kept events written)
+      pub took : TookFront out_old out_new log_old log_new why (kept events written)
 
--- what was taken so far, behind a stride that performed an instruction or ended a block
-abbrev pub counted : (performed : Bool) → Machine → Totals → Totals
-counted performed m t = record {
-  acts = m.units;
-  instructions = min (t.instructions + (if performed then 1 else 0)) (2 ^ 64 - 1);
-  depth = max t.depth (length m.here.slots);
+-- how many slots lie where an instruction is next, if one is
+abbrev pub next_over : Standing → Activation → Option ℕ
+next_over standing.AtPlace a = Some (length a.slots)
+next_over s a = None
+
+-- the run ended since no act might begin any more
+abbrev pub stopped_spent : Option RunEnd → Bool
+stopped_spent (Some end.Spent) = true
+stopped_spent stop = false
+
+-- what was taken so far, behind a stride from where an instruction was next over so many slots, if one was
+abbrev pub counted : (next : Option ℕ) → (is_spent : Bool) → (units : ℕ) → Totals → Totals
+counted next is_spent units t = let w = work_at next is_spent in record {
+  acts = units;
+  instructions = min (t.instructions + w.instructions) (2 ^ 64 - 1);
+  depth = max t.depth w.depth;
 }

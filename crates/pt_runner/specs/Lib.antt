@@ -1,3 +1,4 @@
 pub mod Ends
+pub mod Work
 pub mod Advancing
 pub mod Runs

@@ -1,31 +1,20 @@
 //! One stride of a run, with what it writes.
 
-ghost use Rattle.std.specs.Prelude.{◌≡◌, ◌≤◌, ◌∷◌, [], Err, IfOk, OnOk, OnErr};
+ghost use Rattle.std.specs.Prelude.{◌≡◌, ◌≤◌, ◌∷◌, [], Err, IfOk, OnOk, IfErr};
 ghost use Rattle.pt_base.specs.Faults.{Rose};
 ghost use Rattle.pt_machine_state.specs.Writing.{pieces_of};
 ghost use Rattle.pt_sinks.specs.declared.writing.Out.TheVariants as stream;
-ghost use Rattle.pt_runner.specs.Advancing.{Advanced, BrokeOffAt, Point, StandsAt, counted};
+ghost use Rattle.pt_runner.specs.Advancing.{Advanced, BrokeOffAt, Point, StandsAt};
 ghost use Rattle.pt_runner.specs.Ends.{end_of};
 
 use crate::draining::drain;
-use crate::ending::{RunEnd, Totals};
+use crate::ending::RunEnd;
 use crate::leaving::leaving;
 use pt_base::{Memory, Sink};
 use pt_code_tables::CodeTables;
 use pt_machine::stride;
 use pt_machine_state::{Machine, MachineEnd, Stride, Writes};
 use pt_sinks::WriteErr;
-
-impl Totals {
-    /// Counts a stride that performed an instruction or ended a block.
-    pub(crate) fn count(&mut self, performed: bool, machine: &Machine)
-        ensures { self.new ≡ counted performed machine.now self.old }
-    {
-        self.acts = machine.units;
-        self.instructions = self.instructions.saturating_add(performed as u64);
-        self.depth = self.depth.max(machine.here.slots.len() as u64);
-    }
-}
 
 /// The end of a run that the machine came to.
 fn end_of(end: MachineEnd, machine: &Machine) -> Result<RunEnd, Memory>
@@ -62,9 +51,9 @@ pub(crate) fn advance<O: Sink, L: Sink>(
         (O.taken out.new) (L.taken log.old) (L.taken log.new) stop) }
     ensures emptied { OnOk result (pieces_of writes.new ≡ []) }
     ensures events { OnOk result (writes.new.events ≡ writes.old.events) }
-    ensures err { OnErr result ((p : Point) → StandsAt tables.now bound machine.old p
+    ensures err { IfErr result (λ why. (p : Point) → StandsAt tables.now bound machine.old p
         → BrokeOffAt bound writes.old.events p machine.old (O.taken out.old) (O.taken out.new)
-        (L.taken log.old) (L.taken log.new)) }
+        (L.taken log.old) (L.taken log.new) why) }
     ensures out_failed { result ≡ Err (WriteErr.Failed stream.Out)
         → Rose (O.faults out.old) (O.faults out.new) × (O.faults out.new ≤ O.most out.new) }
     ensures log_failed { result ≡ Err (WriteErr.Failed stream.Log)

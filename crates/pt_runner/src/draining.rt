@@ -1,6 +1,6 @@
 //! What a run has to write, written.
 
-ghost use Rattle.std.specs.Prelude.{◌≡◌, ◌≤◌, ◌∷◌, [], Err, OnOk, OnErr};
+ghost use Rattle.std.specs.Prelude.{◌≡◌, ◌≤◌, ◌∷◌, [], Err, OnOk, IfErr};
 ghost use Rattle.pt_base.specs.Faults.{Rose};
 ghost use Rattle.pt_machine_state.specs.Writing.{piece_of, pieces_of};
 ghost use Rattle.pt_sinks.specs.Writing.{Took, TookFront};
@@ -14,8 +14,8 @@ use pt_sinks::{Out, WriteErr, put};
 fn put_piece<O: Sink, L: Sink>(piece: &Write, out: &mut O, log: &mut L) -> Result<(), WriteErr>
     ensures ok { OnOk result (Took (O.taken out.old) (O.taken out.new) (L.taken log.old)
         (L.taken log.new) (piece_of piece.now ∷ [])) }
-    ensures err { OnErr result (TookFront (O.taken out.old) (O.taken out.new) (L.taken log.old)
-        (L.taken log.new) (piece_of piece.now ∷ [])) }
+    ensures err { IfErr result (λ why. TookFront (O.taken out.old) (O.taken out.new)
+        (L.taken log.old) (L.taken log.new) why (piece_of piece.now ∷ [])) }
     ensures out_failed { result ≡ Err (WriteErr.Failed stream.Out)
         → Rose (O.faults out.old) (O.faults out.new) × (O.faults out.new ≤ O.most out.new) }
     ensures log_failed { result ≡ Err (WriteErr.Failed stream.Log)
@@ -43,8 +43,8 @@ pub(crate) fn drain<O: Sink, L: Sink>(
         (L.taken log.new) (pieces_of writes.old)) }
     ensures emptied { OnOk result (pieces_of writes.new ≡ []) }
     ensures events { writes.new.events ≡ writes.old.events }
-    ensures err { OnErr result (TookFront (O.taken out.old) (O.taken out.new) (L.taken log.old)
-        (L.taken log.new) (pieces_of writes.old)) }
+    ensures err { IfErr result (λ why. TookFront (O.taken out.old) (O.taken out.new)
+        (L.taken log.old) (L.taken log.new) why (pieces_of writes.old)) }
     ensures out_failed { result ≡ Err (WriteErr.Failed stream.Out)
         → Rose (O.faults out.old) (O.faults out.new) × (O.faults out.new ≤ O.most out.new) }
     ensures log_failed { result ≡ Err (WriteErr.Failed stream.Log)

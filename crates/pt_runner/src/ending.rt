@@ -22,7 +22,7 @@ pub struct Totals {
     pub acts: u64,
     /// The instructions that were performed. The count stands still at the greatest u64.
     pub instructions: u64,
-    /// The most slots that one activation held behind an instruction.
+    /// The most slots that one activation held where an instruction was next.
     pub depth: u64,
 }
 

@@ -1,6 +1,6 @@
 //! The run of code from its start to its end.
 
-ghost use Rattle.std.specs.Prelude.{◌≡◌, ◌≤◌, ◌∷◌, [], Err, IfOk, OnOk, OnErr, codes};
+ghost use Rattle.std.specs.Prelude.{◌≡◌, ◌≤◌, ◌∷◌, [], Err, IfOk, OnOk, IfErr, codes};
 ghost use Rattle.pt_base.specs.Faults.{Rose};
 ghost use Rattle.pt_machine_state.specs.Blocks.{block_at};
 ghost use Rattle.pt_machine_state.specs.Changes.{events_of};
@@ -11,11 +11,12 @@ ghost use Rattle.pt_sinks.specs.declared.writing.Out.TheVariants as stream;
 ghost use Rattle.pt_runner.specs.Runs.{BrokeOff, Finished, IsReady, ModuleRun};
 
 use crate::advance::advance;
+use crate::counting::{next_over, stopped_spent};
 use crate::draining::drain;
-use crate::ending::{Ended, RunEnd, Totals};
+use crate::ending::{Ended, Totals};
 use pt_base::Sink;
 use pt_code_tables::CodeTables;
-use pt_machine_state::{Machine, Standing, Writes};
+use pt_machine_state::{Machine, Writes};
 use pt_sinks::WriteErr;
 use pt_transfers::tell;
 use std::alloc::Global;
@@ -38,8 +39,8 @@ fn begin<O: Sink, L: Sink>(
         (block_at tables.now.blocks (block_of machine.now.here)) machine.now))) }
     ensures emptied { OnOk result (pieces_of writes.new ≡ []) }
     ensures events { OnOk result (writes.new.events ≡ writes.old.events) }
-    ensures err { OnErr result (TookFront (O.taken out.old) (O.taken out.new) (L.taken log.old)
-        (L.taken log.new) (kept writes.old.events (events_of (codes "call") []
+    ensures err { IfErr result (λ why. TookFront (O.taken out.old) (O.taken out.new)
+        (L.taken log.old) (L.taken log.new) why (kept writes.old.events (events_of (codes "call") []
         (block_at tables.now.blocks (block_of machine.now.here)) machine.now))) }
     ensures out_failed { result ≡ Err (WriteErr.Failed stream.Out)
         → Rose (O.faults out.old) (O.faults out.new) × (O.faults out.new ≤ O.most out.new) }
@@ -58,7 +59,8 @@ fn begin<O: Sink, L: Sink>(
 /// the order of the run; how they lie beside each other is told only where a write breaks off.
 ///
 /// Where it isn't broken off, it ends as the bare run of the code does under this bound, it has
-/// taken as many units, and all that the run writes was written.
+/// taken as many units, instructions and slots, and all that the run writes was written. The count
+/// of instructions stands still at the greatest u64.
 ///
 /// # Errors
 ///
@@ -77,9 +79,9 @@ pub fn run<O: Sink, L: Sink>(
     ensures ok { IfOk result (λ ended. (r : ModuleRun) → IsReady tables.now bound machine.old r
         → Finished r bound events ended (O.taken out.old) (O.taken out.new) (L.taken log.old)
         (L.taken log.new)) }
-    ensures err { OnErr result ((r : ModuleRun) → IsReady tables.now bound machine.old r
+    ensures err { IfErr result (λ why. (r : ModuleRun) → IsReady tables.now bound machine.old r
         → BrokeOff r bound events (O.taken out.old) (O.taken out.new) (L.taken log.old)
-        (L.taken log.new)) }
+        (L.taken log.new) why) }
     ensures out_failed { result ≡ Err (WriteErr.Failed stream.Out)
         → Rose (O.faults out.old) (O.faults out.new) × (O.faults out.new ≤ O.most out.new) }
     ensures log_failed { result ≡ Err (WriteErr.Failed stream.Log)
@@ -99,10 +101,9 @@ pub fn run<O: Sink, L: Sink>(
         depth: 0,
     };
     for _stride in 0..u64::MAX {
-        let at_place = matches!(machine.standing, Standing::AtPlace);
+        let next = next_over(machine);
         let stop = advance(tables, machine, &mut writes, bound, out, log)?;
-        let performed = at_place && !matches!(stop, Some(RunEnd::Spent));
-        totals.count(performed, machine);
+        totals.count(next, stopped_spent(&stop), machine.units);
         if let Some(end) = stop {
             return Ok(Ended { end, totals });
         }

@@ -6,7 +6,9 @@ use Rattle.pt_base.proofs.TakenLemmas.{takes_nothing, takes_then, front_none}
 use Rattle.pt_run.specs.Run.{Sink, to_out, to_log, Write, write}
 use Rattle.pt_sinks.specs.declared.writing.Out.{Out}
 use Rattle.pt_sinks.specs.declared.writing.Out.TheVariants as out
-use Rattle.pt_sinks.specs.Writing.{sink_of, if_out, if_log, outs, logs, first, Took, TookFront}
+use Rattle.pt_sinks.specs.declared.writing.WriteErr.{WriteErr}
+use Rattle.pt_sinks.specs.declared.writing.WriteErr.TheVariants as error
+use Rattle.pt_sinks.specs.Writing.{sink_of, if_out, if_log, outs, logs, first, StoppedBy, Took, TookFront}
 
 if_out_append : (k : Sink) (x : List ℕ) (a b : Pieces) → if_out k x a ++ b ≡ if_out k x (a ++ b)
 if_out_append to_out x a b = refl
@@ -28,59 +30,71 @@ module _ (out_old out_new log_old log_new : Pieces → Pieces → Type 0) where
   pub took_nothing : ((g h : Pieces) → out_old g h → out_new g h) → ((g h : Pieces) → log_old g h → log_new g h) → Took out_old out_new log_old log_new []
   took_nothing a b = record { out = takes_nothing out_old out_new a; log = takes_nothing log_old log_new b }
 
-  pub front_of_all : (ws : List Write) → Took out_old out_new log_old log_new ws → TookFront out_old out_new log_old log_new ws
-  front_of_all ws t = record { done = ws; rest = []; is_front = sym (append-nil ws); out = t.out; log = t.log }
+  -- all of them is a front that no failed write ends
+  pub front_of_all : (ws : List Write) → Took out_old out_new log_old log_new ws → TookFront out_old out_new log_old log_new error.Memory ws
+  front_of_all ws t = record { done = ws; rest = []; is_front = sym (append-nil ws); stopped = tt; out = t.out; log = t.log }
 
   before_more : (Took : Pieces → Type 0) (texts : List Write → Pieces) → texts [] ≡ [] → (h : Pieces) (rest vs : List Write)
       → one.TookFront Took h (texts (first rest)) → one.TookFront Took h (texts (first (rest ++ vs)))
   before_more Took texts none h [] vs t = front_none Took h (texts (first vs)) (subst (one.TookFront Took h) none t)
   before_more Took texts none h (w ∷ rest) vs t = t
 
+  stopped_before : (why : WriteErr) (rest vs : List Write) → StoppedBy why rest → StoppedBy why (rest ++ vs)
+  stopped_before (error.Failed which) [] vs s = absurd s
+  stopped_before (error.Failed which) (w ∷ rest) vs s = s
+  stopped_before error.Memory rest vs s = tt
+
   -- a front of some is a front of more
-  pub front_before : (ws vs : List Write) → TookFront out_old out_new log_old log_new ws → TookFront out_old out_new log_old log_new (ws ++ vs)
-  front_before ws vs t = record {
+  pub front_before : (why : WriteErr) (ws vs : List Write) → TookFront out_old out_new log_old log_new why ws
+      → TookFront out_old out_new log_old log_new why (ws ++ vs)
+  front_before why ws vs t = record {
     done = t.done;
     rest = t.rest ++ vs;
     is_front = ap (λ q. q ++ vs) t.is_front ∙ append_assoc t.done t.rest vs;
+    stopped = stopped_before why t.rest vs t.stopped;
     out = λ g h o. before_more (out_new g) outs refl (h ++ outs t.done) t.rest vs (t.out g h o);
     log = λ g h o. before_more (log_new g) logs refl (h ++ logs t.done) t.rest vs (t.log g h o);
   }
 
   -- and nothing is one of any
   pub front_of_none : (ws : List Write) → ((g h : Pieces) → out_old g h → out_new g h) → ((g h : Pieces) → log_old g h → log_new g h)
-      → TookFront out_old out_new log_old log_new ws
-  front_of_none ws a b = front_before [] ws (front_of_all [] (took_nothing a b))
+      → TookFront out_old out_new log_old log_new error.Memory ws
+  front_of_none ws a b = front_before error.Memory [] ws (front_of_all [] (took_nothing a b))
 
   -- one write, of which the sink took a front
-  front_of_out : (piece : List ℕ) → TakesFront out_old out_new (piece ∷ []) → ((g h : Pieces) → log_old g h → log_new g h)
-      → TookFront out_old out_new log_old log_new (write to_out piece ∷ [])
-  front_of_out piece t same = record {
+  front_of_out : (why : WriteErr) (piece : List ℕ) → StoppedBy why (write to_out piece ∷ []) → TakesFront out_old out_new (piece ∷ [])
+      → ((g h : Pieces) → log_old g h → log_new g h) → TookFront out_old out_new log_old log_new why (write to_out piece ∷ [])
+  front_of_out why piece s t same = record {
     done = [];
     rest = write to_out piece ∷ [];
     is_front = refl;
+    stopped = s;
     out = λ g h o. rw append-nil (t.front g h o);
     log = λ g h o. rw append-nil (same g h o);
   }
 
-  front_of_log : (piece : List ℕ) → ((g h : Pieces) → out_old g h → out_new g h) → TakesFront log_old log_new (piece ∷ [])
-      → TookFront out_old out_new log_old log_new (write to_log piece ∷ [])
-  front_of_log piece same t = record {
+  front_of_log : (why : WriteErr) (piece : List ℕ) → StoppedBy why (write to_log piece ∷ []) → ((g h : Pieces) → out_old g h → out_new g h)
+      → TakesFront log_old log_new (piece ∷ []) → TookFront out_old out_new log_old log_new why (write to_log piece ∷ [])
+  front_of_log why piece s same t = record {
     done = [];
     rest = write to_log piece ∷ [];
     is_front = refl;
+    stopped = s;
     out = λ g h o. rw append-nil (same g h o);
     log = λ g h o. rw append-nil (t.front g h o);
   }
 
-  pub front_in_out : (which : Out) → which ≡ out.Out → (piece : List ℕ) → TakesFront out_old out_new (piece ∷ []) → ((g h : Pieces) → log_old g h → log_new g h)
-      → TookFront out_old out_new log_old log_new (write (sink_of which) piece ∷ [])
-  front_in_out which is piece t same =
-      subst (λ w. TookFront out_old out_new log_old log_new (write (sink_of w) piece ∷ [])) (sym is) (front_of_out piece t same)
+  pub front_in_out : (which : Out) → which ≡ out.Out → (why : WriteErr) (piece : List ℕ) → StoppedBy why (write to_out piece ∷ [])
+      → TakesFront out_old out_new (piece ∷ []) → ((g h : Pieces) → log_old g h → log_new g h)
+      → TookFront out_old out_new log_old log_new why (write (sink_of which) piece ∷ [])
+  front_in_out which is why piece s t same =
+      subst (λ w. TookFront out_old out_new log_old log_new why (write (sink_of w) piece ∷ [])) (sym is) (front_of_out why piece s t same)
 
-  pub front_in_log : (which : Out) → which ≡ out.Log → (piece : List ℕ) → ((g h : Pieces) → out_old g h → out_new g h) → TakesFront log_old log_new (piece ∷ [])
-      → TookFront out_old out_new log_old log_new (write (sink_of which) piece ∷ [])
-  front_in_log which is piece same t =
-      subst (λ w. TookFront out_old out_new log_old log_new (write (sink_of w) piece ∷ [])) (sym is) (front_of_log piece same t)
+  pub front_in_log : (which : Out) → which ≡ out.Log → (why : WriteErr) (piece : List ℕ) → StoppedBy why (write to_log piece ∷ [])
+      → ((g h : Pieces) → out_old g h → out_new g h) → TakesFront log_old log_new (piece ∷ [])
+      → TookFront out_old out_new log_old log_new why (write (sink_of which) piece ∷ [])
+  front_in_log which is why piece s same t =
+      subst (λ w. TookFront out_old out_new log_old log_new why (write (sink_of w) piece ∷ [])) (sym is) (front_of_log why piece s same t)
 
 module _ (out_old out_mid out_new log_old log_mid log_new : Pieces → Pieces → Type 0) where
   -- writes behind others that were taken whole: whole, or a front of them
@@ -95,12 +109,13 @@ module _ (out_old out_mid out_new log_old log_mid log_new : Pieces → Pieces �
   behind_some Took h a b c ps e t =
       subst (λ q. one.TookFront Took q ps) (append_assoc h a b ∙ ap (λ q. h ++ q) (sym e)) t
 
-  pub front_behind : (ws vs : List Write) → Took out_old out_mid log_old log_mid ws → TookFront out_mid out_new log_mid log_new vs
-      → TookFront out_old out_new log_old log_new (ws ++ vs)
-  front_behind ws vs a b = record {
+  pub front_behind : (why : WriteErr) (ws vs : List Write) → Took out_old out_mid log_old log_mid ws → TookFront out_mid out_new log_mid log_new why vs
+      → TookFront out_old out_new log_old log_new why (ws ++ vs)
+  front_behind why ws vs a b = record {
     done = ws ++ b.done;
     rest = b.rest;
     is_front = ap (λ q. ws ++ q) b.is_front ∙ sym (append_assoc ws b.done b.rest);
+    stopped = b.stopped;
     out = λ g h o. behind_some (out_new g) h (outs ws) (outs b.done) (outs (ws ++ b.done)) (outs (first b.rest)) (outs_append ws b.done) (b.out g (h ++ outs ws) (a.out g h o));
     log = λ g h o. behind_some (log_new g) h (logs ws) (logs b.done) (logs (ws ++ b.done)) (logs (first b.rest)) (logs_append ws b.done) (b.log g (h ++ logs ws) (a.log g h o));
   }

@@ -5,6 +5,8 @@ use Rattle.pt_base.specs.Taken as one
 use Rattle.pt_run.specs.Run.{Sink, to_out, to_log, Write}
 use Rattle.pt_sinks.specs.declared.writing.Out.{Out}
 use Rattle.pt_sinks.specs.declared.writing.Out.TheVariants as out
+use Rattle.pt_sinks.specs.declared.writing.WriteErr.{WriteErr}
+use Rattle.pt_sinks.specs.declared.writing.WriteErr.TheVariants as error
 
 abbrev pub sink_of : Out → Sink
 sink_of out.Out = to_out
@@ -31,6 +33,12 @@ abbrev pub first : List Write → List Write
 first [] = []
 first (w ∷ ws) = w ∷ []
 
+-- why no more was taken than what comes before these writes: the first of them goes to the stream whose write failed
+abbrev pub StoppedBy : WriteErr → (rest : List Write) → Type 0
+StoppedBy (error.Failed which) [] = ⊥
+StoppedBy (error.Failed which) (w ∷ ws) = w.sink ≡ sink_of which
+StoppedBy error.Memory rest = Unit {0}
+
 -- each sink as it was and as it is
 module _ (out_old out_new log_old log_new : Pieces → Pieces → Type 0) where
   -- the writes were taken whole
@@ -38,10 +46,11 @@ module _ (out_old out_new log_old log_new : Pieces → Pieces → Type 0) where
     pub out : Takes out_old out_new (outs ws)
     pub log : Takes log_old log_new (logs ws)
 
-  -- a front of the writes was taken, and of the one behind it perhaps a part
-  pub record TookFront (ws : List Write) : Type 0 where
+  -- a front of the writes was taken, and of the one behind it perhaps a part; where a write failed, that is the one
+  pub record TookFront (why : WriteErr) (ws : List Write) : Type 0 where
     pub done : List Write
     pub rest : List Write
     pub is_front : ws ≡ done ++ rest
+    pub stopped : StoppedBy why rest
     pub out : (g h : Pieces) → out_old g h → one.TookFront (out_new g) (h ++ outs done) (outs (first rest))
     pub log : (g h : Pieces) → log_old g h → one.TookFront (log_new g) (h ++ logs done) (logs (first rest))

@@ -1,4 +1,4 @@
-ghost use Rattle.std.specs.Prelude.{◌≡◌, ◌≤◌, ◌∷◌, [], Err, OnOk, OnErr};
+ghost use Rattle.std.specs.Prelude.{◌≡◌, ◌≤◌, ◌∷◌, [], Err, OnOk, IfErr};
 ghost use Rattle.pt_base.specs.Faults.{Rose};
 ghost use Rattle.pt_run.specs.Run.{write};
 ghost use Rattle.pt_sinks.specs.Writing.{Took, TookFront, sink_of};
@@ -45,9 +45,9 @@ pub fn put<O: Sink, L: Sink>(
     ensures ok { OnOk result
         (Took (O.taken out.old) (O.taken out.new) (L.taken log.old) (L.taken log.new)
         (write (sink_of which) piece.now ∷ [])) }
-    ensures err { OnErr result
-        (TookFront (O.taken out.old) (O.taken out.new) (L.taken log.old) (L.taken log.new)
-        (write (sink_of which) piece.now ∷ [])) }
+    ensures err { IfErr result (λ why.
+        TookFront (O.taken out.old) (O.taken out.new) (L.taken log.old) (L.taken log.new)
+        why (write (sink_of which) piece.now ∷ [])) }
     ensures which { (w : _) → result ≡ Err (WriteErr.Failed w) → w ≡ which }
     ensures out_failed { result ≡ Err (WriteErr.Failed stream.Out)
         → Rose (O.faults out.old) (O.faults out.new) × (O.faults out.new ≤ O.most out.new) }

@@ -93,7 +93,9 @@ steps_of values = None
 abbrev pub command_named : Text → Option Command
 command_named word =
     if bytes_eq word (codes "run") then Some command.Run
-    else (if bytes_eq word (codes "trace") then Some command.Trace else (if bytes_eq word (codes "dis") then Some command.Dis else None))
+    else (if bytes_eq word (codes "trace") then Some command.Trace
+    else (if bytes_eq word (codes "dis") then Some command.Dis
+    else (if bytes_eq word (codes "build") then Some command.Build else None)))
 
 abbrev pub asked_by : Sorted → Option Command → (script : Text) → Option ℕ → Option Asked
 asked_by s (Some c) script (Some n) =

@@ -7,6 +7,8 @@ pub enum Command {
     Trace,
     /// A script's code is listed.
     Dis,
+    /// The file of a script's code is made.
+    Build,
 }
 
 /// What the words of a command line ask for.

@@ -18,6 +18,7 @@ fn command_named(word: &str) -> Option<Command>
         "run" => Some(Command::Run),
         "trace" => Some(Command::Trace),
         "dis" => Some(Command::Dis),
+        "build" => Some(Command::Build),
         _ => None,
     }
 }

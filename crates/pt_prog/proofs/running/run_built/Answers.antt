@@ -23,18 +23,18 @@ returns-in-Some-clause-err g c =
 pub returns-in_err-ended-clause-err : goal.returns-in_err-ended-clause-err
 returns-in_err-ended-clause-err g c =
     let broke = subst (λ b. ScriptBrokeOff (script_of c.args.script.now) c.args.line.now.steps b (g.O.Sink.taken c.args.out.now) (g.O.Sink.taken c.run_script.new.out)
-    (g.L.Sink.taken c.args.log.now) (g.L.Sink.taken c.run_script.new.log)) c.tells_events-events.ensures c.in_err-ended.ensures.err in
-    every_err (asked c.args.line.now) c.args.text.now _ _ _ _ c.from_residual.result
+    (g.L.Sink.taken c.args.log.now) (g.L.Sink.taken c.run_script.new.log) c.in_err-ended.field-0.0) c.tells_events-events.ensures c.in_err-ended.ensures.err in
+    every_err (asked c.args.line.now) c.args.text.now _ _ _ _ c.from_residual.result _ c.from_residual.ensures
     (front_of_run (asked c.args.line.now) c.args.text.now (script_of c.args.script.now)
-    (record { is_script = c.requires.is_script; is_built = sym c.in_default.ensures }) c.requires.is_run _ _ _ _ broke)
+    (record { is_script = c.requires.is_script; is_built = sym c.in_default.ensures }) c.requires.is_run _ _ _ _ _ broke)
 
 pub returns-in_err-write_totals-clause-err : goal.returns-in_err-write_totals-clause-err
 returns-in_err-write_totals-clause-err g c =
     let done = subst (λ b. ScriptFinished (script_of c.args.script.now) c.args.line.now.steps b (g.O.Sink.taken c.args.out.now) (g.O.Sink.taken c.run_script.new.out)
     (g.L.Sink.taken c.args.log.now) (g.L.Sink.taken c.run_script.new.log) c.in_ok-ended.ended) c.tells_events-events.ensures c.in_ok-ended.ensures.ok in
-    every_err (asked c.args.line.now) c.args.text.now _ _ _ _ c.from_residual-in_err-write_totals.result
+    every_err (asked c.args.line.now) c.args.text.now _ _ _ _ c.from_residual-in_err-write_totals.result _ c.from_residual-in_err-write_totals.ensures
     (front_of_totals (asked c.args.line.now) c.args.text.now (script_of c.args.script.now)
-    (record { is_script = c.requires.is_script; is_built = sym c.in_default.ensures }) c.requires.is_run c.in_ok-ended.ended _ _ _ _ done _ _
+    (record { is_script = c.requires.is_script; is_built = sym c.in_default.ensures }) c.requires.is_run c.in_ok-ended.ended _ _ _ _ done _ _ _
     c.in_err-write_totals.ensures.err)
 
 pub returns-clause-ok : goal.returns-clause-ok

@@ -1,5 +1,6 @@
 use Rattle.pt_tree.specs.StatementFold.{script_of}
-use Rattle.pt_runner.proofs.AdvanceLemmas.{on_err}
+use Rattle.pt_sinks.specs.declared.writing.WriteErr.TheVariants as error
+use Rattle.pt_runner.proofs.AdvanceLemmas.{if_err}
 use Rattle.pt_run_script.proofs.JoinLemmas.{code_run, is_ready, all_finished, all_broke_off, has_its_module}
 use Rattle.pt_run_script.proofs.RunLemmas.{broke_off_at_once}
 use Rattle.pt_run_script.proofs.run.run_script.Goals as goal
@@ -24,16 +25,17 @@ run-requires g c = record {
 -- nothing is written before the run
 pub returns-in_err-code-clause-err : goal.returns-in_err-code-clause-err
 returns-in_err-code-clause-err g c =
-    on_err c.from_residual.result (broke_off_at_once (script_of c.args.script.now) c.args.bound c.args.events _ _ _ _ (λ _ _ t. t) (λ _ _ t. t))
+    if_err _ c.from_residual.result error.Memory c.from_residual.ensures
+    (broke_off_at_once (script_of c.args.script.now) c.args.bound c.args.events _ _ _ _ (λ _ _ t. t) (λ _ _ t. t))
 
 pub returns-in_err-loaded-clause-err : goal.returns-in_err-loaded-clause-err
 returns-in_err-loaded-clause-err g c =
-    on_err c.from_residual-in_err-loaded.result
+    if_err _ c.from_residual-in_err-loaded.result error.Memory c.from_residual-in_err-loaded.ensures
     (broke_off_at_once (script_of c.args.script.now) c.args.bound c.args.events _ _ _ _ (λ _ _ t. t) (λ _ _ t. t))
 
 pub returns-in_err-machine-clause-err : goal.returns-in_err-machine-clause-err
 returns-in_err-machine-clause-err g c =
-    on_err c.from_residual-in_err-machine.result
+    if_err _ c.from_residual-in_err-machine.result error.Memory c.from_residual-in_err-machine.ensures
     (broke_off_at_once (script_of c.args.script.now) c.args.bound c.args.events _ _ _ _ (λ _ _ t. t) (λ _ _ t. t))
 
 pub returns-clause-ok : goal.returns-clause-ok

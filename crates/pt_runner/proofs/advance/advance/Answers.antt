@@ -1,24 +1,25 @@
 use Rattle.std.proofs.Common.{◌∙◌}
+use Rattle.pt_sinks.specs.declared.writing.WriteErr.TheVariants as error
 use Rattle.pt_sinks.proofs.WritingLemmas.{front_of_all}
-use Rattle.pt_runner.proofs.AdvanceLemmas.{broken_before, broken_within, went_on, came_to_end, events_stay, lacks_nothing, on_err}
+use Rattle.pt_runner.proofs.AdvanceLemmas.{broken_before, broken_within, went_on, came_to_end, events_stay, lacks_nothing, if_err}
 use Rattle.pt_runner.proofs.advance.advance.Goals as goal
 
 pub returns-in_err-stride-clause-err : goal.returns-in_err-stride-clause-err
 returns-in_err-stride-clause-err g c =
-    on_err c.from_residual.result
+    if_err _ c.from_residual.result error.Memory c.from_residual.ensures
     (broken_before c.args.tables.now c.args.bound c.args.machine.now c.args.writes.now c.requires.empty _ _ _ _ (λ _ _ t. t) (λ _ _ t. t))
 
 pub returns-in_err-drain-clause-err : goal.returns-in_err-drain-clause-err
 returns-in_err-drain-clause-err g c =
-    on_err c.from_residual-in_err-drain.result
+    if_err _ c.from_residual-in_err-drain.result _ c.from_residual-in_err-drain.ensures
     (broken_within c.args.tables.now c.args.bound c.args.machine.now c.args.writes.now c.requires.empty c.in_ok-stride.stride c.stride.new.machine
-    c.stride.new.writes c.in_ok-stride.ensures _ _ _ _ c.in_err-drain.ensures.err)
+    c.stride.new.writes c.in_ok-stride.ensures _ _ _ _ _ c.in_err-drain.ensures.err)
 
 pub returns-in_err-end-in-Ends-clause-err : goal.returns-in_err-end-in-Ends-clause-err
 returns-in_err-end-in-Ends-clause-err g c =
-    on_err c.from_residual-in_err-end-in-Ends.result
+    if_err _ c.from_residual-in_err-end-in-Ends.result error.Memory c.from_residual-in_err-end-in-Ends.ensures
     (broken_within c.args.tables.now c.args.bound c.args.machine.now c.args.writes.now c.requires.empty c.in_ok-stride.stride c.stride.new.machine
-    c.stride.new.writes c.in_ok-stride.ensures _ _ _ _ (front_of_all _ _ _ _ _ c.in_ok-drain.ensures.ok))
+    c.stride.new.writes c.in_ok-stride.ensures _ _ _ _ error.Memory (front_of_all _ _ _ _ _ c.in_ok-drain.ensures.ok))
 
 pub returns-in-Goes-clause-ok : goal.returns-in-Goes-clause-ok
 returns-in-Goes-clause-ok g c =

@@ -7,7 +7,7 @@ use Rattle.pt_runner.proofs.runner.run.Given as goal
 abbrev pub invariant-loop-stride : goal.invariant-loop-stride
 invariant-loop-stride g l = record {
   so_far : (r : ModuleRun) → IsReady l.tables l.fn.bound l.fn.machine r
-      → Reached r l.fn.bound l.fn.events l.machine (g.O.Sink.taken l.fn.out) (g.O.Sink.taken l.out) (g.L.Sink.taken l.fn.log) (g.L.Sink.taken l.log);
+      → Reached r l.fn.bound l.fn.events l.machine l.totals (g.O.Sink.taken l.fn.out) (g.O.Sink.taken l.out) (g.L.Sink.taken l.fn.log) (g.L.Sink.taken l.log);
   empty : pieces_of l.writes ≡ [];
   events : l.writes.events ≡ l.fn.events;
   out_most : g.O.Sink.most l.out ≡ g.O.Sink.most l.fn.out;
