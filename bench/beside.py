@@ -1,20 +1,24 @@
 """Runs a program of benchmarks and CPython's own operations beside each other, each at one size and at twice the size.
 
-Times are those of the processor, in the program and in the system for it. Where valgrind is there, the program's instructions
-are counted too: work that is linear doubles them, whatever the caches do, while times also tell how far the data lies.
+Times are those of the processor, in the program and in the system for it. They are taken in rounds, in each of which every call
+runs once at both sizes, so that whatever else the machine does meets all of them alike; what is printed is the median of the
+rounds, and the middle half of their ratios. On a machine that does other work these differ by a third and more. Where valgrind
+is there, it counts the program's instructions too, once, since they are the same each time: work that is linear doubles them,
+whatever else the machine does, while times also tell how far the data lies.
 """
 
 import multiprocessing
 import os
 import re
 import shutil
+import statistics
 import subprocess
 import sys
 import time
 from pathlib import Path
 
 CRATES = Path(__file__).resolve().parent.parent / "crates"
-RUNS = 5
+ROUNDS = 9
 
 
 class Program:
@@ -25,7 +29,7 @@ class Program:
         if build.returncode != 0:
             sys.exit(build.stdout + build.stderr)
         self.path = CRATES / crate / "out" / crate
-        self.start = min(self.run(empty)[0] for _ in range(RUNS))
+        self.start = statistics.median(self.run(empty)[0] for _ in range(ROUNDS))
         self.first_count = self.counted(empty)
 
     def run(self, words):
@@ -51,6 +55,10 @@ class Program:
         return None if count is None else count - self.first_count
 
 
+def less(figures, begun):
+    return tuple(None if one is None else one - other for one, other in zip(figures, begun))
+
+
 def timed(call, size, turns):
     """Seconds of the processor that CPython takes for so many calls."""
     start = time.process_time()
@@ -65,36 +73,53 @@ def alone(call, size, turns):
         return pool.apply(timed, (call, size, turns))
 
 
-def measured(program, call, size, turns=1):
-    """What the program takes at a size and at twice the size, and CPython for what has the same name, so many times each.
+class Figures:
+    """What a call takes at a size and at twice the size, so many times each: times of the program and of CPython round by round,
+    instructions, and the greatest memory."""
 
-    The least of some runs, which go by turns so that whatever else the machine does meets all of them.
-    """
+    def __init__(self, own, theirs, counts, memory):
+        self.own, self.theirs, self.counts, self.memory = own, theirs, counts, memory
+
+    def beyond(self, begun):
+        """The figures without those of what a run began with, in the same round."""
+        own = [less(*both) for both in zip(self.own, begun.own)]
+        theirs = [less(*both) for both in zip(self.theirs, begun.theirs)]
+        return Figures(own, theirs, less(self.counts, begun.counts), self.memory)
+
+
+def measured(program, calls, size, turns=1):
+    """The figures of calls, which have the names of what the program does, all in the same rounds."""
     sizes = (size, 2 * size)
-    words = [[call.__name__, str(it), *([str(turns)] if turns > 1 else [])] for it in sizes]
-    runs = [([program.run(it) for it in words], [alone(call, it, turns) for it in sizes]) for _ in range(RUNS)]
-    own = [min(run[0][at][0] for run in runs) - program.start for at in (0, 1)]
-    theirs = [min(run[1][at] for run in runs) for at in (0, 1)]
-    counts = [program.instructions(it) for it in words]
-    return {"own": own, "counts": counts, "theirs": theirs, "memory": max(run[0][1][1] for run in runs)}
-
-
-def beyond(figures, begun):
-    """The figures without those of what a run began with."""
-    less = {
-        key: [None if one is None else one - other for one, other in zip(figures[key], begun[key])]
-        for key in ("own", "counts", "theirs")
-    }
-    return {**less, "memory": figures["memory"]}
+    words = {call: [[call.__name__, str(it), *([str(turns)] if turns > 1 else [])] for it in sizes] for call in calls}
+    own, theirs = {call: [] for call in calls}, {call: [] for call in calls}
+    memory = dict.fromkeys(calls, 0)
+    for _ in range(ROUNDS):
+        for call in calls:
+            runs = [program.run(it) for it in words[call]]
+            own[call].append(tuple(seconds - program.start for seconds, _ in runs))
+            memory[call] = max(memory[call], runs[1][1])
+            theirs[call].append(tuple(alone(call, it, turns) for it in sizes))
+    counts = {call: tuple(program.instructions(it) for it in words[call]) for call in calls}
+    return [Figures(own[call], theirs[call], counts[call], memory[call]) for call in calls]
 
 
 def heading():
-    print(f"{'':12} {'size':>9} {'seconds':>8} {'twice':>8} {'ratio':>6} {'instructions':>14} {'ratio':>6} {'KiB':>8} "
-          f"{'CPython':>8} {'twice':>8} {'ratio':>6}", flush=True)
+    print(f"{'':12} {'size':>9} {'seconds':>8} {'twice':>8} {'ratio':>6} {'half of them':>13} {'instructions':>14} {'ratio':>6} "
+          f"{'KiB':>8} {'CPython':>8} {'twice':>8} {'ratio':>6}", flush=True)
+
+
+def medians(rounds):
+    """The median times at both sizes, and their ratio."""
+    once, twice = (statistics.median(times) for times in zip(*rounds))
+    return once, twice, twice / once
 
 
 def row(name, size, figures):
-    (once, twice), (count, more), (theirs, theirs_twice) = figures["own"], figures["counts"], figures["theirs"]
+    """Prints the figures of a call."""
+    once, twice, ratio = medians(figures.own)
+    low, _, high = statistics.quantiles([it[1] / it[0] for it in figures.own], n=4)
+    count, more = figures.counts
     counts = f"{'':>14} {'':>6}" if count is None else f"{count:14} {more / count:6.3f}"
-    print(f"{name:12} {size:9} {once:8.3f} {twice:8.3f} {twice / once:6.2f} {counts} {figures['memory']:8} "
-          f"{theirs:8.3f} {theirs_twice:8.3f} {theirs_twice / theirs:6.2f}", flush=True)
+    theirs, theirs_twice, theirs_ratio = medians(figures.theirs)
+    print(f"{name:12} {size:9} {once:8.3f} {twice:8.3f} {ratio:6.2f} {low:6.2f} {high:6.2f} {counts} {figures.memory:8} "
+          f"{theirs:8.3f} {theirs_twice:8.3f} {theirs_ratio:6.2f}", flush=True)

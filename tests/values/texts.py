@@ -150,11 +150,23 @@ def long_rows():
     yield f"join {full} 61 61", "Length"
     yield f"join - {full} 61", "Length"
     yield f"join - {full} -", f"#{LIMIT} 61 61"
+    yield f"repr {times(LIMIT - 2, 'a')}", f"#{LIMIT} 27 27"
     yield f"repr {times(LIMIT - 1, 'a')}", "Length"
+    yield f"int 5 {spelled(str(LIMIT))}", f"#{LIMIT} 20 35"
     yield f"int 5 {spelled(str(LIMIT + 1))}", "Length"
     yield f"str {full} -", f"#{LIMIT} 61 61"
     yield f"str {more} -", "Length"
     yield f"split {times(30_000, 'a')} 61", "30001 " + " ".join(["-"] * 30_001)
+    yield f"split {full}.20.61 none", f"2 #{LIMIT} 61 61 61"
+    yield f"split {full}.20.{more} none", "Length"
+    yield f"split {more} 62", "Length"
+    yield f"replace {full} 62 63", f"#{LIMIT} 61 61"
+    yield f"replace {more} 62 63", "Length"
+    yield f"replace {full} - -", f"#{LIMIT} 61 61"
+    yield f"find {full}.1f600 1f600", f"{LIMIT}"
+    yield f"repeat {full} 1", f"#{LIMIT} 61 61"
+    yield f"repeat {more} 0", "-"
+    yield f"slice {more} -1 none none", "61"
 
 
 VALUES = ["n", "t", "f", "e", "N", "i0", "i1", "i2", "i-1", f"i{2 ** 127 - 1}", f"i{-2 ** 127}", "s-", "s31", "s61", "s61.62", "s20ac",
