@@ -18,4 +18,5 @@ pub mod MarksMetStatements
 pub mod MarksMetLaw
 pub mod MarksLaw
 pub mod MarksJumps
+pub mod MarksNests
 pub mod NextActs

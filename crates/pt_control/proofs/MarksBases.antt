@@ -5,10 +5,11 @@ use Rattle.pt_tree.specs.Sizes.{size}
 use Rattle.pt_control.specs.Frames as F
 use Rattle.pt_control.specs.Frames.{Nest, Way, Wait, Purpose, Over, Rounds}
 use Rattle.pt_control.specs.Bases.{base, way_base, purpose_base, over_base, rounds_base}
+use Rattle.pt_control.specs.Jump.{Shape}
 use Rattle.pt_control.proofs.MarksTree.{Numbering}
 use Rattle.pt_control.proofs.MarksFrames.{Nest_in, Way_in, Wait_in, Purpose_in, Over_in, Rounds_in}
 
-module _ (R : Numbering) {V : Type 0} where
+module _ (R : Shape → Numbering) {V : Type 0} where
   mutual
     pub way_base_in : (k : Way V) → Way_in R k → Nest_in R (way_base k)
     way_base_in (F.finished s) h = h

@@ -1,10 +1,10 @@
--- Each mark that control comes to in a block is the row with its number.
+-- Where the acts of a block stand, those of control do from its start on; each mark that control comes to is the row with its number.
 use Rattle.std.proofs.Common.{◌≡◌, ℕ, ◌+◌, List, ◌++◌, true, false, Some, refl, sym, ap, subst, arith, append_assoc, []}
 use Rattle.std.specs.Prelude.{slice_get}
 use Rattle.pt_tree.specs.declared.act.ActRow.{ActRow}
 use Rattle.pt_tree.specs.declared.act.ActKind.{ActKind}
 use Rattle.pt_tree.specs.declared.act.ActKind.TheVariants as K
-use Rattle.pt_tree.specs.Syntax.{Exp, Clauses, Tgt, Stms}
+use Rattle.pt_tree.specs.Syntax.{Exp, Clauses, Tgt}
 use Rattle.pt_tree.specs.Sizes.{size, target_size}
 use Rattle.pt_tree.specs.Acts.{act, acts_exp, acts_target, acts_clauses, acts_stms}
 use Rattle.pt_tree.specs.Blocks as B
@@ -12,26 +12,26 @@ use Rattle.pt_tree.specs.Blocks.{Code, acts_of_code, function_body}
 use Rattle.pt_tree.proofs.Counts.{count_exp, count_target}
 use Rattle.pt_control.specs.Turn.{Mark, Around}
 use Rattle.pt_control.specs.Frames as F
-use Rattle.pt_control.specs.Frames.{Control, normal}
-use Rattle.pt_control.specs.Control.{start, start_lambda, start_generator}
+use Rattle.pt_control.specs.Frames.{Control}
+use Rattle.pt_control.specs.Jump.{Shape}
 use Rattle.pt_control.specs.Reached.{IsFor, IsRow, Reaches, here, then, start_code}
-use Rattle.pt_control.proofs.MarksTree.{Numbering}
-use Rattle.pt_control.proofs.MarksFrames.{Marked, Control_in}
+use Rattle.pt_control.proofs.MarksTree.{Numbering, Exp_in, Stms_in}
+use Rattle.pt_control.proofs.MarksFrames.{Round_in, Marked, Control_in}
 use Rattle.pt_control.proofs.MarksExpressions.{no_test, begin_exp_in, take_item_in}
 use Rattle.pt_control.proofs.MarksStatements.{begin_all_in}
 use Rattle.pt_control.proofs.MarksControl.{turn_in}
-use Rattle.pt_control.proofs.MarksRows.{Holds, numbering, cut, cut₃, whole, single_row}
+use Rattle.pt_control.proofs.MarksRows.{Saying, is_row, Holds, numbering, cut, cut₃, whole, single_row}
 use Rattle.pt_control.proofs.MarksActs.{exp_in, target_in, clauses_in, clauses_then}
 use Rattle.pt_control.proofs.MarksBlocks.{stms_in}
 
-pub reaches_in : (R : Numbering) {V : Type 0} (block : Around V) (c d : Control V) → Control_in R c → Reaches block c d → Control_in R d
+pub reaches_in : (R : Shape → Numbering) {V : Type 0} (block : Around V) (c d : Control V) → Control_in R c → Reaches block c d → Control_in R d
 reaches_in R block c d h here = h
 reaches_in R block c d h (then {d = b} r leads) = turn_in R block b d (reaches_in R block c b h r) leads
 
 one_row : (rows : List ActRow) (n : ℕ) (r s : ActRow) → slice_get rows n ≡ Some r → slice_get rows n ≡ Some s → r ≡ s
 one_row rows n r s e f = cc
 
-marked_row : (rows : List ActRow) (m : Mark) (k : ActKind) → Marked (numbering rows) m k
+marked_row : (rows : List ActRow) (m : Mark) (k : ActKind) → Marked (numbering (is_row rows)) m k
     → (row : ActRow) × (slice_get rows m.act ≡ Some row) × IsFor row (Some k) m
 marked_row rows m k (h, a) =
     let u = single_row rows k m.line m.act h in (
@@ -45,7 +45,11 @@ marked_row rows m k (h, a) =
       },
     )
 
-pub next_row : (rows : List ActRow) {V : Type 0} (block : Around V) (c : Control V) → Control_in (numbering rows) c → IsRow rows block c
+-- the rows of a list number the acts, whatever the nest
+abbrev pub by_rows : List ActRow → Shape → Numbering
+by_rows rows s = numbering (is_row rows)
+
+pub next_row : (rows : List ActRow) {V : Type 0} (block : Around V) (c : Control V) → Control_in (by_rows rows) c → IsRow rows block c
 next_row rows block (F.for_value m a w) h = marked_row rows m _ h.0
 next_row rows block (F.for_deed m a k s) h = marked_row rows m _ h.0
 next_row rows block (F.for_leave m a s) h = marked_row rows m _ h.0
@@ -61,44 +65,58 @@ next_row rows block (F.silent_deed a k s) h = tt
 next_row rows block (F.noting a k s) h = tt
 next_row rows block (F.closed e) h = tt
 
-start_in : {V : Type 0} (block : Around V) (ss : Stms) → Control_in (numbering (acts_stms ss)) (start block ss)
-start_in block ss = begin_all_in (numbering (acts_stms ss)) block ss 0 [] _ (stms_in (acts_stms ss) ss 0 (whole (acts_stms ss))) tt tt
+-- the acts of a block stand
+module _ (R : Shape → Numbering) where
+  abbrev pub Code_in : Code → Type 0
+  Code_in (B.of_module ss) = Stms_in R ss 0 []
+  Code_in (B.of_function ss) = Stms_in R (function_body ss) 0 []
+  Code_in (B.of_class ss) = Stms_in R ss 0 []
+  Code_in (B.of_lambda l e) = Exp_in (R []) e 0 × (R []).is K.Return l (size e)
+  Code_in (B.of_generator l e k t cs) =
+      Round_in (R []) l k 0 t cs (λ m. Exp_in (R []) e m × (R []).is K.Yield l (m + size e) × (R []).is K.Discard l (m + size e + 1))
 
-start_lambda_in : {V : Type 0} (block : Around V) (l : ℕ) (e : Exp) → Control_in (numbering (acts_of_code (B.of_lambda l e))) (start_lambda block l e)
-start_lambda_in block l e =
-    let rows = acts_of_code (B.of_lambda l e) in
-    let u = cut rows (acts_exp e) (act K.Return l) (size e) 0 (count_exp e) (whole rows) in
-    let at : 0 + size e ≡ size e = omega arith in
-    begin_exp_in (numbering rows) block e 0 false _ (exp_in rows e 0 u.0) (no_test (numbering rows) 0)
-    (subst (λ n. Holds rows n (act K.Return l)) at u.1, tt)
+  pub start_code_in : {V : Type 0} (block : Around V) (code : Code) (i : V) → Code_in code → Control_in R (start_code block code i)
+  start_code_in block (B.of_module ss) i h = begin_all_in R block ss 0 [] _ h tt tt
+  start_code_in block (B.of_function ss) i h = begin_all_in R block (function_body ss) 0 [] _ h tt tt
+  start_code_in block (B.of_class ss) i h = begin_all_in R block ss 0 [] _ h tt tt
+  start_code_in block (B.of_lambda l e) i (he, h) = begin_exp_in R block e 0 false _ he no_test (h, tt)
+  start_code_in block (B.of_generator l e k t cs) i h = take_item_in R block k 0 i t cs (F.generating l e []) h tt
 
 behind : (ns ts cs xs ys ds : List ActRow) → ns ++ ts ++ cs ++ xs ++ ys ++ ds ≡ ns ++ ts ++ (cs ++ (xs ++ ys ++ ds))
 behind ns ts cs xs ys ds = simp append_assoc
 
-start_generator_in : {V : Type 0} (block : Around V) (l : ℕ) (e : Exp) (k : ℕ) (t : Tgt) (cs : Clauses) (i : V)
-    → Control_in (numbering (acts_of_code (B.of_generator l e k t cs))) (start_generator block l e k t cs i)
-start_generator_in block l e k t cs i =
-    let rows = acts_of_code (B.of_generator l e k t cs) in
-    let last = acts_exp e ++ act K.Yield l ++ act K.Discard l in
-    let h = subst (λ u. Holds rows 0 u) (behind (act K.Next k) (acts_target t) (acts_clauses l cs) (acts_exp e) (act K.Yield l) (act K.Discard l)) (whole rows) in
-    let u = cut₃ rows (act K.Next k) (acts_target t) (acts_clauses l cs ++ last) 1 (target_size t) 0 refl (count_target t) h in
-    take_item_in (numbering rows) block k 0 i t cs (F.generating l e []) (
-      u.0,
-      target_in rows t (0 + 1) u.1,
-      clauses_then (numbering rows) l cs (0 + 1 + target_size t) _ _
-          (λ m j. let v = cut₃ rows (acts_exp e) (act K.Yield l) (act K.Discard l) (size e) 1 m (count_exp e) refl j in (exp_in rows e m v.0, v.1, v.2))
-          (clauses_in rows l cs last (0 + 1 + target_size t) u.2),
-    )
-    tt
+-- those of a lambda and of a generator expression, where something holds of their rows
+module _ (H : Saying) where
+  pub lambda_in : (l : ℕ) (e : Exp) → Holds H 0 (acts_of_code (B.of_lambda l e)) → Code_in (λ s. numbering H) (B.of_lambda l e)
+  lambda_in l e h =
+      let u = cut H (acts_exp e) (act K.Return l) (size e) 0 (count_exp e) h in
+      let at : 0 + size e ≡ size e = omega arith in
+      (exp_in H e 0 u.0, subst (λ n. Holds H n (act K.Return l)) at u.1)
 
-start_code_in : {V : Type 0} (block : Around V) (code : Code) (i : V) → Control_in (numbering (acts_of_code code)) (start_code block code i)
-start_code_in block (B.of_module ss) i = start_in block ss
-start_code_in block (B.of_function ss) i = start_in block (function_body ss)
-start_code_in block (B.of_class ss) i = start_in block ss
-start_code_in block (B.of_lambda l e) i = start_lambda_in block l e
-start_code_in block (B.of_generator l e k t cs) i = start_generator_in block l e k t cs i
+  pub generator_in : (l : ℕ) (e : Exp) (k : ℕ) (t : Tgt) (cs : Clauses) → Holds H 0 (acts_of_code (B.of_generator l e k t cs))
+      → Code_in (λ s. numbering H) (B.of_generator l e k t cs)
+  generator_in l e k t cs g =
+      let last = acts_exp e ++ act K.Yield l ++ act K.Discard l in
+      let h = subst (λ u. Holds H 0 u) (behind (act K.Next k) (acts_target t) (acts_clauses l cs) (acts_exp e) (act K.Yield l) (act K.Discard l)) g in
+      let u = cut₃ H (act K.Next k) (acts_target t) (acts_clauses l cs ++ last) 1 (target_size t) 0 refl (count_target t) h in (
+        u.0,
+        target_in H t (0 + 1) u.1,
+        clauses_then (numbering H) l cs (0 + 1 + target_size t) _ _
+            (λ m j. let v = cut₃ H (acts_exp e) (act K.Yield l) (act K.Discard l) (size e) 1 m (count_exp e) refl j in (exp_in H e m v.0, v.1, v.2))
+            (clauses_in H l cs last (0 + 1 + target_size t) u.2),
+      )
+
+pub code_by_rows : (code : Code) → Code_in (by_rows (acts_of_code code)) code
+code_by_rows (B.of_module ss) = stms_in (is_row (acts_stms ss)) ss 0 [] (whole (acts_stms ss))
+code_by_rows (B.of_function ss) = stms_in (is_row (acts_stms (function_body ss))) (function_body ss) 0 [] (whole (acts_stms (function_body ss)))
+code_by_rows (B.of_class ss) = stms_in (is_row (acts_stms ss)) ss 0 [] (whole (acts_stms ss))
+code_by_rows (B.of_lambda l e) = lambda_in (is_row (acts_of_code (B.of_lambda l e))) l e (whole (acts_of_code (B.of_lambda l e)))
+code_by_rows (B.of_generator l e k t cs) =
+    generator_in (is_row (acts_of_code (B.of_generator l e k t cs))) l e k t cs (whole (acts_of_code (B.of_generator l e k t cs)))
 
 pub marks_are_rows : {V : Type 0} (block : Around V) (code : Code) (first : V) (c : Control V)
     → Reaches block (start_code block code first) c → IsRow (acts_of_code code) block c
 marks_are_rows block code first c r =
-    next_row (acts_of_code code) block c (reaches_in (numbering (acts_of_code code)) block (start_code block code first) c (start_code_in block code first) r)
+    let R = by_rows (acts_of_code code) in
+    next_row (acts_of_code code) block c
+    (reaches_in R block (start_code block code first) c (start_code_in R block code first (code_by_rows code)) r)

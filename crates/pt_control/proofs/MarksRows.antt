@@ -1,5 +1,6 @@
--- The rows of a list that are those of another list from a number on.
-use Rattle.std.proofs.Common.{◌≡◌, ℕ, ◌+◌, ◌≤◌, zero, suc, List, [], ◌∷◌, ◌++◌, length, true, false, Some, refl, ap, ◌∙◌, subst, arith, append_assoc}
+-- What is said of each row of a list, numbered from a number on: that it is the row of another list with its number, or whatever is asserted of the
+-- number alone.
+use Rattle.std.proofs.Common.{◌≡◌, ℕ, ◌+◌, ◌<◌, ◌≤◌, zero, suc, List, [], ◌∷◌, ◌++◌, length, true, false, Some, refl, ap, ◌∙◌, subst, arith, append_assoc}
 use Rattle.std.specs.Prelude.{slice_get}
 use Rattle.pt_tree.specs.declared.act.ActRow.{ActRow}
 use Rattle.pt_tree.specs.declared.act.ActKind.{ActKind}
@@ -12,18 +13,36 @@ pub record Like (r x : ActRow) : Type 0 where
   pub same_line : r.line.0 ≡ x.line.0
   pub keeps_again : x.again ≡ true → r.again ≡ true
 
-module _ (rows : List ActRow) where
+-- what is said of a row with its number, and of a number with which a re-test begins
+pub record Saying : Type 1 where
+  pub of_row : ℕ → ActRow → Type 0
+  pub of_test : ℕ → Type 0
+  pub plain : (n : ℕ) (x : ActRow) → of_row n (record { kind = x.kind; line = x.line; again = true }) → of_row n x
+  pub tests : (n : ℕ) (x : ActRow) → of_row n (record { kind = x.kind; line = x.line; again = true }) → of_test n
+
+-- it is the row of a list with its number
+abbrev pub is_row : List ActRow → Saying
+is_row rows = record {
+  of_row = λ n x. (r : ActRow) × (slice_get rows n ≡ Some r) × Like r x;
+  of_test = λ n. (r : ActRow) × (slice_get rows n ≡ Some r) × (r.again ≡ true);
+  plain = λ n x u. (
+    u.0,
+    u.1,
+    record { same_kind = u.2.same_kind; same_line = u.2.same_line; keeps_again = λ t. u.2.keeps_again refl },
+  );
+  tests = λ n x u. (u.0, u.1, u.2.keeps_again refl);
+}
+
+-- whatever is asserted of its number
+abbrev pub is_said : (ℕ → Type 0) → Saying
+is_said P = record { of_row = λ n x. P n; of_test = λ n. Unit {0}; plain = λ n x h. h; tests = λ n x h. tt }
+
+module _ (H : Saying) where
   pub Holds : ℕ → List ActRow → Type 0
-  Holds n xs = (i : ℕ) (x : ActRow) → slice_get xs i ≡ Some x → (r : ActRow) × (slice_get rows (n + i) ≡ Some r) × Like r x
+  Holds n xs = (i : ℕ) (x : ActRow) → slice_get xs i ≡ Some x → H.of_row (n + i) x
 
   abbrev pub numbering : Numbering
-  numbering = record { is = λ k l n. Holds n (act k l); again = λ n. (r : ActRow) × (slice_get rows n ≡ Some r) × (r.again ≡ true) }
-
-  pub whole : Holds 0 rows
-  unfolding Holds
-  whole i x e =
-      let at : i ≡ 0 + i = omega arith in
-      (x, subst (λ j. slice_get rows j ≡ Some x) at e, record { same_kind = refl; same_line = refl; keeps_again = λ t. t })
+  numbering = record { is = λ k l n. Holds n (act k l); again = H.of_test }
 
   front : (xs ys : List ActRow) (i : ℕ) (x : ActRow) → slice_get xs i ≡ Some x → slice_get (xs ++ ys) i ≡ Some x
   front [] ys i x e = absurd (apart i e)
@@ -43,7 +62,7 @@ module _ (rows : List ActRow) where
     λ i x g. h i x (front xs ys i x g),
     λ i x g.
         let at : n + (length xs + i) ≡ n + m + i = omega (arith, e) in
-        subst (λ j. (r : ActRow) × (slice_get rows j ≡ Some r) × Like r x) at (h (length xs + i) x (back xs ys i ∙ g)),
+        subst (λ j. H.of_row j x) at (h (length xs + i) x (back xs ys i ∙ g)),
   )
 
   -- lists in a row are grouped from the left
@@ -81,27 +100,56 @@ module _ (rows : List ActRow) where
   unfolding Holds
   plainly xs n h = λ i x e. one xs i x h e
     where
-      one : (ys : List ActRow) (i : ℕ) (x : ActRow) → Holds n (again ys) → slice_get ys i ≡ Some x → (r : ActRow) × (slice_get rows (n + i) ≡ Some r) × Like r x
+      one : (ys : List ActRow) (i : ℕ) (x : ActRow) → Holds n (again ys) → slice_get ys i ≡ Some x → H.of_row (n + i) x
       one [] i x g e = g i x e
       one (y ∷ ys) zero x g e =
-          let u = g 0 (record { kind = y.kind; line = y.line; again = true }) refl in
           let same : y ≡ x = cc in
-          subst (λ z. (r : ActRow) × (slice_get rows (n + 0) ≡ Some r) × Like r z) same
-          (u.0, u.1, record { same_kind = u.2.same_kind; same_line = u.2.same_line; keeps_again = λ t. u.2.keeps_again refl })
+          subst (λ z. H.of_row (n + 0) z) same
+          (H.plain (n + 0) y (g 0 (record { kind = y.kind; line = y.line; again = true }) refl))
       one (y ∷ ys) (suc i) x g e = g (suc i) x e
 
-  pub tested : (xs : List ActRow) (n : ℕ) → 1 ≤ length xs → Holds n (again xs) → (r : ActRow) × (slice_get rows n ≡ Some r) × (r.again ≡ true)
+  pub tested : (xs : List ActRow) (n : ℕ) → 1 ≤ length xs → Holds n (again xs) → H.of_test n
   unfolding Holds
   tested [] n h g = absurd (omega arith)
   tested (y ∷ ys) n h g =
-      let u = g 0 (record { kind = y.kind; line = y.line; again = true }) refl in
       let at : n + 0 ≡ n = omega arith in
-      (u.0, subst (λ j. slice_get rows j ≡ Some u.0) at u.1, u.2.keeps_again refl)
+      subst (λ j. H.of_test j) at (H.tests (n + 0) y (g 0 (record { kind = y.kind; line = y.line; again = true }) refl))
 
-  -- the row of a single act
-  pub single_row : (k : ActKind) (l n : ℕ) → Holds n (act k l) → (r : ActRow) × (slice_get rows n ≡ Some r) × (r.kind ≡ k) × (r.line.0 ≡ l)
-  unfolding Holds
-  single_row k l n h =
-      let u = h 0 (record { kind = k; line = record { 0 = l }; again = false }) refl in
-      let at : n + 0 ≡ n = omega arith in
-      (u.0, subst (λ j. slice_get rows j ≡ Some u.0) at u.1, u.2.same_kind, u.2.same_line)
+-- the rows of a list are those with their numbers
+pub whole : (rows : List ActRow) → Holds (is_row rows) 0 rows
+unfolding Holds
+whole rows i x e =
+    let at : i ≡ 0 + i = omega arith in
+    (x, subst (λ j. slice_get rows j ≡ Some x) at e, record { same_kind = refl; same_line = refl; keeps_again = λ t. t })
+
+-- the row of a single act
+pub single_row : (rows : List ActRow) (k : ActKind) (l n : ℕ) → Holds (is_row rows) n (act k l)
+    → (r : ActRow) × (slice_get rows n ≡ Some r) × (r.kind ≡ k) × (r.line.0 ≡ l)
+unfolding Holds
+single_row rows k l n h =
+    let u = h 0 (record { kind = k; line = record { 0 = l }; again = false }) refl in
+    let at : n + 0 ≡ n = omega arith in
+    (u.0, subst (λ j. slice_get rows j ≡ Some u.0) at u.1, u.2.same_kind, u.2.same_line)
+
+-- what is asserted of the number of a single act, and of each of several
+pub single_said : (P : ℕ → Type 0) (k : ActKind) (l n : ℕ) → Holds (is_said P) n (act k l) → P n
+unfolding Holds
+single_said P k l n h =
+    let u = h 0 (record { kind = k; line = record { 0 = l }; again = false }) refl in
+    let at : n + 0 ≡ n = omega arith in subst P at u
+
+in_list : (xs : List ActRow) (i : ℕ) (x : ActRow) → slice_get xs i ≡ Some x → i < length xs
+in_list [] i x e = absurd (apart i e)
+  where
+    apart : (i : ℕ) → slice_get [] i ≡ Some x → ⊥
+    apart i e = cc
+in_list (y ∷ xs) zero x e = omega arith
+in_list (y ∷ xs) (suc i) x e = let h = in_list xs i x e in omega (arith, h)
+
+pub each_said : (P : ℕ → Type 0) (xs : List ActRow) (n m : ℕ) → n + length xs ≡ m
+    → ((k : ℕ) → n ≤ k → k < m → P k) → Holds (is_said P) n xs
+unfolding Holds
+each_said P xs n m many h i x e =
+    let low : n ≤ n + i = omega arith in
+    let below = in_list xs i x e in
+    let high : n + i < m = omega (arith, many, below) in h (n + i) low high

@@ -1,13 +1,16 @@
--- When the acts of a part of a tree stand at the numbers from n on, counted as control counts them. What stands behind several parts is a
--- parameter, at the number where they end.
+-- When the acts of a part of a tree stand at the numbers from n on, counted as control counts them, each by the numbering of the nest in which it
+-- stands. What stands behind several parts is a parameter, at the number where they end.
 use Rattle.std.specs.Prelude.{ℕ, ◌+◌, List, [], ◌∷◌, Option, Some, None}
 use Rattle.pt_tree.specs.declared.act.ActKind.{ActKind}
 use Rattle.pt_tree.specs.declared.act.ActKind.TheVariants as K
 use Rattle.pt_tree.specs.declared.statement.Alias.{Alias}
 use Rattle.pt_tree.specs.Syntax as S
 use Rattle.pt_tree.specs.Syntax.{Exp, Exps, Opt, Pieces, Entries, Links, Args, Made, Clauses, Place, Tgt, Tgts, Params, Formals, Decorators, Items, Stm, Stms, Branches, Handlers}
-use Rattle.pt_tree.specs.Sizes.{joins, size, pieces_size, place_size, target_size, params_size, items_size, stm_size, stms_size, handlers_size}
+use Rattle.pt_tree.specs.Sizes.{joins, size, pieces_size, place_size, target_size, params_size, items_size, stm_size, stms_size}
+use Rattle.pt_control.specs.Frames as F
+use Rattle.pt_control.specs.Numbers.{tested_body, behind_body, for_body, for_else, try_handlers, try_else, try_finally}
 use Rattle.pt_control.specs.Statements.{all_places}
+use Rattle.pt_control.specs.Jump.{Shape}
 
 -- which acts have which numbers, and with which a re-test begins
 pub record Numbering : Type 1 where
@@ -117,10 +120,6 @@ module _ (R : Numbering) where
     Formals_in S.no_formals n End = End n
     Formals_in (S.formal l x a d r) n End = Opt_in d n (λ m. Formals_in r m End)
 
-  abbrev pub Option_in : Option Tgt → ℕ → (ℕ → Type 0) → Type 0
-  Option_in None n End = End n
-  Option_in (Some t) n End = Target_in t n × End (n + target_size t)
-
   abbrev pub Delete_in : Place → ℕ → Type 0
   Delete_in (S.name_at l x) n = R.is K.Delete l n
   Delete_in (S.attribute_at l a x) n = Exp_in a n × R.is K.DelAttr l (n + size a)
@@ -159,60 +158,84 @@ module _ (R : Numbering) where
   abbrev pub Class_in : (l : ℕ) → Opt → ℕ → (ks : List ℕ) → Type 0
   Class_in l base n ks = Opt_in base n (λ m. R.is K.Class l m × Calls_in l ks (m + 1))
 
+  -- a statement without statements in it
+  abbrev pub Simple_in : Stm → ℕ → Type 0
+  Simple_in (S.expr l e) n = Exp_in e n × R.is K.Discard l (n + size e)
+  Simple_in (S.assign l ts e) n = Exp_in e n × Targets_in ts (n + size e)
+  Simple_in (S.augmented l p o e) n = Augmented_in l p e n
+  Simple_in (S.annotated l p a S.absent) n = R.is K.Pass l n
+  Simple_in (S.annotated l p a (S.given e)) n = Exp_in e n × Place_in p (n + size e)
+  Simple_in (S.assert l c m) n = Exp_in c n × R.is K.Branch l (n + size c) × Opt_in m (n + size c + 1) (λ o. R.is K.Raise l o)
+  Simple_in (S.pass l) n = R.is K.Pass l n
+  Simple_in (S.del l ts) n = Deletes_in (all_places ts) n
+  Simple_in (S.return l v) n = Opt_in v n (λ m. R.is K.Return l m)
+  Simple_in (S.raise l e c) n = Exp_in e n × Opt_in c (n + size e) (λ m. R.is K.Raise l m)
+  Simple_in (S.raise_again l) n = R.is K.Raise l n
+  Simple_in (S.break l) n = R.is K.Break l n
+  Simple_in (S.continue l) n = R.is K.Continue l n
+  Simple_in (S.import l xs) n = Imports_in K.Import l xs n
+  Simple_in (S.import_from l o xs) n = R.is K.Import l n × Imports_in K.ImportName l xs (n + 1)
+  Simple_in (S.def l ds k b x ps a body) n = Decorators_in ds n [] (λ m ks. Function_in k ps m ks)
+  Simple_in (S.class l ds k b x base body) n = Decorators_in ds n [] (λ m ks. Class_in k base m ks)
+  Simple_in st n = Unit {0}
+
+-- by the nest in which each part stands
+module _ (R : Shape → Numbering) where
+  -- the target of a context that is entered, in a nest by the number behind it
+  abbrev pub Option_in : Option Tgt → ℕ → (ℕ → Shape) → (ℕ → Type 0) → Type 0
+  Option_in None n at End = End n
+  Option_in (Some t) n at End = Target_in (R (at (n + target_size t))) t n × End (n + target_size t)
+
   -- a context that is entered: its target, the items and the acts inside, so many, and its Exit
-  abbrev pub Items_in : Items → (inside : ℕ) → (ℕ → Type 0) → ℕ → Type 0
-  Items_in S.no_items k Body n = Body n
-  Items_in (S.with_item l e t is) k Body n =
-      Exp_in e n × R.is K.Enter l (n + size e) × Option_in t (n + size e + 1) (λ m. Items_in is k Body m × R.is K.Exit l (m + items_size is k))
+  abbrev pub Items_in : Items → (inside : ℕ) → (ℕ → Shape → Type 0) → ℕ → Shape → Type 0
+  Items_in S.no_items k Body n s = Body n s
+  Items_in (S.with_item l e t is) k Body n s =
+      Exp_in (R s) e n × (R s).is K.Enter l (n + size e)
+      × Option_in t (n + size e + 1) (λ m. F.withing l (m + items_size is k) tt ∷ s)
+      (λ m. Items_in is k Body m (F.withing l (m + items_size is k) tt ∷ s)
+      × (R (F.exiting (m + items_size is k) tt F.normal ∷ s)).is K.Exit l (m + items_size is k))
 
   -- a handler's name, which is bound behind the Match at n
-  abbrev pub Name_in : (l : ℕ) → Option (List ℕ) → ℕ → (ℕ → Type 0) → Type 0
-  Name_in l None n End = End (n + 1)
-  Name_in l (Some x) n End = R.is K.Store l (n + 1) × End (n + 1 + 1)
+  abbrev pub Name_in : (l : ℕ) → Option (List ℕ) → ℕ → Shape → (ℕ → Shape → Type 0) → Type 0
+  Name_in l None n s End = End (n + 1) (F.handling n tt ∷ s)
+  Name_in l (Some x) n s End =
+      (R (F.handling n tt ∷ s)).is K.Store l (n + 1) × End (n + 1 + 1) (F.naming x ∷ F.handling n tt ∷ s)
 
   abbrev mutual
-    pub Stm_in : Stm → ℕ → Type 0
-    Stm_in (S.expr l e) n = Exp_in e n × R.is K.Discard l (n + size e)
-    Stm_in (S.assign l ts e) n = Exp_in e n × Targets_in ts (n + size e)
-    Stm_in (S.augmented l p o e) n = Augmented_in l p e n
-    Stm_in (S.annotated l p a S.absent) n = R.is K.Pass l n
-    Stm_in (S.annotated l p a (S.given e)) n = Exp_in e n × Place_in p (n + size e)
-    Stm_in (S.assert l c m) n = Exp_in c n × R.is K.Branch l (n + size c) × Opt_in m (n + size c + 1) (λ o. R.is K.Raise l o)
-    Stm_in (S.pass l) n = R.is K.Pass l n
-    Stm_in (S.del l ts) n = Deletes_in (all_places ts) n
-    Stm_in (S.return l v) n = Opt_in v n (λ m. R.is K.Return l m)
-    Stm_in (S.raise l e c) n = Exp_in e n × Opt_in c (n + size e) (λ m. R.is K.Raise l m)
-    Stm_in (S.raise_again l) n = R.is K.Raise l n
-    Stm_in (S.break l) n = R.is K.Break l n
-    Stm_in (S.continue l) n = R.is K.Continue l n
-    Stm_in (S.import l xs) n = Imports_in K.Import l xs n
-    Stm_in (S.import_from l o xs) n = R.is K.Import l n × Imports_in K.ImportName l xs (n + 1)
-    Stm_in (S.global l xs) n = Unit {0}
-    Stm_in (S.nonlocal l xs) n = Unit {0}
-    Stm_in (S.choice l bs els) n = Branches_in bs n (λ m. Stms_in els m)
-    Stm_in (S.while l c body els) n =
-        Exp_in c n × R.again n × R.is K.Branch l (n + size c) × Stms_in body (n + size c + 1) × Stms_in els (n + size c + 1 + stms_size body)
-    Stm_in (S.for l t it body els) n =
-        Exp_in it n × R.is K.Iter l (n + size it) × R.is K.Next l (n + size it + 1) × R.again (n + size it + 1) × Target_in t (n + size it + 1 + 1)
-        × Stms_in body (n + size it + 1 + 1 + target_size t) × Stms_in els (n + size it + 1 + 1 + target_size t + stms_size body)
-    Stm_in (S.try l body hs els fin) n =
-        R.is K.Try l n × Stms_in body (n + 1) × Handlers_in hs (n + 1 + stms_size body) × Stms_in els (n + 1 + stms_size body + handlers_size hs)
-        × Stms_in fin (n + 1 + stms_size body + handlers_size hs + stms_size els)
-    Stm_in (S.with l is body) n = Items_in is (stms_size body) (λ m. Stms_in body m) n
-    Stm_in (S.def l ds k b x ps a body) n = Decorators_in ds n [] (λ m ks. Function_in k ps m ks)
-    Stm_in (S.class l ds k b x base body) n = Decorators_in ds n [] (λ m ks. Class_in k base m ks)
-    Stm_in (S.docstring l) n = Unit {0}
+    pub Stm_in : Stm → ℕ → Shape → Type 0
+    Stm_in (S.choice l bs els) n s = Branches_in bs n s (λ m. Stms_in els m s)
+    Stm_in (S.while l c body els) n s =
+        Exp_in (R s) c n × (R s).again n × (R s).is K.Branch l (n + size c)
+        × Stms_in body (tested_body n c) (F.looping l n c body els ∷ s) × Stms_in els (behind_body n c body) s
+    Stm_in (S.for l t it body els) n s =
+        Exp_in (R s) it n × (R s).is K.Iter l (n + size it)
+        × (R (F.iterating l (n + size it + 1) tt t body els ∷ s)).is K.Next l (n + size it + 1)
+        × (R (F.iterating l (n + size it + 1) tt t body els ∷ s)).again (n + size it + 1)
+        × Target_in (R (F.iterating l (n + size it + 1) tt t body els ∷ s)) t (n + size it + 1 + 1)
+        × Stms_in body (for_body (n + size it + 1) t) (F.iterating l (n + size it + 1) tt t body els ∷ s)
+        × Stms_in els (for_else (n + size it + 1) t body) s
+    Stm_in (S.try l body hs els fin) n s =
+        (R s).is K.Try l n
+        × Stms_in body (n + 1) (F.guarded (try_handlers n body) hs els ∷ F.ensuring n (try_finally n body hs els) fin ∷ s)
+        × Handlers_in (try_handlers n body) hs (try_handlers n body) (F.ensuring n (try_finally n body hs els) fin ∷ s)
+        × Stms_in els (try_else n body hs) (F.ensuring n (try_finally n body hs els) fin ∷ s)
+        × Stms_in fin (try_finally n body hs els) (F.ending n F.normal ∷ s)
+    Stm_in (S.with l is body) n s = Items_in is (stms_size body) (λ m u. Stms_in body m u) n s
+    Stm_in st n s = Simple_in (R s) st n
 
-    pub Stms_in : Stms → ℕ → Type 0
-    Stms_in S.none n = Unit {0}
-    Stms_in (S.more st ss) n = Stm_in st n × Stms_in ss (n + stm_size st)
+    pub Stms_in : Stms → ℕ → Shape → Type 0
+    Stms_in S.none n s = Unit {0}
+    Stms_in (S.more st ss) n s = Stm_in st n (F.rest (n + stm_size st) ss ∷ s) × Stms_in ss (n + stm_size st) s
 
-    pub Branches_in : Branches → ℕ → (ℕ → Type 0) → Type 0
-    Branches_in S.no_branches n End = End n
-    Branches_in (S.branch k c body r) n End =
-        Exp_in c n × R.is K.Branch k (n + size c) × Stms_in body (n + size c + 1) × Branches_in r (n + size c + 1 + stms_size body) End
+    pub Branches_in : Branches → ℕ → Shape → (ℕ → Type 0) → Type 0
+    Branches_in S.no_branches n s End = End n
+    Branches_in (S.branch k c body r) n s End =
+        Exp_in (R s) c n × (R s).is K.Branch k (n + size c) × Stms_in body (tested_body n c) s × Branches_in r (behind_body n c body) s End
 
-    pub Handlers_in : Handlers → ℕ → Type 0
-    Handlers_in S.no_handlers n = Unit {0}
-    Handlers_in (S.handler l c x body r) n =
-        Opt_in c n (λ m. R.is K.Match l m × Name_in l x m (λ o. Stms_in body o × Handlers_in r (o + stms_size body)))
+    -- k numbers the first handler's first act
+    pub Handlers_in : (k : ℕ) → Handlers → ℕ → Shape → Type 0
+    Handlers_in k S.no_handlers n s = Unit {0}
+    Handlers_in k (S.handler l c x body r) n s =
+        Opt_in (R (F.testing k tt ∷ s)) c n
+        (λ m. (R (F.testing k tt ∷ s)).is K.Match l m
+        × Name_in l x m s (λ o u. Stms_in body o u × Handlers_in k r (o + stms_size body) s))

@@ -11,7 +11,8 @@ use Rattle.pt_control.specs.Completions.{end_of, follow, complete}
 use Rattle.pt_control.specs.Control.{go, turn, most_silent, unhindered}
 use Rattle.pt_control.specs.Endings.{Code_reached}
 use Rattle.pt_control.specs.ClosedParts.{parts_of, Among}
-use Rattle.pt_control.specs.Jump.{Target, starts, starts_of, on_line, parts, verdict, permitted, Landing, jump, lands}
+use Rattle.pt_control.specs.Jump.{Target, starts, starts_of, on_line, parts, verdict, permitted, Landing, Shape, jump, lands}
+use Rattle.pt_control.specs.Nests.{Code_says, Next_says}
 use Rattle.pt_control.specs.Reached.{IsRow, Reaches, Meets, start_code}
 
 abbrev pub IsActOrEnd : {S V : Type 0} → Turn S V → Type 0
@@ -38,6 +39,27 @@ module _ {V : Type 0} where
   abbrev pub RaisesByRows : Code → Around V → (place : Nest V) → (line : ℕ) → Type 0
   RaisesByRows code block p l =
       (k : Way V) (v : V) → jump code p l ≡ lands k → GoesByRows code block (complete block (by (raise v)) (way_base k))
+
+  -- each act that comes from there has what is said of it, in the nest in which control then is
+  abbrev pub GoesInNests : (Says : Shape → (act : ℕ) → Type 0) → Around V → Control V → Type 0
+  GoesInNests Says block c = (d : Control V) → Reaches block c d → Next_says Says block d
+
+  -- so it is from a block's start, from where a jump to a line lands, and behind a raise there, if it
+  -- is said of each act of the block in the nest that the tree gives it
+  abbrev pub StartsInNests : (Says : Shape → (act : ℕ) → Type 0) → Code → Around V → (first : V)
+      → Type 0
+  StartsInNests Says code block i =
+      Code_says Says code → GoesInNests Says block (start_code block code i)
+
+  abbrev pub LandsInNests : (Says : Shape → (act : ℕ) → Type 0) → Code → Around V
+      → (place : Nest V) → (line : ℕ) → Type 0
+  LandsInNests Says code block p l =
+      Code_says Says code → (k : Way V) → jump code p l ≡ lands k → GoesInNests Says block (go block k)
+
+  abbrev pub RaisesInNests : (Says : Shape → (act : ℕ) → Type 0) → Code → Around V
+      → (place : Nest V) → (line : ℕ) → Type 0
+  RaisesInNests Says code block p l = Code_says Says code → (k : Way V) (v : V)
+      → jump code p l ≡ lands k → GoesInNests Says block (complete block (by (raise v)) (way_base k))
 
   -- where each statement can be reached, each row is that of an act that comes with some replies
   abbrev pub MeetsAllRows : Code → Around V → (first : V) → Type 0

@@ -15,4 +15,5 @@ pub mod Lines
 pub mod Samples
 pub mod Reached
 pub mod Endings
+pub mod Nests
 pub mod Laws

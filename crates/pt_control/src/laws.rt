@@ -1,13 +1,14 @@
 //! Laws of control, each the contract of a function that does nothing.
 
-ghost use Rattle.std.specs.Prelude.{◌≡◌, ℕ, List, None};
+ghost use Rattle.std.specs.Prelude.{◌≡◌, ℕ, Bool, true, List, None};
 ghost use Rattle.pt_tree.specs.Blocks.{Code};
 ghost use Rattle.pt_tree.specs.Syntax.{Exp, Name, Stms, absent, break, global, handler, more, no_handlers, none, pass, return, try, while};
 ghost use Rattle.pt_control.specs.ClosedParts.{All_apart, parts_of};
 ghost use Rattle.pt_control.specs.Control.{go, turn};
 ghost use Rattle.pt_control.specs.Endings.{All_reached};
 ghost use Rattle.pt_control.specs.Frames.{Completion, Control, Frame, Nest, Way};
-ghost use Rattle.pt_control.specs.Laws.{ClosesBy, ComesToAct, LandsByRows, LandsPermitted, LiesInParts, MeetsAllRows, RaisesByRows, StartsByRows, TakesOff};
+ghost use Rattle.pt_control.specs.Jump.{Shape};
+ghost use Rattle.pt_control.specs.Laws.{ClosesBy, ComesToAct, LandsByRows, LandsInNests, LandsPermitted, LiesInParts, MeetsAllRows, RaisesByRows, RaisesInNests, StartsByRows, StartsInNests, TakesOff};
 ghost use Rattle.pt_control.specs.Reached.{Leads, start_code};
 ghost use Rattle.pt_control.specs.Samples.{counting, generating, jumping, nested_body};
 ghost use Rattle.pt_control.specs.Turn.{Around, move, stuck};
@@ -31,6 +32,19 @@ pub fn each_mark_is_its_row<V>()
 pub fn each_mark_behind_a_jump_is_its_row<V>()
     ensures goes { (block : Around V) (code : Code) (place : Nest V) (line : ℕ) → LandsByRows code block place line }
     ensures raised { (block : Around V) (code : Code) (place : Nest V) (line : ℕ) → RaisesByRows code block place line }
+{}
+
+/// Whatever is true of each act of a block in the shape of the nest that the tree gives it is true of
+/// each act that control comes to, in the shape of the nest in which it then is: from the block's
+/// start, from where a jump lands, and from a raise there, whatever the replies.
+#[tactic(auto, using(crate::proofs::MarksNests::acts_in_nests, crate::proofs::MarksNests::acts_behind_jumps_in_nests, crate::proofs::MarksNests::acts_behind_raises_in_nests))]
+pub fn acts_stand_in_the_nests_of_the_tree<V>()
+    ensures starts { (says : Shape → ℕ → Bool) (block : Around V) (code : Code) (first : V)
+        → StartsInNests (λ s n. says s n ≡ true) code block first }
+    ensures lands { (says : Shape → ℕ → Bool) (block : Around V) (code : Code) (place : Nest V) (line : ℕ)
+        → LandsInNests (λ s n. says s n ≡ true) code block place line }
+    ensures raises { (says : Shape → ℕ → Bool) (block : Around V) (code : Code) (place : Nest V) (line : ℕ)
+        → RaisesInNests (λ s n. says s n ≡ true) code block place line }
 {}
 
 /// In a block where each statement can be reached, as far as the forms of statements tell, each row
