@@ -108,13 +108,13 @@ module _ {V : Type 0} (block : Around V) (code : CodeObject V) where
 
   silent : (c : Control V) (t : State V) → comp.Match block code c t → SilentPlainly c
   silent _ _ (comp.m_within outer rows σ p c t b m) = silent_within rows outer σ p c t m
-  silent _ _ (comp.m_deed m d k s x t i τ u c e ec er g h a en) = by_deed c (ap AsksDeed ec)
-  silent _ _ (comp.m_leave m a s x t i τ e er may g b) = tt
-  silent _ _ (comp.m_throw m a s x t i τ e er g b) = tt
-  silent _ _ (comp.m_truth m a k f s x t i τ next e er g ht hf b) = tt
-  silent _ _ (comp.m_iter m v l n tg body els s x t i σ q first next other end' e er hn h g b) = tt
-  silent _ _ (comp.m_next m it l n tg body els s x t i σ first next other end' e er hl h g b) = tt
-  silent _ _ (comp.m_entry m v l n tg is body s x t i σ row q end' e er a h hx g b) = tt
+  silent _ _ (comp.m_deed m d k s x t i τ u c e ec er up g h a en) = by_deed c (ap AsksDeed ec)
+  silent _ _ (comp.m_leave m a s x t i τ e er up may g b) = tt
+  silent _ _ (comp.m_throw m a s x t i τ e er up g b) = tt
+  silent _ _ (comp.m_truth m a k f s x t i τ next e er up g ht hf b) = tt
+  silent _ _ (comp.m_iter m v l n tg body els s x t i σ q first next other end' e er up hn h g b) = tt
+  silent _ _ (comp.m_next m it l n tg body els s x t i σ first next other end' e er up hl h g b) = tt
+  silent _ _ (comp.m_entry m v l n tg is body s x t i σ row q end' e er up a h hx g b) = tt
   silent _ _ (comp.m_note v s x rows τ e g b) = tt
   silent _ _ (comp.m_over e) = tt
 

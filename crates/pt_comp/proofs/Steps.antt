@@ -32,12 +32,12 @@ use Rattle.pt_slots.specs.Machine as machine
 use Rattle.pt_slots.specs.Machine.{here}
 use Rattle.pt_comp_expr.specs.Places.{◌⨾◌, count, above, act_mark, ins, Stores, Made_at, Exp_at, Target_at}
 use Rattle.pt_comp_expr.specs.Law as expressions
-use Rattle.pt_comp_expr.specs.Law.{On_top, Outer, wait, way, active_at}
+use Rattle.pt_comp_expr.specs.Law.{On_top, Outer, wait, way, active_at, slots_in}
 use Rattle.pt_comp_expr.proofs.Steps as steps
 use Rattle.pt_comp_expr.proofs.Steps.{on_above}
 use Rattle.pt_comp.specs.Surroundings.{Loop, Surroundings, outermost, in_while, in_for, deeper, under, TakesAll, TakesRaises, end_place, next_place, Ends, Goes_on, as_code, held_as, May, May_hold}
 use Rattle.pt_comp.specs.Places.{Deletes, Splits, Starts, at_once, behind_nop, never_left, Act_in, Move_in, Null_in, Assigned_at, All_deleted_at, Left_at, Imported_at, Imported_from_at, Definition_at, Decorated_at, Augmented_at, While_at, For_at, Guarded_at, Ensured_at, Handled_at, Taken_at, behind_target, Items_at, Stm_at, All_at, Branches_at, Handlers_at}
-use Rattle.pt_comp.specs.Law.{Above, level, raised_by, Within, addressed, decorators_above, lines_of, Back_at, Nest_on, at_end, at_rest, at_looping, at_iterating, at_unguarded, at_guarded, at_unensured, at_ensured, at_ending, at_handling, at_naming, at_withing, nest_behind_jump, Inside, inside, alone, in_tests, in_exit, Way_on, at_finished, at_stms, at_branches, at_lets_go, at_unbinds, at_tests, at_binding, at_assigns, at_deletes, at_imports, at_imports_from, at_within_items, at_failed, Waits_on, at_dropped, at_assigned, at_asked, at_asked_back, at_iterated, at_deleted_attribute, at_deleted_item, at_deleted_index, at_changed_attribute, at_changed_item, at_changed_index, at_changing, at_changed, at_given_back, at_returned, at_thrown, at_caused, at_message, at_imported, at_imported_origin, at_imported_name, at_matched, at_entered, at_decorated, at_defined, Waiting, Going, Beyond, Lands, lands, lands_by, Leads, is_there, by_jump, m_within, m_deed, m_leave, m_throw, m_truth, m_iter, m_next, m_entry, m_note, m_over, Comes, there, moves, Same, same_act, same_note, same_over, Follows, WaysGoOn, ActiveAlike, BlocksBegin, LambdasBegin, GeneratorsBegin}
+use Rattle.pt_comp.specs.Law.{Above, level, raised_by, Within, addressed, decorators_above, lines_of, Back_at, Nest_on, at_end, at_rest, at_looping, at_iterating, at_unguarded, at_guarded, at_unensured, at_ensured, at_ending, at_handling, at_naming, at_withing, nest_behind_jump, Inside, inside, alone, in_tests, in_exit, Way_on, at_finished, at_stms, at_branches, at_lets_go, at_unbinds, at_tests, at_binding, at_assigns, at_deletes, at_imports, at_imports_from, at_within_items, at_failed, Waits_on, at_dropped, at_assigned, at_asked, at_asked_back, at_iterated, at_deleted_attribute, at_deleted_item, at_deleted_index, at_changed_attribute, at_changed_item, at_changed_index, at_changing, at_changed, at_given_back, at_returned, at_thrown, at_caused, at_message, at_imported, at_imported_origin, at_imported_name, at_matched, at_entered, at_decorated, at_defined, Waiting, Going, Beyond, Lands, lands, lands_by, Leads, is_there, by_jump, m_within, m_deed, m_leave, m_throw, m_truth, m_iter, m_next, m_entry, m_note, m_over, Comes, there, moves, Same, same_act, same_note, same_over, Follows, WaysGoOn, ActiveAlike, NestsLie, BlocksBegin, LambdasBegin, GeneratorsBegin}
 use Rattle.pt_comp.proofs.Rows.{shorter, as_under, as_deeper, may_under, may_deeper, raise_in, left_true, left_false, may_swallowed, reaches, all_land, raise_lands, return_passes, jump_passes}
 
 module _ {V : Type 0} (block : Around V) (code : CodeObject V) where
@@ -121,9 +121,9 @@ module _ {V : Type 0} (block : Around V) (code : CodeObject V) where
   -- an act that asks for something to be done, and what only raises
   deed_comes : (m : Option Mark) (d : Deed V) (k : Way V) (s : Nest V) (x : Surroundings) (p : ℕ) (i : Ins) (σ τ : Slots V) (u : State V) (c : Control V)
       → code.at p ≡ Some i → perform code p i i.instr σ ≡ act m (T.deed d) (after code i τ (λ r. u))
-      → control.turn block c ≡ act m (T.deed d) (control.after_deed block k s) → i.rows ≡ x.rows → Inside block code s x τ → Lands block code k u
+      → control.turn block c ≡ act m (T.deed d) (control.after_deed block k s) → i.rows ≡ x.rows → Above τ σ → Inside block code s x τ → Lands block code k u
       → active σ ≡ control.context_at c → control.nest_at c ≡ s → C c (on p σ)
-  deed_comes m d k s x p i σ τ u c h e ec er g hk a en = there c (on p σ) (m_deed m d k s x (on p σ) i τ u c (turned p i σ _ h e) ec er g hk a en)
+  deed_comes m d k s x p i σ τ u c h e ec er up g hk a en = there c (on p σ) (m_deed m d k s x (on p σ) i τ u c (turned p i σ _ h e) ec er up g hk a en)
 
   -- 7.2
   assigned_comes : (v : V) (ts : Tgts) (n : ℕ) (s : Nest V) (x : Surroundings) (σ : Slots V) (p q : ℕ) (c : Control V)
@@ -150,7 +150,7 @@ module _ {V : Type 0} (block : Around V) (code : CodeObject V) where
       → All_deleted_at block code ps n x p q → N s x σ q → C c (on q σ) → C (begin_deletes block ps n s c) (on p σ)
   deletes_come [] n s x σ p q c h g a = subst (λ r. C c (on r σ)) (sym h) a
   deletes_come (S.name_at l y ∷ ps) n s x σ p q c (m, h, hs) g a =
-      deed_comes (Some (mark n l false)) _ (F.deletes (n + 1) ps s) s x p _ σ σ (on m σ) _ h.stands (h.does σ) refl refl (from_here s x σ q g)
+      deed_comes (Some (mark n l false)) _ (F.deletes (n + 1) ps s) s x p _ σ σ (on m σ) _ h.stands (h.does σ) refl refl level (from_here s x σ q g)
       (lands _ x σ m (at_deletes (n + 1) ps s x σ m q hs g)) (busy_alike s x σ q g) refl
   deletes_come (S.attribute_at l b y ∷ ps) n s x σ p q c (m, (m', hb, h), hs) g a =
       value_comes (F.of_attribute l (n + size b) y (F.deleting (F.deletes (n + (size b + 1)) ps s))) x σ p m' b n false hb
@@ -172,7 +172,7 @@ module _ {V : Type 0} (block : Around V) (code : CodeObject V) where
   imports_from_come (b ∷ bs) l n o s x σ p q c (m, hi, h) g a =
       within (wait (F.imported_name l (n + 1) (bound_name b) bs o s)) x.rows (value o ∷ σ) m _ _
       (expressions.there _ _ (expressions.m_value (mark n l false) _ _ (on p (value o ∷ σ)) (ins hi.instr (act_mark p n l false) m x.rows) (value o ∷ σ) (value o ∷ σ) m
-      (turned p _ (value o ∷ σ) _ hi.stands (hi.does o σ)) (record { same_rows = refl; same_active = refl }) expressions.same (expressions.at_end _ refl)))
+      (turned p _ (value o ∷ σ) _ hi.stands (hi.does o σ)) (record { same_rows = refl; on_top = expressions.same }) expressions.same (expressions.at_end _ refl)))
       (by_wait _ x (value o ∷ σ) m (at_imported_name l (n + 1) (bound_name b) bs o s x σ m q h g))
 
   -- 8.7, 8.8
@@ -216,7 +216,7 @@ module _ {V : Type 0} (block : Around V) (code : CodeObject V) where
       → N s x σ end' → C (begin_next block l n true i t body els s) (on next (iterator i ∷ σ))
   next_comes l n i t body els s x σ first next other end' (rn, re, hb, (m, hn, hj), ho) g =
       there _ _ (m_next (mark n l true) i l n t body els s x (on next (iterator i ∷ σ)) (ins (instr.Next (record { 0 = other })) (act_mark next n l true) m x.rows) σ first next other end'
-      (turned next _ (iterator i ∷ σ) _ hn refl) refl (by_jump m other first hj) (rn, re, hb, (m, hn, hj), ho) g refl)
+      (turned next _ (iterator i ∷ σ) _ hn refl) refl level (by_jump m other first hj) (rn, re, hb, (m, hn, hj), ho) g refl)
 
   -- 7.9, 7.10
   break_comes : (o : Option Loop) (n l : ℕ) (s : Nest V) (x : Surroundings) (σ : Slots V) (p q r : ℕ) → o ≡ x.loop
@@ -225,7 +225,7 @@ module _ {V : Type 0} (block : Around V) (code : CodeObject V) where
   break_comes (Some a) n l s x σ p q r e (d, h) g =
       there _ _ (m_leave (mark n l false) F.break s x (on p σ) (ins (instr.Leave (record { 0 = a.end })) (act_mark p n l false) r x.rows) σ
       (turned p _ σ _ h refl ∙ ap (λ o. act (Some (mark n l false)) (T.leave T.jumping) (after code (ins (instr.Leave (record { 0 = a.end })) (act_mark p n l false) r x.rows) σ (λ u. land code x.rows (jump_to (end_place o)) σ))) e)
-      refl (subst (λ o. Ends code o) e d) (from_here s x σ q g) (busy_alike s x σ q g))
+      refl level (subst (λ o. Ends code o) e d) (from_here s x σ q g) (busy_alike s x σ q g))
 
   continue_comes : (o : Option Loop) (n l : ℕ) (s : Nest V) (x : Surroundings) (σ : Slots V) (p q r : ℕ) → o ≡ x.loop
       → Left_at block code o (λ a. a.next) (λ a. a.next_depth) n l x p r → N s x σ q → C (for_leave (mark n l false) F.continue s) (on p σ)
@@ -233,11 +233,11 @@ module _ {V : Type 0} (block : Around V) (code : CodeObject V) where
   continue_comes (Some a) n l s x σ p q r e (d, h) g =
       there _ _ (m_leave (mark n l false) F.continue s x (on p σ) (ins (instr.Leave (record { 0 = a.next })) (act_mark p n l false) r x.rows) σ
       (turned p _ σ _ h refl ∙ ap (λ o. act (Some (mark n l false)) (T.leave T.jumping) (after code (ins (instr.Leave (record { 0 = a.next })) (act_mark p n l false) r x.rows) σ (λ u. land code x.rows (jump_to (next_place o)) σ))) e)
-      refl (subst (λ o. Goes_on code o) e d) (from_here s x σ q g) (busy_alike s x σ q g))
+      refl level (subst (λ o. Goes_on code o) e d) (from_here s x σ q g) (busy_alike s x σ q g))
 
   nothing_comes : (l n : ℕ) (k : Way V) (s : Nest V) (x : Surroundings) (σ : Slots V) (p q : ℕ) → Act_in block code x instr.Nop n l p q → Inside block code s x σ
       → Lands block code k (on q σ) → active σ ≡ bases.active s → C (F.for_deed (mark n l false) T.nothing k s) (on p σ)
-  nothing_comes l n k s x σ p q h g hk a = deed_comes (Some (mark n l false)) T.nothing k s x p _ σ σ (on q σ) _ h refl refl refl g hk a refl
+  nothing_comes l n k s x σ p q h g hk a = deed_comes (Some (mark n l false)) T.nothing k s x p _ σ σ (on q σ) _ h refl refl refl level g hk a refl
 
   -- 8.4: the body of a `try` begins
   guarded_lands : (hs : Handlers) (n : ℕ) (body els : Stms) (s : Nest V) (x : Surroundings) (σ : Slots V) (p q : ℕ)
@@ -278,13 +278,13 @@ module _ {V : Type 0} (block : Around V) (code : CodeObject V) where
     begin_stm_comes (S.del l ts) n s x σ p q c h g a = deletes_come (all_places ts) n s x σ p q c h g a
     begin_stm_comes (S.return l S.absent) n s x σ p q c (m, hn, h) g a =
         null_moves _ x p m σ hn (there _ _ (m_leave (mark n l false) (F.return block.null) s x (on m (value block.null ∷ σ)) (ins instr.Return (act_mark m n l false) q x.rows) σ
-        (turned m _ (value block.null ∷ σ) _ h refl) refl tt (from_here s x σ q g) (busy_alike s x σ q g)))
+        (turned m _ (value block.null ∷ σ) _ h refl) refl (raised_by _ _ level) tt (from_here s x σ q g) (busy_alike s x σ q g)))
     begin_stm_comes (S.return l (S.given e)) n s x σ p q c (m, he, h) g a =
         value_comes (F.returned_by l (n + size e) s) x σ p m e n false he (at_returned l _ s x σ m q h (within_here s x σ q g))
     begin_stm_comes (S.raise l e b) n s x σ p q c (m, he, h) g a =
         value_comes (F.thrown l (n + size e) b s) x σ p m e n false he (at_thrown l _ b s x σ m q h (within_here s x σ q g))
     begin_stm_comes (S.raise_again l) n s x σ p q c h g a =
-        there _ _ (m_throw (mark n l false) T.raising_again s x (on p σ) (ins instr.RaiseAgain (act_mark p n l false) q x.rows) σ (turned p _ σ _ h refl) refl (from_here s x σ q g) (busy_alike s x σ q g))
+        there _ _ (m_throw (mark n l false) T.raising_again s x (on p σ) (ins instr.RaiseAgain (act_mark p n l false) q x.rows) σ (turned p _ σ _ h refl) refl level (from_here s x σ q g) (busy_alike s x σ q g))
     begin_stm_comes (S.break l) n s x σ p q c h g a = break_comes x.loop n l s x σ p q q refl h g
     begin_stm_comes (S.continue l) n s x σ p q c h g a = continue_comes x.loop n l s x σ p q q refl h g
     begin_stm_comes (S.import l xs) n s x σ p q c h g a = imports_come xs l n s x σ p q c h g a
@@ -364,15 +364,15 @@ module _ {V : Type 0} (block : Around V) (code : CodeObject V) where
   tests_come (S.handler l S.absent y body r) k n e s x σ p end' c (other, (m, hn, (m1, hm, (m2, hs, hh))), hr) g f =
       null_moves _ x p m (exception e ∷ σ) hn
       (there _ _ (m_truth (mark n l false) (T.matches e block.null) _ _ (F.testing k e ∷ s) x (on m (value block.null ∷ exception e ∷ σ)) (ins instr.Match (act_mark m n l false) m1 x.rows) (exception e ∷ σ) _
-      (turned m _ (value block.null ∷ exception e ∷ σ) _ hm refl) refl
-      (in_tests k e s x (exception e ∷ σ) (inside s x σ (exception e ∷ σ) end' g (raised_by _ _ level)))
+      (turned m _ (value block.null ∷ exception e ∷ σ) _ hm refl) refl (raised_by _ _ level)
+      (in_tests k e s x σ (exception e ∷ σ) end' g level)
       (split_lands _ x (exception e ∷ σ) true m1 m2 other hs (handled_lands l n y body e s x σ m2 other end' hh g))
       (split_lands _ x (exception e ∷ σ) false m1 m2 other hs (lands _ x (exception e ∷ σ) other (at_tests k _ r e s x σ other end' hr g))) refl))
   tests_come (S.handler l (S.given b) y body r) k n e s x σ p end' c (other, (m, hb, (m1, hm, (m2, hs, hh))), hr) g f =
       value_comes (F.matched l k (n + size b) e (handler_way block l (n + size b) y body e s) (F.tests k (handler_body (n + size b) y + stms_size body) r e s))
       x (exception e ∷ σ) p m b n false hb
-      (at_matched l k (n + size b) e _ _ x σ m m1 m2 other hm hs (handled_lands l (n + size b) y body e s x σ m2 other end' hh g)
-      (at_tests k _ r e s x σ other end' hr g))
+      (at_matched l k (n + size b) _ e _ r s x σ m m1 m2 other end' hm hs (handled_lands l (n + size b) y body e s x σ m2 other end' hh g)
+      hr g)
 
   -- how many slots lie below
   pub depth : (s : Nest V) (x : Surroundings) (σ : Slots V) (p : ℕ) → N s x σ p → length σ ≡ x.depth
@@ -436,7 +436,7 @@ module _ {V : Type 0} (block : Around V) (code : CodeObject V) where
   unbound held y s x σ p q m (m1, hn, (m2, hs, h)) g =
       null_moves _ x p m1 (pending (held_as held x) ∷ σ) hn
       (deed_comes None _ (F.unbinds y held s) s x m1 _ (value block.null ∷ pending (held_as held x) ∷ σ) (pending (held_as held x) ∷ σ) (on m2 (pending (held_as held x) ∷ σ)) _
-      hs.stands (hs.does block.null (pending (held_as held x) ∷ σ)) refl refl (inside s x σ (pending (held_as held x) ∷ σ) q g (raised_by _ _ level))
+      hs.stands (hs.does block.null (pending (held_as held x) ∷ σ)) refl refl (raised_by _ _ level) (inside s x σ (pending (held_as held x) ∷ σ) q g (raised_by _ _ level))
       (lands _ x (pending (held_as held x) ∷ σ) m2 (at_unbinds y held s x σ m2 q m h g)) (held_active held x σ s (busy_alike s x σ q g)) refl)
 
   -- the exit of a `with` is due
@@ -457,7 +457,7 @@ module _ {V : Type 0} (block : Around V) (code : CodeObject V) where
       (λ b. on q (pending (left_of b (held_as held x)) ∷ σ))
       (turned p _ (pending (held_as held x) ∷ exit w ∷ σ) _ h refl
       ∙ ap (λ o. act (Some (mark n l false)) (T.test (T.exit_of w o)) (after code (ins instr.Exit (act_mark p n l false) q x.rows) σ (λ b. on q (pending (left_of b (held_as held x)) ∷ σ)))) (raise_in held x))
-      refl (in_exit n w held s x σ (from_here s x σ end' g))
+      refl (raised_by _ _ (raised_by _ _ level)) (in_exit n w held s x σ (from_here s x σ end' g))
       (subst (λ u. Lands block code (F.lets_go (swallowed held) s) (on q (pending u ∷ σ))) (sym (left_true held x))
       (lands _ x _ q (at_lets_go (swallowed held) s x σ q end' (may_swallowed code held x m) he g)))
       (subst (λ u. Lands block code (F.lets_go held s) (on q (pending u ∷ σ))) (sym (left_false held x)) (lands _ x _ q (at_lets_go held s x σ q end' m he g)))
@@ -586,7 +586,7 @@ module _ {V : Type 0} (block : Around V) (code : CodeObject V) where
   leave_inside : (s : Nest V) (x : Surroundings) (τ : Slots V) → Inside block code s x τ → (a : Abrupt V) → May code a x → C (complete block (F.by a) s) (land code x.rows (as_code a x) τ)
   leave_inside _ _ _ (inside s x σ τ p g o) a m = let b = both s x σ p g in b.abruptly a m τ o
   leave_inside _ _ _ (alone starts τ) a m = alone_abrupt starts a m τ
-  leave_inside _ _ _ (in_tests n e s x τ h) a m = leave_inside s x τ h a m
+  leave_inside _ _ _ (in_tests n e s x σ τ p g o) a m = let b = both s x σ p g in b.abruptly a m τ (shorter (exception e) σ τ o)
   leave_inside _ _ _ (in_exit n w held s x τ h) a m = leave_inside s x τ h a m
 
   raise_inside : (s : Nest V) (x : Surroundings) (τ : Slots V) (i : Ins) → i.rows ≡ x.rows → Inside block code s x τ → (v : V)
@@ -596,7 +596,7 @@ module _ {V : Type 0} (block : Around V) (code : CodeObject V) where
   inside_push : (s : Nest V) (x : Surroundings) (u : Slot V) (τ : Slots V) → Inside block code s x τ → Inside block code s x (u ∷ τ)
   inside_push _ _ u _ (inside s x σ τ p g o) = inside s x σ (u ∷ τ) p g (raised_by u τ o)
   inside_push _ _ u _ (alone starts τ) = alone starts (u ∷ τ)
-  inside_push _ _ u _ (in_tests n e s x τ h) = in_tests n e s x (u ∷ τ) (inside_push s x u τ h)
+  inside_push _ _ u _ (in_tests n e s x σ τ p g o) = in_tests n e s x σ (u ∷ τ) p g (raised_by u τ o)
   inside_push _ _ u _ (in_exit n w held s x τ h) = in_exit n w held s x (u ∷ τ) (inside_push s x u τ h)
 
   inside_way : (k : Way V) (x : Surroundings) (σ : Slots V) (p : ℕ) → Way_on block code k x σ p → Inside block code (way_base k) x σ
@@ -645,7 +645,7 @@ module _ {V : Type 0} (block : Around V) (code : CodeObject V) where
   inside_wait _ _ _ _ (at_imported l n y xs s x σ p q h g) = from_here s x σ q g
   inside_wait _ _ _ _ (at_imported_origin l n xs s x σ p q h g) = from_here s x σ q g
   inside_wait _ _ _ _ (at_imported_name l n y xs o s x σ p q h g) = inside_push s x _ σ (from_here s x σ q g)
-  inside_wait _ _ _ _ (at_matched l k n e t f x σ p q r other h hs ht hf) = in_tests k e _ x (exception e ∷ σ) (inside_way f x (exception e ∷ σ) other hf)
+  inside_wait _ _ _ _ (at_matched l k n m e t hds s x σ p q r other end' h hs ht hh g) = in_tests k e s x σ (exception e ∷ σ) end' g level
   inside_wait _ _ _ _ (at_entered l n t is body s x σ row p end' a h hx g) = from_here s x σ end' g
   inside_wait _ _ _ _ (at_decorated k n before ds l y what s x σ p q h g) = inside_decorators before s x σ (from_here s x σ q g)
   inside_wait _ _ _ _ (at_defined l n y calls s x σ p q h g) = inside_decorators calls s x σ (from_here s x σ q g)
@@ -658,20 +658,20 @@ module _ {V : Type 0} (block : Around V) (code : CodeObject V) where
   way_comes _ _ _ _ (at_lets_go held s x σ p q m h g) = goes_on held s x σ p q m h g (both s x σ q g)
   way_comes _ _ _ _ (at_unbinds y held s x σ p q m (m', hd, h) g) =
       deed_comes None _ (F.lets_go held s) s x p _ (pending (held_as held x) ∷ σ) (pending (held_as held x) ∷ σ) (on m' (pending (held_as held x) ∷ σ)) _
-      hd.stands (hd.does (pending (held_as held x) ∷ σ)) refl refl (inside_push s x _ σ (from_here s x σ q g))
+      hd.stands (hd.does (pending (held_as held x) ∷ σ)) refl refl level (inside_push s x _ σ (from_here s x σ q g))
       (lands _ x (pending (held_as held x) ∷ σ) m' (at_lets_go held s x σ m' q m h g)) (held_active held x σ s (busy_alike s x σ q g)) refl
   way_comes _ _ _ _ (at_tests k n hs e s x σ p end' h g) =
       tests_come hs k n e s x σ p end' _ h g (λ p q h. rethrown e s x σ p q (within_here s x σ end' g) h)
   way_comes _ _ _ _ (at_binding l n y e k s x z σ p q r hc h hk g) =
       moved _ p _ (exception e ∷ σ) (on q (value e ∷ exception e ∷ σ)) hc refl
-      (deed_comes (Some (mark n l false)) _ k s x q _ (value e ∷ exception e ∷ σ) (exception e ∷ σ) (on r (exception e ∷ σ)) _ h.stands (h.does e (exception e ∷ σ)) refl refl g.stands
+      (deed_comes (Some (mark n l false)) _ k s x q _ (value e ∷ exception e ∷ σ) (exception e ∷ σ) (on r (exception e ∷ σ)) _ h.stands (h.does e (exception e ∷ σ)) refl refl (raised_by _ _ level) g.stands
       (lands k z (exception e ∷ σ) r hk) g.same_active refl)
   way_comes _ _ _ _ (at_assigns n v ts s x σ p q h g) = let b = both s x σ q g in assigned_comes v ts n s x σ p q _ h g b.normally
   way_comes _ _ _ _ (at_deletes n ps s x σ p q h g) = let b = both s x σ q g in deletes_come ps n s x σ p q _ h g b.normally
   way_comes _ _ _ _ (at_imports l n xs s x σ p q h g) = let b = both s x σ q g in imports_come xs l n s x σ p q _ h g b.normally
   way_comes _ _ _ _ (at_imports_from l n xs o s x σ p q h g) = let b = both s x σ q g in imports_from_come xs l n o s x σ p q _ h g b.normally
   way_comes _ _ _ _ (at_within_items n is body s x σ p q h g) = let b = both s x σ q g in items_come is body n s x σ p q _ h g b.normally
-  way_comes _ _ _ _ (at_failed l n S.absent s x σ p q h g) = there _ _ (m_throw (mark n l false) (T.failing None) s x (on p σ) (ins (instr.AssertFail false) (act_mark p n l false) q x.rows) σ (turned p _ σ _ h refl) refl g.stands g.same_active)
+  way_comes _ _ _ _ (at_failed l n S.absent s x σ p q h g) = there _ _ (m_throw (mark n l false) (T.failing None) s x (on p σ) (ins (instr.AssertFail false) (act_mark p n l false) q x.rows) σ (turned p _ σ _ h refl) refl level g.stands g.same_active)
   way_comes _ _ _ _ (at_failed l n (S.given m) s x σ p q (m', hm, h) g) =
       value_comes (F.message_of l (n + size m) s) x σ p m' m n false hm (at_message l (n + size m) s x σ m' q h g)
 
@@ -683,37 +683,37 @@ module _ {V : Type 0} (block : Around V) (code : CodeObject V) where
   back_comes : (to : Address V) (v : V) (n k : ℕ) (s : Nest V) (x : Surroundings) (σ : Slots V) (p q : ℕ)
       → Back_at block code to n k x p q → N s x σ q → C (at_place block (F.storing v (F.finished s)) to k n) (on p (value v ∷ addressed to σ))
   back_comes (F.a_name y) v n k s x σ p q h g =
-      deed_comes (Some (mark n k false)) _ (F.finished s) s x p _ (value v ∷ σ) σ (on q σ) _ h.stands (h.does v σ) refl refl (from_here s x σ q g) (lands _ x σ q (at_finished s x σ q g)) (busy_alike s x σ q g) refl
+      deed_comes (Some (mark n k false)) _ (F.finished s) s x p _ (value v ∷ σ) σ (on q σ) _ h.stands (h.does v σ) refl refl (raised_by _ _ level) (from_here s x σ q g) (lands _ x σ q (at_finished s x σ q g)) (busy_alike s x σ q g) refl
   back_comes (F.an_attribute a y) v n k s x σ p q (m, hs, h) g =
       moved _ p _ (value v ∷ value a ∷ σ) (on m (value a ∷ value v ∷ σ)) hs refl
-      (deed_comes (Some (mark n k false)) _ (F.finished s) s x m _ (value a ∷ value v ∷ σ) σ (on q σ) _ h.stands (h.does v a σ) refl refl (from_here s x σ q g)
+      (deed_comes (Some (mark n k false)) _ (F.finished s) s x m _ (value a ∷ value v ∷ σ) σ (on q σ) _ h.stands (h.does v a σ) refl refl (raised_by _ _ (raised_by _ _ level)) (from_here s x σ q g)
       (lands _ x σ q (at_finished s x σ q g)) (busy_alike s x σ q g) refl)
   back_comes (F.an_item a i) v n k s x σ p q (m, hs, h) g =
       moved _ p _ (value v ∷ value i ∷ value a ∷ σ) (on m (value i ∷ value a ∷ value v ∷ σ)) hs refl
-      (deed_comes (Some (mark n k false)) _ (F.finished s) s x m _ (value i ∷ value a ∷ value v ∷ σ) σ (on q σ) _ h refl refl refl (from_here s x σ q g)
+      (deed_comes (Some (mark n k false)) _ (F.finished s) s x m _ (value i ∷ value a ∷ value v ∷ σ) σ (on q σ) _ h refl refl refl (raised_by _ _ (raised_by _ _ (raised_by _ _ level))) (from_here s x σ q g)
       (lands _ x σ q (at_finished s x σ q g)) (busy_alike s x σ q g) refl)
 
   -- a value is there
   deliver_comes : (v : V) (w : Wait V) (x : Surroundings) (σ : Slots V) (p : ℕ) → W w x σ p → C (control.deliver block v w) (on p (value v ∷ σ))
   deliver_comes v _ _ _ _ (at_dropped l n s x σ p q h g) =
-      deed_comes (Some (mark n l false)) _ (F.finished s) s x p _ (value v ∷ σ) σ (on q σ) _ h refl refl refl (from_here s x σ q g) (lands _ x σ q (at_finished s x σ q g)) (busy_alike s x σ q g) refl
+      deed_comes (Some (mark n l false)) _ (F.finished s) s x p _ (value v ∷ σ) σ (on q σ) _ h refl refl refl (raised_by _ _ level) (from_here s x σ q g) (lands _ x σ q (at_finished s x σ q g)) (busy_alike s x σ q g) refl
   deliver_comes v _ _ _ _ (at_assigned n ts s x σ p q h g) = let b = both s x σ q g in assigned_comes v ts n s x σ p q _ h g b.normally
   deliver_comes v _ _ _ _ (at_asked l n t f x z σ p q other h ht hf a) =
       there _ _ (m_truth (mark n l false) (T.branch v) t f (way_base f) x (on p (value v ∷ σ)) (ins (instr.JumpUnless (record { 0 = other })) (act_mark p n l false) q x.rows) σ _
       (turned p _ (value v ∷ σ) _ h (steps.branch_asks block code x.rows (way (F.finished [])) σ p p n l q (instr.JumpUnless (record { 0 = other })) (code.is_truth v) _ _ v σ))
-      refl (inside_way f x σ other hf) (lands t z σ q ht) (lands f x σ other hf) a)
+      refl (raised_by _ _ level) (inside_way f x σ other hf) (lands t z σ q ht) (lands f x σ other hf) a)
   deliver_comes v _ _ _ _ (at_asked_back l n t f x z σ p q other h ht hf a) =
       there _ _ (m_truth (mark n l false) (T.branch v) t f (way_base f) x (on p (value v ∷ σ)) (ins (instr.JumpIf (record { 0 = other })) (act_mark p n l false) q x.rows) σ _
       (turned p _ (value v ∷ σ) _ h (steps.branch_asks block code x.rows (way (F.finished [])) σ p p n l q (instr.JumpIf (record { 0 = other })) (code.is_truth v) _ _ v σ))
-      refl (inside_way f x σ q hf) (lands t z σ other ht) (lands f x σ q hf) a)
+      refl (raised_by _ _ level) (inside_way f x σ q hf) (lands t z σ other ht) (lands f x σ q hf) a)
   deliver_comes v _ _ _ _ (at_iterated l k n m t body els s x σ p q first next other end' ht hn h g) =
-      there _ _ (m_iter (mark k l false) v m n t body els s x (on p (value v ∷ σ)) (ins instr.Iter (act_mark p k l false) q x.rows) σ q first next other end' (turned p _ (value v ∷ σ) _ ht refl) refl hn h g refl)
+      there _ _ (m_iter (mark k l false) v m n t body els s x (on p (value v ∷ σ)) (ins instr.Iter (act_mark p k l false) q x.rows) σ q first next other end' (turned p _ (value v ∷ σ) _ ht refl) refl (raised_by _ _ level) hn h g refl)
   deliver_comes v _ _ _ _ (at_deleted_attribute l n y k x σ p q h hk b) =
-      deed_comes (Some (mark n l false)) _ k (way_base k) x p _ (value v ∷ σ) σ (on q σ) _ h.stands (h.does v σ) refl refl (inside_way k x σ q hk) (lands k x σ q hk) b refl
+      deed_comes (Some (mark n l false)) _ k (way_base k) x p _ (value v ∷ σ) σ (on q σ) _ h.stands (h.does v σ) refl refl (raised_by _ _ level) (inside_way k x σ q hk) (lands k x σ q hk) b refl
   deliver_comes v _ _ _ _ (at_deleted_item l n i k x σ p q (m, hi, h) hk b) =
       value_comes (F.at_item l (n + size i) v (F.deleting k)) x (value v ∷ σ) p m i n false hi (at_deleted_index l (n + size i) v k x σ m q h hk b)
   deliver_comes v _ _ _ _ (at_deleted_index l n a k x σ p q h hk b) =
-      deed_comes (Some (mark n l false)) _ k (way_base k) x p _ (value v ∷ value a ∷ σ) σ (on q σ) _ h refl refl refl (inside_way k x σ q hk) (lands k x σ q hk) b refl
+      deed_comes (Some (mark n l false)) _ k (way_base k) x p _ (value v ∷ value a ∷ σ) σ (on q σ) _ h refl refl refl (raised_by _ _ (raised_by _ _ level)) (inside_way k x σ q hk) (lands k x σ q hk) b refl
   deliver_comes v _ _ _ _ (at_changed_attribute l n j y o e s x σ p q (m, hc, (m', ha, h)) g) =
       moved _ p _ (value v ∷ σ) (on m (value v ∷ value v ∷ σ)) hc refl
       (operation_comes (F.changing j (n + 1) l (F.an_attribute v y) o e s) x (value v ∷ σ) m m' [] _ l n (v ∷ []) ha
@@ -729,35 +729,35 @@ module _ {V : Type 0} (block : Around V) (code : CodeObject V) where
   deliver_comes v _ _ _ _ (at_changed l n k to u o s x σ p q (m, hi, h) g) =
       within (wait (F.change_stored (n + 1) k to s)) x.rows (addressed to σ) m _ _
       (expressions.there _ _ (expressions.m_value (mark n l false) _ _ (on p (value v ∷ value u ∷ addressed to σ)) (ins (instr.InPlace o) (act_mark p n l false) m x.rows) (addressed to σ) (addressed to σ) m
-      (turned p _ (value v ∷ value u ∷ addressed to σ) _ hi refl) (record { same_rows = refl; same_active = refl }) expressions.same (expressions.at_end _ refl)))
+      (turned p _ (value v ∷ value u ∷ addressed to σ) _ hi refl) (record { same_rows = refl; on_top = expressions.push _ _ (expressions.push _ _ expressions.same refl) refl }) expressions.same (expressions.at_end _ refl)))
       (by_wait _ x (addressed to σ) m (at_given_back (n + 1) k to s x σ m q h g))
   deliver_comes v _ _ _ _ (at_given_back n k to s x σ p q h g) = back_comes to v n k s x σ p q h g
   deliver_comes v _ _ _ _ (at_returned l n s x σ p q h g) =
-      there _ _ (m_leave (mark n l false) (F.return v) s x (on p (value v ∷ σ)) (ins instr.Return (act_mark p n l false) q x.rows) σ (turned p _ (value v ∷ σ) _ h refl) refl tt g.stands g.same_active)
+      there _ _ (m_leave (mark n l false) (F.return v) s x (on p (value v ∷ σ)) (ins instr.Return (act_mark p n l false) q x.rows) σ (turned p _ (value v ∷ σ) _ h refl) refl (raised_by _ _ level) tt g.stands g.same_active)
   deliver_comes v _ _ _ _ (at_thrown l n S.absent s x σ p q h g) =
-      there _ _ (m_throw (mark n l false) (T.raising v None) s x (on p (value v ∷ σ)) (ins instr.Raise (act_mark p n l false) q x.rows) σ (turned p _ (value v ∷ σ) _ h refl) refl g.stands g.same_active)
+      there _ _ (m_throw (mark n l false) (T.raising v None) s x (on p (value v ∷ σ)) (ins instr.Raise (act_mark p n l false) q x.rows) σ (turned p _ (value v ∷ σ) _ h refl) refl (raised_by _ _ level) g.stands g.same_active)
   deliver_comes v _ _ _ _ (at_thrown l n (S.given b) s x σ p q (m, hb, h) g) =
       value_comes (F.caused l (n + size b) v s) x (value v ∷ σ) p m b n false hb (at_caused l (n + size b) v s x σ m q h g)
   deliver_comes v _ _ _ _ (at_caused l n u s x σ p q h g) =
-      there _ _ (m_throw (mark n l false) (T.raising u (Some v)) s x (on p (value v ∷ value u ∷ σ)) (ins instr.RaiseFrom (act_mark p n l false) q x.rows) σ (turned p _ (value v ∷ value u ∷ σ) _ h refl) refl g.stands g.same_active)
+      there _ _ (m_throw (mark n l false) (T.raising u (Some v)) s x (on p (value v ∷ value u ∷ σ)) (ins instr.RaiseFrom (act_mark p n l false) q x.rows) σ (turned p _ (value v ∷ value u ∷ σ) _ h refl) refl (raised_by _ _ (raised_by _ _ level)) g.stands g.same_active)
   deliver_comes v _ _ _ _ (at_message l n s x σ p q h g) =
-      there _ _ (m_throw (mark n l false) (T.failing (Some v)) s x (on p (value v ∷ σ)) (ins (instr.AssertFail true) (act_mark p n l false) q x.rows) σ (turned p _ (value v ∷ σ) _ h refl) refl g.stands g.same_active)
+      there _ _ (m_throw (mark n l false) (T.failing (Some v)) s x (on p (value v ∷ σ)) (ins (instr.AssertFail true) (act_mark p n l false) q x.rows) σ (turned p _ (value v ∷ σ) _ h refl) refl (raised_by _ _ level) g.stands g.same_active)
   deliver_comes v _ _ _ _ (at_imported l n y xs s x σ p q (m, hs, h) g) =
-      deed_comes (Some (mark n l false)) _ (F.imports l (n + 1) xs s) s x p _ (value v ∷ σ) σ (on m σ) _ hs.stands (hs.does v σ) refl refl (from_here s x σ q g)
+      deed_comes (Some (mark n l false)) _ (F.imports l (n + 1) xs s) s x p _ (value v ∷ σ) σ (on m σ) _ hs.stands (hs.does v σ) refl refl (raised_by _ _ level) (from_here s x σ q g)
       (lands _ x σ m (at_imports l (n + 1) xs s x σ m q h g)) (busy_alike s x σ q g) refl
   deliver_comes v _ _ _ _ (at_imported_origin l n xs s x σ p q h g) = let b = both s x σ q g in imports_from_come xs l n v s x σ p q _ h g b.normally
   deliver_comes v _ _ _ _ (at_imported_name l n y xs o s x σ p q (m, hs, h) g) =
-      deed_comes (Some (mark n l false)) _ (F.imports_from l (n + 1) xs o s) s x p _ (value v ∷ value o ∷ σ) (value o ∷ σ) (on m (value o ∷ σ)) _ hs.stands (hs.does v (value o ∷ σ)) refl refl
+      deed_comes (Some (mark n l false)) _ (F.imports_from l (n + 1) xs o s) s x p _ (value v ∷ value o ∷ σ) (value o ∷ σ) (on m (value o ∷ σ)) _ hs.stands (hs.does v (value o ∷ σ)) refl refl (raised_by _ _ level)
       (inside_push s x _ σ (from_here s x σ q g)) (lands _ x (value o ∷ σ) m (at_imports_from l (n + 1) xs o s x σ m q h g)) (busy_alike s x σ q g) refl
-  deliver_comes v _ _ _ _ (at_matched l k n e t f x σ p q r other h hs ht hf) =
-      there _ _ (m_truth (mark n l false) (T.matches e v) t f (F.testing k e ∷ way_base f) x (on p (value v ∷ exception e ∷ σ)) (ins instr.Match (act_mark p n l false) q x.rows) (exception e ∷ σ) _
-      (turned p _ (value v ∷ exception e ∷ σ) _ h refl) refl (in_tests k e _ x (exception e ∷ σ) (inside_way f x (exception e ∷ σ) other hf))
-      (split_lands t x (exception e ∷ σ) true q r other hs ht) (split_lands f x (exception e ∷ σ) false q r other hs (lands f x (exception e ∷ σ) other hf)) refl)
+  deliver_comes v _ _ _ _ (at_matched l k n m e t hds s x σ p q r other end' h hs ht hh g) =
+      there _ _ (m_truth (mark n l false) (T.matches e v) t (F.tests k m hds e s) (F.testing k e ∷ s) x (on p (value v ∷ exception e ∷ σ)) (ins instr.Match (act_mark p n l false) q x.rows) (exception e ∷ σ) _
+      (turned p _ (value v ∷ exception e ∷ σ) _ h refl) refl (raised_by _ _ level) (in_tests k e s x σ (exception e ∷ σ) end' g level)
+      (split_lands t x (exception e ∷ σ) true q r other hs ht) (split_lands _ x (exception e ∷ σ) false q r other hs (lands _ x (exception e ∷ σ) other (at_tests k m hds e s x σ other end' hh g))) refl)
   deliver_comes v _ _ _ _ (at_entered l n t is body s x σ row p end' a (m, he, h) hx g) =
-      there _ _ (m_entry (mark n l false) v l (n + 1) t is body s x (on p (value v ∷ σ)) (ins instr.Enter (act_mark p n l false) m x.rows) σ row m end' (turned p _ (value v ∷ σ) _ he refl) refl a h hx g refl)
+      there _ _ (m_entry (mark n l false) v l (n + 1) t is body s x (on p (value v ∷ σ)) (ins instr.Enter (act_mark p n l false) m x.rows) σ row m end' (turned p _ (value v ∷ σ) _ he refl) refl (raised_by _ _ level) a h hx g refl)
   deliver_comes v _ _ _ _ (at_decorated k n before ds l y what s x σ p q h g) = decorated_comes ds what v before k l n y s x σ p q h g
   deliver_comes v _ _ _ _ (at_defined l n y [] s x σ p q h g) =
-      deed_comes (Some (mark n l false)) _ (F.finished s) s x p _ (value v ∷ σ) σ (on q σ) _ h.stands (h.does v σ) refl refl (from_here s x σ q g) (lands _ x σ q (at_finished s x σ q g)) (busy_alike s x σ q g) refl
+      deed_comes (Some (mark n l false)) _ (F.finished s) s x p _ (value v ∷ σ) σ (on q σ) _ h.stands (h.does v σ) refl refl (raised_by _ _ level) (from_here s x σ q g) (lands _ x σ q (at_finished s x σ q g)) (busy_alike s x σ q g) refl
   deliver_comes v _ _ _ _ (at_defined l n y (d ∷ ds) s x σ p q (m, hc, h) g) =
       operation_comes (F.defined l (n + 1) y ds s) x (decorators_above ds σ) p m [] _ d.line n (v ∷ d.value ∷ []) hc (at_defined l (n + 1) y ds s x σ m q h g)
 
@@ -824,7 +824,7 @@ module _ {V : Type 0} (block : Around V) (code : CodeObject V) where
       → N s x σ end' → (r : Reply V V) → C (control.after_iter block (F.for_over l n t body els s) r) (after code i σ (λ it. on q (iterator it ∷ σ)) r)
   iter_replies l n t body els s x i σ q first next other end' e hn h g (got v) =
       there _ _ (m_next (mark n l false) v l n t body els s x (on q (iterator v ∷ σ)) (ins (instr.Next (record { 0 = other })) (act_mark q n l false) first x.rows) σ first next other end'
-      (turned q _ (iterator v ∷ σ) _ hn refl) refl (is_there first) h g refl)
+      (turned q _ (iterator v ∷ σ) _ hn refl) refl level (is_there first) h g refl)
   iter_replies l n t body els s x i σ q first next other end' e hn h g (raised v) = raise_inside s x σ i e (from_here s x σ end' g) v
 
   leads_comes : (c : Control V) (x : Surroundings) (p q : ℕ) (σ : Slots V) → Leads block code x p q → C c (on q σ) → C c (on p σ)
@@ -877,16 +877,16 @@ module _ {V : Type 0} (block : Around V) (code : CodeObject V) where
 
   pub follows : Follows block code
   follows _ _ (m_within outer rows σ p c t b m) = same_within outer rows σ p _ _ (steps.follows block code rows outer σ p c t m) b
-  follows c _ (m_deed m d k s x t i τ u _ e ec er g h a en) =
+  follows c _ (m_deed m d k s x t i τ u _ e ec er up g h a en) =
       subst (λ y. Same block code y (machine.turn code t)) (sym ec) (same_at _ t _ e (same_act m (T.deed d) _ _ (deed_replies k s x i τ u er g h)))
-  follows _ _ (m_leave m a s x t i τ e er may g b) = same_at _ t _ e (same_act _ _ _ _ (leave_replies a s x i τ er may g))
-  follows _ _ (m_throw m a s x t i τ e er g b) = same_at _ t _ e (same_act _ _ _ _ (throw_replies s x i τ er g))
-  follows _ _ (m_truth m a k f s x t i τ next e er g ht hf b) = same_at _ t _ e (same_act _ _ _ _ (truth_replies k f s x i τ next er g ht hf))
-  follows _ _ (m_iter m v l n tg body els s x t i σ q first next other end' e er hn h g b) =
+  follows _ _ (m_leave m a s x t i τ e er up may g b) = same_at _ t _ e (same_act _ _ _ _ (leave_replies a s x i τ er may g))
+  follows _ _ (m_throw m a s x t i τ e er up g b) = same_at _ t _ e (same_act _ _ _ _ (throw_replies s x i τ er g))
+  follows _ _ (m_truth m a k f s x t i τ next e er up g ht hf b) = same_at _ t _ e (same_act _ _ _ _ (truth_replies k f s x i τ next er g ht hf))
+  follows _ _ (m_iter m v l n tg body els s x t i σ q first next other end' e er up hn h g b) =
       same_at _ t _ e (same_act _ _ _ _ (iter_replies l n tg body els s x i σ q first next other end' er hn h g))
-  follows _ _ (m_next m it l n tg body els s x t i σ first next other end' e er hl h g b) =
+  follows _ _ (m_next m it l n tg body els s x t i σ first next other end' e er up hl h g b) =
       same_at _ t _ e (same_act _ _ _ _ (next_replies it l n tg body els s x i σ first next other end' er hl h g))
-  follows _ _ (m_entry m v l n tg is body s x t i σ row q end' e er a h hx g b) =
+  follows _ _ (m_entry m v l n tg is body s x t i σ row q end' e er up a h hx g b) =
       same_at _ t _ e (same_act _ _ _ _ (entry_replies l n tg is body s x i σ row q end' er a h hx g))
   follows _ _ (m_note v s x rows τ e g b) = same_note (raised_again v) _ _ (note_replies v s x rows τ e g)
   follows _ _ (m_over e) = same_over e
@@ -941,7 +941,7 @@ module _ {V : Type 0} (block : Around V) (code : CodeObject V) where
   wait_active _ _ _ _ (at_imported l n y xs s x σ p q h g) = busy_alike s x σ q g
   wait_active _ _ _ _ (at_imported_origin l n xs s x σ p q h g) = busy_alike s x σ q g
   wait_active _ _ _ _ (at_imported_name l n y xs o s x σ p q h g) = busy_alike s x σ q g
-  wait_active _ _ _ _ (at_matched l k n e t f x σ p q r other h hs ht hf) = refl
+  wait_active _ _ _ _ (at_matched l k n m e t hds s x σ p q r other end' h hs ht hh g) = refl
   wait_active _ _ _ _ (at_entered l n t is body s x σ row p end' a h hx g) = busy_alike s x σ end' g
   wait_active _ _ _ _ (at_decorated k n before ds l y what s x σ p q h g) = decorators_active before σ ∙ busy_alike s x σ q g
   wait_active _ _ _ _ (at_defined l n y calls s x σ p q h g) = decorators_active calls σ ∙ busy_alike s x σ q g
@@ -953,12 +953,44 @@ module _ {V : Type 0} (block : Around V) (code : CodeObject V) where
   pub active_alike : ActiveAlike block code
   active_alike _ _ (m_within outer rows σ p c t b m) =
       let h = steps.all_active block code rows outer σ p c t m in h.1 ∙ beyond_active outer rows σ p b ∙ sym h.0
-  active_alike _ _ (m_deed m d k s x t i τ u c e ec er g h a en) = a
-  active_alike _ _ (m_leave m a s x t i τ e er may g b) = b
-  active_alike _ _ (m_throw m a s x t i τ e er g b) = b
-  active_alike _ _ (m_truth m a k f s x t i τ next e er g ht hf b) = b
-  active_alike _ _ (m_iter m v l n tg body els s x t i σ q first next other end' e er hn h g b) = b ∙ busy_alike s x σ end' g
-  active_alike _ _ (m_next m it l n tg body els s x t i σ first next other end' e er hl h g b) = b ∙ busy_alike s x σ end' g
-  active_alike _ _ (m_entry m v l n tg is body s x t i σ row q end' e er a h hx g b) = b ∙ busy_alike s x σ end' g
+  active_alike _ _ (m_deed m d k s x t i τ u c e ec er up g h a en) = a
+  active_alike _ _ (m_leave m a s x t i τ e er up may g b) = b
+  active_alike _ _ (m_throw m a s x t i τ e er up g b) = b
+  active_alike _ _ (m_truth m a k f s x t i τ next e er up g ht hf b) = b
+  active_alike _ _ (m_iter m v l n tg body els s x t i σ q first next other end' e er up hn h g b) = b ∙ busy_alike s x σ end' g
+  active_alike _ _ (m_next m it l n tg body els s x t i σ first next other end' e er up hl h g b) = b ∙ busy_alike s x σ end' g
+  active_alike _ _ (m_entry m v l n tg is body s x t i σ row q end' e er up a h hx g b) = b ∙ busy_alike s x σ end' g
   active_alike _ _ (m_note v s x rows τ e g b) = b
   active_alike _ _ (m_over e) = refl
+
+  -- slots lie as in control's nest
+  inside_more : (s : Nest V) (x : Surroundings) (σ τ : Slots V) → Above σ τ → Inside block code s x σ → Inside block code s x τ
+  inside_more s x σ _ level h = h
+  inside_more s x σ _ (raised_by u τ o) h = inside_push s x u τ (inside_more s x σ τ o h)
+
+  inside_beyond : (outer : Outer V) (rows : List Handler) (σ : Slots V) (p : ℕ) → Beyond block code outer rows σ p
+      → (x : Surroundings) × Inside block code (expressions.outer_base outer) x σ
+  inside_beyond (wait w) rows σ p b = (b.surroundings, inside_wait w b.surroundings σ p b.stands)
+  inside_beyond (way k) rows σ p b = (b.surroundings, inside_way k b.surroundings σ p b.stands)
+
+  pub nests_lie : NestsLie block code
+  nests_lie _ _ (m_within outer rows σ p c t b m) =
+      let h = steps.all_lie block code rows outer σ p c t m in
+      let g = inside_beyond outer rows σ p b in
+      (g.0, subst (λ s. Inside block code s g.0 (slots_in t)) (sym h.0) (inside_above _ g.0 σ (slots_in t) h.1 g.1))
+  nests_lie _ _ (m_deed m d k s x t i τ u c e ec er up g h a en) =
+      (x, subst (λ n. Inside block code n x (slots_in t)) (sym en) (inside_more s x τ (slots_in t) up g))
+  nests_lie _ _ (m_leave m a s x t i τ e er up may g b) = (x, inside_more s x τ (slots_in t) up g)
+  nests_lie _ _ (m_throw m a s x t i τ e er up g b) = (x, inside_more s x τ (slots_in t) up g)
+  nests_lie _ _ (m_truth m a k f s x t i τ next e er up g ht hf b) = (x, inside_more s x τ (slots_in t) up g)
+  nests_lie _ _ (m_iter m v l n tg body els s x t i σ q first next other end' e er up hn h g b) =
+      (x, inside_more s x σ (slots_in t) up (from_here s x σ end' g))
+  nests_lie _ _ (m_next m it l n tg body els s x t i σ first next other end' e er up hl h g b) = (
+    in_for next end' x,
+    inside_more _ (in_for next end' x) (iterator it ∷ σ) (slots_in t) up
+        (from_here _ (in_for next end' x) (iterator it ∷ σ) next (at_iterating l n it tg body els s x σ first next other end' h g)),
+  )
+  nests_lie _ _ (m_entry m v l n tg is body s x t i σ row q end' e er up a h hx g b) =
+      (x, inside_more s x σ (slots_in t) up (from_here s x σ end' g))
+  nests_lie _ _ (m_note v s x rows τ e g b) = (x, g)
+  nests_lie _ _ (m_over e) = (outermost [], alone [] [])

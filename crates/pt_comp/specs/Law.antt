@@ -25,7 +25,7 @@ use Rattle.pt_slots.specs.Steps.{after, with_item}
 use Rattle.pt_slots.specs.Machine as machine
 use Rattle.pt_comp_expr.specs.Places.{◌⨾◌, act_mark, Stores, Op_at, Exp_at}
 use Rattle.pt_comp_expr.specs.Law as expressions
-use Rattle.pt_comp_expr.specs.Law.{Outer, wait, way, active_at}
+use Rattle.pt_comp_expr.specs.Law.{Outer, wait, way, active_at, slots_in}
 use Rattle.pt_comp.specs.Surroundings.{Surroundings, outermost, in_while, in_for, deeper, under, TakesAll, TakesRaises, as_code, held_as, May, May_hold}
 use Rattle.pt_comp.specs.Places.{Deletes, DeletesAttribute, Splits, Value_at, Act_in, Move_in, Jump_in, Null_in, Store_in, Assigned_at, Back_to_name, Back_to_attribute, Back_to_item, Changed_at, All_deleted_at, Failed_at, Thrown_at, Imported_at, Imported_from_at, Bound_at, Decorated_at, While_at, For_at, Taken_at, behind_target, Items_at, All_at, Branches_at, Handlers_at, Block_at, Lambda_at, Generator_at}
 
@@ -96,7 +96,8 @@ module _ {V : Type 0} (block : Around V) (code : CodeObject V) where
   pub data Inside : Nest V → Surroundings → Slots V → Type 0 where
     inside : (s : Nest V) (x : Surroundings) (σ τ : Slots V) (p : ℕ) → Nest_on s x σ p → Above σ τ → Inside s x τ
     alone : (starts : List Start) (τ : Slots V) → Inside [] (outermost starts) τ
-    in_tests : (n : ℕ) (e : V) (s : Nest V) (x : Surroundings) (τ : Slots V) → Inside s x τ → Inside (F.testing n e ∷ s) x τ
+    in_tests : (n : ℕ) (e : V) (s : Nest V) (x : Surroundings) (σ τ : Slots V) (p : ℕ) → Nest_on s x σ p → Above (exception e ∷ σ) τ
+        → Inside (F.testing n e ∷ s) x τ
     in_exit : (n : ℕ) (w : V) (held : Completion V) (s : Nest V) (x : Surroundings) (τ : Slots V) → Inside s x τ → Inside (F.exiting n w held ∷ s) x τ
 
   -- the same where the exception that is active is that of the nest
@@ -201,9 +202,9 @@ module _ {V : Type 0} (block : Around V) (code : CodeObject V) where
     at_imported_name : (l n : ℕ) (y : Name) (xs : List Alias) (m : V) (s : Nest V) (x : Surroundings) (σ : Slots V) (p q : ℕ)
         → (Store_in block code x y n l ⨾ Imported_from_at block code xs l (n + 1) x) p q → Nest_on s x σ q
         → Waits_on (F.imported_name l n y xs m s) x (value m ∷ σ) p
-    at_matched : (l k n : ℕ) (e : V) (t f : Way V) (x : Surroundings) (σ : Slots V) (p q r other : ℕ)
-        → Act_in block code x instr.Match n l p q → Splits block code x.rows other q r → Lands t (on r (exception e ∷ σ)) → Way_on f x (exception e ∷ σ) other
-        → Waits_on (F.matched l k n e t f) x (exception e ∷ σ) p
+    at_matched : (l k n m : ℕ) (e : V) (t : Way V) (hs : Handlers) (s : Nest V) (x : Surroundings) (σ : Slots V) (p q r other end : ℕ)
+        → Act_in block code x instr.Match n l p q → Splits block code x.rows other q r → Lands t (on r (exception e ∷ σ))
+        → Handlers_at block code hs m end x other → Nest_on s x σ end → Waits_on (F.matched l k n e t (F.tests k m hs e s)) x (exception e ∷ σ) p
     at_entered : (l n : ℕ) (t : Option Tgt) (is : Items) (body : Stms) (s : Nest V) (x : Surroundings) (σ : Slots V) (row : Handler) (p end : ℕ)
         → TakesAll row (deeper x)
         → (Act_in block code x instr.Enter n l ⨾ Taken_at block code t row (n + 1) x
@@ -244,29 +245,32 @@ module _ {V : Type 0} (block : Around V) (code : CodeObject V) where
         → Beyond outer rows σ p → expressions.Match block code rows outer σ p c t → Match c t
     m_deed : (m : Option Mark) (d : Deed V) (k : Way V) (s : Nest V) (x : Surroundings) (t : State V) (i : Ins) (τ : Slots V) (u : State V) (c : Control V)
         → machine.turn code t ≡ act m (T.deed d) (after code i τ (λ r. u)) → control.turn block c ≡ act m (T.deed d) (control.after_deed block k s)
-        → i.rows ≡ x.rows → Inside s x τ → Lands k u → active_at t ≡ control.context_at c → control.nest_at c ≡ s → Match c t
+        → i.rows ≡ x.rows → Above τ (slots_in t) → Inside s x τ → Lands k u → active_at t ≡ control.context_at c → control.nest_at c ≡ s → Match c t
     m_leave : (m : Mark) (a : Abrupt V) (s : Nest V) (x : Surroundings) (t : State V) (i : Ins) (τ : Slots V)
         → machine.turn code t ≡ act (Some m) (T.leave (control.leave_by block a)) (after code i τ (λ r. land code x.rows (as_code a x) τ))
-        → i.rows ≡ x.rows → May code a x → Inside s x τ → active_at t ≡ bases.active s → Match (for_leave m a s) t
+        → i.rows ≡ x.rows → Above τ (slots_in t) → May code a x → Inside s x τ → active_at t ≡ bases.active s → Match (for_leave m a s) t
     m_throw : (m : Mark) (a : Throw V) (s : Nest V) (x : Surroundings) (t : State V) (i : Ins) (τ : Slots V)
-        → machine.turn code t ≡ act (Some m) (T.throw a) (after code i τ (λ r. elim r [ ])) → i.rows ≡ x.rows → Inside s x τ → active_at t ≡ bases.active s
-        → Match (for_throw m a s) t
+        → machine.turn code t ≡ act (Some m) (T.throw a) (after code i τ (λ r. elim r [ ])) → i.rows ≡ x.rows → Above τ (slots_in t) → Inside s x τ
+        → active_at t ≡ bases.active s → Match (for_throw m a s) t
     m_truth : (m : Mark) (a : Test V) (k f : Way V) (s : Nest V) (x : Surroundings) (t : State V) (i : Ins) (τ : Slots V) (next : Bool → State V)
-        → machine.turn code t ≡ act (Some m) (T.test a) (after code i τ next) → i.rows ≡ x.rows → Inside s x τ → Lands k (next true) → Lands f (next false)
-        → active_at t ≡ bases.active s → Match (for_truth m a k f s) t
+        → machine.turn code t ≡ act (Some m) (T.test a) (after code i τ next) → i.rows ≡ x.rows → Above τ (slots_in t) → Inside s x τ
+        → Lands k (next true) → Lands f (next false) → active_at t ≡ bases.active s → Match (for_truth m a k f s) t
     m_iter : (m : Mark) (v : V) (l n : ℕ) (tg : Tgt) (body els : Stms) (s : Nest V) (x : Surroundings) (t : State V) (i : Ins) (σ : Slots V) (q first next other end : ℕ)
         → machine.turn code t ≡ act (Some m) (T.iter_of v) (after code i σ (λ it. on q (iterator it ∷ σ))) → i.rows ≡ x.rows
+        → Above σ (slots_in t)
         → Act_in block code x (instr.Next (record { 0 = other })) n l q first
         → For_at block code l n tg (All_at block code body (for_body n tg)) (All_at block code els (for_else n tg body) x) x first next other end
         → Nest_on s x σ end → active_at t ≡ active σ → Match (for_iter m v (F.for_over l n tg body els s)) t
     m_next : (m : Mark) (it : V) (l n : ℕ) (tg : Tgt) (body els : Stms) (s : Nest V) (x : Surroundings) (t : State V) (i : Ins) (σ : Slots V) (first next other end : ℕ)
-        → machine.turn code t ≡ act (Some m) (T.next_of it) (after code i σ (with_item code i other it σ)) → i.rows ≡ x.rows → Leads x i.next first
+        → machine.turn code t ≡ act (Some m) (T.next_of it) (after code i σ (with_item code i other it σ)) → i.rows ≡ x.rows
+        → Above (iterator it ∷ σ) (slots_in t) → Leads x i.next first
         → For_at block code l n tg (All_at block code body (for_body n tg)) (All_at block code els (for_else n tg body) x) x first next other end
         → Nest_on s x σ end → active_at t ≡ active σ
         → Match (for_item m it (n + 1) tg (F.stms (for_body n tg) body (F.iterating l n it tg body els ∷ s)) (F.stms (for_else n tg body) els s)) t
     m_entry : (m : Mark) (v : V) (l n : ℕ) (tg : Option Tgt) (is : Items) (body : Stms) (s : Nest V) (x : Surroundings) (t : State V) (i : Ins) (σ : Slots V)
         (row : Handler) (q end : ℕ)
-        → machine.turn code t ≡ act (Some m) (T.enter v) (after code i σ (λ r. on q (value r.1 ∷ exit r.0 ∷ σ))) → i.rows ≡ x.rows → TakesAll row (deeper x)
+        → machine.turn code t ≡ act (Some m) (T.enter v) (after code i σ (λ r. on q (value r.1 ∷ exit r.0 ∷ σ))) → i.rows ≡ x.rows
+        → Above σ (slots_in t) → TakesAll row (deeper x)
         → (Taken_at block code tg row n x
         ⨾ Items_at block code is (All_at block code body) (stms_size body) (behind_target block code tg n) (under row (deeper x))
         ⨾ Move_in block code (under row x) instr.Normal) q row.target.0
@@ -300,6 +304,10 @@ module _ {V : Type 0} (block : Around V) (code : CodeObject V) where
   -- in matching states the same exception is active (8.4.1, 8.4.4)
   abbrev pub ActiveAlike : Type 0
   ActiveAlike = (c : Control V) (t : State V) → Match c t → active_at t ≡ control.context_at c
+
+  -- and slots lie there as in control's nest, with any others above them
+  abbrev pub NestsLie : Type 0
+  NestsLie = (c : Control V) (t : State V) → Match c t → (x : Surroundings) × Inside (control.nest_at c) x (slots_in t)
 
   -- and code comes from the beginning of its block to such states: a block of statements, a lambda's, and a generator expression's with its first iterator
   abbrev pub BlocksBegin : Type 0

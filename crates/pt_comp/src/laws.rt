@@ -9,6 +9,7 @@ ghost use Rattle.pt_comp.specs.Law.{
   Follows,
   GeneratorsBegin,
   LambdasBegin,
+  NestsLie,
   WaysGoOn,
 };
 ghost use Rattle.pt_comp.specs.Places.{Block_at};
@@ -22,7 +23,7 @@ ghost use Rattle.pt_comp.specs.Samples.{
 /// From all states that match, both have the same act, the same ask without a mark, the same note
 /// or the same end, and behind each reply they come to states that match again. They come to such
 /// states too from each place where code goes on as control does, as behind a jump. In states that
-/// match, the same exception is active.
+/// match, the same exception is active, and slots lie as in control's nest.
 pub fn the_code_of_a_block_follows_it<V>()
     ensures blocks { (block : Around V) (code : CodeObject V) → BlocksBegin block code }
     ensures lambdas { (block : Around V) (code : CodeObject V) → LambdasBegin block code }
@@ -30,6 +31,7 @@ pub fn the_code_of_a_block_follows_it<V>()
     ensures follows { (block : Around V) (code : CodeObject V) → Follows block code }
     ensures ways { (block : Around V) (code : CodeObject V) → WaysGoOn block code }
     ensures active { (block : Around V) (code : CodeObject V) → ActiveAlike block code }
+    ensures lie { (block : Around V) (code : CodeObject V) → NestsLie block code }
 {}
 
 /// A block that holds every statement has code that stands so.

@@ -19,7 +19,7 @@ use Rattle.pt_control.specs.Expressions.{begin_operation, begin_exp, begin_defau
 use Rattle.pt_control.specs.Statements.{begin_store, begin_stores, each_gets, count as count_targets}
 use Rattle.pt_control.specs.Completions.{complete}
 use Rattle.pt_control.specs.Control as control
-use Rattle.pt_slots.specs.Slots.{raise, Slot, value, cell, iterator, Slots, State, on, busy_with, or_else, active}
+use Rattle.pt_slots.specs.Slots.{raise, Slot, value, cell, iterator, Slots, State, on, thrown_to, reraises, off, busy_with, or_else, active}
 use Rattle.pt_slots.specs.CodeObject.{CodeObject}
 use Rattle.pt_slots.specs.Landing.{land}
 use Rattle.pt_slots.specs.Pops.{giving, the_value}
@@ -28,7 +28,7 @@ use Rattle.pt_slots.specs.Instructions.{perform}
 use Rattle.pt_slots.specs.Machine as machine
 use Rattle.pt_slots.specs.Machine.{here, thrown_here}
 use Rattle.pt_comp_expr.specs.Places.{count, above, cells_above, iterators_above, act_mark, ins, Act_at, Null_at, Seek_at, Made_at, Op_at, Exp_at, Behind_at, Spec_at, Links_at, Formals_at, First_at, Clauses_at, Item_at, Target_at, Targets_at, Renewed_at}
-use Rattle.pt_comp_expr.specs.Law.{On_top, same, push, active_at, Leaves, Outer, wait, way, outer_base, Waits_on, at_end, at_operands, at_yielded, at_formatted, at_comparing, at_compared, at_linked, at_anded, at_ored, at_asked, at_iterated, at_built, at_listed, at_set, at_keyed, at_entered, at_item_yielded, at_item_sent, at_attribute, at_container, at_index, behind_jump, over_value, Way_on, at_out, at_value, at_given, at_linked_on, way_behind_jump, at_stores, at_clauses, at_round, at_renewed, Rounds_on, at_result, at_items, at_clause, Makes, makes, makes_in, stored, Stores_at, Last_at, Item_taken, Over_on, over_generator, over_delegated, over_comprehension, over_clause, Inside, inside, inside_out, Lands, lands, Match, m_value, m_cell, m_truth, m_deed, m_item, m_unpack, m_iter, m_delegate, Nears, there, moves, Comes, near, moves_on, given, gone, left, Same, same_act, Follows, AllBegin, AllStore, AllActive}
+use Rattle.pt_comp_expr.specs.Law.{On_top, same, push, active_at, slots_in, Leaves, Outer, wait, way, outer_base, Waits_on, at_end, at_operands, at_yielded, at_formatted, at_comparing, at_compared, at_linked, at_anded, at_ored, at_asked, at_iterated, at_built, at_listed, at_set, at_keyed, at_entered, at_item_yielded, at_item_sent, at_attribute, at_container, at_index, behind_jump, over_value, Way_on, at_out, at_value, at_given, at_linked_on, way_behind_jump, at_stores, at_clauses, at_round, at_renewed, Rounds_on, at_result, at_items, at_clause, Makes, makes, makes_in, stored, Stores_at, Last_at, Item_taken, Over_on, over_generator, over_delegated, over_comprehension, over_clause, Inside, inside, inside_out, Lands, lands, Match, m_value, m_cell, m_truth, m_deed, m_item, m_unpack, m_iter, m_delegate, Nears, there, moves, Comes, near, moves_on, given, gone, left, Same, same_act, Follows, AllBegin, AllStore, AllActive, AllLie}
 use Rattle.pt_comp_expr.proofs.Lists.{exps_behind, entries_behind, args_behind, pieces_behind, part_behind, formals_behind, last_behind}
 
 module _ {V : Type 0} where
@@ -40,6 +40,10 @@ module _ {V : Type 0} where
   pub top_active : (ss ts : Slots V) → On_top ss ts → active ts ≡ active ss
   top_active ss _ same = refl
   top_active ss _ (push t ts o n) = ap (λ b. or_else b (active ts)) n ∙ top_active ss ts o
+
+  top_on_top : (ss ts us : Slots V) → On_top ss ts → On_top ts us → On_top ss us
+  top_on_top ss ts _ o same = o
+  top_on_top ss ts _ o (push s us h n) = push s us (top_on_top ss ts us o h) n
 
   all_popped : (vs : List V) (ss ts : Slots V) → On_top (above vs ss) ts → On_top ss ts
   all_popped [] ss ts o = o
@@ -159,8 +163,8 @@ module _ {V : Type 0} (block : Around V) (code : CodeObject V) (rows : List Hand
   found _ _ _ _ made next (at_clause l n d i t cs r ss p head end' h hr) (makes_in _ _ _ _ _ _ _ mk) = found r d ss head made next hr mk
 
   -- an instruction stands under the rows, and what it takes is not busy
-  under : {t : State V} {i : Ins} {ss : Slots V} → i.rows ≡ rows → active_at t ≡ active ss → Leaves t i rows ss
-  under e a = record { same_rows = e; same_active = a }
+  under : {t : State V} {i : Ins} {ss : Slots V} → i.rows ≡ rows → On_top ss (slots_in t) → Leaves t i rows ss
+  under e o = record { same_rows = e; on_top = o }
 
   -- an instruction is done; a move is made
   pub turn_at : (p : ℕ) (i : Ins) (ss : Slots V) (t : Turn (State V) V) → code.at p ≡ Some i → perform code p i i.instr ss ≡ t → machine.turn code (on p ss) ≡ t
@@ -178,7 +182,7 @@ module _ {V : Type 0} (block : Around V) (code : CodeObject V) (rows : List Hand
   seek_comes : (s : Seek V) (l n : ℕ) (g : Bool) (w : Wait V) (ss : Slots V) (p q : ℕ)
       → Seek_at block code rows s n l g p q → W w ss q → N (for_value (mark n l g) s w) (on p ss)
   seek_comes s l n g w ss p q h k =
-      there _ _ (m_value (mark n l g) s w (on p ss) (ins h.instr (act_mark p n l g) q rows) ss ss q (turn_at p _ ss _ h.stands (h.does ss)) (under refl refl) same k)
+      there _ _ (m_value (mark n l g) s w (on p ss) (ins h.instr (act_mark p n l g) q rows) ss ss q (turn_at p _ ss _ h.stands (h.does ss)) (under refl same) same k)
 
   -- cells are given, and then the operation
   pub made_comes : (xs : List Variable) (op : Operation) (lower : List V → Slots V → Slots V) (l n : ℕ) (g : Bool) (cs vs before : List V) (w : Wait V) (ss : Slots V) (p q : ℕ)
@@ -187,10 +191,10 @@ module _ {V : Type 0} (block : Around V) (code : CodeObject V) (rows : List Hand
   made_comes [] op lower l n g cs vs before w ss p q h e o k =
       there _ _ (m_value (mark n l g) (T.operate op (reverse before)) w _ (ins h.instr (act_mark p n l g) q rows) ss ss q
       (turn_at p _ _ _ h.stands (h.does cs vs ss refl refl)
-      ∙ ap (λ b. act (Some (mark n l g)) (T.seek (T.operate op (reverse b))) (after code (ins h.instr (act_mark p n l g) q rows) ss (λ v. on q (value v ∷ ss)))) (sym e)) (under refl (top_active ss _ (on_cells cs ss (lower vs ss) o))) same k)
+      ∙ ap (λ b. act (Some (mark n l g)) (T.seek (T.operate op (reverse b))) (after code (ins h.instr (act_mark p n l g) q rows) ss (λ v. on q (value v ∷ ss)))) (sym e)) (under refl (on_cells cs ss (lower vs ss) o)) same k)
   made_comes (x ∷ xs) op lower l n g cs vs before w ss p q (m, h, hs) e o k =
       there _ _ (m_cell x l n g op lower cs vs before xs w _ (ins h.instr None m rows) ss (cells_above cs (lower vs ss)) m q
-      (turn_at p _ _ _ h.stands (h.does (cells_above cs (lower vs ss)))) (under refl refl) (on_cells cs ss (lower vs ss) o) o hs e k)
+      (turn_at p _ _ _ h.stands (h.does (cells_above cs (lower vs ss)))) (under refl same) (on_cells cs ss (lower vs ss) o) o hs e k)
 
   -- an expression begins
   mutual
@@ -251,7 +255,7 @@ module _ {V : Type 0} (block : Around V) (code : CodeObject V) (rows : List Hand
     begin_exp_comes (S.generator l b e a t it cs) n g w ss p q (m, hi, (m', h, hg)) k =
         begin_exp_comes it n g _ ss p m hi (at_iterated a _ _ ss m m' h (over_generator l _ b w ss m' q hg k))
     begin_exp_comes (S.yield l S.absent) n g w ss p q (m, hn, h) k =
-        null_comes _ p m ss hn (there _ _ (m_value _ _ w _ (ins instr.Yield (act_mark m n l g) q rows) ss ss q (turn_at m _ _ _ h refl) (under refl refl) same k))
+        null_comes _ p m ss hn (there _ _ (m_value _ _ w _ (ins instr.Yield (act_mark m n l g) q rows) ss ss q (turn_at m _ _ _ h refl) (under refl (push _ _ same refl)) same k))
     begin_exp_comes (S.yield l (S.given e)) n g w ss p q (m, he, h) k = begin_exp_comes e n g _ ss p m he (at_yielded l _ w ss m q h k)
     begin_exp_comes (S.yield_from l e) n g w ss p q (m, he, (m', h, (m2, hn, hd))) k =
         begin_exp_comes e n g _ ss p m he (at_iterated l _ _ ss m m' h (over_delegated l _ w ss m' m2 q hn hd k))
@@ -319,14 +323,14 @@ module _ {V : Type 0} (block : Around V) (code : CodeObject V) (rows : List Hand
       → Target_at block code rows t n (around_way k) p q → Way_on block code rows outer lowest end k ss q → N (begin_store block t v n k) (on p (value v ∷ ss))
   store_comes (S.single (S.name_at l x)) v n k ss p q h hk =
       there _ _ (m_deed (Some (mark n l false)) _ k (way_base k) _ (ins h.instr (act_mark p n l false) q rows) ss (on q ss) _
-      (turn_at p _ _ _ h.stands (h.does v ss)) refl refl refl (under refl refl) (inside_way k ss ss q hk same) (lands k ss q hk))
+      (turn_at p _ _ _ h.stands (h.does v ss)) refl refl refl (under refl (push _ _ same refl)) (inside_way k ss ss q hk same) (lands k ss q hk))
   store_comes (S.single (S.attribute_at l a x)) v n k ss p q (m, ha, h) hk =
       begin_exp_comes a n false _ (value v ∷ ss) p m ha (at_attribute l _ x v k ss m q h hk)
   store_comes (S.single (S.item_at l a i)) v n k ss p q (m, ha, h) hk =
       begin_exp_comes a n false _ (value v ∷ ss) p m ha (at_container l _ i v k ss m q h hk)
   store_comes (S.several l f ts) v n k ss p q (m, h, hts) hk =
       there _ _ (m_unpack (mark n l false) v (n + 1) ts k _ (ins h.instr (act_mark p n l false) m rows) ss m q
-      (turn_at p _ _ _ h.stands (h.does v ss)) (under refl refl) hts hk (inside_way k ss ss q hk same))
+      (turn_at p _ _ _ h.stands (h.does v ss)) (under refl (push _ _ same refl)) hts hk (inside_way k ss ss q hk same))
   store_comes (S.starred l t) v n k ss p q h hk = store_comes t v n k ss p q h hk
 
   pub stores_come : (st : Stores V) (n : ℕ) (k : Way V) (ss : Slots V) (p q : ℕ) (c : Control V)
@@ -340,7 +344,7 @@ module _ {V : Type 0} (block : Around V) (code : CodeObject V) (rows : List Hand
       → Item_taken block code rows l n t cs r d p next end' → Rounds_on block code rows outer lowest end r d ss next → N (take_item l n i t cs r) (on p (iterator i ∷ ss))
   item_comes l n i t cs r d ss p next end' (m, hn, (m', ht, hc)) hr =
       there _ _ (m_item (mark n l false) i (n + 1) t _ _ _ (ins (instr.Next (record { 0 = next })) (act_mark p n l false) m rows) ss m m' next
-      (turn_at p _ _ _ hn refl) (under refl refl) refl ht
+      (turn_at p _ _ _ hn refl) (under refl (push _ _ same refl)) refl ht
       (at_clauses _ (suc d) p cs (F.round_of l n i t cs r) (iterator i ∷ ss) m' end' hc (at_clause l n d i t cs r ss p next end' (m, hn, (m', ht, hc)) hr))
       (at_round d r ss next hr) (inside_rounds r d ss ss next hr same))
 
@@ -351,7 +355,7 @@ module _ {V : Type 0} (block : Around V) (code : CodeObject V) (rows : List Hand
       subst (λ u. N (take_item l n i t cs r) (on u (iterator i ∷ ss))) (sym h) (item_comes l n i t cs r d ss head next end' hi hr)
   renewed_come (x ∷ xs) l n i t cs r d ss p head next end' (m, h, hs) hi hr =
       there _ _ (m_deed None (T.fresh x) (F.made_anew xs l n i t cs r) (rounds_base r) _ (ins h.instr None m rows) (iterator i ∷ ss) (on m (iterator i ∷ ss)) _
-      (turn_at p _ _ _ h.stands (h.does (iterator i ∷ ss))) refl refl refl (under refl refl) (inside_rounds r d ss (iterator i ∷ ss) next hr (push _ _ same refl))
+      (turn_at p _ _ _ h.stands (h.does (iterator i ∷ ss))) refl refl refl (under refl same) (inside_rounds r d ss (iterator i ∷ ss) next hr (push _ _ same refl))
       (lands _ _ m (at_renewed xs l n d m head end' next i t cs r ss hs hi hr)))
 
   made_item_comes : (m : Made) (l n d head : ℕ) (v : V) (r : Rounds V) (ss : Slots V) (p q : ℕ)
@@ -391,72 +395,72 @@ module _ {V : Type 0} (block : Around V) (code : CodeObject V) (rows : List Hand
       → Links_at block code rows r o l n (around w) p q → W w ss q
       → N (control.deliver block v (F.compared l n a o r w)) (on p (value v ∷ value a ∷ ss))
   links_come S.no_links o l n a v w ss p q h k =
-      there _ _ (m_value _ _ w _ (ins (instr.Compare o) (act_mark p n l false) q rows) ss ss q (turn_at p _ _ _ h refl) (under refl refl) same k)
+      there _ _ (m_value _ _ w _ (ins (instr.Compare o) (act_mark p n l false) q rows) ss ss q (turn_at p _ _ _ h refl) (under refl (push _ _ (push _ _ same refl) refl)) same k)
   links_come (S.link c b r) o l n a v w ss p q (other, (m, hc, (m1, hr, (m2, h, (m3, hj, hb)))), hs) k =
       moved _ p _ _ _ hc refl (moved _ m _ _ _ hr refl
-      (there _ _ (m_value _ _ _ _ (ins (instr.Compare o) (act_mark m1 n l false) m2 rows) (value v ∷ ss) (value v ∷ ss) m2 (turn_at m1 _ _ _ h refl) (under refl refl) same
+      (there _ _ (m_value _ _ _ _ (ins (instr.Compare o) (act_mark m1 n l false) m2 rows) (value v ∷ ss) (value v ∷ ss) m2 (turn_at m1 _ _ _ h refl) (under refl (push _ _ (push _ _ same refl) refl)) same
       (at_linked l (n + 1) v c b r w ss m2 other q (m3, hj, hb) hs k))))
 
   deliver_comes : (v : V) (w : Wait V) (ss : Slots V) (p : ℕ) → W w ss p → C (control.deliver block v w) (on p (value v ∷ ss))
   deliver_comes v _ _ _ (at_end w e) = given w v e
   deliver_comes v _ _ _ (at_operands l n op before behind w ss p q h k) = near _ _ (next_operand_comes behind op l n (v ∷ before) w ss p q h k)
   deliver_comes v _ _ _ (at_yielded l n w ss p q h k) =
-      near _ _ (there _ _ (m_value _ _ w _ (ins instr.Yield (act_mark p n l false) q rows) ss ss q (turn_at p _ _ _ h refl) (under refl refl) same k))
+      near _ _ (there _ _ (m_value _ _ w _ (ins instr.Yield (act_mark p n l false) q rows) ss ss q (turn_at p _ _ _ h refl) (under refl (push _ _ same refl)) same k))
   deliver_comes v _ _ _ (at_formatted l n c sp w ss p q h k) = near _ _ (spec_comes sp l n c v w ss p q h k)
   deliver_comes v _ _ _ (at_comparing l n o b r w ss p q (m, hb, h) k) =
       near _ _ (begin_exp_comes b n false _ (value v ∷ ss) p m hb (at_compared l _ v o r w ss m q h k))
   deliver_comes v _ _ _ (at_compared l n a o r w ss p q h k) = near _ _ (links_come r o l n a v w ss p q h k)
   deliver_comes v _ _ _ (at_linked l n a o b r w ss p other to (m, hj, (m1, hb, (m2, hl, out))) (m3, hs, hp) k) =
       near _ _ (there _ _ (m_truth _ v _ _ _ _ (ins (instr.JumpUnlessKeep (record { 0 = other })) (act_mark p n l false) m rows) (value a ∷ ss) _
-      (turn_at p _ _ _ hj (branch_asks p n l m (instr.JumpUnlessKeep (record { 0 = other })) (code.is_truth v) _ _ v (value a ∷ ss))) (under refl refl) (inside w ss _ to k (push _ _ same refl))
+      (turn_at p _ _ _ hj (branch_asks p n l m (instr.JumpUnlessKeep (record { 0 = other })) (code.is_truth v) _ _ v (value a ∷ ss))) (under refl (push _ _ same refl)) (inside w ss _ to k (push _ _ same refl))
       (lands _ (value a ∷ ss) m (at_linked_on l _ a o b r w ss m m2 (m1, hb, hl) (behind_jump w ss m2 other to out k)))
       (lands _ _ other (at_given v w (value a ∷ ss) other (over_value a w ss other m3 to hs hp k)))))
   deliver_comes v _ _ _ (at_anded l n S.no_exps w ss p q h k) = subst (λ r. C (control.deliver block v w) (on r (value v ∷ ss))) (sym h) (deliver_comes v w ss q k)
   deliver_comes v _ _ _ (at_anded l n (S.more_exps e es) w ss p q (m, hj, (m', he, h)) k) =
       near _ _ (there _ _ (m_truth _ v _ _ _ _ (ins (instr.JumpUnlessKeep (record { 0 = q })) (act_mark p n l false) m rows) ss _
-      (turn_at p _ _ _ hj (branch_asks p n l m (instr.JumpUnlessKeep (record { 0 = q })) (code.is_truth v) _ _ v ss)) (under refl refl) (inside w ss _ q k same)
+      (turn_at p _ _ _ hj (branch_asks p n l m (instr.JumpUnlessKeep (record { 0 = q })) (code.is_truth v) _ _ v ss)) (under refl (push _ _ same refl)) (inside w ss _ q k same)
       (lands _ ss m (at_value _ e _ ss m m' he (at_anded l _ es w ss m' q h k))) (lands _ _ q (at_given v w ss q k))))
   deliver_comes v _ _ _ (at_ored l n S.no_exps w ss p q h k) = subst (λ r. C (control.deliver block v w) (on r (value v ∷ ss))) (sym h) (deliver_comes v w ss q k)
   deliver_comes v _ _ _ (at_ored l n (S.more_exps e es) w ss p q (m, hj, (m', he, h)) k) =
       near _ _ (there _ _ (m_truth _ v _ _ _ _ (ins (instr.JumpIfKeep (record { 0 = q })) (act_mark p n l false) m rows) ss _
-      (turn_at p _ _ _ hj (branch_asks p n l m (instr.JumpIfKeep (record { 0 = q })) (code.is_truth v) _ _ v ss)) (under refl refl) (inside w ss _ q k same)
+      (turn_at p _ _ _ hj (branch_asks p n l m (instr.JumpIfKeep (record { 0 = q })) (code.is_truth v) _ _ v ss)) (under refl (push _ _ same refl)) (inside w ss _ q k same)
       (lands _ _ q (at_given v w ss q k)) (lands _ ss m (at_value _ e _ ss m m' he (at_ored l _ es w ss m' q h k)))))
   deliver_comes v _ _ _ (at_asked l n t f ss p q other hj ht hf) =
       near _ _ (there _ _ (m_truth _ v t f _ _ (ins (instr.JumpUnless (record { 0 = other })) (act_mark p n l false) q rows) ss _
-      (turn_at p _ _ _ hj (branch_asks p n l q (instr.JumpUnless (record { 0 = other })) (code.is_truth v) _ _ v ss)) (under refl refl) (inside_way f ss _ other hf same) (lands t ss q ht) (lands f ss other hf)))
+      (turn_at p _ _ _ hj (branch_asks p n l q (instr.JumpUnless (record { 0 = other })) (code.is_truth v) _ _ v ss)) (under refl (push _ _ same refl)) (inside_way f ss _ other hf same) (lands t ss q ht) (lands f ss other hf)))
   deliver_comes v _ _ _ (at_iterated l n o ss p q h k) =
-      near _ _ (there _ _ (m_iter _ v o _ (ins instr.Iter (act_mark p n l false) q rows) ss q (turn_at p _ _ _ h refl) (under refl refl) k))
+      near _ _ (there _ _ (m_iter _ v o _ (ins instr.Iter (act_mark p n l false) q rows) ss q (turn_at p _ _ _ h refl) (under refl (push _ _ same refl)) k))
   deliver_comes v _ _ _ (at_built l n a i t cs m w ss p p' head end' q hs hr hn k) =
       near _ _ (moved _ p _ _ _ hs refl (renewed_come _ a n i t cs (F.collecting l n m v w) 0 (value v ∷ ss) p' head q end' hr hn (at_result l n m v w ss q k)))
   deliver_comes v _ _ _ (at_listed l n d head made r ss p q (m, h, hj) mk hr) =
       near _ _ (there _ _ (m_deed (Some (mark n l false)) (T.add_to_list made v) (F.round r) (rounds_base r) _ (ins (instr.ListAdd (suc d)) (act_mark p n l false) m rows) ss (on m ss) _
-      (turn_at p _ _ _ h (found r d ss head made _ hr mk)) refl refl refl (under refl refl) (inside_rounds r d ss ss head hr same)
+      (turn_at p _ _ _ h (found r d ss head made _ hr mk)) refl refl refl (under refl (push _ _ same refl)) (inside_rounds r d ss ss head hr same)
       (lands _ ss m (way_behind_jump _ ss m q head hj (at_round d r ss head hr)))))
   deliver_comes v _ _ _ (at_set l n d head made r ss p q (m, h, hj) mk hr) =
       near _ _ (there _ _ (m_deed (Some (mark n l false)) (T.add_to_set made v) (F.round r) (rounds_base r) _ (ins (instr.SetAdd (suc d)) (act_mark p n l false) m rows) ss (on m ss) _
-      (turn_at p _ _ _ h (found r d ss head made _ hr mk)) refl refl refl (under refl refl) (inside_rounds r d ss ss head hr same)
+      (turn_at p _ _ _ h (found r d ss head made _ hr mk)) refl refl refl (under refl (push _ _ same refl)) (inside_rounds r d ss ss head hr same)
       (lands _ ss m (way_behind_jump _ ss m q head hj (at_round d r ss head hr)))))
   deliver_comes v _ _ _ (at_keyed l n d head e made r ss p q (m, he, h) mk hr) =
       near _ _ (begin_exp_comes e n false _ (value v ∷ ss) p m he (at_entered l _ d head v made r ss m q h mk hr))
   deliver_comes v _ _ _ (at_entered l n d head key made r ss p q (m, h, hj) mk hr) =
       near _ _ (there _ _ (m_deed (Some (mark n l false)) (T.add_to_dict made key v) (F.round r) (rounds_base r) _ (ins (instr.DictAdd (suc d)) (act_mark p n l false) m rows) ss (on m ss) _
-      (turn_at p _ _ _ h (found r d ss head made _ hr mk)) refl refl refl (under refl refl) (inside_rounds r d ss ss head hr same)
+      (turn_at p _ _ _ h (found r d ss head made _ hr mk)) refl refl refl (under refl (push _ _ (push _ _ same refl) refl)) (inside_rounds r d ss ss head hr same)
       (lands _ ss m (way_behind_jump _ ss m q head hj (at_round d r ss head hr)))))
   deliver_comes v _ _ _ (at_item_yielded l n head r d ss p q (m, h, hs) hr) = near _ _ (
-      there _ _ (m_value _ (T.yielding v) _ _ (ins instr.Yield (act_mark p n l false) m rows) ss ss m (turn_at p _ _ _ h refl) (under refl refl) same
+      there _ _ (m_value _ (T.yielding v) _ _ (ins instr.Yield (act_mark p n l false) m rows) ss ss m (turn_at p _ _ _ h refl) (under refl (push _ _ same refl)) same
       (at_item_sent l _ head r d ss m q hs hr)))
   deliver_comes v _ _ _ (at_item_sent l n head r d ss p q (m, h, hj) hr) = near _ _ (
       there _ _ (m_deed (Some (mark n l false)) (T.discard v) (F.round r) (rounds_base r) _ (ins instr.Pop (act_mark p n l false) m rows) ss (on m ss) _
-      (turn_at p _ _ _ h refl) refl refl refl (under refl refl) (inside_rounds r d ss ss head hr same)
+      (turn_at p _ _ _ h refl) refl refl refl (under refl (push _ _ same refl)) (inside_rounds r d ss ss head hr same)
       (lands _ ss m (way_behind_jump _ ss m q head hj (at_round d r ss head hr)))))
   deliver_comes v _ _ _ (at_attribute l n x u k ss p q h hk) =
       near _ _ (there _ _ (m_deed (Some (mark n l false)) (T.set_attribute (block.spelled x) v u) k (way_base k) _ (ins h.instr (act_mark p n l false) q rows) ss (on q ss) _
-      (turn_at p _ _ _ h.stands (h.does u v ss)) refl refl refl (under refl refl) (inside_way k ss ss q hk same) (lands k ss q hk)))
+      (turn_at p _ _ _ h.stands (h.does u v ss)) refl refl refl (under refl (push _ _ (push _ _ same refl) refl)) (inside_way k ss ss q hk same) (lands k ss q hk)))
   deliver_comes v _ _ _ (at_container l n i u k ss p q (m, hi, h) hk) =
       near _ _ (begin_exp_comes i n false _ (value v ∷ value u ∷ ss) p m hi (at_index l _ v u k ss m q h hk))
   deliver_comes v _ _ _ (at_index l n a u k ss p q h hk) =
       near _ _ (there _ _ (m_deed (Some (mark n l false)) (T.set_item a v u) k (way_base k) _ (ins instr.SetItem (act_mark p n l false) q rows) ss (on q ss) _
-      (turn_at p _ _ _ h refl) refl refl refl (under refl refl) (inside_way k ss ss q hk same) (lands k ss q hk)))
+      (turn_at p _ _ _ h refl) refl refl refl (under refl (push _ _ (push _ _ (push _ _ same refl) refl) refl)) (inside_way k ss ss q hk same) (lands k ss q hk)))
   deliver_comes v _ _ _ (behind_jump w ss p m q h k) = moved_on _ p _ _ _ h refl (deliver_comes v w ss q k)
   deliver_comes v _ _ _ (over_value u w ss p m q hs hp k) = moved_on _ p _ _ _ hs refl (moved_on _ m _ _ _ hp refl (deliver_comes v w ss q k))
 
@@ -482,7 +486,7 @@ module _ {V : Type 0} (block : Around V) (code : CodeObject V) (rows : List Hand
 
   delegate_comes : (l n : ℕ) (it u : V) (w : Wait V) (ss : Slots V) (p q : ℕ) → Act_at block code rows instr.Delegate n l false p q → W w ss q
       → N (for_delegate (mark n l false) it (got u) w) (on p (value u ∷ iterator it ∷ ss))
-  delegate_comes l n it u w ss p q h k = there _ _ (m_delegate l n it u (got u) w _ ss p q h (turn_at p _ _ _ h refl) refl k)
+  delegate_comes l n it u w ss p q h k = there _ _ (m_delegate l n it u (got u) w _ ss p q h (turn_at p _ _ _ h refl) (push _ _ (push _ _ same refl) refl) k)
 
   take_iter_comes : (i : V) (o : Over V) (ss : Slots V) (p : ℕ) → Over_on block code rows outer lowest end o ss p → N (control.take_iter block i o) (on p (iterator i ∷ ss))
   take_iter_comes i _ _ _ (over_generator l n b w ss p q h k) =
@@ -554,7 +558,7 @@ module _ {V : Type 0} (block : Around V) (code : CodeObject V) (rows : List Hand
   delegate_replies l n it u w ss p q h k (got (returned v)) = deliver_comes v w ss q k
   delegate_replies l n it u w ss p q h k (got (resumed (got v))) = near _ _ (delegate_comes l n it v w ss p q h k)
   delegate_replies l n it u w ss p q h k (got (resumed (raised e))) =
-      near _ _ (there _ _ (m_delegate l n it u (raised e) w _ ss p q h (ap (λ o. thrown_here code p o e (value u ∷ iterator it ∷ ss)) h) refl k))
+      near _ _ (there _ _ (m_delegate l n it u (raised e) w _ ss p q h (ap (λ o. thrown_here code p o e (value u ∷ iterator it ∷ ss)) h) (push _ _ (push _ _ same refl) refl) k))
   delegate_replies l n it u w ss p q h k (raised v) = raise_wait w ss ss q v k same
 
   pub same_at : (u : Turn (Control V) V) (t : State V) (s : Turn (State V) V) → machine.turn code t ≡ s → Same block code rows outer lowest end u s
@@ -651,15 +655,45 @@ module _ {V : Type 0} (block : Around V) (code : CodeObject V) (rows : List Hand
   inside_alike _ t _ (inside w ss ts q k o) e = alike (base w) t ss ts (wait_rests w ss q k) o e
   inside_alike _ t _ (inside_out k ts h o) e = alike (way_base k) t lowest ts (rests_out (way k) h) o e
 
+  active_in : (t : State V) → active_at t ≡ active (slots_in t)
+  active_in (on p ss) = refl
+  active_in (thrown_to p e ss) = refl
+  active_in (reraises e rows ss) = refl
+  active_in (off e) = refl
+
+  same_active : (t : State V) (ss : Slots V) → On_top ss (slots_in t) → active_at t ≡ active ss
+  same_active t ss o = active_in t ∙ top_active ss (slots_in t) o
+
   pub active_alike : (c : Control V) (t : State V) → Match block code rows outer lowest end c t → Alike (control.context_at c) t
-  active_alike _ _ (m_value m a w t i ss ts q e er o k) = alike (base w) t ss ts (wait_rests w ss q k) o er.same_active
-  active_alike _ _ (m_cell x l n g op lower cs vs before xs w t i ss ts p q e er o u h f k) = alike (base w) t ss ts (wait_rests w ss q k) o er.same_active
-  active_alike _ _ (m_truth m v t f s st i ts next e er h ht hf) = inside_alike s st ts h er.same_active
-  active_alike c _ (m_deed m d k s t i ts u _ e ec en ea er h hk) = subst (λ o. Alike o t) (sym ea) (inside_alike s t ts h er.same_active)
-  active_alike _ _ (m_item m it n tg k f t i ss q q' to e er en ht hk hf h) = inside_alike (way_base k) t ss h er.same_active
-  active_alike _ _ (m_unpack m v n ts k t i ss q q' e er hts hk h) = inside_alike (way_base k) t ss h er.same_active
-  active_alike _ _ (m_iter m v o t i ss q e er k) = alike (over_base o) t ss ss (over_rests o ss q k) same er.same_active
-  active_alike _ _ (m_delegate l n it u r w t ss p q h e er k) = alike (base w) t ss ss (wait_rests w ss q k) same er
+  active_alike _ _ (m_value m a w t i ss ts q e er o k) = alike (base w) t ss ts (wait_rests w ss q k) o (same_active t ts er.on_top)
+  active_alike _ _ (m_cell x l n g op lower cs vs before xs w t i ss ts p q e er o u h f k) = alike (base w) t ss ts (wait_rests w ss q k) o (same_active t ts er.on_top)
+  active_alike _ _ (m_truth m v t f s st i ts next e er h ht hf) = inside_alike s st ts h (same_active st ts er.on_top)
+  active_alike c _ (m_deed m d k s t i ts u _ e ec en ea er h hk) = subst (λ o. Alike o t) (sym ea) (inside_alike s t ts h (same_active t ts er.on_top))
+  active_alike _ _ (m_item m it n tg k f t i ss q q' to e er en ht hk hf h) = inside_alike (way_base k) t ss h (same_active t ss er.on_top)
+  active_alike _ _ (m_unpack m v n ts k t i ss q q' e er hts hk h) = inside_alike (way_base k) t ss h (same_active t ss er.on_top)
+  active_alike _ _ (m_iter m v o t i ss q e er k) = alike (over_base o) t ss ss (over_rests o ss q k) same (same_active t ss er.on_top)
+  active_alike _ _ (m_delegate l n it u r w t ss p q h e er k) = alike (base w) t ss ss (wait_rests w ss q k) same (same_active t ss er)
+
+  -- the nest in which control is, and the slots there
+  abbrev Lie : Nest V → State V → Type 0
+  Lie s t = (s ≡ outer_base outer) × On_top lowest (slots_in t)
+
+  lie : (s : Nest V) (t : State V) (ss ts : Slots V) → Rests s ss → On_top ss ts → On_top ts (slots_in t) → Lie s t
+  lie s t ss ts r o h = (r.same_base, top_on_top lowest ss (slots_in t) r.on_lowest (top_on_top ss ts (slots_in t) o h))
+
+  inside_lie : (s : Nest V) (t : State V) (ts : Slots V) → Inside block code rows outer lowest end s ts → On_top ts (slots_in t) → Lie s t
+  inside_lie _ t _ (inside w ss ts q k o) h = lie (base w) t ss ts (wait_rests w ss q k) o h
+  inside_lie _ t _ (inside_out k ts e o) h = lie (way_base k) t lowest ts (rests_out (way k) e) o h
+
+  pub all_lie_there : (c : Control V) (t : State V) → Match block code rows outer lowest end c t → Lie (control.nest_at c) t
+  all_lie_there _ _ (m_value m a w t i ss ts q e er o k) = lie (base w) t ss ts (wait_rests w ss q k) o er.on_top
+  all_lie_there _ _ (m_cell x l n g op lower cs vs before xs w t i ss ts p q e er o u h f k) = lie (base w) t ss ts (wait_rests w ss q k) o er.on_top
+  all_lie_there _ _ (m_truth m v t f s st i ts next e er h ht hf) = inside_lie s st ts h er.on_top
+  all_lie_there c _ (m_deed m d k s t i ts u _ e ec en ea er h hk) = subst (λ s. Lie s t) (sym en) (inside_lie s t ts h er.on_top)
+  all_lie_there _ _ (m_item m it n tg k f t i ss q q' to e er en ht hk hf h) = inside_lie (way_base k) t ss h er.on_top
+  all_lie_there _ _ (m_unpack m v n ts k t i ss q q' e er hts hk h) = inside_lie (way_base k) t ss h er.on_top
+  all_lie_there _ _ (m_iter m v o t i ss q e er k) = lie (over_base o) t ss ss (over_rests o ss q k) same er.on_top
+  all_lie_there _ _ (m_delegate l n it u r w t ss p q h e er k) = lie (base w) t ss ss (wait_rests w ss q k) same er
 
 module _ {V : Type 0} (block : Around V) (code : CodeObject V) where
   pub begins : AllBegin block code
@@ -670,3 +704,6 @@ module _ {V : Type 0} (block : Around V) (code : CodeObject V) where
 
   pub all_active : AllActive block code
   all_active rows outer lowest end c t m = active_alike block code rows outer lowest end c t m
+
+  pub all_lie : AllLie block code
+  all_lie rows outer lowest end c t m = all_lie_there block code rows outer lowest end c t m

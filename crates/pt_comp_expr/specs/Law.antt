@@ -38,10 +38,17 @@ active_at (thrown_to p e ss) = active ss
 active_at (reraises e rows ss) = active ss
 active_at (off e) = None
 
+-- what lies in the slots of a state
+abbrev pub slots_in : {V : Type 0} → State V → Slots V
+slots_in (on p ss) = ss
+slots_in (thrown_to p e ss) = ss
+slots_in (reraises e rows ss) = ss
+slots_in (off e) = []
+
 -- an instruction that stands under these rows takes no slot that is busy, and leaves these
 pub record Leaves {V : Type 0} (t : State V) (i : Ins) (rows : List Handler) (ss : Slots V) : Type 0 where
   pub same_rows : i.rows ≡ rows
-  pub same_active : active_at t ≡ active ss
+  pub on_top : On_top ss (slots_in t)
 
 -- the result of the comprehension that clauses lie in
 pub data Makes {V : Type 0} : Rounds V → V → Type 0 where
@@ -240,7 +247,7 @@ module _ {V : Type 0} (block : Around V) (code : CodeObject V) (rows : List Hand
     m_delegate : (l n : ℕ) (it u : V) (r : Reply V V) (w : Wait V) (t : State V) (ss : Slots V) (p q : ℕ)
         → Act_at block code rows instr.Delegate n l false p q
         → machine.turn code t ≡ act (Some (mark n l false)) (T.delegate it r) (after code (ins instr.Delegate (act_mark p n l false) q rows) ss
-        (delegated code p (ins instr.Delegate (act_mark p n l false) q rows) it u ss)) → active_at t ≡ active ss → Waits_on w ss q
+        (delegated code p (ins instr.Delegate (act_mark p n l false) q rows) it u ss)) → On_top ss (slots_in t) → Waits_on w ss q
         → Match (for_delegate (mark n l false) it r w) t
 
   -- by moves the code comes to such a state
@@ -281,6 +288,11 @@ module _ {V : Type 0} (block : Around V) (code : CodeObject V) where
   abbrev pub AllActive : Type 0
   AllActive = (rows : List Handler) (outer : Outer V) (lowest : Slots V) (end : ℕ) (c : Control V) (t : State V) → Match block code rows outer lowest end c t
       → (control.context_at c ≡ bases.active (outer_base outer)) × (active_at t ≡ active lowest)
+
+  -- and control is there in the nest behind, with none but slots that aren't busy above those below
+  abbrev pub AllLie : Type 0
+  AllLie = (rows : List Handler) (outer : Outer V) (lowest : Slots V) (end : ℕ) (c : Control V) (t : State V) → Match block code rows outer lowest end c t
+      → (control.nest_at c ≡ outer_base outer) × On_top lowest (slots_in t)
 
   abbrev pub AllFollow : Type 0
   AllFollow = (rows : List Handler) (outer : Outer V) (lowest : Slots V) (end : ℕ) → Follows block code rows outer lowest end

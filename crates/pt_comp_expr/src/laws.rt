@@ -3,7 +3,7 @@
 ghost use Rattle.std.specs.Prelude.{[], false};
 ghost use Rattle.pt_control.specs.Turn.{Around};
 ghost use Rattle.pt_slots.specs.CodeObject.{CodeObject};
-ghost use Rattle.pt_comp_expr.specs.Law.{AllActive, AllBegin, AllFollow, AllStore};
+ghost use Rattle.pt_comp_expr.specs.Law.{AllActive, AllBegin, AllFollow, AllLie, AllStore};
 ghost use Rattle.pt_comp_expr.specs.Places.{Exp_at};
 ghost use Rattle.pt_comp_expr.specs.Samples.{every_form, every_form_code, sample_block};
 
@@ -13,13 +13,15 @@ ghost use Rattle.pt_comp_expr.specs.Samples.{every_form, every_form_code, sample
 /// again, until the expression has its value, which is then one slot more than lay there before,
 /// until the target has its value, or until a raise leaves them. Whatever goes on behind, and
 /// whatever the slots below. In such states the active exception is that of the nest behind, and that
-/// of the slots below.
+/// of the slots below; control is in the nest behind, and nothing but slots without an exception lies
+/// above the slots below.
 #[tactic(auto, using(crate::proofs::Steps::follows))]
 pub fn the_code_of_an_expression_follows_it<V>()
     ensures begins { (block : Around V) (code : CodeObject V) → AllBegin block code }
     ensures stores { (block : Around V) (code : CodeObject V) → AllStore block code }
     ensures follows { (block : Around V) (code : CodeObject V) → AllFollow block code }
     ensures active { (block : Around V) (code : CodeObject V) → AllActive block code }
+    ensures lies { (block : Around V) (code : CodeObject V) → AllLie block code }
 {}
 
 /// An expression that holds every form has code that stands so.

@@ -85,7 +85,11 @@ module _ {V : Type 0} (null : V) (ss : Stms) (n : ℕ) (block : Block) (object :
   stands_so = subst (λ p. Piece_at object code.starts p [] (outermost (slots_of block.code)) 0 (at (layout piece [] first)))
       (sym (code_same null ss n block.code)) stands
 
-  rises : Rises own
+  -- from its first place to its end
+  pub stands_in_whole : Piece_at object code.starts (code_piece around block.code) [] (outermost (slots_of block.code)) 0 (at has.layout.written)
+  stands_in_whole = subst (λ w. Piece_at object code.starts (code_piece around block.code) [] (outermost (slots_of block.code)) 0 (at w)) (sym written) stands_so
+
+  pub rises : Rises own
   rises pc i e =
       let s = shows null ss n block object has in laid_rise code 0 (instrs_of has.layout.written) pc i (ap (λ f. f pc) (sym s.view) ∙ e)
 

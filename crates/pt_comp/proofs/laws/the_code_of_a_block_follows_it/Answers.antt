@@ -1,4 +1,4 @@
-use Rattle.pt_comp.proofs.Steps.{active_alike, blocks_begin, follows, generators_begin, lambdas_begin, ways_go_on}
+use Rattle.pt_comp.proofs.Steps.{active_alike, blocks_begin, follows, generators_begin, lambdas_begin, nests_lie, ways_go_on}
 use Rattle.pt_comp.proofs.laws.the_code_of_a_block_follows_it.Goals as goal
 
 pub returns-clause-blocks : goal.returns-clause-blocks
@@ -18,3 +18,6 @@ returns-clause-ways g c = ways_go_on
 
 pub returns-clause-active : goal.returns-clause-active
 returns-clause-active g c = active_alike
+
+pub returns-clause-lie : goal.returns-clause-lie
+returns-clause-lie g c = nests_lie

@@ -1,4 +1,4 @@
-use Rattle.pt_comp_expr.proofs.Steps.{all_active, begins, begins_to_store}
+use Rattle.pt_comp_expr.proofs.Steps.{all_active, all_lie, begins, begins_to_store}
 use Rattle.pt_comp_expr.proofs.laws.the_code_of_an_expression_follows_it.Goals as goal
 
 pub returns-clause-begins : goal.returns-clause-begins
@@ -9,3 +9,6 @@ returns-clause-stores g c = begins_to_store
 
 pub returns-clause-active : goal.returns-clause-active
 returns-clause-active g c = all_active
+
+pub returns-clause-lies : goal.returns-clause-lies
+returns-clause-lies g c = all_lie

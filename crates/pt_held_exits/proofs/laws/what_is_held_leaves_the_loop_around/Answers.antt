@@ -1,0 +1,11 @@
+use Rattle.pt_held_exits.proofs.Holding.{lands_holding, raises_holding, starts_holding}
+use Rattle.pt_held_exits.proofs.laws.what_is_held_leaves_the_loop_around.Goals as goal
+
+pub returns-clause-starts : goal.returns-clause-starts
+returns-clause-starts g c = starts_holding
+
+pub returns-clause-lands : goal.returns-clause-lands
+returns-clause-lands g c = lands_holding
+
+pub returns-clause-raises : goal.returns-clause-raises
+returns-clause-raises g c = raises_holding
