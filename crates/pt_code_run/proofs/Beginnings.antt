@@ -1,5 +1,5 @@
 -- Where something begins in a nest, the exception that is active is that of the nest.
-use Rattle.std.proofs.Common.{◌≡◌, ℕ, ◌+◌, List, [], ◌∷◌, Bool, false, Option, None, refl}
+use Rattle.std.proofs.Common.{◌≡◌, ℕ, ◌+◌, List, [], ◌∷◌, Bool, false, None, refl}
 use Rattle.pt_tree.specs.Syntax as S
 use Rattle.pt_tree.specs.Syntax.{Exp, Formals, Params, Place, Tgt, Tgts, Items, Stm, Stms, Branches, none, more}
 use Rattle.pt_tree.specs.Sizes.{stm_size}

@@ -136,7 +136,7 @@ module _ {V : Type 0} (source : Source V) (code : CodeSource V) (of : IsCodeOf s
       → is_act (control.turn (source.around b) c) ≡ true → is_act (slots.turn (code.object b) t) ≡ true → (p : Place V) → place_of t ≡ Some p
       → Alike b (source_of.at c) (code_of.at t) l
   from_place b c t l m r e f p g =
-      let here = jumps_alike source code has b (control.nest_at c) p ((has b).acts c t p r m e g) l (λ k q i j. R.from_act c t p q k l r e f g i j) in
+      let here = jumps_alike source code has b (control.nest_at c) p ((has b).acts c t p r m e g) l (λ k q i j. R.from_act c t p q k l r m e f g i j) in
       let one : (Script source code).jump b (source_of.at c) l ≡ source_of.jump_of source b (J.jump (source.code b) (control.nest_at c) l) =
       ap (λ a. if a then source_of.jump_of source b (J.jump (source.code b) (control.nest_at c) l) else M.refuses M.not_at_line) (act_begins (source.around b) (code.object b) c e) in
       let two : (Coded source code).jump b (code_of.at t) l ≡ code_of.landing code b (code.jump b p l) =

@@ -1,7 +1,7 @@
 -- Code on slots as a machine of a run: the code object of each block, and where jumps lead in it.
 use Rattle.std.specs.Prelude.{ℕ, Bool, List, Option, Some, None, if◌then◌else◌}
 use Rattle.pt_control.specs.Turn.{Turn}
-use Rattle.pt_slots.specs.Slots.{raise, iterator, Slots, State, on, thrown_to, reraises, off, active}
+use Rattle.pt_slots.specs.Slots.{raise, Slots, State, on, thrown_to, reraises, off, active}
 use Rattle.pt_slots.specs.CodeObject.{CodeObject}
 use Rattle.pt_slots.specs.Landing.{land}
 use Rattle.pt_slots.specs.Machine as slots

@@ -10,6 +10,7 @@ use Rattle.pt_control.specs.Reached.{start_code}
 use Rattle.pt_control.specs.Jump.{jump, lands}
 use Rattle.pt_slots.specs.Slots.{State}
 use Rattle.pt_slots.specs.Machine as slots
+use Rattle.pt_comp.specs.Law.{Match}
 use Rattle.pt_run.specs.Machine.{BlockId, is_act}
 use Rattle.pt_run.specs.Source.{Source, or_null}
 use Rattle.pt_code_run.specs.CodeMachine.{Place, goes_to, CodeSource, state_at, place_of, raised_at, start_of}
@@ -32,7 +33,7 @@ module _ {V : Type 0} (source : Source V) (code : CodeSource V) (b : BlockId) wh
     -- a jump has landed, from an act or from where another one has landed
     pub data Landed : Way V → Place V → Type 0 where
       from_act : (c : Control V) (t : State V) (p q : Place V) (k : Way V) (line : ℕ) → Reached c t
-          → is_act (control.turn (source.around b) c) ≡ true → is_act (slots.turn (code.object b) t) ≡ true → place_of t ≡ Some p
+          → Match (source.around b) (code.object b) c t → is_act (control.turn (source.around b) c) ≡ true → is_act (slots.turn (code.object b) t) ≡ true → place_of t ≡ Some p
           → jump (source.code b) (control.nest_at c) line ≡ lands k → code.jump b p line ≡ goes_to q → Landed k q
       from_landing : (j k : Way V) (p q : Place V) (line : ℕ) → Landed j p → jump (source.code b) (way_base j) line ≡ lands k
           → code.jump b p line ≡ goes_to q → Landed k q

@@ -1,5 +1,5 @@
 -- The slots of the closed parts of a block are made at places of their own, and each part is told once.
-use Rattle.std.proofs.Common.{◌≡◌, ℕ, ◌+◌, ◌<◌, ◌≤◌, suc, Bool, true, false, ◌&&◌, if◌then◌else◌, List, [], ◌∷◌, ◌++◌, Option, Some, None, refl, sym, ap, ◌∙◌, subst, arith}
+use Rattle.std.proofs.Common.{◌≡◌, ℕ, ◌+◌, ◌<◌, ◌≤◌, suc, Bool, true, false, ◌&&◌, List, [], ◌∷◌, ◌++◌, Option, Some, None, refl, sym, ap, ◌∙◌, subst, arith}
 use Rattle.pt_tree.specs.Syntax as S
 use Rattle.pt_tree.specs.Syntax.{Name, Exp, Tgt, Stm, Stms, Branches, Handlers, Items, none, more}
 use Rattle.pt_tree.specs.Sizes.{size, target_size, items_size, stm_size, stms_size}
@@ -28,7 +28,7 @@ use Rattle.pt_part_slots.specs.Slots.{PartSlot, part_slot, tests_slot, finally_s
 use Rattle.pt_part_slots.specs.Text.{Grammatical, All_grammatical, Branches_grammatical, Handlers_grammatical}
 
 -- strictly between two places
-abbrev Within : (low high : ℕ) → List PartSlot → Type 0
+abbrev pub Within : (low high : ℕ) → List PartSlot → Type 0
 Within a z [] = Unit {0}
 Within a z (s ∷ ss) = (a < s.origin) × (s.origin < z) × Within a z ss
 
@@ -74,13 +74,13 @@ all_behind a m z [] us v w x y = y
 all_behind a m z (s ∷ ss) us (l, h, v) w (x, xs) y =
     (from_both s.origin ss us x (from_lower s.origin a m us (omega (arith, l)) w), all_behind a m z ss us v w xs y)
 
-nowhere : (a z : ℕ) → Spread a z []
+pub nowhere : (a z : ℕ) → Spread a z []
 nowhere a z = record { within = tt; apart = tt }
 
-wider : (a b c d : ℕ) (ss : List PartSlot) → a ≤ b → c ≤ d → Spread b c ss → Spread a d ss
+pub wider : (a b c d : ℕ) (ss : List PartSlot) → a ≤ b → c ≤ d → Spread b c ss → Spread a d ss
 wider a b c d ss l h g = record { within = widened a b c d ss l h g.within; apart = g.apart }
 
-in_order : (a m z : ℕ) (ss us : List PartSlot) → a ≤ m → m ≤ z → Spread a m ss → Spread m z us → Spread a z (ss ++ us)
+pub in_order : (a m z : ℕ) (ss us : List PartSlot) → a ≤ m → m ≤ z → Spread a m ss → Spread m z us → Spread a z (ss ++ us)
 in_order a m z ss us l h f g = record {
   within = within_both a z ss us (widened a a m z ss (omega arith) h f.within) (widened a m z z us l (omega arith) g.within);
   apart = all_then a m z ss us f.within g.within f.apart g.apart;
@@ -122,7 +122,7 @@ grouped : {A : Type 0} (as' bs cs : List A) → (as' ++ bs) ++ cs ≡ as' ++ (bs
 grouped [] bs cs = refl
 grouped (a ∷ as') bs cs = ap (λ z. a ∷ z) (grouped as' bs cs)
 
-nothing_behind : {A : Type 0} (as' : List A) → as' ++ [] ≡ as'
+pub nothing_behind : {A : Type 0} (as' : List A) → as' ++ [] ≡ as'
 nothing_behind [] = refl
 nothing_behind (a ∷ as') = ap (λ z. a ∷ z) (nothing_behind as')
 
@@ -145,42 +145,42 @@ module _ {V : Type 0} (code : CodeObject V) (table : List Start) (b : Block) (sa
   pub record Spreads (q : Piece) (f : (from : ℕ) → List PartSlot) : Type 0 where
     pub spread : (L : List Target) (x : Context) (from to : ℕ) → stands q L x from to → Spread from to (f from)
 
-  none_in : {q : Piece} → Spreads q (λ p. [])
+  pub none_in : {q : Piece} → Spreads q (λ p. [])
   none_in = record { spread = λ L x from to h. nowhere from to }
 
-  both_in : {a d : Piece} {f g : (from : ℕ) → List PartSlot} → Spreads a f → Spreads d g → Spreads (P.seq a d) (λ p. f p ++ g (end_of next a p))
+  pub both_in : {a d : Piece} {f g : (from : ℕ) → List PartSlot} → Spreads a f → Spreads d g → Spreads (P.seq a d) (λ p. f p ++ g (end_of next a p))
   both_in {a} {d} {f} {g} u v = record {
     spread = λ L x from to h.
         in_order from h.0 to (f from) (g (end_of next a from)) (ordered code table b same rises a L x from h.0 h.1) (ordered code table b same rises d L x h.0 to h.2) (u.spread L x from h.0 h.1)
         (subst (λ k. Spread h.0 to (g k)) (sym (ends code table b same rises a L x from h.0 h.1)) (v.spread L x h.0 to h.2));
   }
 
-  second_in : {a d : Piece} {g : (from : ℕ) → List PartSlot} → Spreads d g → Spreads (P.seq a d) (λ p. g (end_of next a p))
+  pub second_in : {a d : Piece} {g : (from : ℕ) → List PartSlot} → Spreads d g → Spreads (P.seq a d) (λ p. g (end_of next a p))
   second_in {a} {d} {g} v = record {
     spread = λ L x from to h.
         wider from h.0 to to (g (end_of next a from)) (ordered code table b same rises a L x from h.0 h.1) (omega arith)
         (subst (λ k. Spread h.0 to (g k)) (sym (ends code table b same rises a L x from h.0 h.1)) (v.spread L x h.0 to h.2));
   }
 
-  first_in : {a d : Piece} {f : (from : ℕ) → List PartSlot} → Spreads a f → Spreads (P.seq a d) f
+  pub first_in : {a d : Piece} {f : (from : ℕ) → List PartSlot} → Spreads a f → Spreads (P.seq a d) f
   first_in {a} {d} {f} u = record {
     spread = λ L x from to h.
         wider from from h.0 to (f from) (omega arith) (ordered code table b same rises d L x h.0 to h.2) (u.spread L x from h.0 h.1);
   }
 
-  in_block : {q : Piece} {f : (from : ℕ) → List PartSlot} → Spreads q f → Spreads (P.block q) f
+  pub in_block : {q : Piece} {f : (from : ℕ) → List PartSlot} → Spreads q f → Spreads (P.block q) f
   in_block u = record { spread = λ L x from to h. u.spread (target to x.depth ∷ L) x from to h }
 
-  in_head : {q : Piece} {f : (from : ℕ) → List PartSlot} → Spreads q f → Spreads (P.headed q) f
+  pub in_head : {q : Piece} {f : (from : ℕ) → List PartSlot} → Spreads q f → Spreads (P.headed q) f
   in_head u = record { spread = λ L x from to h. u.spread (target from x.depth ∷ L) x from to h }
 
-  in_closed : {q : Piece} {f : (from : ℕ) → List PartSlot} → Spreads q f → Spreads (P.closed q) f
+  pub in_closed : {q : Piece} {f : (from : ℕ) → List PartSlot} → Spreads q f → Spreads (P.closed q) f
   in_closed u = record { spread = λ L x from to h. u.spread [] x from to h }
 
-  in_loop_of : {q : Piece} {f : (from : ℕ) → List PartSlot} (k : ℕ) → Spreads q f → Spreads (P.looped k q) f
+  pub in_loop_of : {q : Piece} {f : (from : ℕ) → List PartSlot} (k : ℕ) → Spreads q f → Spreads (P.looped k q) f
   in_loop_of k u = record { spread = λ L x from to h. u.spread [] (in_loop (pick start_of L k) to x) from to h.2 }
 
-  in_row : {q : Piece} {f : (from : ℕ) → List PartSlot} → Spreads q f → Spreads (P.ensured q) f
+  pub in_row : {q : Piece} {f : (from : ℕ) → List PartSlot} → Spreads q f → Spreads (P.ensured q) f
   in_row {q} {f} u = record {
     spread = λ L x from to h.
         let m = (h.1).0 in
@@ -188,17 +188,17 @@ module _ {V : Type 0} (code : CodeObject V) (table : List Start) (b : Block) (sa
         wider from from m to (f from) (omega arith) (omega (arith, less)) (u.spread [] (under (row_of from to to x.depth true) x) from m (h.1).1);
   }
 
-  in_depth : {q : Piece} {f : (from : ℕ) → List PartSlot} (k : ℕ) → Spreads q f → Spreads (P.deeper k q) f
+  pub in_depth : {q : Piece} {f : (from : ℕ) → List PartSlot} (k : ℕ) → Spreads q f → Spreads (P.deeper k q) f
   in_depth k u = record { spread = λ L x from to h. u.spread L (over k x) from to h }
 
-  in_start : {q : Piece} {f : (from : ℕ) → List PartSlot} {l : ℕ} → Spreads q f → Spreads (P.started l q) f
+  pub in_start : {q : Piece} {f : (from : ℕ) → List PartSlot} {l : ℕ} → Spreads q f → Spreads (P.started l q) f
   in_start u = record { spread = λ L x from to h. u.spread L x from to h.1 }
 
-  in_count : {q : Piece} {f : (from : ℕ) → List PartSlot} {n : ℕ} → Spreads q f → Spreads (P.numbered n q) f
+  pub in_count : {q : Piece} {f : (from : ℕ) → List PartSlot} {n : ℕ} → Spreads q f → Spreads (P.numbered n q) f
   in_count u = record { spread = λ L x from to h. u.spread L x from to h }
 
   -- a slot that is made between two pieces
-  between_in : {a d : Piece} {f g : (from : ℕ) → List PartSlot} (q : Part) (k : ℕ) → is_empty a ≡ false → is_empty d ≡ false → Spreads a f → Spreads d g
+  pub between_in : {a d : Piece} {f g : (from : ℕ) → List PartSlot} (q : Part) (k : ℕ) → is_empty a ≡ false → is_empty d ≡ false → Spreads a f → Spreads d g
       → Spreads (P.seq a d) (λ p. part_slot q k (end_of next a p) ∷ (f p ++ g (end_of next a p)))
   between_in {a} {d} {f} {g} q k e i u v = record {
     spread = λ L x from to h.
@@ -208,11 +208,11 @@ module _ {V : Type 0} (code : CodeObject V) (table : List Start) (b : Block) (sa
   }
 
   -- told in another way
-  told_so : {q : Piece} {f g : (from : ℕ) → List PartSlot} → ((p : ℕ) → f p ≡ g p) → Spreads q f → Spreads q g
+  pub told_so : {q : Piece} {f g : (from : ℕ) → List PartSlot} → ((p : ℕ) → f p ≡ g p) → Spreads q f → Spreads q g
   told_so e u = record { spread = λ L x from to h. subst (Spread from to) (e from) (u.spread L x from to h) }
 
   module _ {A : Type 0} (around : Around A) where
-    abbrev In : Stms → (n : ℕ) → Behind → (d : ℕ) → (from : ℕ) → List PartSlot
+    abbrev pub In : Stms → (n : ℕ) → Behind → (d : ℕ) → (from : ℕ) → List PartSlot
     In ss n w d p = slots_of_all around next ss n w d p
 
     while_spreads : (l n d : ℕ) (e : Exp) (body els : Stms) (w : Behind)
@@ -241,7 +241,7 @@ module _ {V : Type 0} (code : CodeObject V) (table : List Start) (b : Block) (sa
         second_in (between_in q d refl refl none_in (told_so (λ p. ap (λ ss. part_slot r (suc d) (next (end_of next inside (end_of next (taken_piece around t (n + size e + 1)) p))) ∷ ss) (nothing_behind (f (end_of next (taken_piece around t (n + size e + 1)) p))))
         (between_in r (suc d) refl refl (in_depth 1 (in_row (second_in u))) none_in)))
 
-    items_spread : (is : Items) (body : ℕ → Piece) (k n d : ℕ) (f : (depth from : ℕ) → List PartSlot) → ((m d : ℕ) → m ≡ body_at is n → Spreads (body m) (f d))
+    pub items_spread : (is : Items) (body : ℕ → Piece) (k n d : ℕ) (f : (depth from : ℕ) → List PartSlot) → ((m d : ℕ) → m ≡ body_at is n → Spreads (body m) (f d))
         → Spreads (items_piece around is body k n) (λ p. slots_of_items around next is body k n d p f)
     items_spread S.no_items body k n d f u = in_closed (u n d refl)
     items_spread (S.with_item l e None r) body k n d f u =
@@ -252,13 +252,13 @@ module _ {V : Type 0} (code : CodeObject V) (table : List Start) (b : Block) (sa
         (with_part (n + size e + 1 + target_size t + items_size r k)) (exit_part (n + size e + 1 + target_size t + items_size r k)) _
         (items_spread r body k (n + size e + 1 + target_size t) (suc d) f u)
 
-    named_body : (is : Items) (N : ℕ → Type 0) (n : ℕ) → Items_named around is N n → N (body_at is n)
+    pub named_body : (is : Items) (N : ℕ → Type 0) (n : ℕ) → Items_named around is N n → N (body_at is n)
     named_body S.no_items N n h = h
     named_body (S.with_item l e None r) N n h = named_body r N (n + size e + 1) h.1
     named_body (S.with_item l e (Some t) r) N n h = named_body r N (n + size e + 1 + target_size t) h.2
 
     -- a handler behind its test
-    handled_spreads : (l n d : ℕ) (y : Option Name) (body : ℕ → Piece) (q : Part) (f : (from : ℕ) → List PartSlot) → ((m : ℕ) → m ≡ handler_body n y → Spreads (body m) f)
+    pub handled_spreads : (l n d : ℕ) (y : Option Name) (body : ℕ → Piece) (q : Part) (f : (from : ℕ) → List PartSlot) → ((m : ℕ) → m ≡ handler_body n y → Spreads (body m) f)
         → Spreads (handled_piece around l n y body) (λ p. part_slot q d (next p) ∷ f (next (next p)))
     handled_spreads l n d None body q f u = between_in q d refl refl none_in (second_in (first_in (in_depth 1 (in_closed (u (n + 1) refl)))))
     handled_spreads l n d (Some y) body q f u = between_in q d refl refl none_in (second_in (first_in (in_depth 1 (in_row (u (n + 1 + 1) refl)))))
@@ -309,13 +309,13 @@ module _ {V : Type 0} (code : CodeObject V) (table : List Start) (b : Block) (sa
     none_finally none n d p w = refl
     none_finally (more st ss) n d p w = refl
 
-    handlers_some : (hs : Handlers) (n : ℕ) → is_empty (handlers_piece around hs n) ≡ false
+    pub handlers_some : (hs : Handlers) (n : ℕ) → is_empty (handlers_piece around hs n) ≡ false
     handlers_some S.no_handlers n = refl
     handlers_some (S.handler l S.absent y body r) n = refl
     handlers_some (S.handler l (S.given x) y body r) n =
         first_false (is_empty (value_piece around x n) && false) _ (and_false (is_empty (value_piece around x n)))
 
-    no_handler_slots : (hs : Handlers) (n d p : ℕ) → hs ≡ S.no_handlers → slots_of_handlers around next hs n d p ≡ []
+    pub no_handler_slots : (hs : Handlers) (n d p : ℕ) → hs ≡ S.no_handlers → slots_of_handlers around next hs n d p ≡ []
     no_handler_slots hs n d p z = ap (λ hs. slots_of_handlers around next hs n d p) z
 
     try_spreads : (l n d : ℕ) (body : Stms) (hs : Handlers) (els fin : Stms) (w : Behind) → is_empty (all_piece around body (n + 1) (in_front els (behind_tried hs fin w))) ≡ false
@@ -358,7 +358,7 @@ module _ {V : Type 0} (code : CodeObject V) (table : List Start) (b : Block) (sa
 
     module _ (some : (st : Stm) (ss : Stms) (n : ℕ) (w : Behind) → Grammatical st → All_named around (more st ss) n → is_empty (all_piece around (more st ss) n w) ≡ false) where
       mutual
-        stm_spreads : (st : Stm) (n d : ℕ) (w : Behind) → Stm_named around st n → Grammatical st
+        pub stm_spreads : (st : Stm) (n d : ℕ) (w : Behind) → Stm_named around st n → Grammatical st
             → Spreads (begun_piece st w (stm_piece around st n w)) (λ p. slots_in around next st n w d (begun_at around next st p))
         stm_spreads (S.choice l S.no_branches els) n d w i g = absurd g
         stm_spreads (S.choice l (S.branch k x body r) els) n d w i g =
@@ -387,7 +387,7 @@ module _ {V : Type 0} (code : CodeObject V) (table : List Start) (b : Block) (sa
         all_spread (more st ss) n d w i g =
             both_in (in_start (stm_spreads st n d (in_front ss w) i.0 g.0)) (all_spread ss (n + stm_size st) d w i.1 g.1)
 
-        branches_spread : (bs : Branches) (els : Stms) (n d : ℕ) (w : Behind) → Branches_named around bs (λ m. All_named around els m) n → Branches_grammatical bs
+        pub branches_spread : (bs : Branches) (els : Stms) (n d : ℕ) (w : Behind) → Branches_named around bs (λ m. All_named around els m) n → Branches_grammatical bs
             → ((m : ℕ) → All_named around els m → Spreads (all_piece around els m w) (In els m w d))
             → Spreads (branches_piece around bs n (λ m. P.closed (all_piece around els m w)))
             (λ p. slots_of_branches around next bs n d p ++ In els (J.behind_branches bs n) w d (behind_tests around next bs n p))
@@ -397,7 +397,7 @@ module _ {V : Type 0} (code : CodeObject V) (table : List Start) (b : Block) (sa
             (both_in (in_block (second_in (second_in (first_in (in_closed (all_spread body (tested_body n x) d free i.1 g.0))))))
             (branches_spread r els (behind_body n x body) d w i.2 g.1 f))
 
-        handlers_spread : (hs : Handlers) (n d : ℕ) → Handlers_named around hs n → Handlers_grammatical hs → Spreads (handlers_piece around hs n) (λ p. slots_of_handlers around next hs n d p)
+        pub handlers_spread : (hs : Handlers) (n d : ℕ) → Handlers_named around hs n → Handlers_grammatical hs → Spreads (handlers_piece around hs n) (λ p. slots_of_handlers around next hs n d p)
         handlers_spread S.no_handlers n d i g = none_in
         handlers_spread (S.handler l S.absent y body r) n d i g =
             handler_spreads null_piece l n d y (λ m. all_piece around body m free) (handlers_piece around r (handler_body n y + stms_size body)) (handler_part n)

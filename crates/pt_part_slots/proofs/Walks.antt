@@ -88,11 +88,11 @@ module _ (slots : Part → Option PartSlot) where
   Told [] = Unit {0}
   Told (s ∷ ss) = (slots s.part ≡ Some s) × Told ss
 
-  told_front : (ss us : List PartSlot) → Told (ss ++ us) → Told ss
+  pub told_front : (ss us : List PartSlot) → Told (ss ++ us) → Told ss
   told_front [] us h = tt
   told_front (s ∷ ss) us h = (h.0, told_front ss us h.1)
 
-  told_back : (ss us : List PartSlot) → Told (ss ++ us) → Told us
+  pub told_back : (ss us : List PartSlot) → Told (ss ++ us) → Told us
   told_back [] us h = h
   told_back (s ∷ ss) us h = told_back ss us h.1
 
@@ -113,7 +113,7 @@ regrouped (Some a) h e f = refl
 regrouped None (Some h) e f = refl
 regrouped None None e f = refl
 
-must : (w : Behind) → is_needed w ≡ true → (t : Bool) → Due w t
+pub must : (w : Behind) → is_needed w ≡ true → (t : Bool) → Due w t
 must needed e t = tt
 must free e t = absurd (false≢true e)
 must reached e t = absurd (false≢true e)

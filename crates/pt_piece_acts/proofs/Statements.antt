@@ -39,7 +39,7 @@ guarded_tops : (hs : Handlers) (body otherwise handlers : Piece) (n i h e : ℕ)
 guarded_tops S.no_handlers body otherwise handlers n i h e s f g k = no_third n i h e (above body) (above otherwise) s f k
 guarded_tops (S.handler l c y hb r) body otherwise handlers n i h e s f g k = all_three n i h e (above body) (above otherwise) (above handlers) f g k
 
-begun_tops : (st : Stm) (q : Behind) (n m : ℕ) (p : Piece) → Tops p n m → Tops (started (starts_on st) (begun_piece st q p)) n m
+pub begun_tops : (st : Stm) (q : Behind) (n m : ℕ) (p : Piece) → Tops p n m → Tops (started (starts_on st) (begun_piece st q p)) n m
 begun_tops st q n m p h = by (is_silent st) (leaves st && is_needed q)
   where
     by : (s b : Bool) → Tops (if s then begun_piece (S.global 0 []) q p else if b then begun_piece (S.raise_again 0) needed p else p) n m

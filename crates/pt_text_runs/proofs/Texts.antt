@@ -1,4 +1,4 @@
--- The blocks of a text that is a script have their closed parts, but for acts.
+-- The blocks of a text that is a script have their closed parts.
 use Rattle.std.proofs.Common.{ℕ, List, sym, ap, ◌∙◌}
 use Rattle.pt_tree.specs.Syntax.{Stms}
 use Rattle.pt_control.specs.Jump.{starts_of, on_line}
@@ -14,7 +14,10 @@ use Rattle.pt_script_acts.proofs.Script.{scripts_run_as_their_code}
 use Rattle.pt_start_nests.specs.Laws.{own_block, own_ending, HasOwnParts}
 use Rattle.pt_start_nests.proofs.Scripts.{script_starts_in_parts}
 use Rattle.pt_text_parts.proofs.Texts.{free_names, grammatical, apart, blocks_of_texts_have_parts}
-use Rattle.pt_text_runs.specs.Laws.{JumpsBySlots, ActsInParts, TextsRunAsTheirCode}
+use Rattle.pt_fitting_scripts.proofs.Fitting.{blocks_of_texts_fit}
+use Rattle.pt_acts_in_parts.specs.Laws.{JumpsBySlots}
+use Rattle.pt_acts_in_parts.proofs.Scripts.{script_acts_are_in_parts}
+use Rattle.pt_text_runs.specs.Laws.{IsShallow, TextsRunAsTheirCode}
 
 module _ {V : Type 0} (null : V) (text : List ℕ) (script : Stms) (source : Source V) (code : CodeSource V) (is : IsScript text script) (b : BlockId)
     (of : IsOfScript null script source code b) where
@@ -25,25 +28,27 @@ module _ {V : Type 0} (null : V) (text : List ℕ) (script : Stms) (source : Sou
       (shows null script of.number of.block (code.object b) has)
 
   closed_parts : JumpsBySlots code b (own_block null script source code b of)
-      → ActsInParts source code b (own_block null script source code b of) own_parts.parts.part (own_ending null script source code b of)
-      → HasClosedParts source code b
-  closed_parts jumps acts =
+      → IsShallow null script source code b of → HasClosedParts source code b
+  closed_parts jumps shallow =
       let has = of.has_object in
+      let whole = grammatical text script is of.number of.block has.is_block in
+      let blocks = apart text script is of.number of.block has.is_block in
+      let fits = blocks_of_texts_fit text script is of.number has.layout has.is_layout has.fits
+      (code.object b).at has.is_object.view shallow in
       record {
         block = own_block null script source code b of;
         part = own_parts.parts.part;
         ending = own_ending null script source code b of;
         by_slots = jumps;
         starts = script_starts_in_parts null script source code b is.no_fault (free_names text script is) of own_parts
-            (grammatical text script is of.number of.block has.is_block)
-            (apart text script is of.number of.block has.is_block);
+            whole blocks;
         no_others = λ line pc e s. script_starts_have_statements script of.number of.block has.layout (code.object b) line pc has.is_block has.is_layout
             (ap (λ c. on_line line (starts_of c)) (sym of.same_code) ∙ e) s;
-        acts = acts;
+        acts = script_acts_are_in_parts null script source code b is.no_fault (free_names text script is) of
+            own_parts whole blocks jumps fits;
       }
 
 pub texts_run_as_their_code : {D N V W : Type 0} → TextsRunAsTheirCode D N V W
-texts_run_as_their_code null text script source code is theirs jumps acts =
+texts_run_as_their_code null text script source code is theirs jumps shallow =
     scripts_run_as_their_code null script source code is.no_fault (free_names text script is) theirs
-    (λ b. let t = theirs b in closed_parts null text script source code is b t.of_script (jumps b)
-    (acts b (own_parts null text script source code is b t.of_script)))
+    (λ b. closed_parts null text script source code is b (theirs b).of_script (jumps b) (shallow b))

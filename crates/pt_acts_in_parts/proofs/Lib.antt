@@ -1,0 +1,3 @@
+mod Blocks
+mod Nests
+pub mod Scripts
