@@ -8,7 +8,6 @@ use Rattle.pt_instr.specs.declared.Instr.{Instr}
 use Rattle.pt_instr.specs.declared.Instr.TheVariants as instr
 use Rattle.pt_instr.specs.declared.effects.Effect.{Effect}
 use Rattle.pt_instr.specs.declared.kinds.Kind.{Kind}
-use Rattle.pt_instr.specs.declared.kinds.Kind.TheVariants as kind
 use Rattle.pt_instr.specs.Effects.{Kinds, effect_of}
 use Rattle.pt_ranges.specs.declared.handlers.Handler.{Handler}
 use Rattle.pt_code.specs.View.{Ins}
@@ -20,7 +19,8 @@ use Rattle.pt_fits.specs.Leaves as L
 use Rattle.pt_fits.specs.Leaves.{Departs, Goes, Common, Leaving}
 use Rattle.pt_fits.specs.Agreement as A
 use Rattle.pt_fits.specs.Fits.{Fits}
-use Rattle.pt_fits.proofs.KindLemmas.{both, either, same_kinds, prefix_taken, length_below}
+use Rattle.pt_fits.proofs.KindLemmas.{both, either, same_kinds, no_swap, prefix_taken, length_below}
+use Rattle.pt_fits.proofs.Swaps.{given_plain}
 use Rattle.pt_fits.proofs.Ways.{found, target_fits}
 
 module _ {A : Type 0} where
@@ -120,24 +120,24 @@ module _ (b : Block) (fits : Fits b) (q : ℕ) (i : Ins) (ks : Kinds) (reached :
       by_side (inr m) = taken_alike given n k d m l
 
   -- where two are swapped none of them is kept
-  swapped_alike : (to : ℕ) (given : Kinds) → swaps_iterator e ks ≡ true → Alike ks (gives e ks to given)
-  swapped_alike to given y d l = lower_alike given d (let k = swap_keeps i.instr (captured b.links i.instr) (both e.swaps _ y).0 in omega (arith, k, l))
+  swapped_alike : (to : ℕ) (given : Kinds) → e.swaps ≡ true → Alike ks (gives e ks to given)
+  swapped_alike to given y d l = lower_alike given d (let k = swap_keeps i.instr (captured b.links i.instr) y in omega (arith, k, l))
 
   behind_alike : (o : Option Kinds) → KeepsOf e o → (s : Step) → Contains (onward e ks i.next o) s → Alike ks s
   behind_alike None k s (n, l, f) = absurd (let h : ⊥ = omega (arith, l) in h)
-  behind_alike (Some given) k s c = by_swap (swaps_iterator e ks) refl
+  behind_alike (Some given) k s c = by_swap e.swaps refl
     where
-      by_swap : (t : Bool) → swaps_iterator e ks ≡ t → Alike ks s
+      by_swap : (t : Bool) → e.swaps ≡ t → Alike ks s
       by_swap true y = subst (Alike ks) (single _ _ c) (swapped_alike i.next (given_behind e ks given) y)
-      by_swap false n = subst (Alike ks) (single _ _ c) (subst (λ gs. Alike ks (gives e ks i.next gs)) (sym (ap (λ t. if t then kind.Value ∷ kind.Iter ∷ [] else given) n))
-          (given_alike i.next given n k))
+      by_swap false n = subst (Alike ks) (single _ _ c) (subst (λ gs. Alike ks (gives e ks i.next gs)) (sym (given_plain e ks given n))
+          (given_alike i.next given (no_swap e ks n) k))
 
   aside_alike : (t : Option ℕ) (o : Option Kinds) → KeepsOf e o → (s : Step) → Contains (aside e ks t o) s → Alike ks s
-  aside_alike (Some t) (Some given) k s c = by_swap (swaps_iterator e ks) refl
+  aside_alike (Some t) (Some given) k s c = by_swap e.swaps refl
     where
-      by_swap : (x : Bool) → swaps_iterator e ks ≡ x → Alike ks s
+      by_swap : (x : Bool) → e.swaps ≡ x → Alike ks s
       by_swap true y = subst (Alike ks) (single _ _ c) (swapped_alike t given y)
-      by_swap false n = subst (Alike ks) (single _ _ c) (given_alike t given n k)
+      by_swap false n = subst (Alike ks) (single _ _ c) (given_alike t given (no_swap e ks n) k)
   aside_alike (Some t) None k s (n, l, f) = absurd (let h : ⊥ = omega (arith, l) in h)
   aside_alike None (Some given) k s (n, l, f) = absurd (let h : ⊥ = omega (arith, l) in h)
   aside_alike None None k s (n, l, f) = absurd (let h : ⊥ = omega (arith, l) in h)

@@ -1,4 +1,5 @@
 pub mod KindLemmas
+pub mod Swaps
 pub mod Ways
 pub mod SlotLaw
 pub mod Certificates

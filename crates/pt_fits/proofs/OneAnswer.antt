@@ -57,38 +57,38 @@ one_at_place (F.inside n h e k f) (F.inside o i d l g) = refl
 
 -- what holds up to a place holds up to each that has as many instructions
 module _ {b : Block} {p s : ℕ} (up : (q : ℕ) (i : Ins) → b.at q ≡ Some i → q ≤ p → q ≤ s) where
-  gets_up : {q : ℕ} {ks : Kinds} → Gets b p q ks → Gets b s q ks
+  pub gets_up : {q : ℕ} {ks : Kinds} → Gets b p q ks → Gets b s q ks
   gets_up (P.start i e) = P.start i e
   gets_up (P.onward {q = q} g l c j e) = P.onward (gets_up g) (let (i, f) = place_of g in up q i f l) c j e
 
-  reached_up : {q : ℕ} {i : Ins} {ks : Kinds} → Reached b p q i ks → Reached b s q i ks
+  pub reached_up : {q : ℕ} {i : Ins} {ks : Kinds} → Reached b p q i ks → Reached b s q i ks
   reached_up {q = q} {i = i} r = record { gets = gets_up r.gets; low = up q i r.stands r.low; stands = r.stands }
 
   mutual
-    departs_up : {t q : ℕ} {rows : List Handler} {ks : Kinds} → Departs b p t q rows ks → Departs b s t q rows ks
+    pub departs_up : {t q : ℕ} {rows : List Handler} {ks : Kinds} → Departs b p t q rows ks → Departs b s t q rows ks
     departs_up (L.leaves r e) = L.leaves (reached_up r) e
     departs_up (L.let_go r e h) = L.let_go (reached_up r) e (holds_up h)
 
-    goes_up : {q r k : ℕ} → Goes b p q r k → Goes b s q r k
+    pub goes_up : {q r k : ℕ} → Goes b p q r k → Goes b s q r k
     goes_up (L.by_row r c e) = L.by_row (reached_up r) c e
     goes_up (L.by_leave c g) = L.by_leave (departs_up c) (gets_up g)
 
-    common_up : {d q r : ℕ} → Common b p d q r → Common b s d q r
+    pub common_up : {d q r : ℕ} → Common b p d q r → Common b s d q r
     common_up (L.kept g l) = L.kept (goes_up g) l
     common_up L.same = L.same
     common_up (L.back c) = L.back (common_up c)
     common_up (L.along c d) = L.along (common_up c) (common_up d)
 
-    holds_up : {t q d : ℕ} → Holds b p t q d → Holds b s t q d
+    pub holds_up : {t q d : ℕ} → Holds b p t q d → Holds b s t q d
     holds_up (L.caught c row e) = L.caught (departs_up c) row e
     holds_up (L.exited r e h) = L.exited (reached_up r) e (holds_up h)
     holds_up (L.shared c h) = L.shared (common_up c) (holds_up h)
 
-  leaving_up : {t : ℕ} {ks : Kinds} → Leaving b p t ks → Leaving b s t ks
+  pub leaving_up : {t : ℕ} {ks : Kinds} → Leaving b p t ks → Leaving b s t ks
   leaving_up (L.free c) = L.free (departs_up c)
   leaving_up (L.held c row e) = L.held (departs_up c) row e
 
-  disagrees_up : Disagrees b p → Disagrees b s
+  pub disagrees_up : Disagrees b p → Disagrees b s
   disagrees_up (F.lengths (A.two g h e)) = F.lengths (A.two (gets_up g) (gets_up h) e)
   disagrees_up (F.handlers row (A.too_deep r c e)) = F.handlers row (A.too_deep (reached_up r) c e)
   disagrees_up (F.handlers row (A.differs r c u d e)) = F.handlers row (A.differs (reached_up r) c (reached_up u) d e)

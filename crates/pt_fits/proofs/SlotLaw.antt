@@ -25,7 +25,7 @@ use Rattle.pt_slots.specs.Pops.{Next, values, cells, one, two, three, an_iterato
 use Rattle.pt_slots.specs.Steps.{dropped, kept, unmarked, after, asks, gives, does, decided, throws, goes, leaves, gives_known, branches, with_item, delegated, delegates, lets_go}
 use Rattle.pt_slots.specs.Instructions.{conversion_of, all_positional, last_named, role_of, operates, jumps, perform}
 use Rattle.pt_slots.specs.Machine.{turn, here, thrown_here, after_note}
-use Rattle.pt_fits.specs.Block.{Block, effect}
+use Rattle.pt_fits.specs.Block.{Block, captured, effect}
 use Rattle.pt_fits.specs.Steps as F
 use Rattle.pt_fits.specs.Steps.{is_kind, spared, below, is_value, has_value, has_enough, finds, is_within, given_behind, swaps_iterator, target_of, are_kinds, taken}
 use Rattle.pt_fits.specs.Places.{Gets, Reached}
@@ -34,6 +34,7 @@ use Rattle.pt_fits.specs.Leaves.{Departs, Goes, Common, Holds, Leaving, taker, t
 use Rattle.pt_fits.specs.Fits.{Fits, Arrives}
 use Rattle.pt_fits.specs.Laws.{SlotsFit, Runs, MayHold, AllMayHold, Stack, At, Sent, Rising, Sound, GoesOn}
 use Rattle.pt_fits.proofs.KindLemmas.{both, either, same_kinds, prefix_taken, reverse_replicate, split, no_swap, length_below, lowest, take_take}
+use Rattle.pt_fits.proofs.Swaps.{given_lifted, given_found}
 use Rattle.pt_fits.proofs.Ways.{place_of, first, later, found_contained, Way, within, behind, at_target, stays, at_handler, found, departs_arrive, target_fits}
 
 -- a list begins with a kind
@@ -393,10 +394,12 @@ module _ {V : Type 0} (code : CodeObject V) (b : Block) (runs : Runs code b) (fi
       no_swap = no_swap Eff ks;
       top = λ n. split Eff ks (either (are_kinds (taken Eff ks) Eff.takes) (swaps_iterator Eff ks) f.0 n);
       onward = λ n given e. subst (λ gs. Way b q i.next (Low ++ gs) (spared Eff ks + min Eff.keeps (length gs)))
-          (ap (λ t. if t then kind.Value ∷ kind.Iter ∷ [] else given) n) (behind b fits q i ks reached given e);
+          (given_found i.instr (captured b.links i.instr) ks given
+          (same_kinds (taken Eff ks) Eff.takes (either (are_kinds (taken Eff ks) Eff.takes) (swaps_iterator Eff ks) f.0 n)) e)
+          (behind b fits q i ks reached given e);
       top_swapped = λ y. on_top (kind.Iter ∷ kind.Value ∷ []) (same_kinds (taken Eff ks) _ (both Eff.swaps _ y).1);
       onward_swapped = λ y given e. subst (λ gs. Way b q i.next (Low ++ gs) (spared Eff ks + min Eff.keeps (length gs)))
-          (ap (λ t. if t then kind.Value ∷ kind.Iter ∷ [] else given) y) (behind b fits q i ks reached given e);
+          (given_lifted Eff ks given (both Eff.swaps _ y).0 (same_kinds (taken Eff ks) _ (both Eff.swaps _ y).1)) (behind b fits q i ks reached given e);
       aside = λ t given e f. at_target b fits q i ks reached t given e f;
       again = λ e. stays b fits q i ks reached e;
       reads = f.1;

@@ -1,7 +1,5 @@
 -- The ways on from an instruction, with the kinds of the slots there. In a list of kinds the top stands last (Library Reference, "dis").
 use Rattle.std.specs.Prelude.{ℕ, zero, suc, ◌+◌, ◌-◌, min, List, [], ◌∷◌, ◌++◌, length, map, reverse, take, drop, filter, slice_get, Bool, true, false, ◌&&◌, ◌||◌, nat_le, if◌then◌else◌, Option, Some, None}
-use Rattle.pt_instr.specs.declared.Instr.{Instr}
-use Rattle.pt_instr.specs.declared.Instr.TheVariants as instr
 use Rattle.pt_instr.specs.declared.effects.Effect.{Effect}
 use Rattle.pt_instr.specs.declared.kinds.Kind.{Kind}
 use Rattle.pt_instr.specs.declared.kinds.Kind.TheVariants as kind
@@ -68,8 +66,13 @@ swaps_iterator e ks = e.swaps && are_kinds (taken e ks) (kind.Iter ∷ kind.Valu
 abbrev pub finds : Effect → Kinds → Bool
 finds e ks = (are_kinds (taken e ks) e.takes || swaps_iterator e ks) && has_value e.above (below e ks)
 
+-- of two that are swapped the lower one comes to the top, and a value lies below
+abbrev pub swapped : Kinds → (given : Kinds) → Kinds
+swapped (k ∷ l ∷ []) given = kind.Value ∷ k ∷ []
+swapped ks given = given
+
 abbrev pub given_behind : Effect → Kinds → Kinds → Kinds
-given_behind e ks given = if swaps_iterator e ks then kind.Value ∷ kind.Iter ∷ [] else given
+given_behind e ks given = if e.swaps then swapped (taken e ks) given else given
 
 -- a way on: where to, with slots of which kinds, and how many of the lowest of them are the same as before
 pub record Step : Type 0 where

@@ -51,103 +51,13 @@ led_starts (suc n) given r (k ∷ ks) (l ∷ ls) s = (s.0, led_starts n given r 
 pub led_begins : (n : ℕ) (given : Kinds) (r : Bool) (ks ls : Kinds) → Begins ks ls → Begins (led_by n given r ks) (led_by n given r ls)
 led_begins n given r ks ls b = begins (led_by n given r ks) (led_by n given r ls) (led_starts n given r ks ls (starts ks ls b))
 
--- the longest beginning of some lists leads to that of the lists to which they lead
-
-abbrev HasOne : (Kinds → Type 0) → Type 0
-HasOne P = (ks : Kinds) × P ks
-
-abbrev AllStart : (Kinds → Type 0) → Kinds → Type 0
-AllStart P beginning = (ks : Kinds) → P ks → Starts beginning ks
-
-abbrev IsTop : (Kinds → Type 0) → Kinds → Type 0
-IsTop P m = (beginning : Kinds) → AllStart P beginning → Starts beginning m
-
-raised_top : (P : Kinds → Type 0) → HasOne P → (m : Kinds) → IsTop P m → (r : Bool) (x : Kinds) → ((ks : Kinds) → P ks → Starts x (raised r ks)) → Starts x (raised r m)
-raised_top P one m top r [] h = tt
-raised_top P one m top false (a ∷ x) h = h one.0 one.1
-raised_top P one m top true (a ∷ c ∷ x) h = absurd (two one.0 (h one.0 one.1))
-  where
-    two : (ks : Kinds) → Starts (a ∷ c ∷ x) (raised true ks) → ⊥
-    two [] s = s
-    two (k ∷ ks) s = s.1
-raised_top P one m top true (a ∷ []) h = at_top m (top (a ∷ []) (λ ks p. of ks (h ks p)))
-  where
-    of : (ks : Kinds) → Starts (a ∷ []) (raised true ks) → Starts (a ∷ []) ks
-    of [] s = s
-    of (k ∷ ks) s = s
-
-    at_top : (m : Kinds) → Starts (a ∷ []) m → Starts (a ∷ []) (raised true m)
-    at_top [] s = s
-    at_top (k ∷ m) s = s
-
-given_top : (P : Kinds → Type 0) → HasOne P → (m : Kinds) → IsTop P m → (given : Kinds) (r : Bool) (x : Kinds) → ((ks : Kinds) → P ks → Starts x (given ++ raised r ks))
-    → Starts x (given ++ raised r m)
-given_top P one m top [] r x h = raised_top P one m top r x h
-given_top P one m top (g ∷ given) r [] h = tt
-given_top P one m top (g ∷ given) r (a ∷ x) h = ((h one.0 one.1).0, given_top P one m top given r x (λ ks p. (h ks p).1))
-
-led_top : (n : ℕ) (P : Kinds → Type 0) → HasOne P → (m : Kinds) → IsTop P m → (given : Kinds) (r : Bool) (x : Kinds) → ((ks : Kinds) → P ks → Starts x (led_by n given r ks))
-    → Starts x (led_by n given r m)
-led_top zero P one m top given r x h = given_top P one m top given r x h
-led_top (suc n) P one m top given r [] h = tt
-led_top (suc n) P one m top given r (a ∷ x) h =
-    by_top (λ l t. led_top n (λ ks. P (a ∷ ks)) (one_rest one.0 one.1 (h one.0 one.1)) l t given r x (λ ks p. (h (a ∷ ks) p).1)) m top (top (a ∷ []) (λ ks p. first ks (h ks p)))
-  where
-    first : (ks : Kinds) → Starts (a ∷ x) (led_by (suc n) given r ks) → Starts (a ∷ []) ks
-    first [] s = s
-    first (k ∷ ks) s = (s.0, tt)
-
-    one_rest : (ks : Kinds) → P ks → Starts (a ∷ x) (led_by (suc n) given r ks) → HasOne (λ ls. P (a ∷ ls))
-    one_rest [] p s = absurd s
-    one_rest (k ∷ ks) p s = (ks, subst (λ j. P (j ∷ ks)) (sym s.0) p)
-
-    all_rest : (y : Kinds) → AllStart (λ ls. P (a ∷ ls)) y → AllStart P (a ∷ y)
-    all_rest y q ks p = by_list ks p (h ks p)
-      where
-        by_list : (ks : Kinds) → P ks → Starts (a ∷ x) (led_by (suc n) given r ks) → Starts (a ∷ y) ks
-        by_list [] p s = absurd s
-        by_list (k ∷ ks) p s = (s.0, q ks (subst (λ j. P (j ∷ ks)) (sym s.0) p))
-
-    by_top : ((l : Kinds) → IsTop (λ ks. P (a ∷ ks)) l → Starts x (led_by n given r l)) → (m : Kinds) → IsTop P m → Starts (a ∷ []) m → Starts (a ∷ x) (led_by (suc n) given r m)
-    by_top rest [] t s = absurd s
-    by_top rest (k ∷ m) t s = (s.0, rest m (λ y q. (t (a ∷ y) (all_rest y q)).1))
-
-pub led_longest : (n : ℕ) (given : Kinds) (r : Bool) (P : Kinds → Type 0) (one : Kinds) → P one → (m : Kinds)
-    → ((beginning : Kinds) → ((ks : Kinds) → P ks → Begins beginning ks) → Begins beginning m)
-    → (x : Kinds) → ((ks : Kinds) → P ks → Begins x (led_by n given r ks)) → Begins x (led_by n given r m)
-led_longest n given r P one p m top x h = begins x (led_by n given r m)
-    (led_top n P (one, p) m (λ y q. starts y m (top y (λ ks k. begins y ks (q ks k)))) given r x (λ ks k. starts x (led_by n given r ks) (h ks k)))
-
 -- what two lists have in common
-
-starts_take : (ks ls : Kinds) → Starts ks ls → take (length ks) ls ≡ ks
-starts_take [] [] s = refl
-starts_take [] (l ∷ ls) s = refl
-starts_take (k ∷ ks) [] s = absurd s
-starts_take (k ∷ ks) (l ∷ ls) s = ap (λ xs. l ∷ xs) (starts_take ks ls s.1) ∙ ap (λ x. x ∷ ks) (sym s.0)
-
-starts_long : (ks ls : Kinds) → Starts ks ls → length ks ≤ length ls
-starts_long [] ls s = omega arith
-starts_long (k ∷ ks) [] s = absurd s
-starts_long (k ∷ ks) (l ∷ ls) s = let h = starts_long ks ls s.1 in omega (arith, h)
-
-starts_of_take : (n : ℕ) (ks ls : Kinds) → Starts ks ls → length ks ≤ n → Starts ks (take n ls)
-starts_of_take n [] ls s h = tt
-starts_of_take zero (k ∷ ks) ls s h = absurd (omega (arith, h))
-starts_of_take (suc n) (k ∷ ks) [] s h = absurd s
-starts_of_take (suc n) (k ∷ ks) (l ∷ ls) s h = (s.0, starts_of_take n ks ls s.1 (omega (arith, h)))
 
 pub take_begins : (n : ℕ) (ks : Kinds) → Begins (take n ks) ks
 take_begins zero [] = record { more = []; is = refl }
 take_begins zero (k ∷ ks) = record { more = k ∷ ks; is = refl }
 take_begins (suc n) [] = record { more = []; is = refl }
 take_begins (suc n) (k ∷ ks) = let b = take_begins n ks in record { more = b.more; is = ap (λ xs. k ∷ xs) b.is }
-
-pub common_longest : (ks ls x : Kinds) (count : ℕ) → IsCommon ks ls count → Begins x ks → Begins x ls → Begins x (take count ks)
-common_longest ks ls x count c b d =
-    let s = starts x ks b in
-    let t = starts x ls d in
-    begins x (take count ks) (starts_of_take count x ks s (c.most (length x) (starts_long x ks s) (starts_long x ls t) (starts_take x ks s ∙ sym (starts_take x ls t))))
 
 pub common_begins : (ks ls : Kinds) (count : ℕ) → IsCommon ks ls count → Begins (take count ks) ls
 common_begins ks ls count c = subst (λ xs. Begins xs ls) (sym c.same) (take_begins count ls)

@@ -1,5 +1,6 @@
 mod Beginnings
 mod Forests
 mod Leading
+mod Partings
 mod Theory
-mod Stages
+pub mod Stages

@@ -13,12 +13,13 @@ use Rattle.pt_kind_flow.specs.declared.edges.Edge.{Edge}
 use Rattle.pt_kind_flow.specs.declared.flow.Arrival.{Arrival}
 use Rattle.pt_kind_flow.specs.declared.flow.Flow.{Flow}
 use Rattle.pt_kind_flow.specs.Flow as F
-use Rattle.pt_kind_flow.specs.Flow.{Graph, edges_at, edges_of, Comes, IsLongest, entry, graph, told, AreLongest, Descends}
-use Rattle.pt_kind_flow.specs.Search.{Grows, IsAbove, Seen, Open, Leads, IsFlow, IsSearch, IsFirstTable, GoneOn, GoesOn, Settled, Opens, AllDescend, Tells}
+use Rattle.pt_kind_flow.specs.Flow.{Graph, edges_at, edges_of, Comes, IsLongest, IsExact, entry, graph, told, AreLongest, Descends}
+use Rattle.pt_kind_flow.specs.Search.{Grows, Seen, Open, Leads, IsFlow, IsSearch, IsFirstTable, GoneOn, GoesOn, Settled, Opens, AllDescend, Tells}
 use Rattle.pt_kind_flow.proofs.Beginnings.{begins_same}
 use Rattle.pt_kind_flow.proofs.Forests.{grows_itself, grown, still_inside, grows_then}
+use Rattle.pt_kind_flow.proofs.Partings.{exact_more}
 use Rattle.pt_kind_flow.proofs.Leading.{lt_or}
-use Rattle.pt_kind_flow.proofs.Theory.{none_in_empty, some_or_none, above_more, went_on, arrival_inside, skip_far, skip_known, arrive_first, arrive_shorter, longest_at, none_at, map_some, map_none, no_edges}
+use Rattle.pt_kind_flow.proofs.Theory.{none_in_empty, some_or_none, went_on, arrival_inside, skip_far, skip_known, arrive_first, arrive_shorter, longest_at, none_at, map_some, map_none, no_edges}
 
 -- the entry that an index read
 pub entry_is : {X : Type 0} (T : List (Option X)) (q : ℕ) (o p : Option X) → q < length T → o ≡ get_or T q o → o ≡ p → entry T q ≡ p
@@ -116,8 +117,8 @@ started f first count edges T is inside none t = record {
   inside = λ v i h. subst (λ j. IsInside f j) (t.only v i h).1 inside;
   due_inside = λ a c. absurd (none_in_empty a c);
   start = by_count count refl;
-  above = λ v i h. subst (λ u. IsAbove (graph_of edges (list_at f first)) u (list_at f i)) (sym (t.only v i h).0) (subst (λ j. IsAbove (graph_of edges (list_at f first)) 0 (list_at f j)) (t.only v i h).1
-      (record { some = record { kinds = list_at f first; comes = F.start }; longest = λ x h. h (list_at f first) F.start }));
+  above = λ v i h. subst (λ u. IsExact (graph_of edges (list_at f first)) u (list_at f i)) (sym (t.only v i h).0) (subst (λ j. IsExact (graph_of edges (list_at f first)) 0 (list_at f j)) (t.only v i h).1
+      (F.whole F.start));
   due_above = λ a c. absurd (none_in_empty a c);
   goes_on = λ v i h e c. absurd (none_in_empty e (subst (λ es. Contains es e) (ap (λ es. edges_at es v) none ∙ edges_none count v) c));
 }
@@ -159,7 +160,7 @@ module _ (g g' : Graph) (v : ℕ) (es : List Edge) (is : g'.edges ≡ set g.edge
       inside = o.inside;
       due_inside = o.due_inside;
       start = on 0 g'.first (subst (λ ks. Seen g f T [] 0 ks) (sym first) o.start);
-      above = λ u i h. above_more g g' u (list_at f i) (list_at f i) more refl (o.above u i h);
+      above = λ u i h. exact_more g g' u (list_at f i) (list_at f i) more refl (o.above u i h);
       due_above = λ a c. absurd (none_in_empty a c);
       goes_on = λ u i h e c. on e.to (F.led e (list_at f i)) (o.goes_on u i h e (subst (λ xs. Contains xs e) (other u (λ same. some_or_none i (sym h ∙ (ap (λ w. entry T w) same ∙ untold)))) c));
     }
@@ -171,7 +172,7 @@ module _ (g g' : Graph) (v : ℕ) (es : List Edge) (is : g'.edges ≡ set g.edge
 
     pub opened_some : (list : ℕ) → entry T v ≡ Some list → v < length T → (f2 : Forest) (W' : List Arrival) → Leads f f2 (edges_at g'.edges v) list None [] W' → Open g' f2 (set T v (Some list)) W'
     opened_some list e room f2 W' leads = went_on g g' f f f2 T [] [] W' v list o long first more other (grows_itself f o.forest) room (o.inside v list e)
-        (above_more g g' v (list_at f list) (list_at f list) more refl (o.above v list e))
+        (exact_more g g' v (list_at f list) (list_at f list) more refl (o.above v list e))
         (λ i h. subst (λ j. Begins (list_at f list) (list_at f j)) (same_Some list i (sym e ∙ h)) (begins_same (list_at f list)))
         (λ a c. c) (λ a c. inl c) None leads (λ n h. absurd (some_or_none n (sym h)))
 

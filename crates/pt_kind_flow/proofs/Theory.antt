@@ -12,9 +12,10 @@ use Rattle.pt_kinds.specs.Common.{IsCommon}
 use Rattle.pt_kind_flow.specs.declared.edges.Edge.{Edge}
 use Rattle.pt_kind_flow.specs.declared.flow.Arrival.{Arrival}
 use Rattle.pt_kind_flow.specs.Flow as F
-use Rattle.pt_kind_flow.specs.Flow.{given, led, Graph, edges_at, Comes, ComesSome, IsLongest, entry, graph, told, AreLongest, reach}
-use Rattle.pt_kind_flow.specs.Search.{Grows, IsAbove, Known, Due, Seen, Open, IsLed, Leads, is_told}
-use Rattle.pt_kind_flow.proofs.Beginnings.{begins_same, begins_then, led_begins, led_longest, common_longest, common_begins, take_begins, whole_begins, led_decided}
+use Rattle.pt_kind_flow.specs.Flow.{given, led, Graph, edges_at, Comes, ComesSome, IsLongest, IsExact, entry, graph, told, AreLongest, reach}
+use Rattle.pt_kind_flow.specs.Search.{Grows, Known, Due, Seen, Open, IsLed, Leads, is_told}
+use Rattle.pt_kind_flow.proofs.Beginnings.{begins_same, begins_then, led_begins, common_begins, take_begins, whole_begins, led_decided}
+use Rattle.pt_kind_flow.proofs.Partings.{exact_some, exact_longest, exact_more, exact_led, exact_common}
 use Rattle.pt_kind_flow.proofs.Leading.{lt_or}
 use Rattle.pt_kind_flow.proofs.Forests.{grows_then, still_inside}
 
@@ -34,22 +35,6 @@ no_edges [] v h = refl
 no_edges (es ∷ edges) zero h = absurd (omega (arith, h))
 no_edges (es ∷ edges) (suc v) h = no_edges edges v (omega (arith, h))
 
--- the longest beginning of what comes to a vertex leads to that of what comes along an edge
-pub above_led : (g : Graph) (v : ℕ) (ks : Kinds) (e : Edge) → IsAbove g v ks → Contains (edges_at g.edges v) e → IsAbove g e.to (led e ks)
-above_led g v ks e a c = record {
-  some = record { kinds = led e a.some.kinds; comes = F.goes a.some.comes c };
-  longest = λ x h. led_longest e.keeps (given e) e.raises (Comes g v) a.some.kinds a.some.comes ks a.longest x (λ ls d. h (led e ls) (F.goes d c));
-}
-
-pub above_common : (g : Graph) (v : ℕ) (ks ls : Kinds) (count : ℕ) → IsAbove g v ks → IsAbove g v ls → IsCommon ks ls count → IsAbove g v (take count ks)
-above_common g v ks ls count a d c = record { some = a.some; longest = λ x h. common_longest ks ls x count c (a.longest x h) (d.longest x h) }
-
-pub above_more : (g g' : Graph) (v : ℕ) (ks ls : Kinds) → ((u : ℕ) (ms : Kinds) → Comes g u ms → Comes g' u ms) → ks ≡ ls → IsAbove g v ks → IsAbove g' v ls
-above_more g g' v ks ls more e a = record {
-  some = record { kinds = a.some.kinds; comes = more v a.some.kinds a.some.comes };
-  longest = λ x h. subst (λ ms. Begins x ms) e (a.longest x (λ ms c. h ms (more v ms c)));
-}
-
 -- a longer list was told of a vertex before, with the same edges
 pub record Before (g g' : Graph) (f f1 : Forest) (T : List (Option ℕ)) (v list n : ℕ) : Type 0 where
   pub known : ℕ
@@ -64,7 +49,7 @@ module _ (g g' : Graph) (f f1 f2 : Forest) (T : List (Option ℕ)) (V W W' : Lis
     (more : (u : ℕ) (ks : Kinds) → Comes g u ks → Comes g' u ks)
     (other : (u : ℕ) → (u ≡ v → ⊥) → edges_at g'.edges u ≡ edges_at g.edges u)
     (grows : Grows f f1) (room : v < length T) (inside : IsInside f1 list)
-    (above : IsAbove g' v (list_at f1 list))
+    (above : IsExact g' v (list_at f1 list))
     (known : (i : ℕ) → entry T v ≡ Some i → Begins (list_at f1 list) (list_at f i))
     (part : (a : Arrival) → Contains W a → Contains V a)
     (keep : (a : Arrival) → Contains V a → Contains W a ⊎ ((a.to ≡ v) × Begins (list_at f1 list) (list_at f a.list)))
@@ -117,10 +102,10 @@ module _ (g g' : Graph) (f f1 f2 : Forest) (T : List (Option ℕ)) (V W W' : Lis
   inside_on u i h (inl e) = subst (λ j. IsInside f2 j) (list_at_v u i e h) (still_inside f1 f2 list leads.grows inside)
   inside_on u i h (inr ne) = still_inside f f2 i all (o.inside u i (sym (at_other u ne) ∙ h))
 
-  above_on : (u i : ℕ) → entry T' u ≡ Some i → (u ≡ v) ⊎ (u ≡ v → ⊥) → IsAbove g' u (list_at f2 i)
-  above_on u i h (inl e) = subst (λ j. IsAbove g' j (list_at f2 i)) (sym e) (subst (λ j. IsAbove g' v (list_at f2 j)) (list_at_v u i e h)
-      (subst (λ xs. IsAbove g' v xs) (sym list_is) above))
-  above_on u i h (inr ne) = let k = sym (at_other u ne) ∙ h in above_more g g' u (list_at f i) (list_at f2 i) more (sym (all.kept i (o.inside u i k))) (o.above u i k)
+  above_on : (u i : ℕ) → entry T' u ≡ Some i → (u ≡ v) ⊎ (u ≡ v → ⊥) → IsExact g' u (list_at f2 i)
+  above_on u i h (inl e) = subst (λ j. IsExact g' j (list_at f2 i)) (sym e) (subst (λ j. IsExact g' v (list_at f2 j)) (list_at_v u i e h)
+      (subst (λ xs. IsExact g' v xs) (sym list_is) above))
+  above_on u i h (inr ne) = let k = sym (at_other u ne) ∙ h in exact_more g g' u (list_at f i) (list_at f2 i) more (sym (all.kept i (o.inside u i k))) (o.above u i k)
 
   goes_told : (e : Edge) → Contains (edges_at g'.edges v) e → (o : Option ℕ) → told ≡ o → is_told e o ≡ true → Seen g' f2 T' W' e.to (led e (list_at f2 list))
   goes_told e c None t h = absurd (false≢true h)
@@ -151,9 +136,9 @@ module _ (g g' : Graph) (f f1 f2 : Forest) (T : List (Option ℕ)) (V W W' : Lis
   due_inside_on a (inl c) = still_inside f f2 a.list all (o.due_inside a (part a c))
   due_inside_on a (inr (e, (c, l))) = l.inside
 
-  due_above_on : (a : Arrival) → Contains W a ⊎ ((e : Edge) × (Contains (edges_at g'.edges v) e × IsLed f1 f2 list e a)) → IsAbove g' a.to (list_at f2 a.list)
-  due_above_on a (inl c) = let d = part a c in above_more g g' a.to (list_at f a.list) (list_at f2 a.list) more (sym (all.kept a.list (o.due_inside a d))) (o.due_above a d)
-  due_above_on a (inr (e, (c, l))) = subst (λ u. IsAbove g' u (list_at f2 a.list)) (sym l.to) (subst (λ xs. IsAbove g' e.to xs) (sym l.is) (above_led g' v (list_at f1 list) e above c))
+  due_above_on : (a : Arrival) → Contains W a ⊎ ((e : Edge) × (Contains (edges_at g'.edges v) e × IsLed f1 f2 list e a)) → IsExact g' a.to (list_at f2 a.list)
+  due_above_on a (inl c) = let d = part a c in exact_more g g' a.to (list_at f a.list) (list_at f2 a.list) more (sym (all.kept a.list (o.due_inside a d))) (o.due_above a d)
+  due_above_on a (inr (e, (c, l))) = subst (λ u. IsExact g' u (list_at f2 a.list)) (sym l.to) (subst (λ xs. IsExact g' e.to xs) (sym l.is) (exact_led g' v (list_at f1 list) e above c))
 
   pub went_on : Open g' f2 T' W'
   went_on = record {
@@ -207,14 +192,14 @@ module _ (g : Graph) (f : Forest) (T : List (Option ℕ)) (W : List Arrival) (a 
   })))
 
   module _ (f1 f2 : Forest) (W' : List Arrival) (list : ℕ) (grows : Grows f f1) (room : a.to < length T) (inside : IsInside f1 list) where
-    go : (told : Option ℕ) → Leads f1 f2 (edges_at g.edges a.to) list told W W' → ((n : ℕ) → told ≡ Some n → Before g g f f1 T a.to list n) → IsAbove g a.to (list_at f1 list) → ((i : ℕ) → entry T a.to ≡ Some i → Begins (list_at f1 list) (list_at f i)) → Begins (list_at f1 list) (list_at f a.list)
+    go : (told : Option ℕ) → Leads f1 f2 (edges_at g.edges a.to) list told W W' → ((n : ℕ) → told ≡ Some n → Before g g f f1 T a.to list n) → IsExact g a.to (list_at f1 list) → ((i : ℕ) → entry T a.to ≡ Some i → Begins (list_at f1 list) (list_at f i)) → Begins (list_at f1 list) (list_at f a.list)
         → Open g f2 (set T a.to (Some list)) W'
     go told leads before above known here = went_on g g f f1 f2 T (W ++ a ∷ []) W W' a.to list o refl refl (λ u ks c. c) (λ u ne. refl) grows room inside above known part
         (λ b c. elim (Contains-push_cases W a b c) [ inl d ↦ inl d | inr e ↦ inr (subst (λ b. (b.to ≡ a.to) × Begins (list_at f1 list) (list_at f b.list)) e (refl, here)) ]) told leads before
 
     pub arrive_first : Leads f1 f2 (edges_at g.edges a.to) list None W W' → entry T a.to ≡ None → list ≡ a.list → f1 ≡ f → Open g f2 (set T a.to (Some list)) W'
     arrive_first leads none same still = go None leads (λ n h. absurd (some_or_none n (sym h)))
-        (subst (λ ks. IsAbove g a.to ks) (sym is) (o.due_above a (Contains-push W a)))
+        (subst (λ ks. IsExact g a.to ks) (sym is) (o.due_above a (Contains-push W a)))
         (λ i e. absurd (some_or_none i (sym e ∙ none)))
         (subst (λ ks. Begins ks (list_at f a.list)) (sym is) (begins_same (list_at f a.list)))
       where
@@ -231,7 +216,7 @@ module _ (g : Graph) (f : Forest) (T : List (Option ℕ)) (W : List Arrival) (a 
           long = subst (λ m. m ≤ length (list_at f known)) (same_Some count n h) c.inside.0;
           short = subst (λ m. list_at f1 list ≡ take m (list_at f known)) (same_Some count n h) is;
         })
-        (subst (λ ks. IsAbove g a.to ks) (sym is) (above_common g a.to (list_at f known) (list_at f a.list) count (o.above a.to known e) (o.due_above a (Contains-push W a)) c))
+        (subst (λ ks. IsExact g a.to ks) (sym is) (exact_common g a.to (list_at f known) (list_at f a.list) count (o.above a.to known e) (o.due_above a (Contains-push W a)) c))
         (λ i k. subst (λ ks. Begins ks (list_at f i)) (sym is) (subst (λ j. Begins (take count (list_at f known)) (list_at f j)) (same_Some known i (sym e ∙ k)) (take_begins count (list_at f known))))
         (subst (λ ks. Begins ks (list_at f a.list)) (sym is) (common_begins (list_at f known) (list_at f a.list) count c))
 
@@ -256,10 +241,11 @@ module _ (g : Graph) (f : Forest) (T : List (Option ℕ)) (o : Open g f T []) wh
 
   pub longest_at : (v i : ℕ) → entry T v ≡ Some i → IsLongest g v (list_at f i)
   longest_at v i h = let a = o.above v i h in record {
-    some = a.some;
+    some = exact_some g v (list_at f i) a;
+    exact = a;
     begins = λ ls c. let k = found v ls c (let l = o.long in let m = entry_in T v i h in omega (arith, l, m)) in
         subst (λ j. Begins (list_at f j) ls) (same_Some k.list i (sym k.is ∙ h)) k.begins;
-    longest = a.longest;
+    longest = exact_longest g v (list_at f i) a;
   }
 
   pub none_at : (v : ℕ) (ks : Kinds) → v < length g.edges → Comes g v ks → entry T v ≡ None → ⊥

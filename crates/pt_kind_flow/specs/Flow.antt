@@ -63,9 +63,22 @@ pub record ComesSome (g : Graph) (vertex : ℕ) : Type 0 where
   pub kinds : Kinds
   pub comes : Comes g vertex kinds
 
+-- two lists begin with these slots, and differ right above them
+abbrev pub Part : (ks one other : Kinds) → Type 0
+Part [] (k ∷ one) (l ∷ other) = k ≡ l → ⊥
+Part (m ∷ ks) (k ∷ one) (l ∷ other) = (m ≡ k) × ((m ≡ l) × Part ks one other)
+Part ks one other = ⊥
+
+-- such a list comes itself to a vertex, or two come that part where it ends
+pub data IsExact (g : Graph) (vertex : ℕ) (ks : Kinds) : Type 0 where
+  whole : Comes g vertex ks → IsExact g vertex ks
+  parts : {one other : Kinds} → Comes g vertex one → Comes g vertex other → Part ks one other
+      → IsExact g vertex ks
+
 -- all lists that come to a vertex begin with this one, and with none that is longer
 pub record IsLongest (g : Graph) (vertex : ℕ) (ks : Kinds) : Type 0 where
   pub some : ComesSome g vertex
+  pub exact : IsExact g vertex ks
   pub begins : (ls : Kinds) → Comes g vertex ls → Begins ks ls
   pub longest : (beginning : Kinds) → ((ls : Kinds) → Comes g vertex ls → Begins beginning ls)
       → Begins beginning ks

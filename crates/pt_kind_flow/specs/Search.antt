@@ -6,19 +6,13 @@ use Rattle.pt_kinds.specs.Forest.{Begins, IsForest, IsInside, list_at}
 use Rattle.pt_kind_flow.specs.declared.edges.Edge.{Edge}
 use Rattle.pt_kind_flow.specs.declared.flow.Arrival.{Arrival}
 use Rattle.pt_kind_flow.specs.declared.flow.Flow.{Flow}
-use Rattle.pt_kind_flow.specs.Flow.{led, Graph, edges_at, Comes, ComesSome, entry, graph, reach, Descends}
+use Rattle.pt_kind_flow.specs.Flow.{led, Graph, edges_at, IsExact, entry, graph, reach, Descends}
 
 -- a forest keeps its lists while it grows
 pub record Grows (old new : Forest) : Type 0 where
   pub forest : IsForest new
   pub kept : (i : ℕ) → IsInside old i → list_at new i ≡ list_at old i
   pub more : length old.nodes.items ≤ length new.nodes.items
-
--- each list with which all begin that come to a vertex is a beginning of this one
-pub record IsAbove (g : Graph) (vertex : ℕ) (ks : Kinds) : Type 0 where
-  pub some : ComesSome g vertex
-  pub longest : (beginning : Kinds) → ((ls : Kinds) → Comes g vertex ls → Begins beginning ls)
-      → Begins beginning ks
 
 pub record Known (f : Forest) (table : List (Option ℕ)) (vertex : ℕ) (ks : Kinds) : Type 0 where
   pub list : ℕ
@@ -43,8 +37,8 @@ pub record Open (g : Graph) (f : Forest) (table : List (Option ℕ)) (work : Lis
   pub inside : (v i : ℕ) → entry table v ≡ Some i → IsInside f i
   pub due_inside : (a : Arrival) → Contains work a → IsInside f a.list
   pub start : Seen g f table work 0 g.first
-  pub above : (v i : ℕ) → entry table v ≡ Some i → IsAbove g v (list_at f i)
-  pub due_above : (a : Arrival) → Contains work a → IsAbove g a.to (list_at f a.list)
+  pub above : (v i : ℕ) → entry table v ≡ Some i → IsExact g v (list_at f i)
+  pub due_above : (a : Arrival) → Contains work a → IsExact g a.to (list_at f a.list)
   pub goes_on : (v i : ℕ) → entry table v ≡ Some i → (e : Edge)
       → Contains (edges_at g.edges v) e → Seen g f table work e.to (led e (list_at f i))
 

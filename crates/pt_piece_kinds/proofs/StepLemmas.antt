@@ -1,5 +1,5 @@
 -- The steps of an instruction that finds what it takes, from the slots that are known.
-use Rattle.std.proofs.Common.{◌≡◌, ◌⊎◌, inl, inr, ℕ, ◌+◌, ◌-◌, ◌≤◌, zero, suc, min, Bool, true, false, ◌&&◌, cond, if◌then◌else◌, List, [], ◌∷◌, ◌++◌, map, filter, length, reverse, take, drop, Contains, Option, Some, None, refl, sym, ap, ◌∙◌, subst, arith, length-append, append-nil}
+use Rattle.std.proofs.Common.{◌≡◌, ◌⊎◌, inl, inr, ℕ, ◌+◌, ◌≤◌, zero, suc, min, Bool, true, false, ◌&&◌, cond, if◌then◌else◌, List, [], ◌∷◌, ◌++◌, map, filter, length, reverse, take, drop, Contains, Option, Some, None, refl, sym, ap, ◌∙◌, subst, arith, length-append, append-nil}
 use Rattle.std.proofs.lemmas.List.{map-append, reverse-append, reverse-reverse, length-reverse, take-append-drop, take_min}
 use Rattle.std.proofs.lemmas.List.Elements.{Contains-append_cases}
 use Rattle.pt_instr.specs.declared.effects.Effect.{Effect}
@@ -10,6 +10,7 @@ use Rattle.pt_ranges.specs.declared.handlers.Handler.{Handler}
 use Rattle.pt_code.specs.View.{Ins}
 use Rattle.pt_fits.specs.Block.{Block, effect, captured}
 use Rattle.pt_fits.specs.Steps.{Step, step, steps, steps_of, by_instruction, by_handlers, onward as onward_steps, aside as aside_steps, again, gives, given_behind, spared, below, taken, has_enough, is_within, held_by, landing, target_of, are_kinds}
+use Rattle.pt_fits.proofs.Swaps.{given_found, given_lifted, swap_takes}
 use Rattle.pt_piece_kinds.specs.Walk.{Loop, StackMap, kinds_of, made, lowest, given, turned, given_at, onward}
 use Rattle.pt_piece_kinds.specs.Typed.{Over, Takes, plainly}
 use Rattle.pt_piece_kinds.specs.Typed as typed
@@ -187,8 +188,20 @@ module _ (b : Block) (at : Table) (q : ℕ) (i : Ins) (stands : b.at q ≡ Some 
     count : length f.takes ≡ length ts
     count = counted takes
 
-    turns : (g : Kinds) → given_behind f (kinds_of here) g ≡ turned f.swaps (take (length f.takes) here) g
-    turns g = ap (λ zs. if f.swaps && are_kinds zs (kinds.Iter ∷ kinds.Value ∷ []) then kinds.Value ∷ kinds.Iter ∷ [] else g) (taken_is f ts rs count ∙ ap kinds_of (sym (top_is f ts rs count)))
+    abbrev turns_to : Kinds → Bool → Kinds → Kinds
+    turns_to g s zs = if s && are_kinds zs (kinds.Iter ∷ kinds.Value ∷ []) then kinds.Value ∷ kinds.Iter ∷ [] else g
+
+    turns : (g : Kinds) → f.gives ≡ Some g → given_behind f (kinds_of here) g ≡ turned f.swaps (take (length f.takes) here) g
+    turns g is = by takes ∙ ap (λ zs. turned f.swaps zs g) (sym (top_is f ts rs count))
+      where
+        plain : (s : Bool) → f.swaps ≡ s → kinds_of ts ≡ f.takes → turned f.swaps ts g ≡ g
+        plain true s h = ap (λ t. turns_to g t (kinds_of ts)) s ∙ ap (turns_to g true) (h ∙ swap_takes i.instr (captured b.links i.instr) s)
+        plain false s h = ap (λ t. turns_to g t (kinds_of ts)) s
+
+        by : Takes f ts → given_behind f (kinds_of here) g ≡ turned f.swaps ts g
+        by (plainly h) = given_found i.instr (captured b.links i.instr) (kinds_of here) g (taken_is f ts rs count ∙ h) is ∙ sym (plain f.swaps refl h)
+        by (typed.turned s n h) = given_lifted f (kinds_of here) g s (taken_is f ts rs count ∙ h)
+            ∙ sym (ap (λ t. turns_to g t (kinds_of ts)) s ∙ ap (turns_to g true) h)
 
     -- what is kept has the kinds of what is given
     keeps_turned : (g : Kinds) → KeepsOf f g → KeepsOf f (turned f.swaps ts g) × (take (min f.keeps (length (turned f.swaps ts g))) (kinds_of ts)
@@ -214,13 +227,13 @@ module _ (b : Block) (at : Table) (q : ℕ) (i : Ins) (stands : b.at q ≡ Some 
         by (plainly h) = if_plain h f.swaps refl
         by (typed.turned s n h) = no_slot s
 
-    onward_right : (o : Option Kinds) → Keeps f o → ((slots : StackMap) → onward f i.next x here o ≡ Some slots → at i.next ≡ Some slots)
+    onward_right : (o : Option Kinds) → f.gives ≡ o → Keeps f o → ((slots : StackMap) → onward f i.next x here o ≡ Some slots → at i.next ≡ Some slots)
         → (s : Step) → Contains (onward_steps f (kinds_of here) i.next o) s → Follows at here s
-    onward_right None k h s c = none c
-    onward_right (Some g) k h s c =
+    onward_right None is k h s c = none c
+    onward_right (Some g) is k h s c =
         let u = keeps_turned g k in
         subst (Follows at here) (single (gives f (kinds_of here) i.next (given_behind f (kinds_of here) g)) s c)
-        (subst (λ z. Follows at here (gives f (kinds_of here) i.next z)) (sym (turns g))
+        (subst (λ z. Follows at here (gives f (kinds_of here) i.next z)) (sym (turns g is))
         (follows (h _ refl) (subst (λ z. Leads here (given f.keeps i.next x (take (length f.takes) here) z ++ drop (length f.takes) here) (gives f (kinds_of here) i.next z))
         (ap (λ z. turned f.swaps z g) (sym (top_is f ts rs count)))
         (leads f ts rs count i.next x (turned f.swaps ts g) u.1 (let w = (u.0).1 in omega (arith, w, count))))))
@@ -307,7 +320,7 @@ module _ (b : Block) (at : Table) (q : ℕ) (i : Ins) (stands : b.at q ≡ Some 
 
         by_part : Contains (onward_steps f (kinds_of here) i.next f.gives) s ⊎ Contains (aside_steps f (kinds_of here) (target_of i.instr) f.aside ++ again f (kinds_of here) q) s
             → Follows at here s
-        by_part (inl d) = onward_right f.gives (keeps_behind i.instr (captured b.links i.instr)) behind s d
+        by_part (inl d) = onward_right f.gives refl (keeps_behind i.instr (captured b.links i.instr)) behind s d
         by_part (inr d) = by_rest (Contains-append_cases (aside_steps f (kinds_of here) (target_of i.instr) f.aside) (again f (kinds_of here) q) s d)
 
     pub each_right : (s : Step) → Contains (steps b q (kinds_of (ts ++ rs))) s → Follows at (ts ++ rs) s

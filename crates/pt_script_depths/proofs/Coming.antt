@@ -7,7 +7,6 @@ use Rattle.std.proofs.lemmas.Bool.{false≢true, true_from_ne_false, le-leb}
 use Rattle.pt_instr.specs.declared.Instr.{Instr}
 use Rattle.pt_instr.specs.declared.Instr.TheVariants as instr
 use Rattle.pt_instr.specs.declared.effects.Effect.{Effect}
-use Rattle.pt_instr.specs.declared.kinds.Kind.TheVariants as kind
 use Rattle.pt_instr.specs.Effects.{Kinds, effect_of}
 use Rattle.pt_ranges.specs.declared.handlers.Handler.{Handler}
 use Rattle.pt_code.specs.declared.BlockKind.{BlockKind}
@@ -20,13 +19,14 @@ use Rattle.pt_slots.specs.Needs.{captured_by, needs}
 use Rattle.pt_slots.specs.BlockObject as O
 use Rattle.pt_slots.specs.BlockObject.{SlotsAt, pool_of, slots_at_start}
 use Rattle.pt_fits.specs.Block.{Links, Block, effect, captured, kinds_at_start, block_of}
-use Rattle.pt_fits.specs.Steps.{Step, step, steps, steps_of, by_instruction, by_handlers, held_by, onward, aside, again, gives, given_behind, spared, below, swaps_iterator, has_enough, is_within, cut, landing, target_of}
+use Rattle.pt_fits.specs.Steps.{Step, step, steps, steps_of, by_instruction, by_handlers, held_by, onward, aside, again, gives, given_behind, spared, below, has_enough, is_within, cut, landing, target_of}
 use Rattle.pt_fits.specs.Places as P
 use Rattle.pt_fits.specs.Places.{Gets, Reached}
 use Rattle.pt_fits.specs.Agreement as A
 use Rattle.pt_fits.specs.Agreement.{LengthsMeet, HandlerFails, TooFew, Strays}
 use Rattle.pt_fits.specs.Laws.{IsLaid}
-use Rattle.pt_fits.proofs.KindLemmas.{both, length_below}
+use Rattle.pt_fits.proofs.KindLemmas.{length_below}
+use Rattle.pt_fits.proofs.Swaps.{given_size}
 use Rattle.pt_fits.proofs.Ways.{first, later}
 use Rattle.pt_verify.specs.Sizes as S
 use Rattle.pt_verify.specs.Sizes.{Sized, SizesMeet, RowTooDeep, Lacks}
@@ -48,21 +48,6 @@ same_captured pool links f (instr.MakeFunction b n l) = f b.0
 same_captured pool links f (instr.MakeClass b) = f b.0
 same_captured pool links f (instr.MakeGenerator b) = f b.0
 same_captured pool links f j = refl
-
--- only two slots are swapped
-swap_gives_two : (j : Instr) (f : ℕ) (given : Kinds) → (effect_of j f).swaps ≡ true → (effect_of j f).gives ≡ Some given → length given ≡ 2
-unfolding effect_of
-swap_gives_two instr.Swap f given e g = sym (ap (λ o. elim o [ None ↦ 2 | Some ks ↦ length ks ]) g)
-swap_gives_two j f given e g = absurd (false≢true e)
-
-given_size : (links : Links) (i : Instr) (ks given : Kinds) → (effect links i).gives ≡ Some given
-    → length (given_behind (effect links i) ks given) ≡ length given
-given_size links i ks given g = by (swaps_iterator (effect links i) ks) refl
-  where
-    by : (t : Bool) → swaps_iterator (effect links i) ks ≡ t → length (given_behind (effect links i) ks given) ≡ length given
-    by true y =
-        ap (λ t. length (if t then kind.Value ∷ kind.Iter ∷ [] else given)) y ∙ sym (swap_gives_two i (captured links i) given (both (effect links i).swaps _ y).0 g)
-    by false n = ap (λ t. length (if t then kind.Value ∷ kind.Iter ∷ [] else given)) n
 
 gives_size : (e : Effect) (ks given : Kinds) → length (below e ks ++ given) ≡ length ks - length e.takes + length given
 gives_size e ks given = length-append (below e ks) given ∙ ap (λ m. m + length given) (length_below e ks)
@@ -128,7 +113,7 @@ module _ {V : Type 0} (c : Code) (b : CodeBlock) (object : CodeObject V) (pool :
         let s = gives e here.kinds i.next (given_behind e here.kinds given) in
         let one : Contains (onward e here.kinds i.next e.gives) s = subst (λ o. Contains (onward e here.kinds i.next o) s) (sym g) (first s []) in
         subst (Has i.next) (gives_size e here.kinds (given_behind e here.kinds given)
-        ∙ (ap (λ m. length here.kinds - length e.takes + m) (given_size B.links i.instr here.kinds given g) ∙ ap (λ m. m - length e.takes + length given) here.long))
+        ∙ (ap (λ m. length here.kinds - length e.takes + m) (given_size i.instr (captured B.links i.instr) here.kinds given g) ∙ ap (λ m. m - length e.takes + length given) here.long))
         (of_own s (Contains-append_left (onward e here.kinds i.next e.gives) (aside e here.kinds (target_of i.instr) e.aside ++ again e here.kinds q) s one))
 
     to_target : (t : ℕ) (given : Kinds) → target_of i.instr ≡ Some t → e.aside ≡ Some given → Has t (n - length e.takes + length given)

@@ -1,0 +1,10 @@
+pub mod Lists
+pub mod Stretches
+pub mod Adding
+pub mod Along
+pub mod Falling
+pub mod Opening
+pub mod Walks
+pub mod Gotten
+pub mod Failing
+pub mod Missing

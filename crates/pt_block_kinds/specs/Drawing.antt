@@ -1,0 +1,37 @@
+-- What the making of a block's graph knows.
+use Rattle.std.specs.Prelude.{◌≡◌, ℕ, ◌+◌, ◌<◌, ◌≤◌, List, [], length, Contains, Option}
+use Rattle.pt_instr.specs.Effects.{Kinds}
+use Rattle.pt_ranges.specs.declared.handlers.Handler.{Handler}
+use Rattle.pt_sizes.specs.Waiting.{Level, Index, levels_of}
+use Rattle.pt_step_graph.specs.Graph.{width}
+use Rattle.pt_fits.specs.Block.{Block}
+use Rattle.pt_kind_flow.specs.declared.flow.Flow.{Flow}
+use Rattle.pt_kind_flow.specs.Flow.{graph, edges_at}
+use Rattle.pt_kind_flow.specs.Search.{IsFlow}
+use Rattle.pt_block_kinds.specs.declared.graph.BlockKinds.{BlockKinds}
+use Rattle.pt_block_kinds.specs.declared.graph.Plan.{Plan}
+use Rattle.pt_block_kinds.specs.Leads.{Lead, leads_of, numbered}
+use Rattle.pt_block_kinds.specs.Graph.{rows_from, IsGraph}
+
+-- where rows lie over a count of places
+pub record IsPlan (rows : List Handler) (count : ℕ) (plan : Plan) : Type 0 where
+  pub index : Index (numbered 0 rows) count (levels_of plan.waiting.levels)
+  pub deep : (row : Handler) → Contains rows row → row.depth ≤ plan.deepest
+  pub first : plan.rows_from ≡ count + width (levels_of plan.waiting.levels)
+  pub size : plan.size ≡ plan.rows_from + length rows
+
+-- the vertices before one have their edges
+pub record DrawnUpTo (first : Kinds) (size : ℕ) (leads : ℕ → List Lead) (done : ℕ) (f : Flow)
+    : Type 0 where
+  pub flow : IsFlow f
+  pub long : length (graph f).edges ≡ size
+  pub starts : (graph f).first ≡ first
+  pub drawn : (v : ℕ) → v < done → leads_of (edges_at (graph f).edges v) ≡ leads v
+  pub rest : (v : ℕ) → done ≤ v → edges_at (graph f).edges v ≡ []
+
+-- the flow of the graph of a block up to a place
+pub record Draws (b : Block) (p : ℕ) (T : List (Option ℕ)) (kinds : BlockKinds) : Type 0 where
+  pub levels : List Level
+  pub is : IsGraph b p T levels (graph kinds.flow)
+  pub flow : IsFlow kinds.flow
+  pub rows : kinds.rows_from ≡ rows_from T levels
