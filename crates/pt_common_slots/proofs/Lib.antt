@@ -1,0 +1,6 @@
+mod Lists
+mod Law
+mod OwnLemmas
+mod Loops
+mod Assembly
+mod HeldLaw

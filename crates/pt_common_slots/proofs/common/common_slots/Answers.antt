@@ -1,0 +1,28 @@
+use Rattle.std.proofs.Common.{◌∙◌, ap, sym, subst, length}
+use Rattle.std.specs.Prelude.{◌↔◌}
+use Rattle.std.proofs.lemmas.Result.{IfOk-weaker}
+use Rattle.pt_fits.specs.Block.{block_of}
+use Rattle.pt_fits.proofs.ViewLaid.{view_is_laid}
+use Rattle.pt_joins.specs.Joins.{AreWithin, Joined}
+use Rattle.pt_row_joins.specs.Rows.{Under}
+use Rattle.pt_common_slots.specs.Common.{AreCommon}
+use Rattle.pt_common_slots.proofs.Lists.{rows_laid}
+use Rattle.pt_common_slots.proofs.Assembly.{all_within, are_common}
+use Rattle.pt_common_slots.proofs.common.common_slots.Goals as goal
+
+pub joins_of-requires : goal.joins_of-requires
+joins_of-requires c = subst (λ xs. AreWithin (length c.args.sizes.now) xs) (sym c.in_ok-append.ensures.items)
+    (all_within c.args.places.now c.args.sizes.now c.in_ok-joins.joins.items c.in_ok-landings.landings.items c.in_ok-joins.ensures c.in_ok-landings.ensures.within)
+
+pub returns-clause-exact : goal.returns-clause-exact
+returns-clause-exact c =
+    IfOk-weaker c.joins_of.result _ _ (λ told t code view v shown are agrees. record {
+      joins = c.append.new.self.items;
+      count = length c.args.sizes.now;
+      tells = t;
+      common = subst (λ xs. AreCommon (block_of code c.args.block.now view) xs) (sym c.in_ok-append.ensures.items)
+          (are_common (block_of code c.args.block.now view) agrees (view_is_laid code c.args.block.now view v)
+          (λ pc i e. rows_laid c.args.block.now 0 v.instrs pc i (sym (ap (λ f. f pc) v.view_is) ∙ e))
+          c.args.sizes.now are c.args.places.now shown c.in_ok-joins.joins.items c.in_ok-landings.landings.items c.in_ok-joins.ensures
+          (λ d q r. subst (λ hs. Joined c.in_ok-landings.landings.items d q r ↔ Under c.args.sizes.now hs d q r) c.as_slice.ensures (c.in_ok-landings.ensures.exact d q r)));
+    }) c.joins_of.ensures

@@ -1,0 +1,29 @@
+-- What slots hold, where what is in common is known: Leaves go from slot to slot by the rows that take them and the Exits that hand them on.
+use Rattle.std.specs.Prelude.{◌≡◌, ◌↔◌, ℕ, ◌-◌, length, Some}
+use Rattle.pt_instr.specs.declared.Instr.TheVariants.{Leave, EndFinally, Exit}
+use Rattle.pt_instr.specs.Effects.{Kinds}
+use Rattle.pt_ranges.specs.declared.handlers.Handler.{Handler}
+use Rattle.pt_code.specs.View.{Ins}
+use Rattle.pt_fits.specs.Block.{Block}
+use Rattle.pt_fits.specs.Places.{Reached}
+use Rattle.pt_fits.specs.Leaves.{Holds, taker}
+use Rattle.pt_fits.specs.Agreement.{Agrees}
+use Rattle.pt_common_slots.specs.Common.{IsKept}
+
+-- a slot may hold a Leave for this target
+pub data HoldsBySteps (b : Block) (target : ℕ) : (pc slot : ℕ) → Type 0 where
+  -- an always row takes it from its own place
+  taken : {q : ℕ} {i : Ins} {ks : Kinds} → Reached b b.size q i ks
+      → i.instr ≡ Leave (record { 0 = target }) → (row : Handler) → taker i.rows target ≡ Some row
+      → HoldsBySteps b target row.target.0 row.depth
+  -- or from an EndFinally that lets it go on
+  passed : {q : ℕ} {i : Ins} {ks : Kinds} → Reached b b.size q i ks → i.instr ≡ EndFinally
+      → HoldsBySteps b target q (length ks - 1) → (row : Handler) → taker i.rows target ≡ Some row
+      → HoldsBySteps b target row.target.0 row.depth
+  exited : {q : ℕ} {i : Ins} {ks : Kinds} → Reached b b.size q i ks → i.instr ≡ Exit
+      → HoldsBySteps b target q (length ks - 1) → HoldsBySteps b target i.next (length ks - 2)
+  shared : {q r d : ℕ} → IsKept b d q r → HoldsBySteps b target q d → HoldsBySteps b target r d
+
+abbrev pub HeldByClasses : Block → Type 0
+HeldByClasses b = Agrees b b.size → (target pc slot : ℕ)
+    → Holds b b.size target pc slot ↔ HoldsBySteps b target pc slot

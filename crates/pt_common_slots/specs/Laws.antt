@@ -1,0 +1,17 @@
+-- What is said of slots in common.
+use Rattle.std.specs.Prelude.{◌≡◌, ◌↔◌, ℕ, List}
+use Rattle.pt_fits.specs.Block.{Block}
+use Rattle.pt_fits.specs.Leaves.{Common}
+use Rattle.pt_fits.specs.Agreement.{Agrees}
+use Rattle.pt_joins.specs.declared.joins.Node.{Node}
+use Rattle.pt_joins.specs.Joins.{Root}
+use Rattle.pt_common_slots.specs.Common.{IsKept, TellsCommon}
+
+-- where an EndFinally lets a Leave go on, nothing is in common that other steps don't keep
+abbrev pub SharedBySteps : Block → Type 0
+SharedBySteps b = Agrees b b.size → (slot q r : ℕ) → Common b b.size slot q r ↔ IsKept b slot q r
+
+-- a slot has one number at two places just where it is in common
+abbrev pub HaveOneNumber : Block → Type 0
+HaveOneNumber b = (nodes : List Node) → TellsCommon b nodes → (slot q r i j : ℕ)
+    → Root nodes slot q i → Root nodes slot r j → (i ≡ j) ↔ Common b b.size slot q r

@@ -1,0 +1,4 @@
+pub mod Joins
+pub mod Common
+pub mod Laws
+pub mod Held

@@ -1,0 +1,3 @@
+mod Roots
+mod Linking
+pub mod Joining

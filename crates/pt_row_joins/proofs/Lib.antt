@@ -1,0 +1,4 @@
+pub mod Lists
+pub mod Ranks
+mod Loops
+mod Chains
