@@ -9,7 +9,7 @@ use Rattle.std.proofs.lemmas.Option.{same_Some}
 use Rattle.std.proofs.Math.Nat.{le-max_left, le-max_right, max-eq_left, max-eq_right, min-le_left, min-le_right, le-min}
 use Rattle.pt_ranges.specs.declared.handlers.Handler.{Handler}
 use Rattle.pt_sizes.specs.Flow.{is_under}
-use Rattle.pt_sizes.specs.Waiting.{Level, up, stretch_of, stretch, Waits, Descends, Rises, AllUnder, put, at_low, at_high, placed, first_depth, DeepestBelow, Empty, Adding, Added, Ready, WaitingSoFar, Index, IsDeepest, AreDeepest, BareTo, level_of, levels_of}
+use Rattle.pt_sizes.specs.Waiting.{Level, up, stretch_of, stretch, Waits, Descends, Rises, AllUnder, put, at_low, at_high, placed, first_depth, DeepestBelow, Empty, Adding, Added, Ready, WaitingSoFar, Index, AllWait, IsDeepest, AreDeepest, BareTo, level_of, levels_of}
 use Rattle.pt_sizes.proofs.Tables.{below_or, none_in_empty}
 use Rattle.pt_sizes.proofs.Landings.{contains_get, get_left, get_last, set_relates, same_or, read_items, no_more}
 
@@ -303,6 +303,9 @@ module _ (rows : List Handler) (count : ℕ) where
     tall = b.tall;
   }
 
+pub all_wait : (rows : List Handler) (count : ℕ) (levels : List Level) → Index rows count levels → AllWait rows count levels
+all_wait rows count levels ix = record { known = ix.known; whole = ix.whole; sorted = ix.sorted }
+
 -- the deepest row that covers a place
 module _ (levels : List Level) (q : ℕ) where
   pub deepest_start : DeepestBelow levels 0 q 0
@@ -328,7 +331,7 @@ module _ (levels : List Level) (q : ℕ) where
   in_levels (y ∷ xs) zero v row c = omega arith
   in_levels (y ∷ xs) (suc i) v row c = let h = in_levels xs i v row c in omega (arith, h)
 
-  pub deepest_end : (rows : List Handler) (count k most : ℕ) → Index rows count levels → q < count → DeepestBelow levels k q most → length levels ≤ k → IsDeepest rows q most
+  pub deepest_end : (rows : List Handler) (count k most : ℕ) → AllWait rows count levels → q < count → DeepestBelow levels k q most → length levels ≤ k → IsDeepest rows q most
   deepest_end rows count k most x lt d le = record {
     most = λ row c u. let w = x.whole q row lt c u in let h = in_levels levels w.level (up w.level q) row w.among in
         let a = d.all w.level (omega (arith, h, le)) in let m = first_most (stretch levels w.level (up w.level q)) row (x.sorted w.level (up w.level q)) w.among in omega (arith, a, m);
@@ -426,8 +429,8 @@ pub depth_here : {X Y : Type 0} (items : List (Vec (Vec Handler X) Y)) (level : 
     → depth ≡ first_depth (stretch_of (level_of level) node) → depth ≡ first_depth (stretch (map level_of items) k node)
 depth_here items level k node depth lt is e = e ∙ ap (λ x. first_depth (stretch_of x node)) (ap level_of is ∙ sym (get_or-map level_of items k level [] lt))
 
-pub deepest_push : (levels : List Level) (count at k : ℕ) (table : List ℕ) (depth : ℕ) → length table ≡ at → ((rows : List Handler) → Index rows count levels → AreDeepest rows table at) → at < count
-    → DeepestBelow levels k at depth → length levels ≤ k → (rows : List Handler) → Index rows count levels → AreDeepest rows (table ++ depth ∷ []) (at + 1)
+pub deepest_push : (levels : List Level) (count at k : ℕ) (table : List ℕ) (depth : ℕ) → length table ≡ at → ((rows : List Handler) → AllWait rows count levels → AreDeepest rows table at) → at < count
+    → DeepestBelow levels k at depth → length levels ≤ k → (rows : List Handler) → AllWait rows count levels → AreDeepest rows (table ++ depth ∷ []) (at + 1)
 deepest_push levels count at k table depth long all lt d le rows x pc h = elim (below_or pc at h) [
   | inl a ↦ subst (λ y. IsDeepest rows pc y) (sym (push_left table depth 0 pc (omega (arith, a, long)))) (all rows x pc a)
   | inr e ↦ subst (λ n. IsDeepest rows n (get_or (table ++ depth ∷ []) n 0)) (sym (e ∙ sym long))

@@ -6,14 +6,14 @@ use Rattle.pt_ranges.specs.declared.handlers.Handler.{Handler}
 use Rattle.pt_sizes.specs.declared.places.Place.{Place}
 use Rattle.pt_sizes.specs.Flow as F
 use Rattle.pt_sizes.specs.Flow.{Body, entry, sized, is_under, Gets, Stands, SizesMeet, TooDeep, Lacks, Disagrees, Agrees, RowTooDeep, IsFirst, IsTable, IsMeeting, IsDeepRow, IsLack}
-use Rattle.pt_sizes.specs.Waiting.{Level, Waits, Index}
+use Rattle.pt_sizes.specs.Waiting.{Level, Waits, AllWait}
 use Rattle.pt_sizes.specs.Search.{OpenNow, IsFirstTable, DeepBelow, IsLeastDeep}
 use Rattle.pt_sizes.proofs.Tables.{none_in_empty, some_or_none}
 use Rattle.pt_sizes.proofs.Adding.{get_in}
 use Rattle.pt_sizes.proofs.Theory.{whole, one_size, deep_told, agrees, stage_none}
 
 module _ (b : Body) where
-  pub opening : (T : List (Option ℕ)) (levels : List Level) → IsFirstTable b.places b.first T → Index b.rows (length b.places) levels → OpenNow b 0 T [] levels false false
+  pub opening : (T : List (Option ℕ)) (levels : List Level) → IsFirstTable b.places b.first T → AllWait b.rows (length b.places) levels → OpenNow b 0 T [] levels false false
   opening T levels t i = record {
     sorted = i.sorted;
     opens = record {

@@ -59,6 +59,14 @@ pub record Index (rows : List Handler) (count : ℕ) (levels : List Level) : Typ
   pub sorted : AllDescend levels
   pub tall : IsTall count levels
 
+-- so much of it is known of no levels too, where there are no rows
+pub record AllWait (rows : List Handler) (count : ℕ) (levels : List Level) : Type 0 where
+  pub known : (pc : ℕ) (row : Handler) → Waits levels pc row → Contains rows row
+      × (is_under row pc ≡ true)
+  pub whole : (pc : ℕ) (row : Handler) → pc < count → Contains rows row → is_under row pc ≡ true
+      → Waits levels pc row
+  pub sorted : AllDescend levels
+
 -- how deep the deepest row is that covers a place
 pub record IsDeepest (rows : List Handler) (pc depth : ℕ) : Type 0 where
   pub most : (row : Handler) → Contains rows row → is_under row pc ≡ true → row.depth ≤ depth

@@ -215,7 +215,7 @@ pub fn sizes_of(
     ensures { IfOk result (λ sizes. Tells (body_of places.items rows.items first) sizes) }
 {
     let table = first_table(alloc, &places, first)?;
-    let waiting = Waiting::build(alloc, &rows, places.len())?;
+    let waiting = Waiting::build_if_any(alloc, &rows, places.len())?;
     let deepest = waiting.deepest(alloc, places.len())?;
     let asked = Asked {
         places,

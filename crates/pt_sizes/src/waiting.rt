@@ -2,7 +2,7 @@
 //! covers.
 ghost use Rattle.std.specs.Prelude.{◌≡◌, ◌+◌, ◌<◌, ◌-◌, ℕ, List, length, map, true, IfOk};
 ghost use Rattle.pt_ranges.specs.declared.handlers.Handler.{Handler};
-ghost use Rattle.pt_sizes.specs.Waiting.{Added, AllDescend, AreDeepest, BareTo, DeepestBelow, Descends, Empty, Index, IsByDepth, Ready, at_high, at_low, first_depth, placed, put, LevelLanding, StretchLanding, level_of, levels_of, stretch_of};
+ghost use Rattle.pt_sizes.specs.Waiting.{Added, AllDescend, AllWait, AreDeepest, BareTo, DeepestBelow, Descends, Empty, Index, IsByDepth, Ready, at_high, at_low, first_depth, placed, put, LevelLanding, StretchLanding, level_of, levels_of, stretch_of};
 ghost use Rattle.pt_sizes.specs.Search.{SearchLanding};
 
 use crate::places::SizeStep;
@@ -167,6 +167,20 @@ impl Waiting {
         Ok(waiting)
     }
 
+    /// The same, where no rows take no memory.
+    #[tactic(auto, using(crate::proofs::Adding::all_wait))]
+    pub fn build_if_any(alloc: Global, rows: &[Handler], count: usize) -> Result<Waiting, Memory>
+        ensures { IfOk result (λ waiting. AllWait rows.now count (levels_of waiting.levels)) }
+    {
+        if rows.is_empty() {
+            return Ok(Waiting {
+                levels: Vec::new(alloc),
+            });
+        }
+        let waiting = Waiting::build(alloc, rows, count)?;
+        Ok(waiting)
+    }
+
     fn add(&mut self, row: Handler, count: usize) -> Result<(), Memory>
         requires { Ready count row (levels_of self.old.levels) }
         ensures { IfOk result (λ _. Added count row (levels_of self.old.levels)
@@ -197,10 +211,13 @@ impl Waiting {
     }
 
     /// How deep the deepest row is that covers each place, where no row has landed yet.
+    #[tactic(auto, using(crate::proofs::Adding::all_wait))]
     pub fn deepest(&self, alloc: Global, count: usize) -> Result<Vec<u32>, Memory>
         ensures long { IfOk result (λ table. length table.items ≡ count) }
         ensures exact { IfOk result (λ table. (rows : List Handler)
             → Index rows count (levels_of self.now.levels) → AreDeepest rows table.items count) }
+        ensures waits { IfOk result (λ table. (rows : List Handler)
+            → AllWait rows count (levels_of self.now.levels) → AreDeepest rows table.items count) }
     {
         let mut table = Vec::new(alloc);
         for at in 0..count {

@@ -21,7 +21,6 @@ use Rattle.pt_fits.specs.Block.{Links, Block, effect, captured, kinds_at_start, 
 use Rattle.pt_fits.specs.Steps.{target_of}
 use Rattle.pt_fits.specs.Agreement as A
 use Rattle.pt_fits.specs.Agreement.{TooFew}
-use Rattle.pt_fits.specs.Fits.{Fits}
 use Rattle.pt_fits.specs.Laws.{Runs}
 use Rattle.pt_fits.proofs.ViewLaid.{view_is_laid}
 use Rattle.pt_fits.proofs.Ways.{first, later}

@@ -17,11 +17,12 @@ use Rattle.pt_sizes.specs.declared.flow.Sizes.{Sizes}
 use Rattle.pt_sizes.specs.Flow.{entry, Tells}
 use Rattle.pt_sizes.specs.Search.{body_of}
 use Rattle.pt_sizes.proofs.Tables.{entry_none}
+use Rattle.pt_partial_sizes.specs.Cut.{TellsBelow}
 use Rattle.pt_fits.specs.Block.{Block, Links, links_of, block_of, effect, kinds_at_start}
 use Rattle.pt_fits.specs.Steps.{target_of}
-use Rattle.pt_verify.specs.PlaceTable.{place_of, place_at, HasPlaces, TellsSizes}
+use Rattle.pt_verify.specs.PlaceTable.{place_of, place_at, HasPlaces, TellsSizes, TellsSizesUpTo}
 use Rattle.pt_verify.specs.PlacesUpTo.{PlacesUpTo}
-use Rattle.pt_verify.proofs.PlaceTable.{tables_tell}
+use Rattle.pt_verify.proofs.PlaceTable.{tables_tell, tables_tell_up_to}
 
 other : (q r : ℕ) → r < q → nat_eq r q ≡ false
 other q r h = grind (arith, nat_tests)
@@ -187,3 +188,10 @@ no_places_at_first code b table e = (
 pub tells_of_block : (b : Block) (table : List (Option Place)) (rows : List Handler) (first : ℕ) → HasPlaces b table → rows ≡ b.handlers → first ≡ length (kinds_at_start b.kind)
     → (s : Sizes) → Tells (body_of table rows first) s → TellsSizes b s
 tells_of_block b table rows first is e f s t = tables_tell b table is s (subst (λ n. Tells (body_of table b.handlers n) s) f (subst (λ rs. Tells (body_of table rs first) s) e t))
+
+pub tells_of_block_up_to : (b : Block) (table : List (Option Place)) (rows : List Handler) (first : ℕ) → HasPlaces b table
+    → rows ≡ b.handlers → first ≡ length (kinds_at_start b.kind) → (p limit : ℕ) → limit ≡ p + 1 → (s : Sizes)
+    → TellsBelow (body_of table rows first) limit s → TellsSizesUpTo b p s
+tells_of_block_up_to b table rows first is e f p limit l s t =
+    tables_tell_up_to b table is p s (subst (λ n. TellsBelow (body_of table b.handlers n) (p + 1) s) f
+    (subst (λ rs. TellsBelow (body_of table rs first) (p + 1) s) e (subst (λ m. TellsBelow (body_of table rows first) m s) l t)))

@@ -17,12 +17,13 @@ use Rattle.pt_sizes.specs.Flow as F
 use Rattle.pt_sizes.specs.Flow.{Body, entry}
 use Rattle.pt_sizes.proofs.Theory.{more_gets, more_deep, more_lacks}
 use Rattle.pt_sizes.proofs.Tables.{entry_in, some_or_none, none_in_empty}
+use Rattle.pt_partial_sizes.specs.Cut.{TellsBelow}
 use Rattle.pt_fits.specs.Block.{Block, effect}
 use Rattle.pt_fits.specs.Steps.{reads, target_of}
 use Rattle.pt_fits.specs.Fits.{IsLeast}
 use Rattle.pt_verify.specs.Sizes as S
 use Rattle.pt_verify.specs.Sizes.{SizeStep, sized, left, is_enough, gives_onward, gives_aside, gives_again, own_sizes, leaves_enough, landing_size, handler_sizes, size_steps, size_steps_of, Sized, SizesMeet, RowTooDeep, Lacks}
-use Rattle.pt_verify.specs.PlaceTable.{aside_given, target_or, place_of, place_at, HasPlaces, body, SizesDisagree, AreSizes, MeetFirst, NumberTooDeep, DeepFirst, FewFirst, TellsSizes, TablesTell}
+use Rattle.pt_verify.specs.PlaceTable.{aside_given, target_or, place_of, place_at, HasPlaces, body, SizesDisagree, AreSizes, MeetFirst, NumberTooDeep, DeepFirst, FewFirst, TellsSizes, TellsSizesUpTo, TablesTell}
 use Rattle.pt_verify.specs.PlaceTable as T
 
 -- the ways on of an instruction itself are the same
@@ -240,6 +241,20 @@ module _ (b : Block) (table : List (Option Place)) (is : HasPlaces b table) wher
     };
   }
   tells (sizes.TooFew p) x = record { first = is_least p x.first; apart = λ m. x.none (meets p m); shallow = λ row d. x.shallow row (deep p row d); few = too_few p x.few }
+
+  tells_up_to : (p : ℕ) (s : Sizes) → TellsBelow B (p + 1) s → TellsSizesUpTo b p s
+  tells_up_to p (sizes.Agree t) x = record {
+    sound = λ pc n e. sized_by p pc n (x.sound pc n e);
+    whole = λ pc n z. x.whole pc n (gets p pc n z);
+    agree = λ d. x.agrees (disagrees p d);
+  }
+  tells_up_to p (sizes.Meet q) x = disagree p x
+  tells_up_to p (sizes.TooDeep q row) x = disagree p x
+  tells_up_to p (sizes.TooFew q) x = disagree p x
+
+pub tables_tell_up_to : (b : Block) (table : List (Option Place)) → HasPlaces b table → (p : ℕ) (s : Sizes)
+    → TellsBelow (body b table) (p + 1) s → TellsSizesUpTo b p s
+tables_tell_up_to b table is p s x = tells_up_to b table is p s x
 
 pub tables_tell : (b : Block) → TablesTell b
 tables_tell b table is s x = tells b table is s x

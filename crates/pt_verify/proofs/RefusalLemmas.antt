@@ -1,12 +1,10 @@
 -- Sizes tell exactly how lengths refuse a block.
-use Rattle.std.proofs.Common.{◌≡◌, ◌⊎◌, inl, inr, ℕ, ◌+◌, ◌<◌, length, refl, sym, ap, ◌∙◌, subst, arith}
-use Rattle.std.specs.Prelude.{Contains}
+use Rattle.std.proofs.Common.{◌≡◌, ◌⊎◌, inl, inr, ℕ, ◌+◌, ◌<◌, length, refl, sym, ap, subst, arith}
 use Rattle.std.proofs.lemmas.Bool.{cases_order}
 use Rattle.pt_ranges.specs.declared.handlers.Handler.{Handler}
 use Rattle.pt_sizes.specs.declared.flow.Sizes.{Sizes}
 use Rattle.pt_sizes.specs.declared.flow.Sizes.TheVariants as sizes
 use Rattle.pt_fits.specs.Block.{Block}
-use Rattle.pt_fits.specs.Tables.{IsRow}
 use Rattle.pt_fits.specs.Agreement as A
 use Rattle.pt_fits.specs.Agreement.{LengthsMeet, HandlerFails, TooFew}
 use Rattle.pt_fits.specs.Fits as F

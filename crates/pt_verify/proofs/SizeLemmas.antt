@@ -2,21 +2,19 @@
 use Rattle.std.proofs.Common.{◌≡◌, ℕ, ◌+◌, ◌≤◌, zero, suc, Bool, true, false, if◌then◌else◌, List, [], ◌∷◌, ◌++◌, length, map, filter, take, Option, Some, None, refl, sym, ap, ◌∙◌, subst, arith, length-append}
 use Rattle.std.specs.Prelude.{Contains, cond, nat_eq}
 use Rattle.std.proofs.lemmas.List.{map-append, length-take-le}
-use Rattle.std.proofs.lemmas.Bool.{false≢true, leb-true}
-use Rattle.pt_instr.specs.declared.Instr.{Instr}
-use Rattle.pt_instr.specs.declared.Instr.TheVariants as instr
+use Rattle.std.proofs.lemmas.Bool.{leb-true}
 use Rattle.pt_instr.specs.declared.effects.Effect.{Effect}
-use Rattle.pt_instr.specs.declared.kinds.Kind.TheVariants as kind
-use Rattle.pt_instr.specs.Effects.{Kinds, effect_of}
+use Rattle.pt_instr.specs.Effects.{Kinds}
 use Rattle.pt_ranges.specs.declared.handlers.Handler.{Handler}
 use Rattle.pt_code.specs.View.{Ins}
 use Rattle.pt_fits.specs.Block.{Links, Block, effect, captured, kinds_at_start}
-use Rattle.pt_fits.specs.Steps.{Step, step, steps, steps_of, by_instruction, by_handlers, held_by, onward, aside, again, given_behind, spared, below, swaps_iterator, has_enough, is_within, landing, target_of}
+use Rattle.pt_fits.specs.Steps.{Step, step, steps, steps_of, by_instruction, by_handlers, held_by, onward, aside, again, given_behind, spared, below, has_enough, is_within, landing, target_of}
 use Rattle.pt_fits.specs.Places as P
 use Rattle.pt_fits.specs.Places.{Gets, Reached}
 use Rattle.pt_fits.specs.Agreement as A
 use Rattle.pt_fits.specs.Agreement.{LengthsMeet}
-use Rattle.pt_fits.proofs.KindLemmas.{both, length_below}
+use Rattle.pt_fits.proofs.KindLemmas.{length_below}
+use Rattle.pt_fits.proofs.Swaps.{given_size}
 use Rattle.pt_fits.proofs.Ways.{later}
 use Rattle.pt_verify.specs.Sizes as S
 use Rattle.pt_verify.specs.Sizes.{SizeStep, sized, left, is_enough, gives_onward, gives_aside, gives_again, own_sizes, leaves_enough, landing_size, handler_sizes, size_steps, size_steps_of, Sized, SizesMeet, RowTooDeep, Lacks}
@@ -24,12 +22,6 @@ use Rattle.pt_verify.specs.Laws.{GetsSize, KindsHaveSizes, SizesHaveKinds, AsLen
 
 abbrev size_of : Step → SizeStep
 size_of s = sized s.to (length s.kinds)
-
--- only two slots are swapped
-swap_gives_two : (j : Instr) (f : ℕ) (given : Kinds) → (effect_of j f).swaps ≡ true → (effect_of j f).gives ≡ Some given → length given ≡ 2
-unfolding effect_of
-swap_gives_two instr.Swap f given e g = sym (ap (λ o. elim o [ None ↦ 2 | Some ks ↦ length ks ]) g)
-swap_gives_two j f given e g = absurd (false≢true e)
 
 module _ {X Y : Type 0} (f : X → Y) where
   contains_map : (xs : List X) (x : X) → Contains xs x → Contains (map f xs) (f x)
@@ -46,17 +38,10 @@ module _ (links : Links) (q : ℕ) (i : Ins) (ks : Kinds) where
   abbrev e : Effect
   e = effect links i.instr
 
-  given_size : (given : Kinds) → e.gives ≡ Some given → length (given_behind e ks given) ≡ length given
-  given_size given g = by_swap (swaps_iterator e ks) refl
-    where
-      by_swap : (t : Bool) → swaps_iterator e ks ≡ t → length (given_behind e ks given) ≡ length given
-      by_swap true y = ap (λ t. length (if t then kind.Value ∷ kind.Iter ∷ [] else given)) y ∙ sym (swap_gives_two i.instr (captured links i.instr) given (both e.swaps _ y).0 g)
-      by_swap false n = ap (λ t. length (if t then kind.Value ∷ kind.Iter ∷ [] else given)) n
-
   onward_sizes : (o : Option Kinds) → e.gives ≡ o → map size_of (onward e ks i.next o) ≡ gives_onward e (length ks) i.next o
   onward_sizes None g = refl
   onward_sizes (Some given) g = ap (λ n. sized i.next n ∷ [])
-      (length-append (below e ks) (given_behind e ks given) ∙ (ap (λ m. m + length (given_behind e ks given)) (length_below e ks) ∙ ap (λ m. spared e ks + m) (given_size given g)))
+      (length-append (below e ks) (given_behind e ks given) ∙ (ap (λ m. m + length (given_behind e ks given)) (length_below e ks) ∙ ap (λ m. spared e ks + m) (given_size i.instr (captured links i.instr) ks given g)))
 
   aside_sizes : (t : Option ℕ) (o : Option Kinds) → map size_of (aside e ks t o) ≡ gives_aside e (length ks) t o
   aside_sizes (Some t) (Some given) = ap (λ n. sized t n ∷ []) (length-append (below e ks) given ∙ ap (λ m. m + length given) (length_below e ks))

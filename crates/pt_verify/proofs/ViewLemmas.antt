@@ -1,5 +1,5 @@
 -- What a code file names fits into four bytes, so its blocks are seen.
-use Rattle.std.proofs.Common.{◌≡◌, ℕ, ◌<◌, zero, suc, true, false, List, [], ◌∷◌, length, refl, subst, arith}
+use Rattle.std.proofs.Common.{ℕ, ◌<◌, zero, suc, true, false, List, [], ◌∷◌, length, refl, subst, arith}
 use Rattle.std.specs.Prelude.{Contains, ◌^◌}
 use Rattle.std.specs.List.{AllByRecursion}
 use Rattle.pt_instr.specs.declared.Instr.{Instr}

@@ -89,6 +89,19 @@ TellsSizes b (sizes.Meet pc) = MeetFirst b pc
 TellsSizes b (sizes.TooDeep pc row) = DeepFirst b pc row
 TellsSizes b (sizes.TooFew pc) = FewFirst b pc
 
+-- the sizes that places get through the instructions at a place and below
+pub record AreSizesUpTo (b : Block) (p : ℕ) (table : List (Option ℕ)) : Type 0 where
+  pub sound : (pc n : ℕ) → entry table pc ≡ Some n → Sized b p pc n
+  pub whole : (pc n : ℕ) → Sized b p pc n → entry table pc ≡ Some n
+  pub agree : SizesDisagree b p → ⊥
+
+-- what an answer tells of a block up to a place: these sizes, or that they disagree
+abbrev pub TellsSizesUpTo : Block → (p : ℕ) → Sizes → Type 0
+TellsSizesUpTo b p (sizes.Agree table) = AreSizesUpTo b p table.items
+TellsSizesUpTo b p (sizes.Meet pc) = SizesDisagree b p
+TellsSizesUpTo b p (sizes.TooDeep pc row) = SizesDisagree b p
+TellsSizesUpTo b p (sizes.TooFew pc) = SizesDisagree b p
+
 abbrev pub TablesTell : Block → Type 0
 TablesTell b = (table : List (Option Place)) → HasPlaces b table → (s : Sizes)
     → Tells (body b table) s → TellsSizes b s

@@ -3,15 +3,17 @@ ghost use Rattle.std.specs.Prelude.{◌≡◌, ◌<◌, ◌^◌, ℕ, length, op
 ghost use Rattle.pt_code.specs.View.{Ins, IsView};
 ghost use Rattle.pt_slots.specs.BlockObject.{target_of};
 ghost use Rattle.pt_fits.specs.Block.{block_of, captured, effect, kinds_at_start, links_of};
-ghost use Rattle.pt_verify.specs.PlaceTable.{HasPlaces, TellsSizes, aside_given, place_of, target_or};
+ghost use Rattle.pt_verify.specs.PlaceTable.{HasPlaces, TellsSizes, TellsSizesUpTo, aside_given, place_of, target_or};
 
 use pt_base::{BlockId, Memory, Pc};
 use pt_code::{BlockKind, Code, CodeBlock};
 use pt_instr::{Instr, Kinds, decode, effect};
+use pt_partial_sizes::sizes_below;
 use pt_sizes::{Place, Sizes, sizes_of};
 use std::alloc::Global;
 
-fn count(kinds: &Kinds) -> u64
+/// How many slots these are.
+pub fn count(kinds: &Kinds) -> u64
     ensures exact { result ≡ length kinds.now }
     ensures few { result < 2 ^ 34 }
 {
@@ -28,7 +30,8 @@ fn count_given(given: &Option<Kinds>) -> Option<u64>
     }
 }
 
-fn target_of(instr: &Instr) -> Option<Pc>
+/// The place that an instruction names, if it may go there.
+pub fn target_of(instr: &Instr) -> Option<Pc>
     ensures { option_map (λ t. t.0) result ≡ target_of instr.now }
 {
     match *instr {
@@ -53,7 +56,7 @@ fn captured_by(code: &Code, block: BlockId) -> Result<u32, Memory>
 }
 
 /// How many cells the block takes along that an instruction names.
-fn captured(code: &Code, instr: &Instr) -> Result<u32, Memory>
+pub fn captured(code: &Code, instr: &Instr) -> Result<u32, Memory>
     ensures { IfOk result (λ n. n ≡ captured (links_of code.now) instr.now) }
 {
     match *instr {
@@ -143,4 +146,28 @@ pub fn sizes(alloc: Global, code: &Code, block: &CodeBlock) -> Result<Sizes, Mem
     let places = places(alloc, code, block)?;
     let rows = Vec::from_slice(alloc, block.handlers.as_slice())?;
     sizes_of(alloc, places, rows, start_size(block.kind))
+}
+
+/// How many slots the places of a block get through the instructions at a place and below, or that
+/// these numbers disagree there. What comes to a place behind goes no further.
+///
+/// # Errors
+///
+/// `Memory` for want of it, and where a size passes 2^64 or a block has 2^32 bytes or free names, to
+/// which no block of a code file comes.
+pub fn sizes_up_to(
+    alloc: Global,
+    code: &Code,
+    block: &CodeBlock,
+    place: Pc,
+) -> Result<Sizes, Memory>
+    ensures { IfOk result (λ sizes. (view : ℕ → Option Ins) → IsView block.now view
+        → TellsSizesUpTo (block_of code.now block.now view) place.0 sizes) }
+{
+    let places = places(alloc, code, block)?;
+    let Some(limit) = place.0.checked_add(1) else {
+        return Err(Memory);
+    };
+    let rows = block.handlers.as_slice();
+    sizes_below(alloc, places, rows, start_size(block.kind), limit)
 }

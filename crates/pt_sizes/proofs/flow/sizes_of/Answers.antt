@@ -2,7 +2,7 @@ use Rattle.std.proofs.Common.{◌≡◌, ◌+◌, length, [], sym, subst, arith}
 use Rattle.std.specs.Prelude.{Contains}
 use Rattle.pt_ranges.specs.declared.handlers.Handler.{Handler}
 use Rattle.pt_sizes.specs.Flow.{SizesMeet}
-use Rattle.pt_sizes.specs.Waiting.{Index, levels_of}
+use Rattle.pt_sizes.specs.Waiting.{AllWait, levels_of}
 use Rattle.pt_sizes.specs.Search.{OpenNow, IsFirstTable, IsLeastDeep, DeepBelow, body_of}
 use Rattle.pt_sizes.proofs.Telling.{opening, tell_meet, tell_few, some_deep, tell_deep, tell_table}
 use Rattle.pt_sizes.proofs.flow.sizes_of.Goals as goal
@@ -12,7 +12,7 @@ loop-at-init c =
     let levels = levels_of c.in_ok-waiting.waiting.levels in
     let e : c.len.result ≡ length c.args.places.items = omega (arith, c.len.ensures) in
     let t = subst (λ p. IsFirstTable p c.args.first c.in_ok-table.table.items) c.deref.ensures.value c.in_ok-table.ensures in
-    let i = subst (λ n. Index c.args.rows.items n levels) e (subst (λ r. Index r c.len.result levels) c.deref-2.ensures.value c.in_ok-waiting.ensures) in
+    let i = subst (λ n. AllWait c.args.rows.items n levels) e (subst (λ r. AllWait r c.len.result levels) c.deref-2.ensures.value c.in_ok-waiting.ensures) in
     opening (body_of c.args.places.items c.args.rows.items c.args.first) c.in_ok-table.table.items levels t i
 
 pub returns-then-not-branch : goal.returns-then-not-branch

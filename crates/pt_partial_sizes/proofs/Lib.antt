@@ -1,0 +1,2 @@
+mod CutSoFar
+pub mod Cutting
