@@ -229,7 +229,7 @@ module _ (b : Block) (laid : IsLaid b) (rows : (pc : ℕ) (i : Ins) → b.at pc 
   }
 
 -- the rows of an instruction as it is seen are those that cover it
-rows_laid : (c : CodeBlock) (at : ℕ) (is : List Instr) (pc : ℕ) (i : Ins) → laid_from c at is pc ≡ Some i
+pub rows_laid : (c : CodeBlock) (at : ℕ) (is : List Instr) (pc : ℕ) (i : Ins) → laid_from c at is pc ≡ Some i
     → i.rows ≡ filter (λ row. covers row (record { 0 = pc })) c.handlers
 rows_laid c at [] pc i e = absurd (some_none i e)
 rows_laid c at (j ∷ js) pc i e = by_place (λ f. rows_laid c (at + length (encoding j)) js pc i f) (nat_eq at pc) e

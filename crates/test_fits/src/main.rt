@@ -1,21 +1,35 @@
-//! How many slots the places of code files get, which stand in a table in hex.
+//! What is told of code files, which stand in tables in hex: how many slots their places get, what
+//! is refused by places and sizes, and which slots are the same at two places.
 #![tactic(auto)]
 
 mod blocks;
+mod common;
+mod limits;
 
 use blocks::{NoRow, sizes_in};
+use common::common_in;
+use limits::limits_in;
+use pt_code::Code;
 use std::alloc::Global;
 use std::process::ExitCode;
 use std::{env, fs, io};
 
-/// Writes what is told of each block of a code file.
-fn answer(line: &mut String, alloc: Global, row: &str) -> Result<(), NoRow> {
-    let bytes = hex::decode(alloc, row).map_err(|_| NoRow)?;
-    let Ok(code) = pt_code::read(alloc, bytes.as_slice()) else {
-        return Err(NoRow);
-    };
-    for block in code.blocks.as_slice() {
-        sizes_in(line, alloc, &code, block)?;
+fn code_of(alloc: Global, digits: &str) -> Result<Code, NoRow> {
+    let bytes = hex::decode(alloc, digits).map_err(|_| NoRow)?;
+    pt_code::read(alloc, bytes.as_slice()).map_err(|_| NoRow)
+}
+
+/// Writes what is told of each block of a code file, by the name of the table.
+fn answer(line: &mut String, alloc: Global, name: &str, row: &str) -> Result<(), NoRow> {
+    let (digits, words) = row.split_once(" ").unwrap_or((row, ""));
+    let code = code_of(alloc, digits)?;
+    let blocks = code.blocks.as_slice();
+    for number in 0..blocks.len() {
+        match name {
+            "common.txt" => common_in(line, alloc, &code, &blocks[number])?,
+            "limits.txt" => limits_in(line, alloc, &code, number, words)?,
+            _ => sizes_in(line, alloc, &code, &blocks[number])?,
+        }
     }
     Ok(())
 }
@@ -27,7 +41,7 @@ fn table(rt: &HostRuntime, name: &str) -> io::Result<()> {
         let mut line = String::new(rt.alloc());
         if row.starts_with("#") {
             line.push_str(row)?;
-        } else if answer(&mut line, rt.alloc(), row).is_err() {
+        } else if answer(&mut line, rt.alloc(), name, row).is_err() {
             line.push_str("no row")?;
         }
         println!(rt; "{line}")?;

@@ -1,0 +1,27 @@
+ghost use Rattle.std.specs.Prelude.{◌≡◌, MatchBool};
+ghost use Rattle.pt_fits.specs.Block.{Block};
+ghost use Rattle.pt_fits.specs.Leaves.{Common};
+ghost use Rattle.pt_jump.specs.Slots.{SlotsTold};
+
+use pt_base::Pc;
+
+/// Knows of the places of a block what a jump asks of their slots.
+pub trait PlaceSlots {
+    ghost told: { Self → SlotsTold };
+
+    /// Whether what it knows of slots in common is so of a block.
+    ghost tells: { Self → Block → Type 0 };
+
+    /// How many slots lie at a place, if some way comes to it.
+    fn count(&self, pc: Pc) -> Option<u32>
+        ensures { result ≡ (told self.now).count pc.0 };
+
+    /// How many of its lowest slots there are up to the topmost that holds a completion.
+    fn held(&self, pc: Pc) -> u32
+        ensures { result ≡ (told self.now).held pc.0 };
+
+    /// Whether a slot, counted from the lowest, is the same at two places.
+    fn is_shared(&self, slot: u32, one: Pc, other: Pc) -> bool
+        ensures { (b : Block) → tells self.now b → MatchBool result
+            (Common b b.size slot one.0 other.0) (Common b b.size slot one.0 other.0 → ⊥) };
+}

@@ -1,0 +1,4 @@
+mod Leasts
+pub mod Staying
+pub mod Placing
+pub mod Refusing

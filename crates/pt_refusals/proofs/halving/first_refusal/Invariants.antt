@@ -1,0 +1,10 @@
+use Rattle.std.proofs.Common.{◌-◌}
+use Rattle.pt_refusals.specs.Laws.{FirstSearch}
+use Rattle.pt_refusals.specs.Verdicts.{misfit_of}
+use Rattle.pt_refusals.proofs.halving.first_refusal.Given as goal
+
+abbrev pub decreases-loop-low : goal.decreases-loop-low
+decreases-loop-low g l = l.high - l.low
+
+abbrev pub invariant-loop-low : goal.invariant-loop-low
+invariant-loop-low g l = FirstSearch (g.P.Probe.block l.probe) l.fn.last l.low l.high (misfit_of l.found)

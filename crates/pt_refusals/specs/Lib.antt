@@ -1,0 +1,3 @@
+pub mod Told
+pub mod Verdicts
+pub mod Laws

@@ -1,0 +1,33 @@
+//! How a block fails, and why it is refused.
+
+/// How a block fails up to a place by the kinds of its slots, aside from Leaves.
+#[derive(Clone, Copy, Debug)]
+pub struct KindFailures {
+    /// The least table row under which slots of two kinds would stay. Rows are counted through
+    /// marks, handlers and starts.
+    pub row: Option<usize>,
+    /// A place gets two lists, or an instruction finds another kind or may not stand there.
+    pub clash: bool,
+    /// An instruction goes on to where none stands.
+    pub strays: bool,
+}
+
+/// How a block fails up to a place by what its Leaves leave to their targets.
+#[derive(Clone, Copy, Debug)]
+pub struct LeaveFailures {
+    /// One leaves fewer slots than its target has.
+    pub lacks: bool,
+    /// One leaves other kinds than its target has.
+    pub clash: bool,
+}
+
+/// Why a block is refused, and where.
+#[derive(Clone, Copy, Debug, PartialEq, Eq)]
+pub enum Refusal {
+    Stack(usize),
+    Kind(usize),
+    Target(usize),
+    Table(usize),
+    SilentLoop(usize),
+    Depth,
+}

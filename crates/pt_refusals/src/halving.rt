@@ -1,0 +1,57 @@
+//! The first place that refuses a block.
+ghost use Rattle.std.specs.Prelude.{◌≤◌, option_map, IfOk};
+ghost use Rattle.pt_refusals.specs.Laws.{TellsFirst, TellsPlace};
+ghost use Rattle.pt_refusals.specs.Verdicts.{misfit_of};
+
+use crate::failures::Refusal;
+use pt_base::Memory;
+
+/// Tells of a block what refuses it at a place.
+pub trait Probe {
+    ghost use Rattle.std.specs.Prelude.{ℕ};
+    ghost use Rattle.pt_fits.specs.Block.{Block};
+
+    ghost block: { Self → Block };
+
+    /// The last place of which it can be asked, as where sizes disagree.
+    ghost last: { Self → ℕ };
+
+    /// The refusal at a place, or that the block agrees up to there.
+    ///
+    /// # Errors
+    ///
+    /// `Memory` for want of it.
+    fn refusal_at(&self, place: usize) -> Result<Option<Refusal>, Memory>
+        requires { place ≤ last self.now }
+        ensures { IfOk result (λ refusal. TellsPlace (block self.now) place
+            (option_map misfit_of refusal)) };
+}
+
+/// What refuses a block whose tables hold, at the first place up to which it doesn't agree, or that
+/// it agrees up to the last. It asks of at most one place more than the last has binary digits.
+///
+/// # Errors
+///
+/// `Memory` for want of it.
+pub fn first_refusal<P: Probe>(probe: &P, last: usize) -> Result<Option<Refusal>, Memory>
+    requires { last ≤ P.last probe.now }
+    ensures { IfOk result (λ refusal. TellsFirst (P.block probe.now) last
+        (option_map misfit_of refusal)) }
+{
+    let Some(mut found) = probe.refusal_at(last)? else {
+        return Ok(None);
+    };
+    let mut low = 0;
+    let mut high = last;
+    while low < high {
+        let middle = low + (high - low) / 2;
+        match probe.refusal_at(middle)? {
+            None => low = middle + 1,
+            Some(refusal) => {
+                high = middle;
+                found = refusal;
+            }
+        }
+    }
+    Ok(Some(found))
+}
