@@ -9,6 +9,7 @@ use Rattle.pt_code.specs.View.{Ins, IsView}
 use Rattle.pt_places.specs.PlaceTable.{HasPlaces}
 use Rattle.pt_slots.specs.BlockObject.{text_in}
 use Rattle.pt_fits.specs.Block as F
+use Rattle.pt_fits.specs.Fits.{TooDeep}
 use Rattle.pt_verify.specs.Sizes.{Sized}
 use Rattle.pt_verify.specs.PlaceTable.{SizesDisagree}
 use Rattle.pt_host.specs.Builtins.{builtin}
@@ -21,6 +22,10 @@ use Rattle.pt_code_loader.specs.Texts.{constant_texts, AreValues}
 -- where the sizes of a block agree, a place has so many slots
 abbrev pub HasDepths : F.Block → List ℕ → Type 0
 HasDepths b depths = ((p : ℕ) → SizesDisagree b p → ⊥) → (pc n : ℕ) → Sized b b.size pc n → slice_index_or depths pc 0 ≡ n
+
+-- no place gets more slots than an activation holds
+abbrev pub IsShallow : F.Block → Type 0
+IsShallow b = TooDeep b → ⊥
 
 abbrev pub iterates : BlockKind → Bool
 iterates kind.GeneratorExpression = true
@@ -36,6 +41,7 @@ pub record IsLoaded (c : Code) (b : CodeBlock) (block : BlockCode) : Type 0 wher
   pub places : (view : ℕ → Option Ins) → IsView b view → HasPlaces view block.places
   pub handlers : block.handlers ≡ b.handlers
   pub depths : (view : ℕ → Option Ins) → IsView b view → HasDepths (F.block_of c b view) block.depths
+  pub shallow : (view : ℕ → Option Ins) → IsView b view → IsShallow (F.block_of c b view)
   pub iterates : block.iterates ≡ iterates b.kind
 
 -- each block, in their order

@@ -26,9 +26,9 @@ pub fn block_of(alloc: Global, code: &Code, block: &CodeBlock) -> Result<BlockCo
     ensures { IfOk result (λ loaded. IsLoaded code.now block.now loaded) }
 {
     let name = text_in(alloc, &code.texts, block.name.0)?;
+    let depths = depths(alloc, code, block)?;
     let places = Places::make(alloc, block)?;
     let handlers = Handlers::make(alloc, block)?;
-    let depths = depths(alloc, code, block)?;
     Ok(BlockCode {
         name,
         first_line: block.first_line,

@@ -53,8 +53,9 @@ fn facts_of(alloc: Global, code: &Code) -> Result<Facts, Memory>
 ///
 /// # Errors
 ///
-/// `Memory` for want of it, and where a number has no room in four bytes, as that of a cell of a block
-/// with 2^32 of them.
+/// `Memory` for want of it, where a number has no room in four bytes, as that of a cell of a block with
+/// 2^32 of them, and where the sizes of a block disagree or a place of it gets more than 16,777,216
+/// slots. So what is loaded is shallow enough to fit.
 pub fn load(alloc: Global, seed: Seed, code: &Code) -> Result<Loaded, Memory>
     requires { 0 < length code.now.blocks }
     ensures tables { IfOk result (λ loaded. IsLoadedCode code.now loaded) }

@@ -71,7 +71,7 @@ use Rattle.pt_operands_fit.proofs.Operands.{operands_fit}
 use Rattle.pt_read_forms.proofs.Texts.{scripts_of_texts_are_formed}
 use Rattle.pt_standing_pieces.specs.Laws.{LeavesByLabel, StandsLaid}
 use Rattle.pt_standing_pieces.proofs.Script.{instructions_may_stand}
-use Rattle.pt_fitting_scripts.specs.Laws.{BlocksOfScriptsFit, CodeOfTextsFits, FitsIfShallow, SizesTellTheDepth}
+use Rattle.pt_fitting_scripts.specs.Laws.{BlocksOfScriptsFit, BlocksOfTextsFit, CodeOfTextsFits, FitsIfShallow, SizesTellTheDepth}
 use Rattle.pt_fitting_scripts.proofs.Rows.{code_laid, tables_hold}
 
 -- what stands at a place was laid out
@@ -236,16 +236,21 @@ there_is f [] n y e = absurd (let no : None ≡ Some y = e in cc)
 there_is f (x ∷ xs) zero y e = (x, (refl, is_some_of e))
 there_is f (x ∷ xs) (suc n) y e = there_is f xs n y e
 
-pub code_of_texts_fits : CodeOfTextsFits
-code_of_texts_fits text script is numbers cells n b at view seen =
+pub blocks_of_texts_fit : BlocksOfTextsFit
+blocks_of_texts_fit text script is n b at room view seen =
     let read = scripts_of_texts_are_formed text script is in
     let wide = read.1 in
     let own = numbered read.0 script wide.is_script in
     let formed = scripts_are_formed read.0 script wide.is_formed wide.is_script in
     let keeps = blocks_have_free_names script is.no_fault own wide.class_name_is_unused in
+    blocks_of_scripts_fit script is.no_fault own formed keeps n b at room view seen
+
+pub code_of_texts_fits : CodeOfTextsFits
+code_of_texts_fits text script is numbers cells n b at view seen =
+    let own = numbered (scripts_of_texts_are_formed text script is).0 script (scripts_of_texts_are_formed text script is).1.is_script in
     let l = there_is code_block (script_layouts script) n b at in
     subst (λ d. IsView d view → FitsIfShallow (block_of (code_of script) d view)) l.1.1
-    (blocks_of_scripts_fit script is.no_fault own formed keeps n l.0 l.1.0 (operands_fit script n l.0 own numbers cells l.1.0) view) seen
+    (blocks_of_texts_fit text script is n l.0 l.1.0 (operands_fit script n l.0 own numbers cells l.1.0) view) seen
 
 pub sizes_tell_the_depth : SizesTellTheDepth
 sizes_tell_the_depth b small d = let n = small d.pc (length d.kinds) (kinds_have_sizes b b.size d.pc d.kinds d.gets) in let m = d.more in omega (arith, n, m)

@@ -1,6 +1,6 @@
 //! Laws of which code of scripts fits, each the contract of a function that does nothing.
 
-ghost use Rattle.pt_fitting_scripts.specs.Laws.{BlocksOfScriptsFit, CodeOfTextsFits};
+ghost use Rattle.pt_fitting_scripts.specs.Laws.{BlocksOfScriptsFit, BlocksOfTextsFit, CodeOfTextsFits};
 ghost use Rattle.pt_fitting_scripts.specs.Laws.{SizesTellTheDepth};
 
 /// Each block of the code of a script fits, where its declarations have no fault, the script has
@@ -8,6 +8,12 @@ ghost use Rattle.pt_fitting_scripts.specs.Laws.{SizesTellTheDepth};
 /// them, operands have room and no place gets more than 16,777,216 slots.
 pub fn blocks_of_scripts_fit()
     ensures { BlocksOfScriptsFit }
+{}
+
+/// So does each block of the code of a text that is a script, where its operands have room and no
+/// place gets more than 16,777,216 slots.
+pub fn blocks_of_texts_fit()
+    ensures { BlocksOfTextsFit }
 {}
 
 /// So does each block of the code of a text that is a script, where the counts of the code's tables

@@ -4,4 +4,6 @@
 
 mod laws;
 
-pub use laws::{blocks_of_scripts_fit, code_of_texts_fits, sizes_tell_the_depth};
+pub use laws::{
+    blocks_of_scripts_fit, blocks_of_texts_fit, code_of_texts_fits, sizes_tell_the_depth,
+};

@@ -1,10 +1,12 @@
 -- The code of a script that a text is has the runs of the script, and is ready to run.
-use Rattle.std.proofs.Common.{◌≡◌, ◌<◌, ◌++◌, ◌∷◌, ℕ, Bool, [], List, Result, Ok, Err, length, sym, ap, subst}
-use Rattle.std.specs.Prelude.{IfOk, IfErr}
+use Rattle.std.proofs.Common.{◌≡◌, ◌<◌, ◌++◌, ◌∷◌, ℕ, zero, suc, Bool, [], List, Some, None, Result, Ok, Err, length, sym, ap, subst}
+use Rattle.std.specs.Prelude.{IfOk, IfErr, slice_get}
+use Rattle.std.proofs.lemmas.Option.{same_Some}
 use Rattle.pt_base.specs.Taken.{Pieces}
 use Rattle.pt_tree.specs.Syntax.{Stms}
 use Rattle.pt_wide.specs.Syntax as wide
 use Rattle.pt_script_numbers.proofs.Scripts.{numbered}
+use Rattle.pt_code.specs.declared.CodeBlock.{CodeBlock}
 use Rattle.pt_code.specs.declared.Code.{Code}
 use Rattle.pt_compile.specs.ScriptCode.{code_of}
 use Rattle.pt_code_files.specs.Numbers.{NumbersFit}
@@ -37,12 +39,15 @@ use Rattle.pt_script_objects.proofs.Objects.{objects_have_their_code}
 use Rattle.pt_script_runs.specs.Laws.{AreItsObjects}
 use Rattle.pt_script_runs.proofs.Objects.{script_has_its_bare_runs, code_of_script_writes_nothing_else, code_is_never_stuck}
 use Rattle.pt_machine_state.specs.declared.machine.Machine.{Machine}
+use Rattle.pt_machine_state.specs.declared.blocks.BlockCode.{BlockCode}
 use Rattle.pt_code_loader.specs.declared.loading.Loaded.{Loaded}
-use Rattle.pt_code_loader.specs.Loaded.{IsLoadedCode}
+use Rattle.pt_code_loader.specs.Loaded.{AreLoaded, IsLoaded, IsLoadedCode}
 use Rattle.pt_code_loader.specs.Starting.{Begins, at_start}
 use Rattle.pt_code_names.proofs.Blocks.{code_names_blocks, module_begins}
 use Rattle.pt_loaded_scripts.specs.Laws.{HasTables, IsLoadable}
 use Rattle.pt_loaded_scripts.proofs.Loading.{code_has_its_module, loaded_script_has_tables, loaded_script_is_read}
+use Rattle.pt_fitting_scripts.specs.Laws.{CodeFits}
+use Rattle.pt_fitting_scripts.proofs.Fitting.{code_of_texts_fits}
 use Rattle.pt_runner.specs.declared.ending.Ended.{Ended}
 use Rattle.pt_runner.specs.Runs.{IsReady, ModuleRun}
 use Rattle.pt_runner.specs.Runs as coded
@@ -62,6 +67,14 @@ no-names program code block world m x starts =
 
 pub has_its_module : (ss : Stms) (code : Code) → code ≡ code_of ss → 0 < length code.blocks
 has_its_module ss code is = subst (λ c. 0 < length c.blocks) (sym is) (code_has_its_module ss)
+
+-- a block of a code that is loaded
+loaded_at : (c : Code) (bs : List CodeBlock) (ks : List BlockCode) (n : ℕ) (b : CodeBlock) → AreLoaded c bs ks
+    → slice_get bs n ≡ Some b → (k : BlockCode) × IsLoaded c b k
+loaded_at c [] ks n b h e = absurd (let none : None ≡ Some b = e in cc)
+loaded_at c (x ∷ bs) [] n b h e = absurd h
+loaded_at c (x ∷ bs) (k ∷ ks) zero b h e = (k, subst (λ y. IsLoaded c y k) (same_Some _ _ e) h.0)
+loaded_at c (x ∷ bs) (k ∷ ks) (suc n) b h e = loaded_at c bs ks n b h.1 e
 
 module _ (text : List ℕ) (ss : Stms) (is : IsScript text ss) (built : Built ss) (code : Code) (has : (code ≡ code_of ss) × NumbersFit code) (l : Loaded)
     (loaded : IsLoadedCode code l) (room : CellsFit code) where
@@ -87,6 +100,15 @@ module _ (text : List ℕ) (ss : Stms) (is : IsScript text ss) (built : Built ss
     };
     cells_are_different = cells_are_different ss built;
   }
+
+  -- no place of what is loaded is too deep, so that its blocks fit
+  code_fits : CodeFits (code_of ss)
+  code_fits n b at view seen =
+      let c = code_of ss in
+      let block = loaded_at c c.blocks (l.tables.blocks.of_module ∷ l.tables.blocks.others) n b
+      (subst (λ d. IsLoadedCode d l) has.0 loaded).blocks at in
+      code_of_texts_fits text ss is (subst NumbersFit has.0 has.1) (subst CellsFit has.0 room) n b at view seen
+      (block.1.shallow view seen)
 
   tables : HasTables ss l
   tables = loaded_script_has_tables tree ss l loadable (subst (λ c. IsLoadedCode c l) has.0 loaded)
@@ -140,7 +162,7 @@ module _ (text : List ℕ) (ss : Stms) (is : IsScript text ss) (built : Built ss
       runs = (script_has_its_bare_runs value.None ss tables.object are_its_objects (heap_host (program_of ss)) n no_names (start_world (program_of ss)) f.outcome).1
           (runs_so (code_machine ss tables.object) (heap_host (program_of ss)) n the_module no_names (start_world (program_of ss)) f.outcome f.work f.does);
       work = f.work;
-      code_runs = record { object = tables.object; are_code = record { of_blocks = tables.of_blocks; truths = λ b. (tables.tables.blocks b).truths; extras = tables.tables.extras }; does = f.does };
+      code_runs = record { fits = code_fits; object = tables.object; are_code = record { of_blocks = tables.of_blocks; truths = λ b. (tables.tables.blocks b).truths; extras = tables.tables.extras }; does = f.does };
       units = f.units;
       instructions = f.instructions;
       depth = f.depth;

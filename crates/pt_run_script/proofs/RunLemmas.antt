@@ -1,8 +1,7 @@
 -- A run that writes nothing is broken off.
-use Rattle.std.proofs.Common.{◌≡◌, ℕ, Bool, true, false, List, [], refl, sym, subst}
+use Rattle.std.proofs.Common.{◌≡◌, ℕ, Bool, true, false, [], refl, sym, subst}
 use Rattle.pt_base.specs.Taken.{Pieces}
 use Rattle.pt_tree.specs.Syntax.{Stms}
-use Rattle.pt_run.specs.Run.{Write}
 use Rattle.pt_bare_writes.specs.Fronts.{within}
 use Rattle.pt_machine_state.specs.Writing.{kept}
 use Rattle.pt_sinks.specs.Writing.{TookFront}

@@ -6,6 +6,8 @@ use Rattle.pt_tree.specs.Blocks.{Block, blocks_script}
 use Rattle.pt_heap.specs.declared.value.Value.{Value}
 use Rattle.pt_heap.specs.declared.value.Value.TheVariants as value
 use Rattle.pt_slots.specs.CodeObject.{CodeObject}
+use Rattle.pt_compile.specs.ScriptCode.{code_of}
+use Rattle.pt_fitting_scripts.specs.Laws.{CodeFits}
 use Rattle.pt_run.specs.Machine.{BlockId}
 use Rattle.pt_run.specs.Run.{Write}
 use Rattle.pt_bare_runs.specs.Strides as bare
@@ -39,8 +41,9 @@ pub record AreCodeOf (ss : Stms) (object : ℕ → CodeObject Value) : Type 0 wh
   pub truths : (b : BlockId) → HasHeapTruths (object (number_of ss b))
   pub extras : (b : BlockId) → HasHeapExtras (object (number_of ss b))
 
--- the run of the script's code comes to this outcome by this work
+-- the run of the script's code, which fits, comes to this outcome by this work
 pub record CodeRunsBy (ss : Stms) (n : ℕ) (o : Outcome Value World) (w : Work) : Type 0 where
+  pub fits : CodeFits (code_of ss)
   pub object : ℕ → CodeObject Value
   pub are_code : AreCodeOf ss object
   pub does : RunDoes (code_machine ss object) (heap_host (program_of ss)) n the_module no_names (start_world (program_of ss)) o w
