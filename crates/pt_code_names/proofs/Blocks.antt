@@ -1,6 +1,7 @@
 -- The code of a supported script names its blocks.
 use Rattle.std.proofs.Common.{◌≡◌, ◌∙◌, ◌+◌, ℕ, zero, suc, Bool, true, false, if◌then◌else◌, List, [], ◌∷◌, ◌++◌, length, map, Option, Some, None, refl, sym, ap, subst, arith}
-use Rattle.std.specs.Prelude.{slice_get, slice_index_or}
+use Rattle.std.specs.Prelude.{slice_get}
+use Rattle.std.specs.List.{AllByRecursion}
 use Rattle.std.proofs.lemmas.List.{length-map, length-append}
 use Rattle.pt_tree.specs.Syntax.{Name, Stms}
 use Rattle.pt_tree.specs.Blocks as B
@@ -16,7 +17,7 @@ use Rattle.pt_code.specs.declared.BlockKind.TheVariants as kind
 use Rattle.pt_code.specs.View.{Ins, laid_from}
 use Rattle.pt_code.proofs.OneView.{one_view}
 use Rattle.pt_slots.specs.CodeObject.{CodeObject, Pool}
-use Rattle.pt_slots.specs.BlockObject.{free_in, scope_of, text_in}
+use Rattle.pt_slots.specs.BlockObject.{free_in, scope_of}
 use Rattle.pt_assembler.specs.Layout.{instrs_of}
 use Rattle.pt_compile.specs.ScriptCode.{BlockLayout, code_block, code_of, kind_of, script_layouts}
 use Rattle.pt_compile.specs.Laws.{IsLayoutIn}
@@ -33,23 +34,18 @@ use Rattle.pt_script_program.specs.ScriptProgram.{program_of, the_module_block}
 use Rattle.pt_script_program.specs.Laws.{HasItsNames}
 use Rattle.pt_code_loader.specs.declared.loading.Loaded.{Loaded}
 use Rattle.pt_loaded_scripts.specs.Laws.{HasTables, IsLoadable}
-use Rattle.pt_default_names.specs.Defaults.{TakesAsNamed}
-use Rattle.pt_default_names.proofs.Layouts.{code_names}
+use Rattle.pt_fits.specs.Block.{links_of}
+use Rattle.pt_standing_pieces.proofs.Script.{instructions_may_stand}
 use Rattle.pt_run_names.specs.RunNames.{StoresHaveNames}
 use Rattle.pt_run_names.specs.Operands.{CodeNamesItsBlocks, OperandsNameIn}
 use Rattle.pt_run_names.proofs.Runs.{reached_has_names}
 use Rattle.pt_run_names.proofs.Start.{begins_with_names}
 use Rattle.pt_code_names.specs.Laws.{SupportedCodeNamesItsBlocks, SupportedCodeRunsWithItsNames}
 use Rattle.pt_code_names.proofs.Module.{module_has_no_locals, module_has_no_slots}
-use Rattle.pt_code_names.proofs.Instructions.{laid-is, mapped-at, operands-name, seen-names, within_of}
+use Rattle.pt_code_names.proofs.Instructions.{TakesAsNamed, all-take, laid-is, mapped-at, operands-name, seen-names, within_of}
 
 mapped-count : {A B : Type 0} (f : A → B) (xs : List A) (ys : List B) → map f xs ≡ ys → length xs ≡ length ys
 mapped-count f xs ys e = sym (length-map xs f) ∙ ap length e
-
--- a list of texts has as many as the list of their numbers
-counted-lists : (texts : List Name) (lists : List (List ℕ)) (l : ℕ)
-    → length (slice_index_or lists l []) ≡ length (map (text_in texts) (slice_index_or lists l []))
-counted-lists texts lists l = sym (length-map (slice_index_or lists l []) (text_in texts))
 
 no-class : (c : BlockCode) → is_class_code c ≡ false → scope_of (kind_of c) ≡ T.global
 no-class (B.of_module ss) e = refl
@@ -108,19 +104,22 @@ module _ (script : wide.Stms) (ss : Stms) (l : Loaded) (ready : IsLoadable scrip
         (record { instrs = instrs_of b.written; fits = h.fits; spelled = refl; view_is = refl })
 
     abbrev lists : ℕ → ℕ
-    lists = λ l. length (slice_index_or (code_of ss).lists l [])
+    lists = λ l. length ((links_of (code_of ss)).texts l)
 
     pub operands : (pc : ℕ) (i : Ins) → object.at pc ≡ Some i
         → OperandsNameIn (length (names_of ss n).locals) (length ((names_of ss n).cells ++ (names_of ss n).frees)) (λ l. length (object.pool.texts l)) i.instr
     operands pc i e =
         let P : ℕ → ℕ → Type 0 = λ m k. OperandsNameIn m k lists i.instr in
         let laid : laid_from (code_block b) 0 (instrs_of b.written) pc ≡ Some i = ap (λ f. f pc) (sym seen) ∙ e in
+        let take : AllByRecursion (TakesAsNamed lists) (instrs_of b.written) =
+        all-take b.heading.kind (links_of (code_of ss)) b.written b.written.instrs
+        (instructions_may_stand ss ready.no_fault (numbered script ss ready.is_script) n b h.is_layout) in
         let raw : P (length (code_block b).locals) (length (code_block b).cells + length (code_block b).free) =
         operands-name (within_of (code_of ss) (code_block b)) lists i.instr
         (seen-names ss n b h.is_layout (numbered script ss ready.is_script) object.at h.is_object.view pc i e)
-        (laid-is (TakesAsNamed lists) (code_block b) 0 (instrs_of b.written) pc i (code_names ss n b h.is_layout) laid) in
+        (laid-is (TakesAsNamed lists) (code_block b) 0 (instrs_of b.written) pc i take laid) in
         renamed (length (names_of ss n).locals) (length ((names_of ss n).cells ++ (names_of ss n).frees)) lists (λ l. length (object.pool.texts l))
-        (λ l. counted-lists (code_of ss).texts (code_of ss).lists l ∙ ap (λ (p : Pool). length (p.texts l)) (sym h.is_object.pool)) i.instr
+        (λ l. ap (λ (p : Pool). length (p.texts l)) (sym h.is_object.pool)) i.instr
         (subst (λ k. P (length (names_of ss n).locals) k) cells-count (subst (λ m. P m (length (code_block b).cells + length
         (code_block b).free)) locals-count raw))
 

@@ -1,12 +1,16 @@
 -- What instructions of a script's code name, as they stand.
-use Rattle.std.proofs.Common.{◌≡◌, ◌∙◌, ◌+◌, ◌<◌, ◌^◌, ℕ, zero, suc, Bool, true, false, if◌then◌else◌, nat_eq, List, [], ◌∷◌, length, map, Option, Some, None, refl, sym, ap, subst}
+use Rattle.std.proofs.Common.{◌≡◌, ◌∙◌, ◌+◌, ◌<◌, ◌^◌, ℕ, zero, suc, Bool, true, false, ◌&&◌, if◌then◌else◌, nat_eq, List, [], ◌∷◌, length, map, Option, Some, None, refl, sym, ap, subst, arith}
+use Rattle.std.proofs.lemmas.Bool.Decides.{nat_tests}
 use Rattle.std.specs.Prelude.{slice_get}
-use Rattle.std.specs.List.{AllByRecursion}
+use Rattle.std.specs.List.{AllByRecursion, list_all}
 use Rattle.pt_tree.specs.Syntax.{Stms}
 use Rattle.pt_numbering.specs.Numbered.{IsNumbered}
 use Rattle.pt_instr.specs.declared.Instr.{Instr}
 use Rattle.pt_instr.specs.declared.Instr.TheVariants as instr
 use Rattle.pt_instr.specs.Encoding.{code_of as encoded, encoding, Fits as InstrFits}
+use Rattle.pt_assembler.specs.declared.operation.Placed.{Placed}
+use Rattle.pt_assembler.specs.Layout.{Written, instr_in}
+use Rattle.pt_code.specs.declared.BlockKind.{BlockKind}
 use Rattle.pt_code.specs.declared.Code.{Code}
 use Rattle.pt_code.specs.declared.CodeBlock.{CodeBlock}
 use Rattle.pt_code.specs.declared.parts.Operand.{Operand}
@@ -18,8 +22,41 @@ use Rattle.pt_compile.specs.ScriptCode.{BlockLayout, script_layouts, code_block,
 use Rattle.pt_code_files.specs.Laws.{NamesInside}
 use Rattle.pt_code_files.proofs.Each.{each_at}
 use Rattle.pt_code_files.proofs.Instructions.{instructions_name_inside}
-use Rattle.pt_default_names.specs.Defaults.{TakesAsNamed}
+use Rattle.pt_fits.specs.Block.{Links}
+use Rattle.pt_fits.specs.Standing.{is_function, names_defaults, are_distinct, is_among, may_stand}
+use Rattle.pt_standing_pieces.specs.Laws.{StandsLaid}
 use Rattle.pt_run_names.specs.Operands.{OperandsNameIn}
+
+-- an instruction that makes a function takes as many defaults as its list has names
+abbrev pub TakesAsNamed : (names : ℕ → ℕ) → Instr → Type 0
+TakesAsNamed names (instr.MakeFunction b n l) = n ≡ names l.0
+TakesAsNamed names i = Unit {0}
+
+and-left : (a b : Bool) → (a && b) ≡ true → a ≡ true
+and-left true b e = refl
+and-left false b e = e
+
+and-right : (a b : Bool) → (a && b) ≡ true → b ≡ true
+and-right true b e = e
+and-right false b e = absurd (let no : false ≡ true = e in cc)
+
+equal : (p q : ℕ) → nat_eq p q ≡ true → q ≡ p
+equal p q e = grind (arith, nat_tests)
+
+module _ (k : BlockKind) (links : Links) where
+  -- as it does where it may stand (8.7)
+  stands-takes : (i : Instr) → may_stand k links i ≡ true → TakesAsNamed (λ l. length (links.texts l)) i
+  stands-takes (instr.MakeFunction b n l) h =
+      let xs = links.texts l.0 in
+      let ps = links.parameters b.0 in
+      let named = and-right (is_function (links.kind b.0)) (names_defaults ps n xs) h in
+      equal (length xs) n (and-left (nat_eq (length xs) n) (are_distinct xs && list_all (is_among ps) xs) named)
+  stands-takes i h = tt
+
+  pub all-take : (w : Written) (is : List Placed) → AllByRecursion (StandsLaid k links w) is
+      → AllByRecursion (TakesAsNamed (λ l. length (links.texts l))) (map (λ p. instr_in w p.operation) is)
+  all-take w [] h = tt
+  all-take w (p ∷ is) h = (stands-takes (instr_in w p.operation) h.0.stands, all-take w is h.1)
 
 -- instructions whose operands are below their bounds have bytes
 

@@ -1,5 +1,0 @@
-pub mod Forms
-pub mod Operations
-pub mod Expressions
-pub mod Statements
-pub mod Layouts
