@@ -14,9 +14,9 @@ use Rattle.pt_heap_rows.specs.declared.progress.Progress.{Progress}
 use Rattle.pt_heap_rows.specs.declared.progress.Progress.TheVariants as progress
 use Rattle.pt_moves.specs.Operands.{one_value, RowsSlots, RowsHeap}
 use Rattle.pt_moves.proofs.TakeLemmas.{quiet_one}
-use Rattle.pt_moves.proofs.MoveLemmas.{pop_row}
+use Rattle.pt_moves.proofs.MoveLemmas.{pop_row, return_row}
 use Rattle.pt_moves.proofs.ConstantLemmas.{constant_row}
-use Rattle.pt_fast_rows.specs.FastPaths.{FastConstant, FastRow, Led}
+use Rattle.pt_fast_rows.specs.FastPaths.{FastConstant, FastReturn, FastRow, Led}
 
 -- the place behind is next
 pub at_next : {done : Progress → Type 0} (next : Pc) → done progress.Next → Led next next done
@@ -45,3 +45,7 @@ popped_one None v next old new t e = absurd (cc)
 pub none_popped : (o : Option Value) (old new : List Slot) → Taken o old new → o ≡ None → new ≡ old
 none_popped (Some w) old new t e = absurd (cc)
 none_popped None old new t e = t
+
+pub returned_one : (o : Option Value) (old new : List Slot) → Taken o old new → MatchOption o (new ≡ old) (λ v. FastReturn v old new)
+returned_one (Some v) old new t = (return_row old new v t.0 t.1, ap active_in t.1 ∙ quiet_one old v t.0)
+returned_one None old new t = t

@@ -8,6 +8,8 @@ use Rattle.pt_instr.specs.declared.Instr.{Instr}
 use Rattle.pt_heap.specs.declared.value.Value.{Value}
 use Rattle.pt_heap.specs.declared.value.Value.TheVariants as value
 use Rattle.pt_heap.specs.declared.object.Object.{Object}
+use Rattle.pt_heap.specs.declared.completion.Completion.TheVariants as completion
+use Rattle.pt_instr.specs.declared.Instr.TheVariants as instr
 use Rattle.pt_names.specs.Names.{Named}
 use Rattle.pt_frames.specs.declared.slot.Slot.{Slot}
 use Rattle.pt_frames.specs.declared.slot.Slot.TheVariants as slot
@@ -17,8 +19,8 @@ use Rattle.pt_heap_rows.specs.declared.progress.Progress.{Progress}
 use Rattle.pt_heap_rows.specs.declared.progress.Progress.TheVariants as progress
 use Rattle.pt_code_facts.specs.declared.facts.BlockFacts.{BlockFacts}
 use Rattle.pt_builtins.specs.declared.BuiltinLookup.{BuiltinLookup}
-use Rattle.pt_moves.specs.Operands.{RowsHeap, RowsConstant}
-use Rattle.pt_name_rows.specs.Names.{RowsLocal, RowsGlobal, RowsLoadGlobal}
+use Rattle.pt_moves.specs.Operands.{RowsSlots, RowsHeap, RowsConstant}
+use Rattle.pt_name_rows.specs.Names.{RowsLocal, RowsCell, RowsGlobal, RowsLoadGlobal}
 
 -- the place that is next, where an instruction comes to one
 abbrev pub place_behind : (next : Pc) → Progress → Option Pc
@@ -44,10 +46,18 @@ FastRow j p old new = ((heap : List Object) → RowsHeap j old heap p new heap) 
 abbrev pub FastConstant : Value → Progress → (old new : List Slot) → Type 0
 FastConstant v p old new = RowsConstant v old p new × (active_in new ≡ active_in old)
 
+-- a return leaves its place with the value
+abbrev pub FastReturn : Value → (old new : List Slot) → Type 0
+FastReturn v old new = RowsSlots instr.Return old (progress.Leaves (completion.Return v)) new × (active_in new ≡ active_in old)
+
 -- names, whatever else is known of the block, and whatever the name means by itself
 abbrev pub FastLocal : Instr → (number : ℕ) → Progress → (old : List Slot) (locals : List (Option Value))
     → (new : List Slot) (changed : List (Option Value)) → Type 0
 FastLocal j n p old locals new changed = ((facts : BlockFacts) → RowsLocal facts n j old locals p new changed) × (active_in new ≡ active_in old)
+
+abbrev pub FastCell : (own : List ℕ) → Instr → (number : ℕ) → Progress → (old : List Slot) (cells : List (Option Value))
+    → (new : List Slot) (changed : List (Option Value)) → Type 0
+FastCell own j n p old cells new changed = ((facts : BlockFacts) → RowsCell facts own n j old cells p new changed) × (active_in new ≡ active_in old)
 
 abbrev pub FastLoad : Name → Instr → (text : ℕ) → Progress → (old : List Slot) (globals : Named) → (new : List Slot) → Type 0
 FastLoad x j t p old globals new = ((b : BuiltinLookup) → RowsLoadGlobal x b j t old globals p new) × (active_in new ≡ active_in old)

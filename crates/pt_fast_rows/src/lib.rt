@@ -3,12 +3,14 @@
 #![tactic(auto)]
 
 mod branches;
+mod cells;
 mod integers;
 mod names;
 mod taking;
 mod values;
 
 pub use branches::{fast_jump_if, fast_jump_unless};
+pub use cells::{fast_cell, fast_set_cell};
 pub use integers::{fast_binary, fast_compare, fast_in_place};
 pub use names::{fast_global, fast_local, fast_set_global, fast_set_local};
-pub use values::{fast_constant, fast_pop};
+pub use values::{fast_constant, fast_pop, fast_return};

@@ -1,6 +1,6 @@
 //! Constants, and values that are dropped.
-ghost use Rattle.std.specs.Prelude.{◌≡◌, IfOk};
-ghost use Rattle.pt_fast_rows.specs.FastPaths.{FastConstant, FastRow, Leads};
+ghost use Rattle.std.specs.Prelude.{◌≡◌, IfOk, MatchOption};
+ghost use Rattle.pt_fast_rows.specs.FastPaths.{FastConstant, FastReturn, FastRow, Leads};
 ghost use Rattle.pt_instr.specs.declared.Instr.TheVariants as instr;
 
 use crate::taking::take_value;
@@ -28,4 +28,13 @@ pub fn fast_pop(next: Pc, slots: &mut Slots) -> Option<Pc>
         Some(_) => Some(next),
         None => None,
     }
+}
+
+/// Takes the value off that a `return` leaves its place with (Language Reference 7.6).
+#[tactic(auto, using(crate::proofs::ValueLemmas::returned_one))]
+pub fn fast_return(slots: &mut Slots) -> Option<Value>
+    ensures { MatchOption result (slots.new ≡ slots.old)
+        (λ v. FastReturn v slots.old slots.new) }
+{
+    take_value(slots)
 }

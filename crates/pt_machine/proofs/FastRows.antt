@@ -16,13 +16,13 @@ use Rattle.pt_heap_rows.specs.Told.{block_id}
 use Rattle.pt_moves.specs.Operands.{RowsConstant}
 use Rattle.pt_moves.proofs.MoveLemmas.{jump_row}
 use Rattle.pt_name_rows.specs.Names.{RowsGlobal, RowsLoadGlobal}
-use Rattle.pt_fast_rows.specs.FastPaths.{FastRow, FastConstant, FastLocal, FastLoad, FastGlobal, Leads, Led}
+use Rattle.pt_fast_rows.specs.FastPaths.{FastRow, FastConstant, FastLocal, FastCell, FastLoad, FastGlobal, Leads, Led}
 use Rattle.pt_machine_state.specs.declared.machine.Machine.{Machine}
 use Rattle.pt_code_tables.specs.declared.tables.CodeTables.{CodeTables}
 use Rattle.pt_code_tables.specs.Tables.{constant_in, text_in, builtin_in}
 use Rattle.pt_machine.specs.Performing.{Performs}
 use Rattle.pt_machine.proofs.RowLemmas.{still_row, heap_row, constant_row, of_instr}
-use Rattle.pt_machine.proofs.NameRows.{NamesLocal, local_row, global_row, load_row}
+use Rattle.pt_machine.proofs.NameRows.{NamesLocal, NamesCell, local_row, cell_row, global_row, load_row}
 
 module _ (tables : CodeTables) (next : Pc) (m : Machine) where
   -- the machine did the row and is such then, or nothing was done
@@ -125,3 +125,31 @@ module _ (tables : CodeTables) (next : Pc) (m : Machine) where
               of_instr is (local_row tables j led.progress m facts_here (λ hidden. refl) n slots locals named (led.row.0 facts_here) led.row.1);
         }
     fast_set_local None slots locals left = ap (λ s. with_locals s locals) left.0 ∙ ap (λ ls. with_locals m.here.slots ls) left.1
+
+  abbrev with_cells : List Slot → List (Option Value) → Machine
+  with_cells slots cells = record m { here = record m.here { slots = slots }; frames = record m.frames { cells = cells } }
+
+  module _ (k j : Instr) (is : k ≡ j) (n : ℕ) (named : NamesCell j n) where
+    pub fast_cell : (o : Option Pc) (slots : List Slot)
+        → Leads next o (λ p. FastCell m.here.cells j n p m.here.slots m.frames.cells slots m.frames.cells) (slots ≡ m.here.slots)
+        → Fast k o (with_slots slots)
+    fast_cell (Some pc) slots led =
+        record {
+          progress = led.progress;
+          to = led.to;
+          row =
+              of_instr is (cell_row tables j led.progress m facts_here (λ hidden. refl) n named slots m.frames.cells (led.row.0 facts_here) led.row.1);
+        }
+    fast_cell None slots left = ap with_slots left
+
+    pub fast_set_cell : (o : Option Pc) (slots : List Slot) (cells : List (Option Value))
+        → Leads next o (λ p. FastCell m.here.cells j n p m.here.slots m.frames.cells slots cells) ((slots ≡ m.here.slots) × (cells ≡ m.frames.cells))
+        → Fast k o (with_cells slots cells)
+    fast_set_cell (Some pc) slots cells led =
+        record {
+          progress = led.progress;
+          to = led.to;
+          row =
+              of_instr is (cell_row tables j led.progress m facts_here (λ hidden. refl) n named slots cells (led.row.0 facts_here) led.row.1);
+        }
+    fast_set_cell None slots cells left = ap (λ s. with_cells s cells) left.0 ∙ ap (λ cs. with_cells m.here.slots cs) left.1

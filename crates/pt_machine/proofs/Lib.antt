@@ -4,3 +4,4 @@ pub mod BodyRows
 pub mod CallRows
 pub mod FastRows
 pub mod StepLemmas
+pub mod SilentLemmas

@@ -1,5 +1,5 @@
 -- What was done with names is what the machine did.
-use Rattle.std.proofs.Common.{◌≡◌, ◌∙◌, ◌+◌, ◌-◌, ◌++◌, ◌<◌, ◌≤◌, ℕ, List, Bool, Option, refl, sym, ap, subst, length, arith, length-append}
+use Rattle.std.proofs.Common.{◌≡◌, ◌∙◌, ◌++◌, ◌<◌, ◌≤◌, ℕ, List, Bool, Option, refl, sym, ap, subst, length}
 use Rattle.pt_tree.specs.Syntax.{Name}
 use Rattle.pt_instr.specs.declared.Instr.{Instr}
 use Rattle.pt_heap.specs.declared.value.Value.{Value}

@@ -1,3 +1,4 @@
 pub mod Strides
 pub mod Groups
 pub mod Performing
+pub mod FastStrides

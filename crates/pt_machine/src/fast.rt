@@ -6,8 +6,8 @@ ghost use Rattle.pt_machine.specs.Performing.{Performs};
 use pt_base::{Memory, Pc};
 use pt_code_tables::CodeTables;
 use pt_fast_rows::{
-    fast_binary, fast_compare, fast_constant, fast_global, fast_in_place, fast_jump_if,
-    fast_jump_unless, fast_local, fast_pop, fast_set_global, fast_set_local,
+    fast_binary, fast_cell, fast_compare, fast_constant, fast_global, fast_in_place, fast_jump_if,
+    fast_jump_unless, fast_local, fast_pop, fast_set_cell, fast_set_global, fast_set_local,
 };
 use pt_instr::Instr;
 use pt_machine_state::Machine;
@@ -25,7 +25,9 @@ pub fn perform_fast(
 {
     let alloc = machine.alloc;
     let globals = &mut machine.frames.globals;
+    let cells = &mut machine.frames.cells;
     let locals = &mut machine.here.locals;
+    let own = &machine.here.cells;
     let slots = &mut machine.here.slots;
     match instr {
         Instr::Const(number) => fast_constant(tables.constant(number), next, slots),
@@ -42,6 +44,8 @@ pub fn perform_fast(
         }
         Instr::Local(slot) => fast_local(slot, next, locals, slots),
         Instr::SetLocal(slot) => Ok(fast_set_local(slot, next, locals, slots)),
+        Instr::Cell(slot) => fast_cell(slot, next, own, cells, slots),
+        Instr::SetCell(slot) => Ok(fast_set_cell(slot, next, own, cells, slots)),
         _ => Ok(None),
     }
 }

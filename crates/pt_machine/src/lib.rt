@@ -6,6 +6,7 @@ mod bodies;
 mod calls;
 mod cells;
 mod fast;
+mod fast_strides;
 mod globals;
 mod instructions;
 mod locals;
@@ -13,4 +14,5 @@ mod moves;
 mod operations;
 mod strides;
 
+pub use fast_strides::fast_stride;
 pub use strides::stride;

@@ -7,17 +7,16 @@ ghost use Rattle.pt_machine_state.specs.Views.{block_of};
 ghost use Rattle.pt_machine_state.specs.declared.machine.Standing.TheVariants as standing;
 ghost use Rattle.pt_places.specs.PlaceTable.{entry};
 
-use crate::fast::perform_fast;
 use crate::instructions::perform;
 use pt_base::Memory;
 use pt_code_tables::CodeTables;
 use pt_machine_state::{BlockCode, Machine, MachineEnd, Standing, Stride, Writes};
 use pt_places::Place;
 use pt_progress::{apply, close};
-use pt_transfers::{begin_act, block_of, go_to};
+use pt_transfers::{begin_act, block_of};
 
-/// Does what stands at a place, by its fast path where it has one, and goes on where that leads.
-#[tactic(auto, using(crate::proofs::StepLemmas::done_there, crate::proofs::StepLemmas::done_fast))]
+/// Does what stands at a place, and goes on where that leads.
+#[tactic(auto, using(crate::proofs::StepLemmas::done_there))]
 fn go_on(
     tables: &CodeTables,
     machine: &mut Machine,
@@ -28,10 +27,6 @@ fn go_on(
     ensures { IfOk result (λ r. GoesOn tables.now block.now place r machine.old writes.old
         machine.new writes.new) }
 {
-    if let Some(pc) = perform_fast(tables, machine, place.instr, place.next)? {
-        go_to(machine, pc);
-        return Ok(Stride::Goes);
-    }
     let progress = perform(tables, machine, place.instr)?;
     apply(machine, writes, &tables.blocks, block, place.next, progress)
 }

@@ -180,3 +180,10 @@ module _ (tables : CodeTables) (n : ℕ) (old : Machine) (w : Writes) (empty : p
     -- nothing is lacking where it stands
     pub lacks_nothing : r ≡ stride.Lacks → (p : Point) × StandsAt tables n old p → ⊥
     lacks_nothing lacks (p, at) = lacking p (stride_at n p old) at.not_stuck r lacks new w1 (strode p at r new w1 all)
+
+  -- a stride that writes nothing
+  pub went_silently : (new : Machine) → Strides tables n stride.Goes old w new w → (oo lo : Pieces → Pieces → Type 0) → (p : Point)
+      → StandsAt tables n old p → WentOn n w.events p old new oo oo lo lo
+  went_silently new all oo lo p at =
+      went_on stride.Goes new w all oo oo lo lo refl
+      (subst (Took oo oo lo lo) (sym empty) (took_nothing oo oo lo lo (λ _ _ t. t) (λ _ _ t. t))) p at

@@ -12,7 +12,7 @@ use crate::ending::RunEnd;
 use crate::leaving::leaving;
 use pt_base::{Memory, Sink};
 use pt_code_tables::CodeTables;
-use pt_machine::stride;
+use pt_machine::{fast_stride, stride};
 use pt_machine_state::{Machine, MachineEnd, Stride, Writes};
 use pt_sinks::WriteErr;
 
@@ -30,13 +30,13 @@ fn end_of(end: MachineEnd, machine: &Machine) -> Result<RunEnd, Memory>
     }
 }
 
-/// Does a stride, and writes what it has to write.
+/// Does a stride in full, and writes what it has to write.
 ///
 /// # Errors
 ///
 /// Failed where a sink's count of faults rose, and Memory. A front of what the stride writes is
 /// then written.
-pub(crate) fn advance<O: Sink, L: Sink>(
+fn advance_in_full<O: Sink, L: Sink>(
     tables: &CodeTables,
     machine: &mut Machine,
     writes: &mut Writes,
@@ -71,4 +71,42 @@ pub(crate) fn advance<O: Sink, L: Sink>(
         }
         Stride::Lacks => unreachable!(),
     }
+}
+
+/// Does a stride, and writes what it has to write.
+///
+/// # Errors
+///
+/// Failed where a sink's count of faults rose, and Memory. A front of what the stride writes is
+/// then written.
+pub(crate) fn advance<O: Sink, L: Sink>(
+    tables: &CodeTables,
+    machine: &mut Machine,
+    writes: &mut Writes,
+    bound: u64,
+    out: &mut O,
+    log: &mut L,
+) -> Result<Option<RunEnd>, WriteErr>
+    requires stands { (p : Point) × StandsAt tables.now bound machine.old p }
+    requires empty { pieces_of writes.old ≡ [] }
+    ensures ok { IfOk result (λ stop. (p : Point) → StandsAt tables.now bound machine.old p
+        → Advanced bound writes.old.events p machine.old machine.new (O.taken out.old)
+        (O.taken out.new) (L.taken log.old) (L.taken log.new) stop) }
+    ensures emptied { OnOk result (pieces_of writes.new ≡ []) }
+    ensures events { OnOk result (writes.new.events ≡ writes.old.events) }
+    ensures err { IfErr result (λ why. (p : Point) → StandsAt tables.now bound machine.old p
+        → BrokeOffAt bound writes.old.events p machine.old (O.taken out.old) (O.taken out.new)
+        (L.taken log.old) (L.taken log.new) why) }
+    ensures out_failed { result ≡ Err (WriteErr.Failed stream.Out)
+        → Rose (O.faults out.old) (O.faults out.new) × (O.faults out.new ≤ O.most out.new) }
+    ensures log_failed { result ≡ Err (WriteErr.Failed stream.Log)
+        → Rose (L.faults log.old) (L.faults log.new) × (L.faults log.new ≤ L.most log.new) }
+    ensures most { (O.most out.new ≡ O.most out.old) × (L.most log.new ≡ L.most log.old) }
+    ensures later { (O.faults out.old ≤ O.faults out.new) × (L.faults log.old ≤ L.faults log.new) }
+{
+    let done = fast_stride(tables, machine, writes, bound)?;
+    if done {
+        return Ok(None);
+    }
+    advance_in_full(tables, machine, writes, bound, out, log)
 }

@@ -12,7 +12,7 @@ use pt_machine_state::{BlockCode, Machine, Writes};
 use pt_ranges::ActMark;
 
 /// Whether the line of an act is told in a frame with this line (PEP 626).
-fn is_told(line: Option<Line>, mark: ActMark) -> bool
+pub fn is_told(line: Option<Line>, mark: ActMark) -> bool
     ensures { result ≡ is_told (option_map (λ l. l.0) line) (mark_of mark) }
 {
     match line {

@@ -11,7 +11,7 @@ mod lines;
 mod raises;
 mod writing;
 
-pub use acts::begin_act;
+pub use acts::{begin_act, is_told};
 pub use blocks::block_of;
 pub use calls::{give_back, open, resume};
 pub use events::{tell, tell_exception};

@@ -1,7 +1,7 @@
 use Rattle.std.proofs.Common.{rules}
 use Rattle.pt_instr.specs.declared.Instr.TheVariants as instr
 use Rattle.pt_machine.proofs.RowLemmas.{row_ok}
-use Rattle.pt_machine.proofs.FastRows.{fast_row, fast_constant, fast_jump, fast_load, fast_store, fast_local, fast_set_local}
+use Rattle.pt_machine.proofs.FastRows.{fast_row, fast_constant, fast_jump, fast_load, fast_store, fast_local, fast_set_local, fast_cell, fast_set_cell}
 use Rattle.pt_machine.proofs.fast.perform_fast.Goals as goal
 
 pub returns-in-Const : goal.returns-in-Const
@@ -62,3 +62,14 @@ returns-in-SetLocal c =
     fast_set_local c.args.tables.now c.args.next c.args.machine.now c.args.instr
     (instr.SetLocal c.in-SetLocal.slot) c.in-SetLocal.is c.in-SetLocal.slot.0 (λ locals cells defaults h. h)
     c.fast_set_local.result c.fast_set_local.new.slots c.fast_set_local.new.locals c.fast_set_local.ensures
+
+pub returns-in-Cell : goal.returns-in-Cell
+returns-in-Cell c =
+    row_ok c.fast_cell.result c.fast_cell.ensures (λ o led. fast_cell c.args.tables.now c.args.next c.args.machine.now c.args.instr
+    (instr.Cell c.in-Cell.slot) c.in-Cell.is c.in-Cell.slot.0 (λ locals cells defaults h. h) o c.fast_cell.new.slots led)
+
+pub returns-in-SetCell : goal.returns-in-SetCell
+returns-in-SetCell c =
+    fast_set_cell c.args.tables.now c.args.next c.args.machine.now c.args.instr
+    (instr.SetCell c.in-SetCell.slot) c.in-SetCell.is c.in-SetCell.slot.0 (λ locals cells defaults h. h)
+    c.fast_set_cell.result c.fast_set_cell.new.slots c.fast_set_cell.new.cells c.fast_set_cell.ensures
