@@ -2,9 +2,9 @@
 
 Times are those of the processor, in the program and in the system for it. They are taken in rounds, in each of which every call
 runs once at both sizes, so that whatever else the machine does meets all of them alike; what is printed is the median of the
-rounds, and the middle half of their ratios. On a machine that does other work these differ by a third and more. Where valgrind
-is there, it counts the program's instructions too, once, since they are the same each time: work that is linear doubles them,
-whatever else the machine does, while times also tell how far the data lies.
+rounds, and the least and the greatest of their ratios. On a machine that does other work these differ by a third and more. Where
+valgrind is there, it counts the program's instructions too, once, since they are the same each time, and at small sizes, since it
+is slow: work that is linear doubles them, while times also tell how far the data lies.
 """
 
 import multiprocessing
@@ -15,20 +15,19 @@ import statistics
 import subprocess
 import sys
 import time
-from pathlib import Path
 
-CRATES = Path(__file__).resolve().parent.parent / "crates"
-ROUNDS = 9
+import timing
+
+ROUNDS = 5
+# the greatest size at which instructions are counted, and at twice which
+COUNTED = 50_000
 
 
 class Program:
-    """A program of benchmarks, which is proved and built first; `empty` are the words of a run that does nothing."""
+    """The program of a crate of benchmarks; `empty` are the words of a run that does nothing."""
 
     def __init__(self, crate, empty):
-        build = subprocess.run(["rt", "run", "--", *empty], cwd=CRATES / crate, capture_output=True, text=True)
-        if build.returncode != 0:
-            sys.exit(build.stdout + build.stderr)
-        self.path = CRATES / crate / "out" / crate
+        self.path = timing.program(crate, *empty)
         self.start = statistics.median(self.run(empty)[0] for _ in range(ROUNDS))
         self.first_count = self.counted(empty)
 
@@ -74,8 +73,8 @@ def alone(call, size, turns):
 
 
 class Figures:
-    """What a call takes at a size and at twice the size, so many times each: times of the program and of CPython round by round,
-    instructions, and the greatest memory."""
+    """What a call takes at a size and at twice the size, so many times each: times of the program and of CPython round by round, and
+    the greatest memory; and instructions, at a size that may be less."""
 
     def __init__(self, own, theirs, counts, memory):
         self.own, self.theirs, self.counts, self.memory = own, theirs, counts, memory
@@ -99,27 +98,28 @@ def measured(program, calls, size, turns=1):
             own[call].append(tuple(seconds - program.start for seconds, _ in runs))
             memory[call] = max(memory[call], runs[1][1])
             theirs[call].append(tuple(alone(call, it, turns) for it in sizes))
-    counts = {call: tuple(program.instructions(it) for it in words[call]) for call in calls}
+    few = min(size, COUNTED)
+    counts = {call: tuple(program.instructions([call.__name__, str(it)]) for it in (few, 2 * few)) for call in calls}
     return [Figures(own[call], theirs[call], counts[call], memory[call]) for call in calls]
 
 
 def heading():
-    print(f"{'':12} {'size':>9} {'seconds':>8} {'twice':>8} {'ratio':>6} {'half of them':>13} {'instructions':>14} {'ratio':>6} "
-          f"{'KiB':>8} {'CPython':>8} {'twice':>8} {'ratio':>6}", flush=True)
+    print(f"{'':12} {'size':>9} {'seconds':>8} {'twice':>8} {'ratio':>6} {'least and most':>14} {'of each, instructions':>22} {'ratio':>6} "
+          f"{'KiB':>8} {'CPython':>8} {'twice':>8} {'ratio':>6} {'least and most':>14}", flush=True)
 
 
 def medians(rounds):
-    """The median times at both sizes, and their ratio."""
+    """The median times at both sizes, their ratio, and the least and the greatest ratio of a round."""
     once, twice = (statistics.median(times) for times in zip(*rounds))
-    return once, twice, twice / once
+    ratios = [it[1] / it[0] for it in rounds]
+    return once, twice, twice / once, min(ratios), max(ratios)
 
 
 def row(name, size, figures):
     """Prints the figures of a call."""
-    once, twice, ratio = medians(figures.own)
-    low, _, high = statistics.quantiles([it[1] / it[0] for it in figures.own], n=4)
+    once, twice, ratio, low, high = medians(figures.own)
     count, more = figures.counts
-    counts = f"{'':>14} {'':>6}" if count is None else f"{count:14} {more / count:6.3f}"
-    theirs, theirs_twice, theirs_ratio = medians(figures.theirs)
-    print(f"{name:12} {size:9} {once:8.3f} {twice:8.3f} {ratio:6.2f} {low:6.2f} {high:6.2f} {counts} {figures.memory:8} "
-          f"{theirs:8.3f} {theirs_twice:8.3f} {theirs_ratio:6.2f}", flush=True)
+    counts = f"{'':22} {'':>6}" if count is None else f"{count / min(size, COUNTED):22.1f} {more / count:6.3f}"
+    theirs, theirs_twice, theirs_ratio, theirs_low, theirs_high = medians(figures.theirs)
+    print(f"{name:12} {size:9} {once:8.3f} {twice:8.3f} {ratio:6.2f} {low:7.2f} {high:6.2f} {counts} {figures.memory:8} "
+          f"{theirs:8.3f} {theirs_twice:8.3f} {theirs_ratio:6.2f} {theirs_low:7.2f} {theirs_high:6.2f}", flush=True)

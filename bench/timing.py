@@ -12,7 +12,8 @@ import tempfile
 import time
 from pathlib import Path
 
-CRATES = Path(__file__).resolve().parent.parent / "crates"
+TOP = Path(__file__).resolve().parent.parent
+CRATES = TOP / "crates"
 # the programs that read a text as a kind
 PROGRAMS = {"tokens": "test_tokens", "trees": "test_front", "scopes": "test_front"}
 MEBIBYTE = 1 << 20
@@ -54,19 +55,45 @@ def run_once(words, output=None, log=None):
     return seconds, usage.ru_maxrss
 
 
-def run(words):
-    """Seconds and peak KiB: the median and the greatest of the runs."""
-    rows = [run_once(words) for _ in range(RUNS)]
+def run(words, output=None):
+    """Seconds and peak KiB: the median and the greatest of the runs, with what they write into this file, where it is given."""
+    rows = [run_once(words, output) for _ in range(RUNS)]
     return statistics.median(r[0] for r in rows), max(r[1] for r in rows)
 
 
+def needs():
+    """The crates of crates.txt, each with those of the repository that it stands on."""
+    lines = [it.split("#")[0] for it in (TOP / "crates.txt").read_text().splitlines()]
+    rows = [it.partition(":") for it in lines if ":" in it]
+    named = {head.split()[0]: below.split() for head, _, below in rows}
+    return {crate: [it for it in below if it in named] for crate, below in named.items()}
+
+
+def sources(crate):
+    """The files that a crate's program is made of: its own, and those of the crates below it."""
+    below, found = needs(), [crate]
+    for it in found:
+        found += [one for one in below[it] if one not in found]
+    return (file for it in found for part in ("src", "specs", "proofs") for file in (CRATES / it / part).rglob("*"))
+
+
+def program(crate, *words):
+    """The program of a crate: what the variable PROGRAM names, or what is built of it, where none of its sources has changed since.
+    Else it is proved and built first, with the crates below it that aren't, by a run with these words."""
+    if "PROGRAM" in os.environ:
+        return Path(os.environ["PROGRAM"])
+    path = CRATES / crate / "out" / crate
+    if not path.exists() or any(it.stat().st_mtime > path.stat().st_mtime for it in sources(crate)):
+        print(f"{crate} is proved and built first", file=sys.stderr, flush=True)
+        built = subprocess.run(["rt", "run", *(["--", *words] if words else [])], cwd=CRATES / crate, capture_output=True, text=True)
+        if built.returncode != 0:
+            sys.exit(built.stdout + built.stderr)
+    return path
+
+
 def command(kind):
-    """The words that read a text as this kind, of a program that is proved and built first."""
-    crate = CRATES / PROGRAMS[kind]
-    built = subprocess.run(["rt", "run"], cwd=crate, capture_output=True, text=True)
-    if built.returncode != 0:
-        sys.exit(built.stdout + built.stderr)
-    return [crate / "out" / crate.name, "time", kind]
+    """The words that read a text as this kind, of a proved program."""
+    return [program(PROGRAMS[kind]), "time", kind]
 
 
 def main(kind, shapes):

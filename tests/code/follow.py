@@ -3,7 +3,7 @@ end, with the same exception active, behind jumps too."""
 from machines import NONE, NULL, TRUTH, TT, PlainBlock, items, jump
 
 CONST, JUMP_UNLESS, LEAVE = 1, 55, 72
-REFUSED = {46: "no_statement", 47: "into_block", 48: "out_of_finally"}
+REFUSED = {"no statement": "no_statement", "into block": "into_block", "out of finally": "out_of_finally"}
 MOST_ACTS, MOST_MOVES = 250, 1000
 
 

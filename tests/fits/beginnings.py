@@ -15,16 +15,6 @@ from checker import ASIDE, DELEGATE, EXPRESSION, P, SWAP, V, X, Block, read
 ALL = 1 << 64
 
 
-class Raising(Block):
-    """A block in which a Swap goes on so whatever kinds it finds."""
-    def steps(self, pc, ks):
-        found = super().steps(pc, ks)
-        if self.at[pc][0] == SWAP and self.has_enough(pc, ks):
-            left = self.spared(pc, ks)
-            found[0] = (found[0][0], ks[:left] + V + ks[left], found[0][2])
-        return found
-
-
 def common(one, other):
     count = 0
     while count < min(len(one), len(other)) and one[count] == other[count]:
@@ -143,7 +133,7 @@ def main():
     counts = {"one list each": 0, "several lists": 0, "cuts that differ": 0}
     for _ in range(int(sys.argv[2]) if len(sys.argv) > 2 else 2000):
         code = read(random_code.random_block(rng))
-        b = Raising(code, code["blocks"][1])
+        b = Block(code, code["blocks"][1])
         if any(row[2] not in b.at for row in b.b["handlers"]):
             continue
         for p in sorted(b.at):

@@ -168,8 +168,8 @@ class Block:
         if self.has_enough(pc, ks):
             keeps = KEEPS.get(op, 0)
             if gives is not None:
-                if self.swaps_iterator(op, ks[spared:]):
-                    gives = "VI"
+                if op == SWAP:
+                    gives = V + ks[spared]
                 out.append((end, below + gives, spared + min(keeps, len(gives))))
             if op in ASIDE:
                 out.append((args[0], below + ASIDE[op], spared + min(keeps, len(ASIDE[op]))))
@@ -380,12 +380,12 @@ class Block:
 
 
 def jump(b, pc, line):
-    """Where a jump from a place of a block that fits leads, with how many slots, or 46, 48 or 47 where it is refused."""
+    """Where a jump from a place of a block that fits leads, with how many slots, or why it is refused."""
     gets = b.gets(b.size)
     lists = dict(gets)
     starts = [at for at, on in b.b["starts"] if on == line and at in lists]
     if not starts:
-        return 46
+        return "no statement"
     to = min(starts)
     goes = b.leaves(b.size, gets)[1]
 
@@ -401,9 +401,9 @@ def jump(b, pc, line):
         return to in seen
     held = [d for ks in (lists[pc], lists[to]) for d, k in enumerate(ks) if k == P]
     if not all(map(in_common, held)):
-        return 48
+        return "out of finally"
     if not all(in_common(d) for d in range(len(lists[to]))):
-        return 47
+        return "into block"
     return to, len(lists[to])
 
 

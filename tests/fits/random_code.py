@@ -14,7 +14,7 @@ PLAIN = ["Nop", "Const 0", "Const 0", "Const 0", "Pop", "Pop", "Copy", "Copy2", 
 JUMPS = ["Jump", "Jump", "JumpIf", "JumpUnless", "JumpIfKeep", "Next", "Next", "Leave", "Leave", "Leave"]
 
 
-def random_block(rng):
+def random_block(rng, starts=False):
     lines = [rng.choice(PLAIN) if rng.random() < 0.7 else rng.choice(JUMPS) + " @" for _ in range(rng.randrange(2, 11))]
     lines += ["Const 0", "Return"]
     places, pc = [], 0
@@ -27,7 +27,10 @@ def random_block(rng):
         f, t = sorted([rng.choice(places), rng.choice(places + [pc])])
         handlers.append((f, t, rng.choice(places), rng.choice([0, 0, 0, 1, 2]), rng.randrange(2)))
     marks = [p for p in places if rng.random() < 0.7]
-    return rows.file([rows.block("Const 0; Return"), rows.block("; ".join(lines), marks=marks, handlers=handlers, kind=rng.choice([2, 2, 2, 4]), local=[1])])
+    kind = rng.choice([2, 2, 2, 4])
+    lines_at = [(p, rng.randrange(1, 4)) for p in places if rng.random() < 0.5] if starts else []
+    return rows.file([rows.block("Const 0; Return"),
+                      rows.block("; ".join(lines), marks=marks, handlers=handlers, starts=lines_at, kind=kind, local=[1])])
 
 
 class Stuck(Exception):

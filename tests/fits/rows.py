@@ -136,17 +136,17 @@ HELD_BREAK = one("Const 0; Iter; Next 24; Pop; Leave 24; Nop; EndFinally; Jump 6
 JUMPS = [
     ("out of a loop", LOOP, 12, 3, (18, 0)),
     ("within a loop", LOOP, 12, 2, (12, 1)),
-    ("into a loop", LOOP, 18, 2, 47),
+    ("into a loop", LOOP, 18, 2, "into block"),
     ("from the loop's head into its body", LOOP, 6, 2, (12, 1)),
-    ("to no statement", LOOP, 12, 9, 46),
-    ("from a loop into its neighbour", TWO_LOOPS, 12, 4, 47),
+    ("to no statement", LOOP, 12, 9, "no statement"),
+    ("from a loop into its neighbour", TWO_LOOPS, 12, 4, "into block"),
     ("from a loop behind its neighbour", TWO_LOOPS, 12, 5, (36, 0)),
-    ("into a finally part", FINALLY, 0, 2, 48),
-    ("out of a finally part", FINALLY, 2, 3, 48),
+    ("into a finally part", FINALLY, 0, 2, "out of finally"),
+    ("out of a finally part", FINALLY, 2, 3, "out of finally"),
     ("past a finally part", FINALLY, 0, 3, (4, 0)),
     ("within a finally part", FINALLY, 2, 2, (2, 1)),
-    ("into the finally part of a loop", HELD_BREAK, 12, 2, 48),
-    ("out of it into the loop", HELD_BREAK, 17, 1, 48),
+    ("into the finally part of a loop", HELD_BREAK, 12, 2, "out of finally"),
+    ("out of it into the loop", HELD_BREAK, 17, 1, "out of finally"),
 ]
 
 if __name__ == "__main__":

@@ -1,10 +1,5 @@
-#!/usr/bin/env python3
-"""Writes the table of test_fits: code files in hex, and what the plain checker tells of the sizes of their blocks.
-
-    sizes.py DIRECTORY
-"""
+"""Rows of code files in hex, and what the plain checker tells of the sizes of their blocks."""
 import random
-import sys
 from checker import MODULE, Block, read
 from random_code import random_block
 from rows import ROWS, block, file
@@ -36,15 +31,9 @@ def told(data):
     return "".join(a + (";" if a[:1].isalpha() else " ;") for a in answers)
 
 
-def main(directory):
+def rows():
+    """Name, row and answer."""
     rng = random.Random(21)
-    rows = [(name, data) for name, data, _ in ROWS if is_code(data)] + [("random %d" % n, random_block(rng)) for n in range(RANDOM)]
-    rows += [("wide %d" % n, wide_block(rng)) for n in range(WIDE)]
-    with open(directory + "/data/sizes.txt", "w") as table, open(directory + "/stdout", "w") as out:
-        for name, data in rows:
-            table.write("# %s\n%s\n" % (name, data.hex()))
-            out.write("# %s\n%s\n" % (name, told(data)))
-
-
-if __name__ == "__main__":
-    main(sys.argv[1])
+    found = [(name, data) for name, data, _ in ROWS if is_code(data)] + [("random %d" % n, random_block(rng)) for n in range(RANDOM)]
+    found += [("wide %d" % n, wide_block(rng)) for n in range(WIDE)]
+    return [(name, data.hex(), told(data)) for name, data in found]

@@ -8,6 +8,9 @@ import types
 from pathlib import Path
 
 CRATE = Path(__file__).resolve().parent.parent.parent / "crates" / "test_values"
+# the most entries of a dictionary, and the most that are shown
+LIMIT = 4_194_304
+SHOWN = 1_000
 KEYS = ["0", "False", "1", "True", "2", "3", "-1", "7", "-170141183460469231731687303715884105728",
         "170141183460469231731687303715884105727"]
 
@@ -27,6 +30,8 @@ def answer(table, word):
     kind, rest = word.split(":", 1)
     if kind == "s":
         key, value = (eval(part) for part in rest.split(":"))
+        if key not in table and len(table) == LIMIT:
+            return "Length"
         old = table.get(key)
         table[key] = value
         return spelled(old)
@@ -34,6 +39,9 @@ def answer(table, word):
         return spelled(table.get(eval(rest)))
     if kind == "d":
         return spelled(table.pop(eval(rest), None))
+    if kind == "f":
+        table.update((number, number) for number in range(int(rest)))
+        return ""
     return entry(table, int(rest))
 
 
@@ -45,6 +53,8 @@ def dict_answers(row):
         else:
             line += answer(table, word)
         line += " "
+    if len(table) > SHOWN:
+        return f"{line}| {len(table)} entries"
     return line + "|" + "".join(f" {key}={value}" for key, value in table.items())
 
 
@@ -64,7 +74,9 @@ def dict_rows():
     again = "s:1:1 s:2:2 s:3:3 " + " ".join(f"d:{i % 3 + 1} s:{i % 3 + 1}:{i} a:0 a:2" for i in range(60))
     last = " ".join(f"s:{i}:{i}" for i in range(20)) + " " + " ".join(f"d:{i} a:0 a:{i}" for i in range(19, -1, -1))
     turned = "s:1:5 s:True:6 a:0 d:1 s:True:7 s:1:8 a:0 s:0:1 s:False:2 a:1"
-    yield from ["", "g:1", "d:1", "a:0", "t", "c", queue, middle, again, last, turned]
+    # as many entries as there may be, and one more; then with one taken out
+    full = f"f:{LIMIT} s:0:5 s:{LIMIT}:1 g:{LIMIT} d:1 s:{LIMIT}:1 s:{LIMIT + 1}:2 s:1:1 a:0 a:1 a:{LIMIT - 1} g:{LIMIT - 1}"
+    yield from ["", "g:1", "d:1", "a:0", "t", "c", queue, middle, again, last, turned, full]
     source = random.Random(20)
     for _ in range(130):
         yield " ".join(random_word(source) for _ in range(source.randrange(1, 60)))

@@ -1,11 +1,15 @@
 //! A row of a dictionary is words: `s:KEY:VALUE` gives a key a value, `g:KEY` asks for it, `d:KEY`
-//! takes it out, `a:NUMBER` asks for an entry, `c` goes on with a copy, `t` drops the holes. Behind
-//! the answers stand the entries.
+//! takes it out, `a:NUMBER` asks for an entry, `c` goes on with a copy, `t` drops the holes, and
+//! `f:COUNT` puts in the numbers below it, each with itself. Behind the answers stand the entries,
+//! or how many there are where they are many.
 
 use crate::no_row::NoRow;
 use pt_base::{Dup, Seq};
-use pt_heap::{Dict, Key, Seed, Value};
+use pt_heap::{Dict, DictErr, Key, Seed, Value};
 use std::alloc::Global;
+
+/// The most entries that are shown.
+const SHOWN: u32 = 1_000;
 
 /// The value that a word spells.
 fn value(word: &str) -> Result<Value, NoRow> {
@@ -63,8 +67,40 @@ fn set(line: &mut String, alloc: Global, dict: &mut Dict, rest: &str) -> Result<
     let key = key(alloc, first)?;
     match dict.insert(key, value(first)?, value(second)?) {
         Ok(old) => show(line, alloc, old),
-        Err(_) => Err(NoRow),
+        Err(DictErr::Length) => {
+            line.push_str("Length")?;
+            Ok(())
+        }
+        Err(DictErr::Memory) => Err(NoRow),
     }
+}
+
+/// Puts in each number below a count.
+fn fill(alloc: Global, dict: &mut Dict, count: &str) -> Result<(), NoRow> {
+    let Ok(count) = count.parse::<u32>() else {
+        return Err(NoRow);
+    };
+    for number in 0..count {
+        let digits = format!(in alloc; "{number}")?;
+        let key = key(alloc, digits.as_str())?;
+        dict.insert(key, Value::Int(number as i128), Value::Int(number as i128))?;
+    }
+    Ok(())
+}
+
+/// Writes the entries behind the answers, or how many there are.
+fn show_entries(line: &mut String, alloc: Global, dict: &Dict) -> Result<(), NoRow> {
+    line.push_str("|")?;
+    if dict.len() > SHOWN {
+        let count = format!(in alloc; " {} entries", dict.len())?;
+        line.push_str(count.as_str())?;
+        return Ok(());
+    }
+    for number in 0..dict.len() {
+        line.push_str(" ")?;
+        show_entry(line, alloc, dict, number)?;
+    }
+    Ok(())
 }
 
 /// Does what a word says, and writes the answer.
@@ -84,6 +120,7 @@ fn answer(line: &mut String, alloc: Global, dict: &mut Dict, word: &str) -> Resu
             Ok(number) => show_entry(line, alloc, dict, number),
             Err(_) => Err(NoRow),
         },
+        Some(("f", rest)) => fill(alloc, dict, rest),
         None if word == "t" => {
             dict.settle();
             Ok(())
@@ -103,10 +140,5 @@ pub fn answers(line: &mut String, alloc: Global, row: &str) -> Result<(), NoRow>
         }
         line.push_str(" ")?;
     }
-    line.push_str("|")?;
-    for number in 0..dict.len() {
-        line.push_str(" ")?;
-        show_entry(line, alloc, &dict, number)?;
-    }
-    Ok(())
+    show_entries(line, alloc, &dict)
 }
