@@ -24,7 +24,8 @@ IsOnly bytes at o = (i : Instr) (end : ℕ) → Fits i → StandsAt bytes i at e
 pub none_read : (bytes : List ℕ) → IsLeft bytes [] 0
 none_read bytes is fits spelled = record { more = is; fits = fits; spelled = spelled; whole = refl }
 
-stands : (bytes : List ℕ) (at : ℕ) (j : Instr) (js : List Instr) → drop at bytes ≡ encoding j ++ flat_map encoding js → StandsAt bytes j at (at + length (encoding j))
+stands : (bytes : List ℕ) (at : ℕ) (j : Instr) (js : List Instr) → drop at bytes ≡ encoding j ++ flat_map encoding js
+    → StandsAt bytes j at (at + length (encoding j))
 stands bytes at j js e = (length (encoding j), (flat_map encoding js, e, refl), refl)
 
 behind : (bytes : List ℕ) (at : ℕ) (xs ys : List ℕ) → drop at bytes ≡ xs ++ ys → drop (at + length xs) bytes ≡ ys
@@ -42,7 +43,8 @@ none_is_some p o e f = cc
 same_pair : (p q : Instr × ℕ) → Some p ≡ Some q → p ≡ q
 same_pair p q e = cc
 
-pub one_more : (bytes : List ℕ) (read : List Instr) (at end : ℕ) (i : Instr) → at < length bytes → IsLeft bytes read at → IsOnly bytes at (Some (i, end)) → IsLeft bytes (read ++ i ∷ []) end
+pub one_more : (bytes : List ℕ) (read : List Instr) (at end : ℕ) (i : Instr) → at < length bytes → IsLeft bytes read at
+    → IsOnly bytes at (Some (i, end)) → IsLeft bytes (read ++ i ∷ []) end
 one_more bytes read at end i within left only is fits spelled = let l = left is fits spelled in by_more l.more l.fits l.spelled l.whole
   where
     by_more : (more : List Instr) → AllByRecursion Fits more → drop at bytes ≡ flat_map encoding more → read ++ more ≡ is → Left bytes is (read ++ i ∷ []) end
@@ -58,7 +60,8 @@ one_more bytes read at end i within left only is fits spelled = let l = left is 
           whole = append_assoc read (i ∷ []) js ∙ ap (λ k. read ++ k ∷ js) same ∙ w;
         }
 
-pub one_is_there : (bytes : List ℕ) (read is : List Instr) (at : ℕ) → at < length bytes → IsLeft bytes read at → IsOnly bytes at None → AllByRecursion Fits is → bytes ≡ flat_map encoding is → ⊥
+pub one_is_there : (bytes : List ℕ) (read is : List Instr) (at : ℕ) → at < length bytes → IsLeft bytes read at
+    → IsOnly bytes at None → AllByRecursion Fits is → bytes ≡ flat_map encoding is → ⊥
 one_is_there bytes read is at within left only fits spelled = let l = left is fits spelled in by_more l.more l.fits l.spelled
   where
     by_more : (more : List Instr) → AllByRecursion Fits more → drop at bytes ≡ flat_map encoding more → ⊥
@@ -66,7 +69,8 @@ one_is_there bytes read is at within left only fits spelled = let l = left is fi
     by_more (j ∷ js) f e = none_is_some (j, at + length (encoding j)) None refl (only j (at + length (encoding j)) f.0 (stands bytes at j js e))
 
 -- behind the last byte no instruction is left
-pub all_read : (bytes : List ℕ) (read is : List Instr) (at : ℕ) → length bytes ≤ at → IsLeft bytes read at → AllByRecursion Fits is → bytes ≡ flat_map encoding is → read ≡ is
+pub all_read : (bytes : List ℕ) (read is : List Instr) (at : ℕ) → length bytes ≤ at → IsLeft bytes read at
+    → AllByRecursion Fits is → bytes ≡ flat_map encoding is → read ≡ is
 all_read bytes read is at past left fits are = let l = left is fits are in by_more l.more l.spelled l.whole
   where
     nothing : length (drop at bytes) ≡ 0

@@ -59,7 +59,8 @@ IsBlockListing texts n b lines = (is : List Instr) × IsSpelled b is × (lines �
 -- of blocks, of which the first has a number
 abbrev pub AreListings : (texts : List (List ℕ)) → (number : ℕ) → List CodeBlock → (lines : List ℕ) → Type 0
 AreListings texts n [] lines = lines ≡ []
-AreListings texts n (b ∷ bs) lines = (first : List ℕ) × (rest : List ℕ) × IsBlockListing texts n b first × AreListings texts (n + 1) bs rest × (lines ≡ first ++ rest)
+AreListings texts n (b ∷ bs) lines = (first : List ℕ) × (rest : List ℕ) × IsBlockListing texts n b first
+    × AreListings texts (n + 1) bs rest × (lines ≡ first ++ rest)
 
 abbrev pub IsListing : Code → (lines : List ℕ) → Type 0
 IsListing c lines = AreListings c.texts 0 c.blocks lines

@@ -20,7 +20,7 @@ use std::alloc::Global;
 const CELL_LIMIT: usize = 4_294_967_295;
 
 /// The value in the cell of a name, if it has a cell and a value.
-fn value_through(own: &Seq<u32>, cells: &Seq<Option<Value>>, number: usize) -> Option<Value>
+pub fn value_through(own: &Seq<u32>, cells: &Seq<Option<Value>>, number: usize) -> Option<Value>
     ensures { result ≡ value_through own.now cells.now number }
 {
     match own.get(number) {
@@ -30,7 +30,12 @@ fn value_through(own: &Seq<u32>, cells: &Seq<Option<Value>>, number: usize) -> O
 }
 
 /// Puts a value, or none, into the cell of a name, if it has a cell.
-fn put_through(own: &Seq<u32>, cells: &mut Seq<Option<Value>>, number: usize, value: Option<Value>)
+pub fn put_through(
+    own: &Seq<u32>,
+    cells: &mut Seq<Option<Value>>,
+    number: usize,
+    value: Option<Value>,
+)
     ensures { cells.new ≡ with_value (slice_get own.now number) value cells.old }
 {
     if let Some(cell) = own.get(number) {

@@ -7,7 +7,7 @@ mod globals;
 mod locals;
 mod unbound;
 
-pub use cells::{cell, delete_cell, fresh_cell, push_cell, set_cell};
+pub use cells::{cell, delete_cell, fresh_cell, push_cell, put_through, set_cell, value_through};
 pub use globals::{delete_global, global, set_global};
 pub use locals::{delete_local, fresh_local, local, put_at, set_local, value_at};
 pub use unbound::unbound_global;

@@ -36,7 +36,8 @@ is_numeral text e =
     ((ltb-true _ _ a.0, digits_are text b.0), ltb-true _ _ b.1)
 
 no_digit : (xs : List ℕ) → is_number (43 ∷ xs) ≡ true → ⊥
-no_digit xs t = let digits : are_digits (43 ∷ xs) ≡ true = (both (are_digits (43 ∷ xs)) (nat_lt (digits_value 10 (43 ∷ xs)) (2 ^ 64)) (both _ _ t).1).0 in absurd (true≢false (sym digits))
+no_digit xs t = let digits : are_digits (43 ∷ xs) ≡ true =
+    (both (are_digits (43 ∷ xs)) (nat_lt (digits_value 10 (43 ∷ xs)) (2 ^ 64)) (both _ _ t).1).0 in absurd (true≢false (sym digits))
 
 by_test : (text : List ℕ) → (is_number text ≡ true → ⊥) → None ≡ number_of text
 by_test text never = go (is_number text) never

@@ -130,15 +130,20 @@ texts_of None none e = ap (map (λ (v : Bor Text). v.now)) e
 texts_of (Some q) none e = refl
 
 -- the values of an argument, as they are read
-pub values_are : (m : ArgMatches) (id : Text) (xs : List Text) → all_of id (rows_of (found_of m)) ≡ listed xs → (o : Option (Bor (List (Bor Text)))) (none r : Bor (List (Bor Text)))
-    → none.now ≡ [] → r ≡ unwrap_or o none → option_map (λ (q : Bor (List (Bor Text))). map (λ (v : Bor Text). v.now) q.now) o ≡ option_map raw_values (matched_of (found_of m) id)
+pub values_are : (m : ArgMatches) (id : Text) (xs : List Text) → all_of id (rows_of (found_of m)) ≡ listed xs
+    → (o : Option (Bor (List (Bor Text)))) (none r : Bor (List (Bor Text)))
+    → none.now ≡ [] → r ≡ unwrap_or o none
+    → option_map (λ (q : Bor (List (Bor Text))). map (λ (v : Bor Text). v.now) q.now) o ≡ option_map raw_values
+    (matched_of (found_of m) id)
     → map (λ (v : Bor Text). v.now) r.now ≡ xs
 values_are m id xs e o none r is_empty at is =
-    ap (λ (q : Bor (List (Bor Text))). map (λ (v : Bor Text). v.now) q.now) at ∙ texts_of o none is_empty ∙ given xs _ (is ∙ raw_values-rows (found_of m) id ∙ e)
+    ap (λ (q : Bor (List (Bor Text))). map (λ (v : Bor Text). v.now) q.now) at ∙ texts_of o none is_empty
+    ∙ given xs _ (is ∙ raw_values-rows (found_of m) id ∙ e)
 
 -- what is asked for by the uses of arguments is what the words ask for
 pub uses_are_asked : (words : List Text) (m : ArgMatches) (u : HasUses words m) (files steps : List Text) (events stats : ℕ)
-    → files ≡ u.sorted.files → steps ≡ u.sorted.steps → events ≡ count_of (codes "events") (rows_of (found_of m)) → stats ≡ count_of (codes "stats") (rows_of (found_of m))
+    → files ≡ u.sorted.files → steps ≡ u.sorted.steps → events ≡ count_of (codes "events") (rows_of (found_of m))
+    → stats ≡ count_of (codes "stats") (rows_of (found_of m))
     → asked_of files (record { files = files; steps = steps; events = events; stats = stats; awaits = false }) ≡ command_line words
 uses_are_asked words m u files steps events stats e f g h =
     let P : List Text → List Text → ℕ → ℕ → Option Asked = λ a b c d. asked_of a (record { files = a; steps = b; events = c; stats = d; awaits = false }) in

@@ -102,7 +102,8 @@ module _ (id : Text) (how : Reading) (src : ValueSource) (n : ℕ) where
   module _ (other : Text) (differ : bytes_eq id other ≡ false) where
     pub count_apart : (rows : List Row) → all_of other (with_count id how src n (without id rows)) ≡ all_of other rows
     count_apart rows =
-        ap (option_map (λ (r : Row). r.values)) (passed id recount first_count (λ r. refl) refl other differ (without id rows) ∙ without_other id other differ rows)
+        ap (option_map (λ (r : Row). r.values)) (passed id recount first_count (λ r. refl) refl other differ (without id rows)
+        ∙ without_other id other differ rows)
 
     pub counts_apart : (rows : List Row) → count_of other (with_count id how src n (without id rows)) ≡ count_of other rows
     counts_apart rows =

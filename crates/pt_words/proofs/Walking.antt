@@ -76,7 +76,8 @@ says_value s rs word h = record {
 -- a file word
 module _ (x : ℕ) (xs : Text) (e : (x == 45) ≡ false) where
   file_walked : (wt : Waiting) → IsFree wt → (h : Held)
-      → walked rules [] (stand wt h) (x ∷ xs) ≡ stand positional (record { rows = (settled rules h).rows; pending = Some (codes "files", (x ∷ xs) ∷ []); skip = h.skip })
+      → walked rules [] (stand wt h) (x ∷ xs) ≡ stand positional
+      (record { rows = (settled rules h).rows; pending = Some (codes "files", (x ∷ xs) ∷ []); skip = h.skip })
   unfolding walked
   file_walked idle f h = rw (e, e, and_false (is_pending files_rule h.pending)) refl
   file_walked positional f h = rw (e, e, and_false (is_pending files_rule h.pending)) refl
@@ -88,7 +89,8 @@ module _ (x : ℕ) (xs : Text) (e : (x == 45) ≡ false) where
   file_fault (option id) f h is = absurd f
 
   value_walked : (rs : List Row) (k : ℕ)
-      → walked rules [] (stand (option (codes "steps")) (awaiting rs k)) (x ∷ xs) ≡ stand idle (record { rows = rs; pending = Some (codes "steps", (x ∷ xs) ∷ []); skip = k })
+      → walked rules [] (stand (option (codes "steps")) (awaiting rs k)) (x ∷ xs) ≡ stand idle
+      (record { rows = rs; pending = Some (codes "steps", (x ∷ xs) ∷ []); skip = k })
   unfolding walked
   value_walked rs k = rw (e, e) refl
 
@@ -98,7 +100,8 @@ module _ (x : ℕ) (xs : Text) (e : (x == 45) ≡ false) where
 -- clap's count of a flag is one it takes
 count_passes : (n : ℕ) → n ≤ 255 → value_kinds false (vp.Signed (pos 0) (pos 255)) (count_text n) ≡ []
 count_passes n le =
-    let taken : accepts false (vp.Signed (pos 0) (pos 255)) (count_text n) ≡ true = Accepts-accepts false (vp.Signed (pos 0) (pos 255)) (count_text n) (IsSignedIn-count_text n le) in
+    let taken : accepts false (vp.Signed (pos 0) (pos 255)) (count_text n) ≡ true =
+    Accepts-accepts false (vp.Signed (pos 0) (pos 255)) (count_text n) (IsSignedIn-count_text n le) in
     rw taken refl
 
 one_more : (m n : ℕ) → m ≡ min n 255 → min (m + 1) 255 ≡ min (n + 1) 255
@@ -156,7 +159,8 @@ module _ (c : ℕ) (rest : Text) where
     settled_rows = (settled rules h).rows
 
     -- `--steps` alone
-    steps_walked : has_value ≡ false → says_steps ≡ true → (wt : Waiting) → walked rules [] (stand wt h) word ≡ stand (option (codes "steps")) (awaiting settled_rows h.skip)
+    steps_walked : has_value ≡ false → says_steps ≡ true → (wt : Waiting)
+        → walked rules [] (stand wt h) word ≡ stand (option (codes "steps")) (awaiting settled_rows h.skip)
     unfolding walked
     steps_walked ev ea idle = rw (ev, ea) refl
     steps_walked ev ea positional = rw (ev, ea) refl
@@ -169,7 +173,12 @@ module _ (c : ℕ) (rest : Text) where
 
     -- `--steps=VALUE`
     abbrev with_value : Held
-    with_value = record { rows = (settled rules (record { rows = settled_rows; pending = Some (codes "steps", value ∷ []); skip = h.skip })).rows; pending = None; skip = h.skip }
+    with_value =
+        record {
+          rows = (settled rules (record { rows = settled_rows; pending = Some (codes "steps", value ∷ []); skip = h.skip })).rows;
+          pending = None;
+          skip = h.skip;
+        }
 
     value_put : has_value ≡ true → says_steps ≡ true → (wt : Waiting) → walked rules [] (stand wt h) word ≡ stand idle with_value
     unfolding walked
@@ -190,7 +199,8 @@ module _ (c : ℕ) (rest : Text) where
       skip = h.skip;
     }
 
-    events_walked : has_value ≡ false → says_steps ≡ false → says_events ≡ true → (wt : Waiting) → walked rules [] (stand wt h) word ≡ stand idle (counting (codes "events"))
+    events_walked : has_value ≡ false → says_steps ≡ false → says_events ≡ true → (wt : Waiting)
+        → walked rules [] (stand wt h) word ≡ stand idle (counting (codes "events"))
     unfolding walked
     events_walked ev ea eb idle = rw (ev, ea, eb) refl
     events_walked ev ea eb positional = rw (ev, ea, eb) refl
@@ -215,18 +225,34 @@ module _ (c : ℕ) (rest : Text) where
 
     says_events_more : Says (record s { events = s.events + 1 }) (counting (codes "events")).rows
     says_events_more = record {
-      files = rows.count_apart (codes "events") (reading_by events_rule) CommandLine (min (count_of (codes "events") settled_rows + 1) 255) (codes "files") refl settled_rows ∙ says.files;
-      steps = rows.count_apart (codes "events") (reading_by events_rule) CommandLine (min (count_of (codes "events") settled_rows + 1) 255) (codes "steps") refl settled_rows ∙ says.steps;
-      events = rows.count_given (codes "events") (reading_by events_rule) CommandLine (min (count_of (codes "events") settled_rows + 1) 255) (without (codes "events") settled_rows) ∙ one_more _ _ says.events;
-      stats = rows.counts_apart (codes "events") (reading_by events_rule) CommandLine (min (count_of (codes "events") settled_rows + 1) 255) (codes "stats") refl settled_rows ∙ says.stats;
+      files =
+          rows.count_apart (codes "events") (reading_by events_rule) CommandLine
+          (min (count_of (codes "events") settled_rows + 1) 255) (codes "files") refl settled_rows ∙ says.files;
+      steps =
+          rows.count_apart (codes "events") (reading_by events_rule) CommandLine
+          (min (count_of (codes "events") settled_rows + 1) 255) (codes "steps") refl settled_rows ∙ says.steps;
+      events =
+          rows.count_given (codes "events") (reading_by events_rule) CommandLine
+          (min (count_of (codes "events") settled_rows + 1) 255) (without (codes "events") settled_rows) ∙ one_more _ _ says.events;
+      stats =
+          rows.counts_apart (codes "events") (reading_by events_rule) CommandLine
+          (min (count_of (codes "events") settled_rows + 1) 255) (codes "stats") refl settled_rows ∙ says.stats;
     }
 
     says_stats_more : Says (record s { stats = s.stats + 1 }) (counting (codes "stats")).rows
     says_stats_more = record {
-      files = rows.count_apart (codes "stats") (reading_by events_rule) CommandLine (min (count_of (codes "stats") settled_rows + 1) 255) (codes "files") refl settled_rows ∙ says.files;
-      steps = rows.count_apart (codes "stats") (reading_by events_rule) CommandLine (min (count_of (codes "stats") settled_rows + 1) 255) (codes "steps") refl settled_rows ∙ says.steps;
-      events = rows.counts_apart (codes "stats") (reading_by events_rule) CommandLine (min (count_of (codes "stats") settled_rows + 1) 255) (codes "events") refl settled_rows ∙ says.events;
-      stats = rows.count_given (codes "stats") (reading_by events_rule) CommandLine (min (count_of (codes "stats") settled_rows + 1) 255) (without (codes "stats") settled_rows) ∙ one_more _ _ says.stats;
+      files =
+          rows.count_apart (codes "stats") (reading_by events_rule) CommandLine
+          (min (count_of (codes "stats") settled_rows + 1) 255) (codes "files") refl settled_rows ∙ says.files;
+      steps =
+          rows.count_apart (codes "stats") (reading_by events_rule) CommandLine
+          (min (count_of (codes "stats") settled_rows + 1) 255) (codes "steps") refl settled_rows ∙ says.steps;
+      events =
+          rows.counts_apart (codes "stats") (reading_by events_rule) CommandLine
+          (min (count_of (codes "stats") settled_rows + 1) 255) (codes "events") refl settled_rows ∙ says.events;
+      stats =
+          rows.count_given (codes "stats") (reading_by events_rule) CommandLine
+          (min (count_of (codes "stats") settled_rows + 1) 255) (without (codes "stats") settled_rows) ∙ one_more _ _ says.stats;
     }
 
     says_awaiting : Says (record s { awaits = true }) settled_rows
@@ -296,7 +322,9 @@ module _ (x : ℕ) (xs : Text) (e : (x == 45) ≡ false) where
       )
   file_steps s _ (awaits rs k waits says) =
       let put : put_word (x ∷ xs) s ≡ Some (with_steps (x ∷ xs) s) = rw (e, waits) refl in
-      subst (λ q. Goes q (walked rules [] (stand (option (codes "steps")) (awaiting rs k)) (x ∷ xs)) (turn_fault top [] (stand (option (codes "steps")) (awaiting rs k)) (x ∷ xs)))
+      subst
+      (λ q. Goes q (walked rules [] (stand (option (codes "steps")) (awaiting rs k)) (x ∷ xs))
+      (turn_fault top [] (stand (option (codes "steps")) (awaiting rs k)) (x ∷ xs)))
       (sym put) (value_fault x xs e rs k, subst (Stands _) (sym (value_walked x xs e rs k)) (free idle tt _ refl refl (says_value s rs (x ∷ xs) says)))
 
 module _ (c : ℕ) (rest : Text) where
@@ -352,7 +380,8 @@ after_one t words w (Some s) g more =
     (sym (or_else_clean (turn_fault top [] w t) (walk_fault top [] (walked rules [] w t) words) g.0)) (more s g.1)
 after_one t words w None g more = λ clean. g (or_else_first (turn_fault top [] w t) (walk_fault top [] (walked rules [] w t) words) clean)
 
-walks : (words : List Text) → AllRegular words → (s : Sorted) (w : Walk) → Stands s w → Goes (sort_words words s) (fold (walked rules []) w words) (walk_fault top [] w words)
+walks : (words : List Text) → AllRegular words → (s : Sorted) (w : Walk) → Stands s w
+    → Goes (sort_words words s) (fold (walked rules []) w words) (walk_fault top [] w words)
 unfolding walk_fault
 walks [] r s w st = (refl, st)
 walks (t ∷ words) r s w st = after_one t words w (put_word t s) (step t r.0 s w st) (λ s' st'. walks words r.1 s' (walked rules [] w t) st')
@@ -363,22 +392,26 @@ same_rows true rs = refl
 same_rows false rs = refl
 
 module _ (s : Sorted) where
-  says_events_default : (b : Bool) (rs : List Row) → has_row (codes "events") rs ≡ b → Says s rs → Says s (if b then rs else with_values (codes "events") (reading_by events_rule) DefaultValue (codes "0" ∷ []) rs)
+  says_events_default : (b : Bool) (rs : List Row) → has_row (codes "events") rs ≡ b → Says s rs
+      → Says s (if b then rs else with_values (codes "events") (reading_by events_rule) DefaultValue (codes "0" ∷ []) rs)
   says_events_default true rs e h = h
   says_events_default false rs e h = record {
     files = rows.values_apart (codes "events") (reading_by events_rule) DefaultValue (codes "0" ∷ []) (codes "files") refl rs ∙ h.files;
     steps = rows.values_apart (codes "events") (reading_by events_rule) DefaultValue (codes "0" ∷ []) (codes "steps") refl rs ∙ h.steps;
-    events = rows.default_counted (codes "events") (reading_by events_rule) DefaultValue (codes "0" ∷ []) rs e ∙ sym (rows.none_counted (codes "events") rs e) ∙ h.events;
+    events = rows.default_counted (codes "events") (reading_by events_rule) DefaultValue (codes "0" ∷ []) rs e
+        ∙ sym (rows.none_counted (codes "events") rs e) ∙ h.events;
     stats = rows.values_uncounted (codes "events") (reading_by events_rule) DefaultValue (codes "0" ∷ []) (codes "stats") refl rs ∙ h.stats;
   }
 
-  says_stats_default : (b : Bool) (rs : List Row) → has_row (codes "stats") rs ≡ b → Says s rs → Says s (if b then rs else with_values (codes "stats") (reading_by stats_rule) DefaultValue (codes "0" ∷ []) rs)
+  says_stats_default : (b : Bool) (rs : List Row) → has_row (codes "stats") rs ≡ b → Says s rs
+      → Says s (if b then rs else with_values (codes "stats") (reading_by stats_rule) DefaultValue (codes "0" ∷ []) rs)
   says_stats_default true rs e h = h
   says_stats_default false rs e h = record {
     files = rows.values_apart (codes "stats") (reading_by stats_rule) DefaultValue (codes "0" ∷ []) (codes "files") refl rs ∙ h.files;
     steps = rows.values_apart (codes "stats") (reading_by stats_rule) DefaultValue (codes "0" ∷ []) (codes "steps") refl rs ∙ h.steps;
     events = rows.values_uncounted (codes "stats") (reading_by stats_rule) DefaultValue (codes "0" ∷ []) (codes "events") refl rs ∙ h.events;
-    stats = rows.default_counted (codes "stats") (reading_by stats_rule) DefaultValue (codes "0" ∷ []) rs e ∙ sym (rows.none_counted (codes "stats") rs e) ∙ h.stats;
+    stats = rows.default_counted (codes "stats") (reading_by stats_rule) DefaultValue (codes "0" ∷ []) rs e
+        ∙ sym (rows.none_counted (codes "stats") rs e) ∙ h.stats;
   }
 
   says_finished : (h : Held) → Says s (settled rules h).rows → Says s (finished rules h)
@@ -458,7 +491,9 @@ module _ (words : List Text) (r : AllRegular words) where
   walked_all = walks words r no_words (stand idle nothing_held) (free idle tt nothing_held refl refl says_nothing)
 
   clean_behind : (s : Sorted) (w : Walk) → Stands s w → s.awaits ≡ false → behind w ≡ []
-  clean_behind s _ (free wt f h idles is says) e = both_clean (settle_fault rules false h) _ is (both_clean _ _ (clean_defaults (settled rules h).rows) (clean_checks (finished rules h)))
+  clean_behind s _ (free wt f h idles is says) e =
+      both_clean (settle_fault rules false h) _ is
+      (both_clean _ _ (clean_defaults (settled rules h).rows) (clean_checks (finished rules h)))
   clean_behind s _ (awaits rs k waits says) e = absurd (true≢false (sym waits ∙ e))
 
   no_value_lacks : (s : Sorted) (w : Walk) → Stands s w → behind w ≡ [] → s.awaits ≡ false
