@@ -50,8 +50,7 @@ module _ {V : Type 0} (source : Source V) (code : CodeSource V) (b : BlockId) wh
     pub placed : place_of t ≡ Some p
 
   -- what is said of each act in the nest that the tree gives it is said there, in control's nest,
-  -- of
-  -- the act that begins at the place of code
+  -- of the act that begins at the place of code
   abbrev pub ActsAreSaid : (Says : Shape → (act : ℕ) → Type 0) → Type 0
   ActsAreSaid Says = Code_says Says (source.code b) → (c : Control V) (t : State V) (p : Place V)
       → AtAct c t p → SaidAct Says (code.object b) (shape (nest_at c)) p.pc

@@ -10,8 +10,9 @@ ghost use Rattle.pt_code_run.specs.CodeMachine.{CodeSource};
 ghost use Rattle.pt_reached_acts.specs.Laws.{ActsAreAtKinds, ActsAreSaid, ReachedAreSound};
 
 /// Where control and code have come to an act, also behind jumps of a debugger, the act begins at
-/// the place of code, and what is true of each act of the block in the nest that the tree gives it
-/// is true of this one in control's nest.
+/// the place of code, and what a test tells of each act of the block in the nest that the tree gives
+/// it, it tells of this one in control's nest. (A clause can't speak of all predicates, as the lemma
+/// does.)
 pub fn acts_of_code_are_in_their_nests<V>()
     ensures { (source : Source V) (code : CodeSource V) (b : BlockId) (says : Shape → ℕ → Bool)
         → ActsAreSaid source code b (λ s n. says s n ≡ true) }

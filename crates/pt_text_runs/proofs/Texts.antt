@@ -14,10 +14,11 @@ use Rattle.pt_script_acts.proofs.Script.{scripts_run_as_their_code}
 use Rattle.pt_start_nests.specs.Laws.{own_block, own_ending, HasOwnParts}
 use Rattle.pt_start_nests.proofs.Scripts.{script_starts_in_parts}
 use Rattle.pt_text_parts.proofs.Texts.{free_names, grammatical, apart, blocks_of_texts_have_parts}
+use Rattle.pt_fits.specs.Fits.{TooDeep}
 use Rattle.pt_fitting_scripts.proofs.Fitting.{blocks_of_texts_fit}
 use Rattle.pt_acts_in_parts.specs.Laws.{JumpsBySlots}
 use Rattle.pt_acts_in_parts.proofs.Scripts.{script_acts_are_in_parts}
-use Rattle.pt_text_runs.specs.Laws.{IsShallow, TextsRunAsTheirCode}
+use Rattle.pt_text_runs.specs.Laws.{TextsRunAsTheirCode}
 
 module _ {V : Type 0} (null : V) (text : List ℕ) (script : Stms) (source : Source V) (code : CodeSource V) (is : IsScript text script) (b : BlockId)
     (of : IsOfScript null script source code b) where
@@ -28,7 +29,7 @@ module _ {V : Type 0} (null : V) (text : List ℕ) (script : Stms) (source : Sou
       (shows null script of.number of.block (code.object b) has)
 
   closed_parts : JumpsBySlots code b (own_block null script source code b of)
-      → IsShallow null script source code b of → HasClosedParts source code b
+      → (TooDeep (own_block null script source code b of) → ⊥) → HasClosedParts source code b
   closed_parts jumps shallow =
       let has = of.has_object in
       let whole = grammatical text script is of.number of.block has.is_block in
