@@ -47,7 +47,7 @@ class Checked(PlainBlock):
         self.without = None
         if sorted(line for _, line in self.b["starts"]) != sorted(lines):
             raise Differs("starts")
-        if self.silent_loop():
+        if self.silent_loop(self.leaves(self.size, self.gets(self.size))[1]) is not None:
             raise Differs("a loop without acts")
         return lists
 
@@ -63,22 +63,6 @@ class Checked(PlainBlock):
     def steps(self, pc, ks):
         out = super().steps(pc, ks)
         return [s for s in out if s[0] != self.at[pc][1][0]] if pc == self.without else out
-
-    def silent_loop(self):
-        edges = {}
-        for q, r, _ in self.leaves(self.size, self.gets(self.size))[1]:
-            if self.at[q][3] is None:
-                edges.setdefault(q, set()).add(r)
-        for q in edges:
-            seen, due = set(), list(edges[q])
-            while due:
-                r = due.pop()
-                if r not in seen:
-                    seen.add(r)
-                    due.extend(edges.get(r, ()))
-            if q in seen:
-                return True
-        return False
 
 
 def counted(piece, number):

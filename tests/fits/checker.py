@@ -362,21 +362,38 @@ class Block:
             return (25, min(lost))
         if any(len(ks) > MOST for _, ks in gets):
             return (28, None)
-        _, goes, _ = self.leaves(self.size, gets)
+        loop = self.silent_loop(self.leaves(self.size, gets)[1])
+        return None if loop is None else (27, loop)
+
+    def silent_loop(self, goes):
+        """The least place on a cycle of steps without a mark."""
         edges = {}
         for q, r, _ in goes:
             if self.at[q][3] is None:
                 edges.setdefault(q, set()).add(r)
-        for q in sorted(edges):
+
+        def is_round(q):
             seen, due = set(), list(edges[q])
             while due:
                 r = due.pop()
                 if r not in seen:
                     seen.add(r)
                     due.extend(edges.get(r, ()))
-            if q in seen:
-                return (27, q)
-        return None
+            return q in seen
+        return min(filter(is_round, edges), default=None)
+
+
+def common(goes, slot, pc):
+    """The places at which a slot, counted from the lowest, is the same as at this one."""
+    seen, due = {pc}, [pc]
+    while due:
+        q = due.pop()
+        for r, s, kept in goes:
+            for one, other in ((r, s), (s, r)):
+                if slot < kept and one == q and other not in seen:
+                    seen.add(other)
+                    due.append(other)
+    return seen
 
 
 def jump(b, pc, line):
@@ -389,16 +406,7 @@ def jump(b, pc, line):
     to = min(starts)
     goes = b.leaves(b.size, gets)[1]
 
-    def in_common(d):
-        seen, due = {pc}, [pc]
-        while due:
-            q = due.pop()
-            for r, s, k in goes:
-                for one, other in ((r, s), (s, r)):
-                    if d < k and one == q and other not in seen:
-                        seen.add(other)
-                        due.append(other)
-        return to in seen
+    in_common = lambda d: to in common(goes, d, pc)
     held = [d for ks in (lists[pc], lists[to]) for d, k in enumerate(ks) if k == P]
     if not all(map(in_common, held)):
         return "out of finally"

@@ -1,7 +1,7 @@
 """Rows of code files whose blocks agree, and which slots of their places the plain checker finds in common: of each slot of a place, from the lowest, the
 first place with which it is."""
 import random
-from checker import MODULE, Block, read
+from checker import MODULE, Block, common, read
 from random_code import random_block
 from rows import ROWS, block, code_bytes, file
 
@@ -90,17 +90,7 @@ def told(b):
         return None
     words = []
     for q in sorted(sizes):
-        firsts = []
-        for slot in range(sizes[q]):
-            seen, due = {q}, [q]
-            while due:
-                one = due.pop()
-                for r, s, kept in goes:
-                    for a, z in ((r, s), (s, r)):
-                        if slot < kept and a == one and z not in seen:
-                            seen.add(z)
-                            due.append(z)
-            firsts.append("%d," % min(seen))
+        firsts = ["%d," % min(common(goes, slot, q)) for slot in range(sizes[q])]
         words.append("%d:%s " % (q, "".join(firsts)))
     return "".join(words)
 

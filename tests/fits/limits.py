@@ -75,20 +75,7 @@ class Limits:
         return min((q for q in reached if self.b.at[q][0] == LEAVE and self.b.at[q][1][0] not in reached), default=None)
 
     def loop(self):
-        edges = {}
-        for q, r, _ in self.goes:
-            if self.b.at[q][3] is None:
-                edges.setdefault(q, set()).add(r)
-
-        def round(q):
-            seen, due = set(), list(edges[q])
-            while due:
-                r = due.pop()
-                if r not in seen:
-                    seen.add(r)
-                    due.extend(edges.get(r, ()))
-            return q in seen
-        return min(filter(round, edges), default=None)
+        return self.b.silent_loop(self.goes)
 
     def told(self):
         words = [] if self.row is None else ["row %d" % self.row]
