@@ -1,0 +1,6 @@
+mod Lists
+mod ChainLemmas
+mod StretchLemmas
+mod NumberLemmas
+mod Soonest
+mod First
