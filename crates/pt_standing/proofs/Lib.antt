@@ -1,0 +1,4 @@
+pub mod MarkLemmas
+pub mod IdLemmas
+pub mod PairLemmas
+pub mod ReachLemmas
