@@ -22,6 +22,7 @@ use Rattle.pt_kinds.specs.Forest.{Begins}
 use Rattle.pt_kind_flow.specs.declared.flow.Flow.{Flow}
 use Rattle.pt_kind_flow.specs.Flow as F
 use Rattle.pt_kind_flow.specs.Flow.{Graph, Comes, graph, told, Part, IsExact, IsLongest, AreLongest}
+use Rattle.pt_kind_flow.specs.Search.{IsFlow}
 use Rattle.pt_kind_flow.proofs.Stages.{are_longest}
 use Rattle.pt_block_kinds.specs.declared.graph.BlockKinds.{BlockKinds}
 use Rattle.pt_block_kinds.specs.Graph.{HasSizes, IsSeen, rows_from}
@@ -54,7 +55,7 @@ apart xs one other p e = same xs one (subst (Part xs one) (sym e) p)
     same (x ∷ xs) [] q = q
     same (x ∷ xs) (k ∷ one) q = same xs one q.1.1
 
-differ : (xs one other : Kinds) → Part xs one other → are_kinds one other ≡ false
+pub differ : (xs one other : Kinds) → Part xs one other → are_kinds one other ≡ false
 differ xs one other p = by (are_kinds one other) refl
   where
     by : (t : Bool) → are_kinds one other ≡ t → t ≡ false
@@ -72,7 +73,7 @@ all_begun l ks b h = b.is ∙ none_more b.more (let n = ap length b.is in let m 
         nil (x ∷ xs) = ap (λ ys. x ∷ ys) (nil xs)
     none_more (k ∷ more) e = absurd (omega (arith, e))
 
-take_short : (n : ℕ) (ks : Kinds) → length (take n ks) ≤ n
+pub take_short : (n : ℕ) (ks : Kinds) → length (take n ks) ≤ n
 take_short zero ks = omega arith
 take_short (suc n) [] = omega arith
 take_short (suc n) (k ∷ ks) = let r = take_short n ks in omega (arith, r)
@@ -87,24 +88,13 @@ pub row_short : (kinds : BlockKinds) (rows : List Handler) (n at v : ℕ) (d : H
 row_short kinds rows n at v d e f s = subst (λ w. IsShort kinds.flow w (get_or rows at d).depth) (ap (λ m. kinds.rows_from + m) e ∙ sym f)
     (subst (λ r. IsShort kinds.flow (kinds.rows_from + n) r.depth) (sym (get_or_from_slice_get rows at s.row d (subst (λ m. slice_get rows m ≡ Some s.row) e s.is))) s.short)
 
-module _ (b : Block) (p : ℕ) (T : List (Option ℕ)) (kinds : BlockKinds) (d : Draws b p T kinds) (seen : IsSeen b (length T)) (sizes : HasSizes b p T) where
-  abbrev f : Flow
-  f = kinds.flow
-
-  abbrev g : Graph
-  g = graph f
-
-  abbrev base : ℕ
-  base = rows_from T d.levels
-
-  gotten : ComesAsGotten b p (length T) base g
-  gotten = come_as_gotten b p T d.levels g d.is seen sizes
-
-  longest : AreLongest f
-  longest = are_longest f d.flow
+-- what the flow of a graph tells of the lists that come to a vertex
+module _ (f : Flow) (flow : IsFlow f) where
+  pub longest : AreLongest f
+  longest = are_longest f flow
 
   -- the one list that comes, where not fewer slots are in common
-  one_list : (v n : ℕ) → v < length f.edges.items → (IsShort f v n → ⊥) → (ks : Kinds) → Comes g v ks → length ks ≤ n
+  one_list : (v n : ℕ) → v < length f.edges.items → (IsShort f v n → ⊥) → (ks : Kinds) → Comes (graph f) v ks → length ks ≤ n
       → (l : Kinds) × ((told f v ≡ Some l) × (ks ≡ l))
   one_list v n lt none ks c h = by (told f v) refl
     where
@@ -121,7 +111,7 @@ module _ (b : Block) (p : ℕ) (T : List (Option ℕ)) (kinds : BlockKinds) (d :
         ),
       )
 
-  same_list : (v n : ℕ) → v < length f.edges.items → (IsShort f v n → ⊥) → (ks ls : Kinds) → Comes g v ks → Comes g v ls → length ks ≤ n → length ls ≤ n
+  pub same_list : (v n : ℕ) → v < length f.edges.items → (IsShort f v n → ⊥) → (ks ls : Kinds) → Comes (graph f) v ks → Comes (graph f) v ls → length ks ≤ n → length ls ≤ n
       → are_kinds ks ls ≡ false → ⊥
   same_list v n lt none ks ls c e h k differ =
       let (l, (s, x)) = one_list v n lt none ks c h in
@@ -129,13 +119,26 @@ module _ (b : Block) (p : ℕ) (T : List (Option ℕ)) (kinds : BlockKinds) (d :
       let same : ks ≡ ls = x ∙ (same_Some l m (sym s ∙ t) ∙ sym y) in
       false≢true (sym differ ∙ (ap (are_kinds ks) (sym same) ∙ are_themselves ks))
 
+module _ (b : Block) (p : ℕ) (T : List (Option ℕ)) (kinds : BlockKinds) (d : Draws b p T kinds) (seen : IsSeen b (length T)) (sizes : HasSizes b p T) where
+  abbrev f : Flow
+  f = kinds.flow
+
+  abbrev g : Graph
+  g = graph f
+
+  abbrev base : ℕ
+  base = rows_from T d.levels
+
+  gotten : ComesAsGotten b p (length T) base g
+  gotten = come_as_gotten b p T d.levels g d.is seen sizes
+
   vertices : length f.edges.items ≡ base + length b.handlers
   vertices = sym (length-map f.edges.items (λ es. es.items)) ∙ d.is.long
 
   -- rows
 
   short_differs : 0 < length T → (n : ℕ) (row : Handler) → slice_get b.handlers n ≡ Some row → IsShort f (base + n) row.depth → CutsDiffer b p row
-  short_differs some n row is short = by (longest.sound (base + n) short.kinds short.is).exact
+  short_differs some n row is short = by ((longest f d.flow).sound (base + n) short.kinds short.is).exact
     where
       by : IsExact g (base + n) short.kinds → CutsDiffer b p row
       by (F.whole c) = let k = gotten.are_cuts n row short.kinds some is c in
@@ -146,7 +149,7 @@ module _ (b : Block) (p : ℕ) (T : List (Option ℕ)) (kinds : BlockKinds) (d :
 
   cuts_same : (n : ℕ) (row : Handler) → slice_get b.handlers n ≡ Some row → (IsShort f (base + n) row.depth → ⊥) → CutsDiffer b p row → ⊥
   cuts_same n row is none (R.differs {q = q} {r = r} {i = i} {j = j} {ks = ks} {ls = ls} one c other e apart) =
-      same_list (base + n) row.depth (let h = got_below b.handlers n row is in let v = vertices in omega (arith, h, v)) none (cut row ks) (cut row ls)
+      same_list f d.flow (base + n) row.depth (let h = got_below b.handlers n row is in let v = vertices in omega (arith, h, v)) none (cut row ks) (cut row ls)
       (gotten.cuts n row (cut row ks) is (record { pc = q; ins = i; kinds = ks; reached = one; under = c; is = refl }))
       (gotten.cuts n row (cut row ls) is (record { pc = r; ins = j; kinds = ls; reached = other; under = e; is = refl }))
       (take_short row.depth ks) (take_short row.depth ls) apart
@@ -191,7 +194,7 @@ module _ (b : Block) (p : ℕ) (T : List (Option ℕ)) (kinds : BlockKinds) (d :
 
       by_ins : (o : Option Ins) → b.at s.pc ≡ o → TwoMeet b p
       by_ins None e = absurd (sizes.stands s.pc s.here.size s.here.has e)
-      by_ins (Some i) e = by i e (longest.sound s.pc s.here.short.kinds s.here.short.is).exact
+      by_ins (Some i) e = by i e ((longest f d.flow).sound s.pc s.here.short.kinds s.here.short.is).exact
 
   pub none_meet : (ShortPlace f T → ⊥) → TwoMeet b p → ⊥
   none_meet none (Tell.two {q = q} {ks = ks} {ls = ls} x y apart) =
@@ -199,7 +202,7 @@ module _ (b : Block) (p : ℕ) (T : List (Option ℕ)) (kinds : BlockKinds) (d :
       let here = sizes.whole q (length ks) (kinds_have_sizes b p q ks x) in
       let there = sizes.whole q (length ls) (kinds_have_sizes b p q ls y) in
       let same = same_Some (length ks) (length ls) (sym here ∙ there) in
-      same_list q (length ks) (place_below q i e) (λ s. none (record { pc = q; here = record { size = length ks; has = here; short = s } })) ks ls
+      same_list f d.flow q (length ks) (place_below q i e) (λ s. none (record { pc = q; here = record { size = length ks; has = here; short = s } })) ks ls
       (gotten.gets q ks x) (gotten.gets q ls y) (omega arith) (omega (arith, same)) apart
 
   pub decides_meeting : (t : Bool) → Decides t (ShortPlace f T) → Decides t (TwoMeet b p)
@@ -222,5 +225,5 @@ module _ (b : Block) (p : ℕ) (T : List (Option ℕ)) (kinds : BlockKinds) (d :
       exact l (F.parts {one} {other} c e r) = absurd (none (Tell.two (gotten.comes q i one at c) (gotten.comes q i other at e) (differ l one other r)))
 
       by : (o : Option Kinds) → told f q ≡ o → TellsListAt b p q (told f q)
-      by None e = subst (TellsListAt b p q) (sym e) (λ ks x. longest.whole q ks (place_below q i at) (gotten.gets q ks x) e)
-      by (Some l) e = subst (TellsListAt b p q) (sym e) (exact l (longest.sound q l e).exact)
+      by None e = subst (TellsListAt b p q) (sym e) (λ ks x. (longest f d.flow).whole q ks (place_below q i at) (gotten.gets q ks x) e)
+      by (Some l) e = subst (TellsListAt b p q) (sym e) (exact l ((longest f d.flow).sound q l e).exact)

@@ -31,7 +31,7 @@ abbrev pub Falls : List Lead → Type 0
 Falls [] = ⊤
 Falls (l ∷ ls) = ((m : Lead) → Contains ls m → depends m ≤ depends l) × Falls ls
 
-falls_inside : (n : ℕ) (ls : List Lead) → Falls ls → Falls (inside n ls)
+pub falls_inside : (n : ℕ) (ls : List Lead) → Falls ls → Falls (inside n ls)
 falls_inside n [] f = tt
 falls_inside n (l ∷ ls) f = by (falls_inside n ls f.1) (nat_lt l.to n)
   where
@@ -39,14 +39,14 @@ falls_inside n (l ∷ ls) f = by (falls_inside n ls f.1) (nat_lt l.to n)
     by rest true = (λ m c. f.0 m (in_inside n ls m c).1, rest)
     by rest false = rest
 
-falls_append : (xs ys : List Lead) → Falls xs → Falls ys → ((x y : Lead) → Contains xs x → Contains ys y → depends y ≤ depends x) → Falls (xs ++ ys)
+pub falls_append : (xs ys : List Lead) → Falls xs → Falls ys → ((x y : Lead) → Contains xs x → Contains ys y → depends y ≤ depends x) → Falls (xs ++ ys)
 falls_append [] ys f g h = g
 falls_append (x ∷ xs) ys f g h = (
   λ m c. elim (Contains-append_cases xs ys m c) [ inl d ↦ f.0 m d | inr d ↦ h x m (zero, omega arith, refl) d ],
   falls_append xs ys f.1 g (λ z y c d. h z y (let (k, lt, e) = c in (suc k, omega (arith, lt), e)) d),
 )
 
-alone : (l : Lead) → Falls (l ∷ [])
+pub alone : (l : Lead) → Falls (l ∷ [])
 alone l = (λ m c. absurd (none_in m c), tt)
 
 at_got : (edges : List Edge) (i : ℕ) (e : Edge) → slice_get edges i ≡ Some e → Contains (leads_of edges) (lead_of e)
@@ -113,7 +113,7 @@ module _ (j : Instr) (f n : ℕ) where
   abbrev OwnFalls : (q next : ℕ) → (t : Option ℕ) → Bool → Type 0
   OwnFalls q next t u = Falls (if u then all_own q next t else []) × ((l : Lead) → Contains (if u then all_own q next t else []) l → few ≤ depends l)
 
-  own_falls : (q next : ℕ) (t : Option ℕ) → Falls (own_leads e n q next t) × ((l : Lead) → Contains (own_leads e n q next t) l → few ≤ depends l)
+  pub own_falls : (q next : ℕ) (t : Option ℕ) → Falls (own_leads e n q next t) × ((l : Lead) → Contains (own_leads e n q next t) l → few ≤ depends l)
   own_falls q next t = by (is_enough e n) refl
     where
       by : (u : Bool) → is_enough e n ≡ u → OwnFalls q next t (is_enough e n)

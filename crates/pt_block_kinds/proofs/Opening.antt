@@ -24,43 +24,47 @@ use Rattle.pt_block_kinds.specs.declared.graph.BlockKinds.{BlockKinds}
 use Rattle.pt_block_kinds.specs.declared.graph.Plan.{Plan}
 use Rattle.pt_block_kinds.specs.Leads.{Lead, leads_of, leads_from, stretch_leads, landing_leads, vertex_leads}
 use Rattle.pt_block_kinds.specs.Graph.{IsGraph}
-use Rattle.pt_block_kinds.specs.Drawing.{IsPlan, DrawnUpTo, Draws}
+use Rattle.pt_block_kinds.specs.Drawing.{IsPlan, DrawnFrom, Draws}
 use Rattle.pt_block_kinds.proofs.Lists.{below_or}
 use Rattle.pt_block_kinds.proofs.Falling.{falls_descends, Falls, vertex_falls, all_below}
 
-below_not : (u v : ℕ) → u < v + 1 → (u ≡ v → ⊥) → u < v
-below_not zero zero h ne = absurd (ne refl)
-below_not zero (suc v) h ne = omega arith
-below_not (suc u) zero h ne = absurd (omega (arith, h))
-below_not (suc u) (suc v) h ne = let r = below_not u v (omega (arith, h)) (λ e. ne (ap (λ n. suc n) e)) in omega (arith, r)
+above_not : (v u : ℕ) → v ≤ u → (u ≡ v → ⊥) → v < u
+above_not zero zero h ne = absurd (ne refl)
+above_not zero (suc u) h ne = omega arith
+above_not (suc v) zero h ne = absurd (omega (arith, h))
+above_not (suc v) (suc u) h ne = let r = above_not v u (omega (arith, h)) (λ e. ne (ap (λ n. suc n) e)) in omega (arith, r)
 
--- the first vertices have their edges, and one more
-module _ (first : Kinds) (size : ℕ) (leads : ℕ → List Lead) (v : ℕ) (old : Flow) (d : DrawnUpTo first size leads v old) where
-  pub room : v < size → v < length old.edges.items
-  room lt = let l = d.long in let m = length-map old.edges.items (λ es. es.items) in omega (arith, lt, l, m)
+-- the last vertices have their edges, and one more
+module _ (first : Kinds) (size : ℕ) (leads : ℕ → List Lead) (v : ℕ) (old : Flow) (d : DrawnFrom first size leads (v + 1) old) where
+  lt : v < size
+  lt = let l = d.low in omega (arith, l)
+
+  pub room : v < length old.edges.items
+  room = let l = d.long in let m = length-map old.edges.items (λ es. es.items) in let h = lt in omega (arith, h, l, m)
 
   pub none_yet : edges_at (graph old).edges v ≡ []
   none_yet = d.rest v (omega arith)
 
-  module _ (new : Flow) (es : List Edge) (lt : v < size) (o : Opens old new v es) (is : leads_of es ≡ leads v) where
+  module _ (new : Flow) (es : List Edge) (o : Opens old new v es) (is : leads_of es ≡ leads v) where
     here : edges_at (graph new).edges v ≡ es
-    here = ap (λ xs. edges_at xs v) o.edges_are ∙ get_or-set_same (graph old).edges v es [] (let l = d.long in omega (arith, lt, l))
+    here = ap (λ xs. edges_at xs v) o.edges_are ∙ get_or-set_same (graph old).edges v es [] (let l = d.long in let h = lt in omega (arith, h, l))
 
     other : (u : ℕ) → (u ≡ v → ⊥) → edges_at (graph new).edges u ≡ edges_at (graph old).edges u
     other u ne = ap (λ xs. edges_at xs u) o.edges_are ∙ get_or-set_other (graph old).edges v u es [] ne
 
-    pub drawn_more : DrawnUpTo first size leads (v + 1) new
+    pub drawn_more : DrawnFrom first size leads v new
     drawn_more = record {
       flow = o.flow;
       long = ap length o.edges_are ∙ (length-set (graph old).edges v es ∙ d.long);
       starts = o.first ∙ d.starts;
-      drawn = λ u h. by_place u h (cases_eq u v);
+      low = let h = lt in omega (arith, h);
+      drawn = λ u h k. by_place u h k (cases_eq u v);
       rest = λ u h. other u (λ e. absurd (omega (arith, h, e))) ∙ d.rest u (omega (arith, h));
     }
       where
-        by_place : (u : ℕ) → u < v + 1 → (u ≡ v) ⊎ (u ≡ v → ⊥) → leads_of (edges_at (graph new).edges u) ≡ leads u
-        by_place u h (inl e) = subst (λ w. leads_of (edges_at (graph new).edges w) ≡ leads w) (sym e) (ap leads_of here ∙ is)
-        by_place u h (inr ne) = ap leads_of (other u ne) ∙ d.drawn u (let k : u < v = below_not u v h ne in k)
+        by_place : (u : ℕ) → v ≤ u → u < size → (u ≡ v) ⊎ (u ≡ v → ⊥) → leads_of (edges_at (graph new).edges u) ≡ leads u
+        by_place u h k (inl e) = subst (λ w. leads_of (edges_at (graph new).edges w) ≡ leads w) (sym e) (ap leads_of here ∙ is)
+        by_place u h k (inr ne) = ap leads_of (other u ne) ∙ d.drawn u (let l : v < u = above_not v u h ne in omega (arith, l)) k
 
 pub edges_descend : (links : Links) (rows : List Handler) (place : Option Place) (p : ℕ) (T : List (Option ℕ)) (plan : Plan) (v : ℕ) (es : List Edge)
     → IsPlan rows (length T) plan → leads_of es ≡ vertex_leads links rows place p T (levels_of plan.waiting.levels) plan.deepest v → Descends es
@@ -79,7 +83,7 @@ some_got (x ∷ xs) zero y l e = ap (λ z. Some z) e
 some_got (x ∷ xs) (suc i) y l e = some_got xs i y (omega (arith, l)) e
 
 -- what a slice lends is what stands there
-lent : (xs : List Handler) (i : ℕ) (r : Option (Bor Handler)) → is_some r ≡ nat_lt i (length xs) → IfSome r (λ x. x.now ≡ slice_index_or xs i x.now)
+pub lent : (xs : List Handler) (i : ℕ) (r : Option (Bor Handler)) → is_some r ≡ nat_lt i (length xs) → IfSome r (λ x. x.now ≡ slice_index_or xs i x.now)
     → option_map (λ x. x.now) r ≡ slice_get xs i
 lent xs i None e f = sym (none_got xs i (elim (below_or i (length xs)) [ inl h ↦ absurd (false≢true (e ∙ lt_true i (length xs) h)) | inr h ↦ h ]))
 lent xs i (Some x) e f = some_got xs i x.now (is_lt i (length xs) (sym e)) f
@@ -104,13 +108,18 @@ row_leads links rows place p T plan is v behind r e f = let h = not_below v plan
     not_below : (a b : ℕ) → (a < b → ⊥) → b ≤ a
     not_below a b n = elim (below_or a b) [ inl h ↦ absurd (n h) | inr h ↦ h ]
 
+pub past_end : (edges : List (List Edge)) (v : ℕ) → length edges ≤ v → edges_at edges v ≡ []
+past_end [] v h = refl
+past_end (es ∷ edges) zero h = absurd (omega (arith, h))
+past_end (es ∷ edges) (suc v) h = past_end edges v (omega (arith, h))
+
 -- the graph is that of the block
 pub draws : (c : Code) (b : CodeBlock) (view : ℕ → Option Ins) (places : List (Option Place)) → Places.HasPlaces view places → (p : ℕ) (T : List (Option ℕ)) (plan : Plan)
     → IsPlan b.handlers (length T) plan → (f : Flow) (kinds : BlockKinds) → kinds.flow ≡ f → kinds.rows_from ≡ plan.rows_from
-    → (done : ℕ) → plan.size ≤ done
-    → DrawnUpTo (kinds_at_start b.kind) plan.size (λ v. vertex_leads (links_of c) b.handlers (Places.entry places v) p T (levels_of plan.waiting.levels) plan.deepest v) done f
+    → (from : ℕ) → from ≡ 0
+    → DrawnFrom (kinds_at_start b.kind) plan.size (λ v. vertex_leads (links_of c) b.handlers (Places.entry places v) p T (levels_of plan.waiting.levels) plan.deepest v) from f
     → Draws (block_of c b view) p T kinds
-draws c b view places has p T plan is f kinds flow from done end d = record {
+draws c b view places has p T plan is f kinds flow rows from none d = record {
   levels = levels_of plan.waiting.levels;
   is = subst (λ f. IsGraph (block_of c b view) p T (levels_of plan.waiting.levels) (graph f)) (sym flow) (record {
     deepest = plan.deepest;
@@ -118,13 +127,13 @@ draws c b view places has p T plan is f kinds flow from done end d = record {
     deep = is.deep;
     first = d.starts;
     long = d.long ∙ (is.size ∙ ap (λ n. n + length b.handlers) is.first);
-    leads = λ v. elim (below_or v done) [
-      | inl h ↦ d.drawn v h ∙ ap (λ o. vertex_leads (links_of c) b.handlers o p T (levels_of plan.waiting.levels) plan.deepest v) (has v)
-      | inr h ↦ ap leads_of (d.rest v h) ∙ sym (none_behind v (omega (arith, end, h)))
+    leads = λ v. elim (below_or v plan.size) [
+      | inl h ↦ d.drawn v (omega (arith, none)) h ∙ ap (λ o. vertex_leads (links_of c) b.handlers o p T (levels_of plan.waiting.levels) plan.deepest v) (has v)
+      | inr h ↦ ap leads_of (past_end (graph f).edges v (let l = d.long in omega (arith, h, l))) ∙ sym (none_behind v h)
     ];
   });
   flow = subst IsFlow (sym flow) d.flow;
-  rows = from ∙ is.first;
+  rows = rows ∙ is.first;
 }
   where
     none_behind : (v : ℕ) → plan.size ≤ v → vertex_leads (links_of c) b.handlers (place_at (view v)) p T (levels_of plan.waiting.levels) plan.deepest v ≡ []

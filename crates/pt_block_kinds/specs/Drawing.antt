@@ -20,14 +20,15 @@ pub record IsPlan (rows : List Handler) (count : ℕ) (plan : Plan) : Type 0 whe
   pub first : plan.rows_from ≡ count + width (levels_of plan.waiting.levels)
   pub size : plan.size ≡ plan.rows_from + length rows
 
--- the vertices before one have their edges
-pub record DrawnUpTo (first : Kinds) (size : ℕ) (leads : ℕ → List Lead) (done : ℕ) (f : Flow)
+-- the vertices from one on have their edges
+pub record DrawnFrom (first : Kinds) (size : ℕ) (leads : ℕ → List Lead) (from : ℕ) (f : Flow)
     : Type 0 where
   pub flow : IsFlow f
   pub long : length (graph f).edges ≡ size
   pub starts : (graph f).first ≡ first
-  pub drawn : (v : ℕ) → v < done → leads_of (edges_at (graph f).edges v) ≡ leads v
-  pub rest : (v : ℕ) → done ≤ v → edges_at (graph f).edges v ≡ []
+  pub low : from ≤ size
+  pub drawn : (v : ℕ) → from ≤ v → v < size → leads_of (edges_at (graph f).edges v) ≡ leads v
+  pub rest : (v : ℕ) → v < from → edges_at (graph f).edges v ≡ []
 
 -- the flow of the graph of a block up to a place
 pub record Draws (b : Block) (p : ℕ) (T : List (Option ℕ)) (kinds : BlockKinds) : Type 0 where

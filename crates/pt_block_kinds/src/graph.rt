@@ -8,7 +8,7 @@ ghost use Rattle.pt_sizes.specs.Waiting.{level_of, levels_of};
 ghost use Rattle.pt_step_graph.specs.Graph.{width};
 ghost use Rattle.pt_fits.specs.Block.{block_of, kinds_at_start, links_of};
 ghost use Rattle.pt_block_kinds.specs.Leads.{Lead, leads_from, leads_of, numbered, vertex_leads};
-ghost use Rattle.pt_block_kinds.specs.Drawing.{DrawnUpTo, Draws, IsPlan};
+ghost use Rattle.pt_block_kinds.specs.Drawing.{DrawnFrom, Draws, IsPlan};
 
 use crate::leads::{add_stretch, edges_of_place, edges_of_row, sum};
 use pt_base::{Memory, Pc};
@@ -52,7 +52,7 @@ fn deepest(rows: &[Handler]) -> u32
 }
 
 /// The rows with their numbers for targets.
-fn numbered(alloc: Global, rows: &[Handler]) -> Result<Vec<Handler>, Memory>
+pub fn numbered(alloc: Global, rows: &[Handler]) -> Result<Vec<Handler>, Memory>
     ensures { IfOk result (λ found. found.items ≡ numbered 0 rows.now) }
 {
     let mut found = Vec::new(alloc);
@@ -92,7 +92,8 @@ fn lay_rows(alloc: Global, rows: &[Handler], count: usize) -> Result<Plan, Memor
     })
 }
 
-fn number_of(place: Option<Pc>) -> Option<usize>
+/// A place by its number.
+pub fn number_of(place: Option<Pc>) -> Option<usize>
     ensures { result ≡ option_map (λ t. t.0) place }
 {
     match place {
@@ -164,7 +165,7 @@ fn edges_of_vertex(
         return edges_from(alloc, code, count, limit, vertex, place, sizes[vertex]);
     }
     if vertex < plan.rows_from {
-        let mut edges = Vec::new(alloc);
+        let mut edges = Vec::with_capacity(alloc, 1)?;
         add_stretch(
             &mut edges,
             plan.rows_from,
@@ -179,7 +180,7 @@ fn edges_of_vertex(
 }
 
 /// The run with which a block starts.
-fn first_run(kind: BlockKind) -> Run
+pub fn first_run(kind: BlockKind) -> Run
     ensures { kinds_of result ≡ kinds_at_start kind }
 {
     match kind {
@@ -197,13 +198,15 @@ fn first_run(kind: BlockKind) -> Run
 /// A graph without edges.
 fn bare(alloc: Global, kind: BlockKind, size: usize) -> Result<Flow, Memory>
     ensures { IfOk result (λ flow. (leads : ℕ → List Lead)
-        → DrawnUpTo (kinds_at_start kind) size leads 0 flow) }
+        → DrawnFrom (kinds_at_start kind) size leads size flow) }
 {
     Flow::new(alloc, size, &[first_run(kind)])
 }
 
 /// The flow of kinds through the instructions of a block at a limit and below, for the sizes of
-/// their places.
+/// their places. For n places and r handler rows there are O(n + r log n) edges. The first vertex
+/// gets its edges last, so that those of all others are there when lists go along them, and each is
+/// gone along twice at most.
 ///
 /// # Errors
 ///
@@ -223,7 +226,9 @@ pub fn kinds_up_to(
     let rows = block.handlers.as_slice();
     let plan = lay_rows(alloc, rows, sizes.len())?;
     let mut flow = bare(alloc, block.kind, plan.size)?;
-    for vertex in 0..plan.size {
+    let mut vertex = plan.size;
+    while vertex > 0 {
+        vertex -= 1;
         let edges = edges_of_vertex(alloc, code, rows, places, sizes, limit, &plan, vertex)?;
         flow.open(vertex, edges)?;
     }

@@ -20,7 +20,8 @@ const NO_SLOT: Run = Run {
     count: 0,
 };
 
-fn no_runs() -> [Run; 3]
+/// No slots, in runs of one kind.
+pub fn no_runs() -> [Run; 3]
     ensures { flat_map kinds_of result ≡ [] }
 {
     [NO_SLOT, NO_SLOT, NO_SLOT]
@@ -32,6 +33,7 @@ fn one(kind: Kind) -> [Run; 3]
     [NO_SLOT, NO_SLOT, Run { kind, count: 1 }]
 }
 
+/// A sum, or `Memory` where it passes 2^64.
 pub fn sum(a: usize, b: usize) -> Result<usize, Memory>
     ensures { IfOk result (λ n. n ≡ a + b) }
 {
@@ -150,9 +152,9 @@ fn add_aside(
     )
 }
 
-/// Adds the edges of an instruction itself.
+/// Adds the edges of an instruction itself that lead to places, for so many slots.
 #[tactic(auto, using(crate::proofs::Adding::own_inside))]
-fn add_own(
+pub fn add_own(
     edges: &mut Vec<Edge>,
     places: usize,
     effect: &Effect,
@@ -186,7 +188,7 @@ pub fn edges_of_place(
     ensures { IfOk result (λ edges. leads_of edges.items
         ≡ place_leads places effect.now size at next target) }
 {
-    let mut edges = Vec::new(alloc);
+    let mut edges = Vec::with_capacity(alloc, 2)?;
     add_own(&mut edges, places, effect, size, at, next, target)?;
     edges.push(Edge {
         to: sum(places, at)?,
@@ -278,10 +280,10 @@ pub fn edges_of_row(
     ensures { IfOk result (λ edges. leads_of edges.items
         ≡ landing_leads places (option_map (λ r. r.now) row.entry)) }
 {
-    let mut edges = Vec::new(alloc);
     let Some(row) = row else {
-        return Ok(edges);
+        return Ok(Vec::new(alloc));
     };
+    let mut edges = Vec::with_capacity(alloc, 1)?;
     add(
         &mut edges,
         places,

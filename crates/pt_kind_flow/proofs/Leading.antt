@@ -42,9 +42,9 @@ led_on : (one two three : Forest) (list : ℕ) (e : Edge) (a : Arrival) → Grow
 led_on one two three list e a g l = record { to = l.to; inside = still_inside two three a.list g l.inside; is = g.kept a.list l.inside ∙ l.is }
 
 module _ (one two three : Forest) (edges : List Edge) (done list : ℕ) (work work' : List Arrival) (s : LeadsSoFar one two edges done list work work') (inside : IsInside one list)
-    (e : Edge) (at : slice_get edges done ≡ Some e) (there : ℕ) (h : Has two three there (led e (list_at two list))) where
+    (e : Edge) (at : slice_get edges done ≡ Some e) (there urgency : ℕ) (h : Has two three there (led e (list_at two list))) where
   abbrev new : Arrival
-  new = record { to = e.to; list = there }
+  new = record { urgency = urgency; to = e.to; list = there }
 
   more : Grows two three
   more = grown two three there (led e (list_at two list)) h

@@ -3,4 +3,5 @@ mod Forests
 mod Leading
 mod Partings
 mod Theory
+mod Waiting
 pub mod Stages

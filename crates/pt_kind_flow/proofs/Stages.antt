@@ -2,6 +2,10 @@
 use Rattle.std.proofs.lemmas.List.Elements.{Contains-push, Contains-append_left}
 use Rattle.std.proofs.Common.{◌≡◌, ℕ, zero, suc, ◌<◌, ◌≤◌, List, [], ◌∷◌, ◌++◌, length, take, replicate, set, Option, Some, None, refl, sym, ap, ◌∙◌, subst, arith, ◌⊎◌, inl, inr, get_or}
 use Rattle.std.specs.Prelude.{Contains}
+use Rattle.std.specs.BinaryHeap.{heap_items}
+use Rattle.std.specs.List.Sorted.{IsPermutation}
+use Rattle.std.specs.declared.collections.BinaryHeap.{BinaryHeap}
+use Rattle.std.specs.declared.alloc.Global.{Global}
 use Rattle.std.proofs.lemmas.Bool.{cases_eq}
 use Rattle.std.proofs.lemmas.List.{length-set, length-map, length-replicate, get_or-set_other, get_or-set_same}
 use Rattle.std.proofs.lemmas.Option.{same_Some, slice_get-get_or, slice_get_read}
@@ -19,6 +23,7 @@ use Rattle.pt_kind_flow.proofs.Beginnings.{begins_same}
 use Rattle.pt_kind_flow.proofs.Forests.{grows_itself, grown, still_inside, grows_then}
 use Rattle.pt_kind_flow.proofs.Partings.{exact_more}
 use Rattle.pt_kind_flow.proofs.Leading.{lt_or}
+use Rattle.pt_kind_flow.proofs.Waiting.{same_again, open_as}
 use Rattle.pt_kind_flow.proofs.Theory.{none_in_empty, some_or_none, went_on, arrival_inside, skip_far, skip_known, arrive_first, arrive_shorter, longest_at, none_at, map_some, map_none, no_edges}
 
 -- the entry that an index read
@@ -35,6 +40,9 @@ same_graph es fs ks ls e k = ap (λ x. graph_of x ks) e ∙ ap (λ x. graph_of f
 
 abbrev pub with_forest : Flow → Forest → Flow
 with_forest f forest = record { forest = forest; first = f.first; edges = f.edges; table = f.table; work = f.work; changed = f.changed }
+
+abbrev pub with_work : Flow → BinaryHeap Arrival Global → Flow
+with_work f work = record { forest = f.forest; first = f.first; edges = f.edges; table = f.table; work = work; changed = f.changed }
 
 pub tells_itself : (f : Flow) → IsForest f.forest → Tells f f
 tells_itself f is = record { changes = record { grows = grows_itself f.forest is; same = λ v. inl refl }; more = λ v c. c }
@@ -61,10 +69,10 @@ gone_tells old f1 new v list told grows g = record {
 -- the search after a list was told of a vertex
 gone : (old : Flow) (f1 : Forest) (new : Flow) (v list : ℕ) (told : Option ℕ) → AllDescend (graph old) → IsInside old.forest old.first → Grows old.forest f1
     → GoneOn (with_forest old f1) new v list told
-    → Open (graph old) new.forest (set old.table.items v (Some list)) new.work.items → GoesOn old new
+    → Open (graph old) new.forest (set old.table.items v (Some list)) (heap_items new.work) → GoesOn old new
 gone old f1 new v list told sorted inside grows g o = record {
   search = record {
-    opens = subst (λ h. Open h new.forest new.table.items new.work.items) (sym same) (subst (λ T. Open (graph old) new.forest T new.work.items) (sym g.table) o);
+    opens = subst (λ h. Open h new.forest new.table.items (heap_items new.work)) (sym same) (subst (λ T. Open (graph old) new.forest T (heap_items new.work)) (sym g.table) o);
     first = subst (λ i. IsInside new.forest i) (sym g.first) (still_inside f1 new.forest old.first g.leads.grows (still_inside old.forest f1 old.first grows inside));
     sorted = subst AllDescend (sym same) sorted;
   };
@@ -76,25 +84,38 @@ gone old f1 new v list told sorted inside grows g o = record {
     same = same_graph (edges_of new.edges) (edges_of old.edges) (list_at new.forest new.first) (list_at old.forest old.first) (ap (λ es. edges_of es) g.edges)
         (ap (λ i. list_at new.forest i) g.first ∙ (g.leads.grows.kept old.first (still_inside old.forest f1 old.first grows inside) ∙ grows.kept old.first inside))
 
-module _ (old : Flow) (a : Arrival) (o : Open (graph old) old.forest old.table.items (old.work.items ++ a ∷ [])) (inside : IsInside old.forest old.first) (sorted : AllDescend (graph old)) where
+module _ (old : Flow) (a : Arrival) (o : Open (graph old) old.forest old.table.items (heap_items old.work ++ a ∷ [])) (inside : IsInside old.forest old.first) (sorted : AllDescend (graph old)) where
   pub arrived_far : length old.table.items ≤ a.to → GoesOn old old
-  arrived_far h = record { search = record { opens = skip_far (graph old) old.forest old.table.items old.work.items a o h; first = inside; sorted = sorted }; same = refl; tells = tells_itself old o.forest }
+  arrived_far h = record { search = record { opens = skip_far (graph old) old.forest old.table.items (heap_items old.work) a o h; first = inside; sorted = sorted }; same = refl; tells = tells_itself old o.forest }
 
   pub arrived_known : (known count : ℕ) → entry old.table.items a.to ≡ Some known → IsCommon (list_at old.forest known) (list_at old.forest a.list) count → count ≡ length (list_at old.forest known) → GoesOn old old
-  arrived_known known count e c whole = record { search = record { opens = skip_known (graph old) old.forest old.table.items old.work.items a o known count e c whole; first = inside; sorted = sorted }; same = refl; tells = tells_itself old o.forest }
+  arrived_known known count e c whole = record { search = record { opens = skip_known (graph old) old.forest old.table.items (heap_items old.work) a o known count e c whole; first = inside; sorted = sorted }; same = refl; tells = tells_itself old o.forest }
+
+  -- it waits until it is as urgent as any other
+  pub arrived_again : (work : BinaryHeap Arrival Global) (b : Arrival) → IsPermutation (b ∷ heap_items old.work) (heap_items work) → b.to ≡ a.to → b.list ≡ a.list
+      → GoesOn old (with_work old work)
+  arrived_again work b p to list = record {
+    search = record {
+      opens = open_as (graph old) old.forest old.table.items (heap_items old.work ++ a ∷ []) (heap_items work) o (same_again (heap_items old.work) (heap_items work) a b p to list);
+      first = inside;
+      sorted = sorted;
+    };
+    same = refl;
+    tells = record { changes = record { grows = grows_itself old.forest o.forest; same = λ v. inl refl }; more = λ v c. c };
+  }
 
   pub due_is_inside : IsInside old.forest a.list
-  due_is_inside = arrival_inside (graph old) old.forest old.table.items old.work.items a o
+  due_is_inside = arrival_inside (graph old) old.forest old.table.items (heap_items old.work) a o
 
   module _ (new : Flow) (room : a.to < length old.table.items) where
     pub arrived_first : entry old.table.items a.to ≡ None → GoneOn old new a.to a.list None → GoesOn old new
     arrived_first none g = gone old old.forest new a.to a.list None sorted inside (grows_itself old.forest o.forest) g
-        (arrive_first (graph old) old.forest old.table.items old.work.items a o old.forest new.forest new.work.items a.list (grows_itself old.forest o.forest) room due_is_inside g.leads none refl refl)
+        (arrive_first (graph old) old.forest old.table.items (heap_items old.work) a o old.forest new.forest (heap_items new.work) a.list (grows_itself old.forest o.forest) room due_is_inside g.leads none refl refl)
 
     pub arrived_shorter : (f1 : Forest) (list known count : ℕ) → entry old.table.items a.to ≡ Some known → IsCommon (list_at old.forest known) (list_at old.forest a.list) count
         → Has old.forest f1 list (take count (list_at old.forest known)) → GoneOn (with_forest old f1) new a.to list (Some count) → GoesOn old new
     arrived_shorter f1 list known count e c h g = gone old f1 new a.to list (Some count) sorted inside (grown old.forest f1 list _ h) g
-        (arrive_shorter (graph old) old.forest old.table.items old.work.items a o f1 new.forest new.work.items list (grown old.forest f1 list _ h) room h.inside known count g.leads e c h.is)
+        (arrive_shorter (graph old) old.forest old.table.items (heap_items old.work) a o f1 new.forest (heap_items new.work) list (grown old.forest f1 list _ h) room h.inside known count g.leads e c h.is)
 
 no_order : Descends []
 no_order i j e d h a c = absurd (cc)
@@ -188,8 +209,8 @@ module _ (old mid : Flow) (v : ℕ) (es : List Edge) (flow : IsFlow old) (none :
   same_first : (graph mid).first ≡ (graph old).first
   same_first = ap (λ f. list_at f mid.first) forest ∙ ap (λ i. list_at old.forest i) first
 
-  no_work : mid.work.items ≡ []
-  no_work = ap (λ w. w.items) work ∙ flow.none
+  no_work : heap_items mid.work ≡ []
+  no_work = ap (λ w. heap_items w) work ∙ flow.none
 
   first_inside : IsInside mid.forest mid.first
   first_inside = subst (λ f. IsInside f mid.first) (sym forest) (subst (λ i. IsInside old.forest i) (sym first) flow.first)
@@ -222,9 +243,9 @@ module _ (old mid : Flow) (v : ℕ) (es : List Edge) (flow : IsFlow old) (none :
   }
 
   module _ (list : ℕ) (told : entry mid.table.items v ≡ Some list) (room : v < length mid.table.items) (new : Flow) (g : GoneOn mid new v list None) where
-    opened : Open (graph mid) new.forest (set mid.table.items v (Some list)) new.work.items
-    opened = opened_some (graph old) (graph mid) v es is same_first none mid.forest mid.table.items o list told room new.forest new.work.items
-        (subst (λ W. Leads mid.forest new.forest (edges_at (graph mid).edges v) list None W new.work.items) no_work g.leads)
+    opened : Open (graph mid) new.forest (set mid.table.items v (Some list)) (heap_items new.work)
+    opened = opened_some (graph old) (graph mid) v es is same_first none mid.forest mid.table.items o list told room new.forest (heap_items new.work)
+        (subst (λ W. Leads mid.forest new.forest (edges_at (graph mid).edges v) list None W (heap_items new.work)) no_work g.leads)
 
     same : graph new ≡ graph mid
     same = same_graph (edges_of new.edges) (edges_of mid.edges) (list_at new.forest new.first) (list_at mid.forest mid.first) (ap (λ x. edges_of x) g.edges)
@@ -232,7 +253,7 @@ module _ (old mid : Flow) (v : ℕ) (es : List Edge) (flow : IsFlow old) (none :
 
     pub opens_search : IsSearch new
     opens_search = record {
-      opens = subst (λ h. Open h new.forest new.table.items new.work.items) (sym same) (subst (λ T. Open (graph mid) new.forest T new.work.items) (sym g.table) opened);
+      opens = subst (λ h. Open h new.forest new.table.items (heap_items new.work)) (sym same) (subst (λ T. Open (graph mid) new.forest T (heap_items new.work)) (sym g.table) opened);
       first = subst (λ i. IsInside new.forest i) (sym g.first) (still_inside mid.forest new.forest mid.first g.leads.grows first_inside);
       sorted = subst AllDescend (sym same) all_sorted;
     }

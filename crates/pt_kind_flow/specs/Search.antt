@@ -1,5 +1,6 @@
 -- What the search for the beginnings of lists knows while it goes on.
 use Rattle.std.specs.Prelude.{◌≡◌, ◌⊎◌, ℕ, ◌<◌, ◌≤◌, List, [], length, Contains, slice_set as set, Option, Some, Bool, true, false, nat_le, None, ◌∷◌, ◌++◌}
+use Rattle.std.specs.BinaryHeap.{heap_items}
 use Rattle.pt_instr.specs.Effects.{Kinds}
 use Rattle.pt_kinds.specs.declared.forest.Forest.{Forest}
 use Rattle.pt_kinds.specs.Forest.{Begins, IsForest, IsInside, list_at}
@@ -68,13 +69,13 @@ AllDescend g = (v : ℕ) → Descends (edges_at g.edges v)
 
 -- a search between two of its stages
 pub record IsFlow (f : Flow) : Type 0 where
-  pub opens : Open (graph f) f.forest f.table.items f.work.items
+  pub opens : Open (graph f) f.forest f.table.items (heap_items f.work)
   pub first : IsInside f.forest f.first
   pub sorted : AllDescend (graph f)
-  pub none : f.work.items ≡ []
+  pub none : heap_items f.work ≡ []
 
 pub record IsSearch (f : Flow) : Type 0 where
-  pub opens : Open (graph f) f.forest f.table.items f.work.items
+  pub opens : Open (graph f) f.forest f.table.items (heap_items f.work)
   pub first : IsInside f.forest f.first
   pub sorted : AllDescend (graph f)
 
@@ -87,7 +88,7 @@ pub record IsFirstTable (count first : ℕ) (table : List (Option ℕ)) : Type 0
 -- a list is told of a vertex, and leads along its edges
 pub record GoneOn (old new : Flow) (vertex list : ℕ) (told : Option ℕ) : Type 0 where
   pub leads : Leads old.forest new.forest (edges_at (graph old).edges vertex) list told
-      old.work.items new.work.items
+      (heap_items old.work) (heap_items new.work)
   pub table : new.table.items ≡ set old.table.items vertex (Some list)
   pub edges : new.edges ≡ old.edges
   pub first : new.first ≡ old.first

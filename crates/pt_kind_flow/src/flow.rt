@@ -1,6 +1,7 @@
 //! The longest list with which all lists begin that come to a vertex.
 ghost use Rattle.std.specs.Prelude.{◌≡◌, ◌++◌, ◌<◌, ◌∷◌, [], length, replicate, map, set, IfOk, Option, None, option_map};
 ghost use Rattle.std.specs.List.{flat_map};
+ghost use Rattle.std.specs.BinaryHeap.{heap_items};
 ghost use Rattle.pt_instr.specs.Runs.{kinds_of};
 ghost use Rattle.pt_kinds.specs.Forest.{IsForest, IsInside, list_at};
 ghost use Rattle.pt_kind_flow.specs.Flow.{AreLongest, Descends, edges_at, edges_of, entry, graph, told};
@@ -11,12 +12,21 @@ use pt_base::Memory;
 use pt_instr::Run;
 use pt_kinds::Forest;
 use std::alloc::Global;
+use std::collections::BinaryHeap;
 
-/// A list that comes to a vertex.
-#[derive(Clone, Copy, Debug)]
+/// A list that comes to a vertex. The greater one is seen to first.
+#[derive(Clone, Copy, Debug, PartialEq, Eq, PartialOrd, Ord)]
 pub struct Arrival {
+    /// The greatest number where nothing is known of it yet; else the greater the fewer slots it has
+    /// in common with what is told of the vertex.
+    pub urgency: u64,
     pub to: usize,
     pub list: usize,
+}
+
+/// How urgent an arrival is that has so many slots in common with what is told of its vertex.
+fn urgency_of(count: u64) -> u64 {
+    (u64::MAX - 1).saturating_sub(count)
 }
 
 /// A graph along whose edges lists of kinds go, and for each vertex the longest list with which
@@ -28,7 +38,7 @@ pub struct Flow {
     pub first: usize,
     pub edges: Vec<Vec<Edge>>,
     pub table: Vec<Option<usize>>,
-    pub work: Vec<Arrival>,
+    pub work: BinaryHeap<Arrival>,
     /// The vertices of which a list was told since one got its edges last.
     pub changed: Vec<usize>,
 }
@@ -36,7 +46,7 @@ pub struct Flow {
 /// Adds an arrival along each edge of a vertex, but for those that it had before.
 fn add_led(
     forest: &mut Forest,
-    work: &mut Vec<Arrival>,
+    work: &mut BinaryHeap<Arrival>,
     edges: &[Edge],
     list: usize,
     told: Option<u64>,
@@ -44,8 +54,8 @@ fn add_led(
     requires forest { IsForest forest.old }
     requires inside { IsInside forest.old list }
     requires sorted { Descends edges.now }
-    ensures { IfOk result (λ _. Leads forest.old forest.new edges.now list told work.old.items
-        work.new.items) }
+    ensures { IfOk result (λ _. Leads forest.old forest.new edges.now list told
+        (heap_items work.old) (heap_items work.new)) }
 {
     for edge in edges.iter() {
         if edge.is_told(told) {
@@ -53,6 +63,7 @@ fn add_led(
         }
         let there = led(forest, edge, list)?;
         work.push(Arrival {
+            urgency: u64::MAX,
             to: edge.to,
             list: there,
         })?;
@@ -103,7 +114,7 @@ impl Flow {
             first,
             edges,
             table,
-            work: Vec::new(alloc),
+            work: BinaryHeap::new(alloc),
             changed: Vec::new(alloc),
         })
     }
@@ -140,10 +151,11 @@ impl Flow {
         )
     }
 
-    /// Sees to one arrival.
+    /// Sees to one arrival, or has it wait until none is left that has fewer slots in common with what
+    /// is told of its vertex. So what is told gets shorter once at most, where all edges are there.
     fn arrive(&mut self, arrival: Arrival) -> Result<(), Memory>
         requires opens { Open (graph self.old) self.old.forest self.old.table.items
-            (self.old.work.items ++ arrival ∷ []) }
+            (heap_items self.old.work ++ arrival ∷ []) }
         requires first { IsInside self.old.forest self.old.first }
         requires sorted { AllDescend (graph self.old) }
         ensures { IfOk result (λ _. GoesOn self.old self.new) }
@@ -159,6 +171,13 @@ impl Flow {
             Some(known) => {
                 let count = self.forest.common(known, arrival.list);
                 if count == self.forest.len(known) {
+                    return Ok(());
+                }
+                if arrival.urgency > urgency_of(count) {
+                    self.work.push(Arrival {
+                        urgency: urgency_of(count),
+                        ..arrival
+                    })?;
                     return Ok(());
                 }
                 let list = self.forest.cut(known, count)?;

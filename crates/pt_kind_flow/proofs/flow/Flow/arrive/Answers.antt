@@ -1,6 +1,6 @@
-use Rattle.std.proofs.Common.{◌≡◌, ◌<◌, ◌≤◌, length, Some, None, arith}
+use Rattle.std.proofs.Common.{◌≡◌, ◌<◌, ◌≤◌, length, Some, None, refl, arith}
 use Rattle.pt_kinds.specs.Forest.{list_at}
-use Rattle.pt_kind_flow.proofs.Stages.{entry_is, arrived_far, arrived_known, due_is_inside, arrived_first, arrived_shorter}
+use Rattle.pt_kind_flow.proofs.Stages.{entry_is, arrived_far, arrived_known, arrived_again, due_is_inside, arrived_first, arrived_shorter}
 use Rattle.pt_kind_flow.proofs.flow.Flow.arrive.Goals as goal
 
 pub returns-then-arrival-len : goal.returns-then-arrival-len
@@ -50,3 +50,6 @@ returns-in_ok-go_on-in-Some c = let s = c.args.self.now in
 
 pub go_on-requires-clause-sorted : goal.go_on-requires-clause-sorted
 go_on-requires-clause-sorted c = c.requires.sorted c.args.arrival.to
+
+pub returns-then-arrival-urgency_of : goal.returns-then-arrival-urgency_of
+returns-then-arrival-urgency_of c = arrived_again c.args.self.now c.args.arrival c.requires.opens c.requires.first c.requires.sorted c.push.new.self _ c.in_ok-push-in-Some.ensures.permutation refl refl
