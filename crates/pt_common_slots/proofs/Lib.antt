@@ -1,5 +1,6 @@
 mod Lists
-mod Law
+mod Low
+pub mod Law
 mod OwnLemmas
 mod Loops
 mod Assembly

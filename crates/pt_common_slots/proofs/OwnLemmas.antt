@@ -11,17 +11,16 @@ use Rattle.pt_instr.specs.Effects.{Kinds, effect_of}
 use Rattle.pt_code.specs.View.{Ins}
 use Rattle.pt_places.specs.declared.places.Place.{Place}
 use Rattle.pt_places.specs.PlaceTable as T
-use Rattle.pt_places.specs.PlaceTable.{place_of, place_at}
+use Rattle.pt_places.specs.PlaceTable.{place_at}
 use Rattle.pt_sizes.specs.Flow.{entry}
 use Rattle.pt_fits.specs.Block.{Block, effect, captured}
 use Rattle.pt_fits.specs.Steps.{Step, step, by_instruction, onward, aside, again, given_behind, spared, below, has_enough, target_of}
 use Rattle.pt_fits.specs.Places.{Gets, Reached}
 use Rattle.pt_fits.specs.Leaves.{Common}
-use Rattle.pt_fits.specs.Agreement.{Agrees}
-use Rattle.pt_fits.specs.Laws.{IsLaid}
 use Rattle.pt_fits.proofs.KindLemmas.{length_below}
 use Rattle.pt_fits.proofs.Swaps.{given_size}
-use Rattle.pt_verify.specs.PlaceTable.{AreSizes}
+use Rattle.pt_fits.proofs.Ways.{place_of}
+use Rattle.pt_verify.specs.PlaceTable.{AreSizesUpTo}
 use Rattle.pt_verify.proofs.SizeLemmas.{kinds_have_sizes, sizes_have_kinds}
 use Rattle.pt_joins.specs.declared.joins.Join.{Join}
 use Rattle.pt_joins.specs.Joins.{Joined, paired, related, same}
@@ -29,7 +28,7 @@ use Rattle.pt_row_joins.specs.Rows.{join}
 use Rattle.pt_common_slots.specs.Joins.{stay, given_join, onward_join, aside_join, join_if, leave_join, own_joins}
 use Rattle.pt_common_slots.specs.Common.{by_leave}
 use Rattle.pt_row_joins.proofs.Lists.{none_in, some_none, only_one, in_option, option_in}
-use Rattle.pt_common_slots.proofs.Law.{behind, at_target, keeps_common}
+use Rattle.pt_common_slots.proofs.Law.{IsPlace, behind, at_target, keeps_common}
 
 -- what an instruction gives and keeps doesn't depend on free names
 
@@ -80,32 +79,30 @@ from_leave sizes pc i size j e = absurd (some_none j e)
 stay_is : (m s g x : ℕ) → m ≡ s + g → stay m g x ≡ s + min x g
 stay_is m s g x e = ap (λ y. y + min x g) (let h : m - g ≡ s = omega (arith, e) in h)
 
-module _ (b : Block) (agrees : Agrees b b.size) (laid : IsLaid b) (sizes : List (Option ℕ)) (are : AreSizes b sizes)
+module _ (b : Block) (p : ℕ) (sizes : List (Option ℕ)) (are : AreSizesUpTo b p sizes)
     (places : List (Option Place)) (shown : (pc : ℕ) → T.entry places pc ≡ place_at (b.at pc)) where
-  pub sized : (q : ℕ) (ks : Kinds) → Gets b b.size q ks → entry sizes q ≡ Some (length ks)
-  sized q ks got = are.whole b.size q (length ks) (kinds_have_sizes b b.size q ks got)
+  pub sized : (q : ℕ) (ks : Kinds) → Gets b p q ks → entry sizes q ≡ Some (length ks)
+  sized q ks got = are.whole q (length ks) (kinds_have_sizes b p q ks got)
 
-  pub record HasKinds (q n : ℕ) : Type 0 where
-    pub ins : Ins
-    pub kinds : Kinds
-    pub reached : Reached b b.size q ins kinds
-    pub long : length kinds ≡ n
+  gets_at : (q n : ℕ) → entry sizes q ≡ Some n → (ks : Kinds) × (Gets b p q ks × (length ks ≡ n))
+  gets_at q n e = let k = sizes_have_kinds b p q n (are.sound q n e) in (k.kinds, (k.gets, k.long))
 
-  pub gets_at : (q n : ℕ) → entry sizes q ≡ Some n → (ks : Kinds) × (Gets b b.size q ks × (length ks ≡ n))
-  gets_at q n e = let k = sizes_have_kinds b b.size q n (are.sound q n e) in (k.kinds, (k.gets, k.long))
+  -- what has a size is a place
+  there_at : (q n : ℕ) → entry sizes q ≡ Some n → IsPlace b q
+  there_at q n e = place_of (sizes_have_kinds b p q n (are.sound q n e)).gets
 
-  module _ (q : ℕ) (i : Ins) (ks : Kinds) (reached : Reached b b.size q i ks) where
+  module _ (q : ℕ) (i : Ins) (ks : Kinds) (reached : Reached b p q i ks) where
     abbrev e : Effect
     e = effect b.links i.instr
 
     abbrev free : ℕ
     free = captured b.links i.instr
 
-    abbrev p : Place
-    p = place_of i.instr i.mark i.next
+    abbrev place : Place
+    place = T.place_of i.instr i.mark i.next
 
     abbrev A : List Join
-    A = option_to_list (onward_join sizes q p)
+    A = option_to_list (onward_join sizes q place)
 
     abbrev B : List Join
     B = option_to_list (aside_join sizes q (target_of i.instr) (effect_of i.instr 0).aside (effect_of i.instr 0).keeps)
@@ -115,7 +112,7 @@ module _ (b : Block) (agrees : Agrees b b.size) (laid : IsLaid b) (sizes : List 
 
     here : own_joins sizes q (T.entry places q) (entry sizes q) ≡ A ++ (B ++ C)
     here = ap (λ o. own_joins sizes q o (entry sizes q)) (shown q ∙ ap (λ o. place_at o) reached.stands)
-        ∙ ap (λ o. own_joins sizes q (Some p) o) (sized q ks reached.gets)
+        ∙ ap (λ o. own_joins sizes q (Some place) o) (sized q ks reached.gets)
 
     -- as many slots stay as a step keeps
     onward_stay : (given ls : Kinds) → e.gives ≡ Some given → ls ≡ below e ks ++ given_behind e ks given
@@ -135,38 +132,38 @@ module _ (b : Block) (agrees : Agrees b b.size) (laid : IsLaid b) (sizes : List 
         ∙ ap (λ m. spared e ks + min m (length given)) (sym (keeps_same i.instr free))
 
     -- each pair is joined by a step
-    onward_common : (j : Join) (d : ℕ) → onward_join sizes q p ≡ Some j → d < j.levels → Common b b.size d j.one j.other
+    onward_common : (j : Join) (d : ℕ) → onward_join sizes q place ≡ Some j → d < j.levels → Common b p d j.one j.other
     onward_common j d f lt =
         let g = from_given q i.next (entry sizes i.next) (effect_of i.instr 0).gives (effect_of i.instr 0).keeps j f in
         let gives_is : e.gives ≡ Some g.kinds = gives_same i.instr free ∙ g.given_is in
-        let s = behind b agrees q i ks reached g.kinds gives_is in
+        let s = behind b p are.agree q i ks reached g.kinds gives_is (there_at i.next g.size g.there_is) in
         let long : length (below e ks ++ given_behind e ks g.kinds) ≡ g.size = same_Some _ _ (sym (sized i.next _ s.gets) ∙ g.there_is) in
         let k = onward_stay g.kinds (below e ks ++ given_behind e ks g.kinds) gives_is refl in
-        subst (λ j. d < j.levels → Common b b.size d j.one j.other) g.is
-        (λ lt. keeps_common b q i.next _ d s.keeps (subst (λ m. d < m) k (subst (λ m. d < stay m (length g.kinds) (effect_of i.instr 0).keeps) (sym long) lt))) lt
+        subst (λ j. d < j.levels → Common b p d j.one j.other) g.is
+        (λ lt. keeps_common b p q i.next _ d s.keeps (subst (λ m. d < m) k (subst (λ m. d < stay m (length g.kinds) (effect_of i.instr 0).keeps) (sym long) lt))) lt
 
     aside_common : (t : Option ℕ) → target_of i.instr ≡ t → (j : Join) (d : ℕ)
         → aside_join sizes q t (effect_of i.instr 0).aside (effect_of i.instr 0).keeps ≡ Some j
-        → d < j.levels → Common b b.size d j.one j.other
+        → d < j.levels → Common b p d j.one j.other
     aside_common None w j d f lt = absurd (some_none j f)
     aside_common (Some t) w j d f lt =
         let g = from_given q t (entry sizes t) (effect_of i.instr 0).aside (effect_of i.instr 0).keeps j f in
         let aside_is : e.aside ≡ Some g.kinds = aside_same i.instr free ∙ g.given_is in
-        let s = at_target b agrees q i ks reached t g.kinds w aside_is in
+        let s = at_target b p are.agree q i ks reached t g.kinds w aside_is (there_at t g.size g.there_is) in
         let long : length (below e ks ++ g.kinds) ≡ g.size = same_Some _ _ (sym (sized t _ s.gets) ∙ g.there_is) in
         let k = aside_stay g.kinds (below e ks ++ g.kinds) refl in
-        subst (λ j. d < j.levels → Common b b.size d j.one j.other) g.is
-        (λ lt. keeps_common b q t _ d s.keeps (subst (λ m. d < m) k (subst (λ m. d < stay m (length g.kinds) (effect_of i.instr 0).keeps) (sym long) lt))) lt
+        subst (λ j. d < j.levels → Common b p d j.one j.other) g.is
+        (λ lt. keeps_common b p q t _ d s.keeps (subst (λ m. d < m) k (subst (λ m. d < stay m (length g.kinds) (effect_of i.instr 0).keeps) (sym long) lt))) lt
 
-    leave_common : (j : Join) (d : ℕ) → leave_join sizes q i.instr (length ks) ≡ Some j → d < j.levels → Common b b.size d j.one j.other
+    leave_common : (j : Join) (d : ℕ) → leave_join sizes q i.instr (length ks) ≡ Some j → d < j.levels → Common b p d j.one j.other
     leave_common j d f lt =
         let g = from_leave sizes q i.instr (length ks) j f in
         let (ls, (got, long)) = gets_at g.target g.there g.there_is in
-        subst (λ j. d < j.levels → Common b b.size d j.one j.other) g.is
-        (λ lt. keeps_common b q g.target _ d (by_leave reached g.leaves got) (subst (λ m. d < min m (length ks)) (sym long) lt)) lt
+        subst (λ j. d < j.levels → Common b p d j.one j.other) g.is
+        (λ lt. keeps_common b p q g.target _ d (by_leave reached g.leaves got) (subst (λ m. d < min m (length ks)) (sym long) lt)) lt
 
     pub own_common : (j : Join) (d : ℕ) → Contains (own_joins sizes q (T.entry places q) (entry sizes q)) j
-        → d < j.levels → Common b b.size d j.one j.other
+        → d < j.levels → Common b p d j.one j.other
     own_common j d c lt = elim (Contains-append_cases A (B ++ C) j (subst (λ xs. Contains xs j) here c)) [
       | inl x ↦ onward_common j d (in_option _ j x) lt
       | inr y ↦ elim (Contains-append_cases B C j y) [
@@ -177,7 +174,7 @@ module _ (b : Block) (agrees : Agrees b b.size) (laid : IsLaid b) (sizes : List 
 
     -- and each step joins a pair
     module _ (joins : List Join) (has : (j : Join) → Contains (own_joins sizes q (T.entry places q) (entry sizes q)) j → Contains joins j) where
-      has_A : (j : Join) → onward_join sizes q p ≡ Some j → Contains joins j
+      has_A : (j : Join) → onward_join sizes q place ≡ Some j → Contains joins j
       has_A j f = has j (subst (λ xs. Contains xs j) (sym here) (Contains-append_left A (B ++ C) j (option_in _ j f)))
 
       has_B : (j : Join)
@@ -189,7 +186,7 @@ module _ (b : Block) (agrees : Agrees b b.size) (laid : IsLaid b) (sizes : List 
       has_C j f = has j (subst (λ xs. Contains xs j) (sym here) (Contains-append_right A (B ++ C) j (Contains-append_right B C j (option_in _ j f))))
 
       abbrev IsJoined : ℕ → Step → Type 0
-      IsJoined d s = Gets b b.size s.to s.kinds → d < s.kept → Joined joins d q s.to
+      IsJoined d s = Gets b p s.to s.kinds → d < s.kept → Joined joins d q s.to
 
       onward_joined : (d : ℕ) (o : Option Kinds) → e.gives ≡ o → (s : Step) → Contains (onward e ks i.next o) s → IsJoined d s
       onward_joined d None w s c = absurd (none_in s c)
@@ -231,7 +228,7 @@ module _ (b : Block) (agrees : Agrees b b.size) (laid : IsLaid b) (sizes : List 
             ]
           ]
 
-      pub leave_joined : (d t : ℕ) (ls : Kinds) → i.instr ≡ Leave (record { 0 = t }) → Gets b b.size t ls
+      pub leave_joined : (d t : ℕ) (ls : Kinds) → i.instr ≡ Leave (record { 0 = t }) → Gets b p t ls
           → d < min (length ls) (length ks) → Joined joins d q t
       leave_joined d t ls is got lt = related (paired (has_C (join q t (min (length ls) (length ks)))
           (ap (λ x. leave_join sizes q x (length ks)) is ∙ ap (λ o. join_if q t (length ks) o) (sized t ls got))) lt)

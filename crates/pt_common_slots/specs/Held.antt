@@ -7,23 +7,23 @@ use Rattle.pt_code.specs.View.{Ins}
 use Rattle.pt_fits.specs.Block.{Block}
 use Rattle.pt_fits.specs.Places.{Reached}
 use Rattle.pt_fits.specs.Leaves.{Holds, taker}
-use Rattle.pt_fits.specs.Agreement.{Agrees}
-use Rattle.pt_common_slots.specs.Common.{IsKept}
+use Rattle.pt_verify.specs.PlaceTable.{SizesDisagree}
+use Rattle.pt_common_slots.specs.Common.{IsKept, RowsLead}
 
 -- a slot may hold a Leave for this target
-pub data HoldsBySteps (b : Block) (target : ℕ) : (pc slot : ℕ) → Type 0 where
+pub data HoldsBySteps (b : Block) (p target : ℕ) : (pc slot : ℕ) → Type 0 where
   -- an always row takes it from its own place
-  taken : {q : ℕ} {i : Ins} {ks : Kinds} → Reached b b.size q i ks
+  taken : {q : ℕ} {i : Ins} {ks : Kinds} → Reached b p q i ks
       → i.instr ≡ Leave (record { 0 = target }) → (row : Handler) → taker i.rows target ≡ Some row
-      → HoldsBySteps b target row.target.0 row.depth
+      → HoldsBySteps b p target row.target.0 row.depth
   -- or from an EndFinally that lets it go on
-  passed : {q : ℕ} {i : Ins} {ks : Kinds} → Reached b b.size q i ks → i.instr ≡ EndFinally
-      → HoldsBySteps b target q (length ks - 1) → (row : Handler) → taker i.rows target ≡ Some row
-      → HoldsBySteps b target row.target.0 row.depth
-  exited : {q : ℕ} {i : Ins} {ks : Kinds} → Reached b b.size q i ks → i.instr ≡ Exit
-      → HoldsBySteps b target q (length ks - 1) → HoldsBySteps b target i.next (length ks - 2)
-  shared : {q r d : ℕ} → IsKept b d q r → HoldsBySteps b target q d → HoldsBySteps b target r d
+  passed : {q : ℕ} {i : Ins} {ks : Kinds} → Reached b p q i ks → i.instr ≡ EndFinally
+      → HoldsBySteps b p target q (length ks - 1) → (row : Handler) → taker i.rows target ≡ Some row
+      → HoldsBySteps b p target row.target.0 row.depth
+  exited : {q : ℕ} {i : Ins} {ks : Kinds} → Reached b p q i ks → i.instr ≡ Exit
+      → HoldsBySteps b p target q (length ks - 1) → HoldsBySteps b p target i.next (length ks - 2)
+  shared : {q r d : ℕ} → IsKept b p d q r → HoldsBySteps b p target q d → HoldsBySteps b p target r d
 
-abbrev pub HeldByClasses : Block → Type 0
-HeldByClasses b = Agrees b b.size → (target pc slot : ℕ)
-    → Holds b b.size target pc slot ↔ HoldsBySteps b target pc slot
+abbrev pub HeldByClasses : Block → (p : ℕ) → Type 0
+HeldByClasses b p = (SizesDisagree b p → ⊥) → RowsLead b → (target pc slot : ℕ)
+    → Holds b p target pc slot ↔ HoldsBySteps b p target pc slot

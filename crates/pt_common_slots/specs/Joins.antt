@@ -1,5 +1,5 @@
 -- Pairs of places, and how many of their lowest slots the own steps of instructions keep.
-use Rattle.std.specs.Prelude.{ℕ, ◌+◌, ◌-◌, ◌<◌, min, List, [], ◌++◌, length, Contains, Option, Some, None, option_to_list}
+use Rattle.std.specs.Prelude.{◌≡◌, ℕ, ◌+◌, ◌-◌, ◌<◌, min, nat_le, if◌then◌else◌, List, [], ◌++◌, length, Contains, Option, Some, None, option_to_list}
 use Rattle.pt_instr.specs.declared.Instr.{Instr}
 use Rattle.pt_instr.specs.declared.Instr.TheVariants.{Leave}
 use Rattle.pt_instr.specs.Effects.{Kinds, effect_of}
@@ -46,5 +46,14 @@ pub record IsOwnBelow (places : List (Option Place)) (sizes : List (Option ℕ))
   pub low : pc < limit
   pub among : Contains (own_joins sizes pc (P.entry places pc) (entry sizes pc)) j
 
-abbrev pub IsOwn : (places : List (Option Place)) → (sizes : List (Option ℕ)) → Join → Type 0
-IsOwn places sizes j = IsOwnBelow places sizes (length sizes) j
+-- of the instructions at the limit and below
+abbrev pub IsOwn : (places : List (Option Place)) → (sizes : List (Option ℕ)) → (limit : ℕ) → Join → Type 0
+IsOwn places sizes limit j = IsOwnBelow places sizes (min (length sizes) (limit + 1)) j
+
+-- the sizes of the places at the limit and below alone
+abbrev pub low_size : (limit pc : ℕ) → Option ℕ → Option ℕ
+low_size limit pc size = if nat_le pc limit then size else None
+
+pub record AreLowSizes (limit : ℕ) (sizes low : List (Option ℕ)) : Type 0 where
+  pub long : length low ≡ length sizes
+  pub each : (pc : ℕ) → entry low pc ≡ low_size limit pc (entry sizes pc)

@@ -143,12 +143,18 @@ fn add_own(
     }
 }
 
-/// What the own steps of all places keep.
-pub fn own_joins(alloc: Global, places: &Places, sizes: &[Option<u64>]) -> Result<Vec<Join>, Memory>
-    ensures { IfOk result (λ joins. Lists (IsOwn places.now sizes.now) joins.items) }
+/// What the own steps of the places at the limit and below keep.
+pub fn own_joins(
+    alloc: Global,
+    places: &Places,
+    sizes: &[Option<u64>],
+    limit: Pc,
+) -> Result<Vec<Join>, Memory>
+    ensures { IfOk result (λ joins. Lists (IsOwn places.now sizes.now limit.0) joins.items) }
 {
     let mut joins = Vec::new(alloc);
-    for at in 0..sizes.len() {
+    let end = sizes.len().min(limit.0 as usize + 1);
+    for at in 0..end {
         let Ok(pc) = u32::try_from(at) else {
             return Err(Memory);
         };

@@ -1,4 +1,4 @@
-use Rattle.std.proofs.Common.{◌≡◌, ◌∙◌, ◌++◌, ap, arith, length, subst}
+use Rattle.std.proofs.Common.{◌≡◌, ◌+◌, ◌∙◌, ◌++◌, ap, arith, length, min, subst}
 use Rattle.pt_places.specs.PlaceTable as T
 use Rattle.pt_sizes.specs.Flow.{entry}
 use Rattle.pt_common_slots.specs.Joins.{IsOwnBelow, own_joins}
@@ -15,5 +15,5 @@ loop-at-preserved c =
 
 pub returns : goal.returns
 returns c =
-    let e : c.loop-at.at ≡ length c.args.sizes.now = omega (arith, c.loop-at-test.false, c.loop-at.auto.at-end) in
+    let e : c.loop-at.at ≡ min (length c.args.sizes.now) (c.args.limit.0 + 1) = omega (arith, c.loop-at-test.false, c.loop-at.auto.at-end) in
     subst (λ n. Lists (IsOwnBelow c.args.places.now c.args.sizes.now n) c.loop-at.joins.items) e c.loop-at.invariant
