@@ -1,4 +1,3 @@
-mod Leasts
 pub mod Staying
 pub mod Placing
 pub mod Refusing

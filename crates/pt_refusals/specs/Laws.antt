@@ -1,10 +1,10 @@
 -- What laws say of the refusals of a block.
-use Rattle.std.specs.Prelude.{◌≡◌, ℕ, zero, suc, ◌≤◌, length, Contains, Bool, Option, Some, None}
+use Rattle.std.specs.Prelude.{◌≡◌, ℕ, zero, suc, ◌+◌, ◌≤◌, length, Contains, Bool, Option, Some, None}
 use Rattle.pt_ranges.specs.declared.handlers.Handler.{Handler}
 use Rattle.pt_code.specs.declared.CodeBlock.{CodeBlock}
 use Rattle.pt_code.specs.declared.Code.{Code}
 use Rattle.pt_code.specs.View.{Ins, IsView}
-use Rattle.pt_sizes.specs.declared.flow.Sizes.{Sizes}
+use Rattle.pt_sizes.specs.declared.flow.Sizes.TheVariants as sizes
 use Rattle.pt_cycles.specs.declared.cycles.Cycles.{Cycles}
 use Rattle.pt_fits.specs.Block.{Block, block_of}
 use Rattle.pt_fits.specs.Agreement.{Agrees}
@@ -12,9 +12,10 @@ use Rattle.pt_fits.specs.Fits.{Disagrees, Fits, Misfit, Refused, RefusedAt, Tabl
 use Rattle.pt_verify.specs.PlaceTable.{TellsSizes}
 use Rattle.pt_block_limits.specs.Limits.{TellsDepth, TellsLoops}
 use Rattle.pt_block_limits.specs.Lost.{TellsLost}
-use Rattle.pt_refusals.specs.declared.failures.KindFailures.{KindFailures}
-use Rattle.pt_refusals.specs.declared.failures.LeaveFailures.{LeaveFailures}
-use Rattle.pt_refusals.specs.Told.{IsWithin, TellsKinds, TellsLeaves}
+use Rattle.pt_verify.specs.Refusals.{CutsOf}
+use Rattle.pt_refusals.specs.declared.failures.Failures.{Failures}
+use Rattle.pt_refusals.specs.declared.failures.Failures.TheVariants as failures
+use Rattle.pt_refusals.specs.Told.{TellsFailures, TellsLeast, TellsLeastBelow}
 use Rattle.pt_refusals.specs.Verdicts.{refusal_at, refusal_behind}
 
 -- the refusal at a place, or that the block agrees up to it
@@ -37,9 +38,17 @@ BlocksListRows = (c : Code) (b : CodeBlock) (view : ℕ → Option Ins) → IsVi
     → ListsRows (block_of c b view)
 
 abbrev pub PlacesAreTold : Block → Type 0
-PlacesAreTold b = ListsRows b → (p : ℕ) (s : Sizes) → TellsSizes b s → IsWithin p s
-    → (k : KindFailures) → TellsKinds b p k → (l : LeaveFailures) → TellsLeaves b p l
-    → TellsPlace b p (refusal_at (length b.marks) p s k l)
+PlacesAreTold b = ListsRows b → (p : ℕ) (f : Failures) → TellsFailures b p f
+    → TellsPlace b p (refusal_at p f)
+
+-- what sizes tell of a place up to which they disagree first, with the rows whose cuts differ there
+pub record SizesTellFailures (b : Block) : Type 0 where
+  pub meet : (p : ℕ) → TellsSizes b (sizes.Meet p) → TellsFailures b p failures.Meet
+  pub deep : (p n : ℕ) → TellsSizes b (sizes.TooDeep p n) → (cuts : Option ℕ)
+      → TellsLeastBelow (CutsOf b p) (length b.marks + n) cuts
+      → TellsFailures b p (failures.TooDeep (length b.marks + n) cuts)
+  pub few : (p : ℕ) → TellsSizes b (sizes.TooFew p) → (cuts : Option ℕ)
+      → TellsLeast (CutsOf b p) cuts → TellsFailures b p (failures.TooFew cuts)
 
 abbrev pub DisagreementStays : Block → Type 0
 DisagreementStays b = (p q : ℕ) → p ≤ q → Disagrees b p → Disagrees b q
@@ -58,13 +67,11 @@ abbrev pub TellsFirst : Block → (last : ℕ) → Option Misfit → Type 0
 TellsFirst b last (Some m) = TablesHold b → Refused b m
 TellsFirst b last None = Agrees b last
 
--- while the first place is sought that refuses, up to a last one: the block agrees before a place,
--- and another one not before it refuses
-pub record FirstSearch (b : Block) (last low high : ℕ) (m : Misfit) : Type 0 where
+-- while the first place is sought that refuses: the block agrees before a place, and another one
+-- refuses
+pub record FirstSearch (b : Block) (low high : ℕ) (m : Misfit) : Type 0 where
   pub agrees : AgreesBefore b low
   pub refuses : RefusedAt b high m
-  pub order : low ≤ high
-  pub inside : high ≤ last
 
 abbrev pub AgreeingBlocksAreTold : Block → Type 0
 AgreeingBlocksAreTold b = TablesHold b → Agrees b b.size → (lost : Option ℕ) → TellsLost b lost

@@ -1,18 +1,22 @@
 -- What is told of how a block fails up to a place by kinds, of which its refusal follows.
-use Rattle.std.specs.Prelude.{◌≡◌, ℕ, ◌≤◌, false, Option, Some, None}
+use Rattle.std.specs.Prelude.{◌≡◌, ℕ, ◌<◌, false, Option, Some, None}
 use Rattle.std.specs.Bool.{Decides}
 use Rattle.pt_instr.specs.Effects.{Kinds}
+use Rattle.pt_ranges.specs.declared.handlers.Handler.{Handler}
 use Rattle.pt_code.specs.View.{Ins}
-use Rattle.pt_sizes.specs.declared.flow.Sizes.{Sizes}
-use Rattle.pt_sizes.specs.declared.flow.Sizes.TheVariants as sizes
 use Rattle.pt_fits.specs.Block.{Block, effect}
 use Rattle.pt_fits.specs.Steps.{are_kinds, finds, is_prefix}
 use Rattle.pt_fits.specs.Places.{Gets, Reached}
 use Rattle.pt_fits.specs.Leaves.{Leaving}
 use Rattle.pt_fits.specs.Standing.{may_stand}
+use Rattle.pt_fits.specs.Tables.{IsRow}
 use Rattle.pt_fits.specs.Agreement.{Strays}
 use Rattle.pt_fits.specs.Fits.{IsLeast}
+use Rattle.pt_verify.specs.Sizes.{Lacks, RowTooDeep, SizesMeet}
+use Rattle.pt_verify.specs.PlaceTable.{SizesDisagree}
 use Rattle.pt_verify.specs.Refusals.{CutsOf, LeaveLacks}
+use Rattle.pt_refusals.specs.declared.failures.Failures.{Failures}
+use Rattle.pt_refusals.specs.declared.failures.Failures.TheVariants as failures
 use Rattle.pt_refusals.specs.declared.failures.KindFailures.{KindFailures}
 use Rattle.pt_refusals.specs.declared.failures.LeaveFailures.{LeaveFailures}
 
@@ -40,14 +44,42 @@ pub record TellsKinds (b : Block) (p : ℕ) (told : KindFailures) : Type 0 where
   pub clash : Decides told.clash (Clashes b p)
   pub strays : Decides told.strays (Strays b p)
 
--- other kinds matter only where nothing else clashes, so that each place gets one list
+-- other kinds matter only where nothing else clashes, so that each place gets one list, and no Leave
+-- leaves too few slots
 pub record TellsLeaves (b : Block) (p : ℕ) (told : LeaveFailures) : Type 0 where
   pub lacks : Decides told.lacks (LeaveLacks b p)
-  pub clash : (Clashes b p → ⊥) → Decides told.clash (LeaveClashes b p)
+  pub clash : (Clashes b p → ⊥) → (LeaveLacks b p → ⊥) → Decides told.clash (LeaveClashes b p)
 
--- the place is no later than where sizes disagree
-abbrev pub IsWithin : (p : ℕ) → Sizes → Type 0
-IsWithin p (sizes.Agree table) = Unit {0}
-IsWithin p (sizes.Meet q) = p ≤ q
-IsWithin p (sizes.TooDeep q row) = p ≤ q
-IsWithin p (sizes.TooFew q) = p ≤ q
+-- of the numbers below a bound the least with a property that no lesser one has
+abbrev pub TellsLeastBelow : (ℕ → Type 0) → (bound : ℕ) → Option ℕ → Type 0
+TellsLeastBelow P bound (Some n) = (n < bound) × IsLeast P n
+TellsLeastBelow P bound None = (n : ℕ) → n < bound → P n → ⊥
+
+-- the row with this number is to leave too many slots
+pub record DeepOf (b : Block) (p n : ℕ) : Type 0 where
+  pub row : Handler
+  pub number : IsRow b row n
+  pub deep : RowTooDeep b p row
+
+pub record TellsDeep (b : Block) (p row : ℕ) (cuts : Option ℕ) : Type 0 where
+  pub apart : SizesMeet b p → ⊥
+  pub deep : IsLeast (DeepOf b p) row
+  pub before : TellsLeastBelow (CutsOf b p) row cuts
+
+pub record TellsFew (b : Block) (p : ℕ) (cuts : Option ℕ) : Type 0 where
+  pub apart : SizesMeet b p → ⊥
+  pub shallow : (row : Handler) → RowTooDeep b p row → ⊥
+  pub few : Lacks b p
+  pub rows : TellsLeast (CutsOf b p) cuts
+
+pub record TellsAgreeing (b : Block) (p : ℕ) (k : KindFailures) (l : LeaveFailures) : Type 0 where
+  pub agree : SizesDisagree b p → ⊥
+  pub kinds : TellsKinds b p k
+  pub leaves : TellsLeaves b p l
+
+-- what is told of how a block fails up to a place
+abbrev pub TellsFailures : (b : Block) (p : ℕ) → Failures → Type 0
+TellsFailures b p failures.Meet = SizesMeet b p
+TellsFailures b p (failures.TooDeep row cuts) = TellsDeep b p row cuts
+TellsFailures b p (failures.TooFew cuts) = TellsFew b p cuts
+TellsFailures b p (failures.Agree k l) = TellsAgreeing b p k l

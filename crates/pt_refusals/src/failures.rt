@@ -21,6 +21,29 @@ pub struct LeaveFailures {
     pub clash: bool,
 }
 
+/// How a block fails up to a place, as far as its refusal there depends on it. Table rows are counted
+/// through marks, handlers and starts.
+#[derive(Clone, Copy, Debug)]
+pub enum Failures {
+    /// Two numbers of slots meet at a place.
+    Meet,
+    /// The least handler row that is to leave too many slots, and the least one before it under which
+    /// slots of two kinds would stay.
+    TooDeep {
+        row: usize,
+        cuts: Option<usize>,
+    },
+    /// An instruction has too few slots. The least row under which slots of two kinds would stay.
+    TooFew {
+        cuts: Option<usize>,
+    },
+    /// The numbers of slots agree.
+    Agree {
+        kinds: KindFailures,
+        leaves: LeaveFailures,
+    },
+}
+
 /// Why a block is refused, and where.
 #[derive(Clone, Copy, Debug, PartialEq, Eq)]
 pub enum Refusal {

@@ -1,5 +1,6 @@
 //! The first place that refuses a block.
 ghost use Rattle.std.specs.Prelude.{◌≤◌, option_map, IfOk};
+ghost use Rattle.pt_fits.specs.Block.{Block};
 ghost use Rattle.pt_refusals.specs.Laws.{TellsFirst, TellsPlace};
 ghost use Rattle.pt_refusals.specs.Verdicts.{misfit_of};
 
@@ -11,7 +12,8 @@ pub trait Probe {
     ghost use Rattle.std.specs.Prelude.{ℕ};
     ghost use Rattle.pt_fits.specs.Block.{Block};
 
-    ghost block: { Self → Block };
+    /// Whether it tells of a block.
+    ghost tells: { Self → Block → Type 0 };
 
     /// The last place of which it can be asked, as where sizes disagree.
     ghost last: { Self → ℕ };
@@ -23,8 +25,8 @@ pub trait Probe {
     /// `Memory` for want of it.
     fn refusal_at(&self, place: usize) -> Result<Option<Refusal>, Memory>
         requires { place ≤ last self.now }
-        ensures { IfOk result (λ refusal. TellsPlace (block self.now) place
-            (option_map misfit_of refusal)) };
+        ensures { IfOk result (λ refusal. (b : Block) → tells self.now b
+            → TellsPlace b place (option_map misfit_of refusal)) };
 }
 
 /// What refuses a block whose tables hold, at the first place up to which it doesn't agree, or that
@@ -35,8 +37,8 @@ pub trait Probe {
 /// `Memory` for want of it.
 pub fn first_refusal<P: Probe>(probe: &P, last: usize) -> Result<Option<Refusal>, Memory>
     requires { last ≤ P.last probe.now }
-    ensures { IfOk result (λ refusal. TellsFirst (P.block probe.now) last
-        (option_map misfit_of refusal)) }
+    ensures { IfOk result (λ refusal. (b : Block) → P.tells probe.now b
+        → TellsFirst b last (option_map misfit_of refusal)) }
 {
     let Some(mut found) = probe.refusal_at(last)? else {
         return Ok(None);

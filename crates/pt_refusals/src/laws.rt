@@ -2,13 +2,19 @@
 
 ghost use Rattle.std.specs.Prelude.{ℕ};
 ghost use Rattle.pt_fits.specs.Block.{Block};
-ghost use Rattle.pt_refusals.specs.Laws.{AgreeingBlocksAreTold, BlocksListRows, DisagreementStays, FirstPlaceRefuses, PlacesAreTold};
+ghost use Rattle.pt_refusals.specs.Laws.{AgreeingBlocksAreTold, BlocksListRows, DisagreementStays, FirstPlaceRefuses, PlacesAreTold, SizesTellFailures};
 
 /// Of how a block fails up to a place its refusal there is told, or that it agrees up to there. Its
 /// handler rows are those that places have.
 pub fn a_place_is_told()
     ensures told { (b : Block) → PlacesAreTold b }
     ensures rows { BlocksListRows }
+{}
+
+/// What sizes tell of the place up to which they disagree first is how the block fails there, with
+/// the rows under which cuts differ.
+pub fn disagreeing_sizes_are_failures()
+    ensures { (b : Block) → SizesTellFailures b }
 {}
 
 /// Where a block doesn't agree up to a place it doesn't agree up to one behind it. So the first is

@@ -8,10 +8,10 @@ mod laws;
 mod place;
 
 pub use behind::refusal_behind;
-pub use failures::{KindFailures, LeaveFailures, Refusal};
+pub use failures::{Failures, KindFailures, LeaveFailures, Refusal};
 pub use halving::{Probe, first_refusal};
 pub use laws::{
     a_block_that_agrees_is_told, a_place_is_told, agreement_falls_short_for_good,
-    the_first_place_refuses,
+    disagreeing_sizes_are_failures, the_first_place_refuses,
 };
 pub use place::refusal_at;

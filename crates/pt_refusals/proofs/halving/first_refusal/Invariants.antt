@@ -1,4 +1,5 @@
-use Rattle.std.proofs.Common.{◌-◌}
+use Rattle.std.proofs.Common.{◌-◌, ◌≤◌}
+use Rattle.pt_fits.specs.Block.{Block}
 use Rattle.pt_refusals.specs.Laws.{FirstSearch}
 use Rattle.pt_refusals.specs.Verdicts.{misfit_of}
 use Rattle.pt_refusals.proofs.halving.first_refusal.Given as goal
@@ -7,4 +8,8 @@ abbrev pub decreases-loop-low : goal.decreases-loop-low
 decreases-loop-low g l = l.high - l.low
 
 abbrev pub invariant-loop-low : goal.invariant-loop-low
-invariant-loop-low g l = FirstSearch (g.P.Probe.block l.probe) l.fn.last l.low l.high (misfit_of l.found)
+invariant-loop-low g l = record {
+  order : l.low ≤ l.high;
+  inside : l.high ≤ l.fn.last;
+  search : (b : Block) → g.P.Probe.tells l.probe b → FirstSearch b l.low l.high (misfit_of l.found);
+}
