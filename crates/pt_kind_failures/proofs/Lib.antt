@@ -1,0 +1,5 @@
+pub mod Tops
+pub mod Looking
+pub mod Seen
+pub mod Telling
+pub mod Laid

@@ -1,0 +1,8 @@
+//! How a block fails by the kinds of its slots.
+#![tactic(auto)]
+
+mod failures;
+mod finding;
+mod lacking;
+
+pub use failures::kind_failures;
