@@ -1,0 +1,12 @@
+use Rattle.pt_places.specs.PlaceTable.{entry}
+use Rattle.pt_fits.specs.Block.{kinds_at_start, links_of}
+use Rattle.pt_block_kinds.specs.Drawing.{DrawnFrom}
+use Rattle.pt_cut_failures.specs.Leads.{vertex_leads}
+use Rattle.pt_cut_failures.proofs.graph.cut_flow.Given as goal
+
+abbrev pub invariant-loop-vertex : goal.invariant-loop-vertex
+invariant-loop-vertex l = DrawnFrom (kinds_at_start l.block.kind) l.size
+    (λ v. vertex_leads (links_of l.code) l.block.handlers (entry l.places v) l.limit l.sizes l.chains v) l.vertex l.flow
+
+abbrev pub decreases-loop-vertex : goal.decreases-loop-vertex
+decreases-loop-vertex l = l.vertex

@@ -1,0 +1,4 @@
+pub mod Chains
+pub mod Leads
+pub mod Graph
+pub mod Cuts

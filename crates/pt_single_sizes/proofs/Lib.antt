@@ -1,0 +1,4 @@
+pub mod OwnWays
+pub mod Spreading
+pub mod Going
+pub mod Seeing
