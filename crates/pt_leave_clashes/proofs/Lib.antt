@@ -1,0 +1,4 @@
+mod Beginnings
+mod Alike
+mod Law
+mod Deciding
