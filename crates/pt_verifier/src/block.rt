@@ -1,0 +1,159 @@
+//! What refuses a block of a code.
+ghost use Rattle.std.specs.Prelude.{ℕ, length, Option, option_map, IfOk};
+ghost use Rattle.pt_code.specs.View.{Ins, IsView};
+ghost use Rattle.pt_fits.specs.Block.{Block, block_of};
+ghost use Rattle.pt_places.specs.PlaceTable.{HasPlaces};
+ghost use Rattle.pt_fits.specs.Agreement.{Agrees};
+ghost use Rattle.pt_fits.specs.Fits.{TablesHold};
+ghost use Rattle.pt_verify.specs.PlaceTable.{AreSizes};
+ghost use Rattle.pt_step_graph.specs.Graph.{bundles_of};
+ghost use Rattle.pt_block_limits.specs.Limits.{HasHeld, TellsLoops};
+ghost use Rattle.pt_standing.specs.Names.{TellsDefaults};
+ghost use Rattle.pt_refusals.specs.Laws.{TellsBlock};
+ghost use Rattle.pt_refusals.specs.Verdicts.{misfit_of};
+ghost use Rattle.pt_verifier.specs.Probing.{TellsOf, last_of};
+
+use crate::probe::{BlockProbe, last_of};
+use pt_base::{Memory, Pc};
+use pt_block_limits::{Cycles, is_too_deep, lost_leave, silent_loops};
+use pt_block_tables::first_bad_row;
+use pt_code::{Code, CodeBlock};
+use pt_common_slots::common_slots;
+use pt_held_leaves::{HeldLeaves, held_leaves};
+use pt_places::Places;
+use pt_refusals::{Refusal, first_refusal, refusal_behind};
+use pt_standing::Defaults;
+use pt_takers::Takers;
+use pt_verify::{Sizes, sizes};
+use std::alloc::Global;
+
+/// The Leaves that an EndFinally lets go on, in the whole block.
+fn all_held(probe: &BlockProbe<'_>, sizes: &[Option<u64>]) -> Result<HeldLeaves, Memory>
+    ensures { IfOk result (λ told. (b : Block) → TellsOf probe.now b → AreSizes b sizes.now
+        → HasHeld b (bundles_of told.bundles) told.held.items) }
+{
+    let Ok(end) = u32::try_from(probe.block.instructions.len()) else {
+        return Err(Memory);
+    };
+    let joins = common_slots(probe.alloc, probe.block, probe.places, sizes, Pc(end))?;
+    held_leaves(
+        probe.alloc,
+        probe.places,
+        probe.takers,
+        &joins,
+        sizes,
+        Pc(end),
+    )
+}
+
+/// The least place of a silent loop, or ranks, for the Leaves that are let go on.
+fn loops_of(
+    probe: &BlockProbe<'_>,
+    sizes: &[Option<u64>],
+    told: HeldLeaves,
+) -> Result<Cycles, Memory>
+    ensures { IfOk result (λ loops. (b : Block) → TellsOf probe.now b → AreSizes b sizes.now
+        → HasHeld b (bundles_of told.bundles) told.held.items → TellsLoops b loops) }
+{
+    let HeldLeaves { bundles, held } = told;
+    silent_loops(
+        probe.alloc,
+        probe.block,
+        probe.places,
+        sizes,
+        bundles,
+        &held,
+    )
+}
+
+/// What refuses a block that agrees, for the sizes of its places.
+fn refusal_of_agreeing(
+    probe: &BlockProbe<'_>,
+    sizes: &[Option<u64>],
+) -> Result<Option<Refusal>, Memory>
+    ensures { IfOk result (λ refusal. (b : Block) → TellsOf probe.now b → AreSizes b sizes.now
+        → Agrees b b.size → TellsBlock b (option_map misfit_of refusal)) }
+{
+    let held = all_held(probe, sizes)?;
+    let lost = lost_leave(probe.places, sizes)?;
+    let loops = loops_of(probe, sizes, held)?;
+    Ok(refusal_behind(lost, is_too_deep(sizes), &loops))
+}
+
+/// What refuses a block that agrees up to the last place of which it was asked.
+fn refusal_behind_last(probe: &BlockProbe<'_>) -> Result<Option<Refusal>, Memory>
+    ensures { IfOk result (λ refusal. (b : Block) → TellsOf probe.now b
+        → Agrees b (last_of probe.now.sizes.now (length probe.now.block.now.instructions))
+        → TellsBlock b (option_map misfit_of refusal)) }
+{
+    match probe.sizes {
+        Sizes::Agree(sizes) => refusal_of_agreeing(probe, sizes),
+        _ => Err(Memory),
+    }
+}
+
+/// What refuses a block whose tables hold.
+fn refusal_by_probe(probe: &BlockProbe<'_>) -> Result<Option<Refusal>, Memory>
+    ensures { IfOk result (λ refusal. (b : Block) → TellsOf probe.now b
+        → TellsBlock b (option_map misfit_of refusal)) }
+{
+    let last = last_of(probe.sizes, probe.block.instructions.len());
+    match first_refusal(probe, last)? {
+        Some(refusal) => Ok(Some(refusal)),
+        None => refusal_behind_last(probe),
+    }
+}
+
+/// What refuses a block whose tables hold, with its places.
+fn refusal_of_laid(
+    alloc: Global,
+    code: &Code,
+    defaults: &Defaults,
+    block: &CodeBlock,
+    places: &Places,
+) -> Result<Option<Refusal>, Memory>
+    ensures { IfOk result (λ refusal. TellsDefaults code.now defaults.now
+        → (view : ℕ → Option Ins) → IsView block.now view → HasPlaces view places.now
+        → TablesHold (block_of code.now block.now view)
+        → TellsBlock (block_of code.now block.now view) (option_map misfit_of refusal)) }
+{
+    let Some(count) = block.instructions.len().checked_add(1) else {
+        return Err(Memory);
+    };
+    let takers = Takers::build(alloc, block.handlers.as_slice(), count)?;
+    let sizes = sizes(alloc, code, block)?;
+    refusal_by_probe(&BlockProbe {
+        alloc,
+        code,
+        defaults,
+        block,
+        places,
+        takers: &takers,
+        sizes: &sizes,
+    })
+}
+
+/// What refuses a block of a code, or that it fits, where it is told of its blocks and lists. Most of
+/// the time goes to the flow of kinds, slots in common and held Leaves, which are asked twice where
+/// the block agrees, and else once more for each halving of its bytes.
+///
+/// # Errors
+///
+/// `Memory` for want of it, where more than 2^25 ways on of held Leaves are looked at, as a code file
+/// may have, and where the block has 2^32 bytes, handler rows or free names, as none has.
+pub fn block_refusal(
+    alloc: Global,
+    code: &Code,
+    defaults: &Defaults,
+    block: &CodeBlock,
+) -> Result<Option<Refusal>, Memory>
+    ensures { IfOk result (λ refusal. TellsDefaults code.now defaults.now
+        → (view : ℕ → Option Ins) → IsView block.now view
+        → TellsBlock (block_of code.now block.now view) (option_map misfit_of refusal)) }
+{
+    let places = Places::make(alloc, block)?;
+    match first_bad_row(&places, block)? {
+        Some(row) => Ok(Some(Refusal::Table(row))),
+        None => refusal_of_laid(alloc, code, defaults, block, &places),
+    }
+}
