@@ -62,6 +62,7 @@ fn first_start<S: PlaceSlots>(slots: &S, line: Line, starts: &[Start]) -> Option
 
 /// Whether the topmost of so many slots isn't the same at two places.
 fn is_apart<S: PlaceSlots>(slots: &S, from: Pc, to: Pc, count: u32) -> bool
+    requires { S.sound slots.now }
     ensures { (b : Block) → S.tells slots.now b
         → MatchBool result (IsApart b from.0 to.0 count) (IsTogether b from.0 to.0 count) }
 {
@@ -73,6 +74,7 @@ fn is_apart<S: PlaceSlots>(slots: &S, from: Pc, to: Pc, count: u32) -> bool
 
 /// The answer to a jump to a place.
 fn answer_at<S: PlaceSlots>(slots: &S, from: Pc, to: Pc) -> Result<Land, JumpErr>
+    requires { S.sound slots.now }
     ensures { (b : Block) → S.tells slots.now b
         → AnswersAt b (S.told slots.now) from.0 to.0 (answer_of result) }
 {
@@ -99,6 +101,7 @@ pub fn target<S: PlaceSlots>(
     from: Pc,
     line: Line,
 ) -> Result<Land, JumpErr>
+    requires { S.sound slots.now }
     ensures { (b : Block) → S.tells slots.now b → TellsSlots b (S.told slots.now)
         → b.starts ≡ starts.now → (ks : Kinds) → Gets b b.size from.0 ks
         → Jumps b from.0 ks line.0 (answer_of result) }

@@ -9,6 +9,9 @@ use pt_base::Pc;
 pub trait PlaceSlots {
     ghost told: { Self → SlotsTold };
 
+    /// What holds of it whatever the block is, so that it may be asked of slots in common.
+    ghost sound: { Self → Type 0 };
+
     /// Whether what it knows of slots in common is so of a block.
     ghost tells: { Self → Block → Type 0 };
 
@@ -22,6 +25,7 @@ pub trait PlaceSlots {
 
     /// Whether a slot, counted from the lowest, is the same at two places.
     fn is_shared(&self, slot: u32, one: Pc, other: Pc) -> bool
+        requires { sound self.now }
         ensures { (b : Block) → tells self.now b → MatchBool result
             (Common b b.size slot one.0 other.0) (Common b b.size slot one.0 other.0 → ⊥) };
 }

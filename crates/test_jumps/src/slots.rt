@@ -1,126 +1,115 @@
-//! What a jump asks of the slots of a block, for one place from which is jumped.
-ghost use Rattle.pt_joins.specs.Joins.{IsForest};
+//! Which slots lie at the places of blocks.
+ghost use Rattle.pt_place_slots.specs.Kinds.{IsKinds};
+ghost use Rattle.pt_code_slots.specs.Blocks.{AreSound};
 
 use crate::no_row::NoRow;
-use pt_base::Pc;
-use pt_code::{Code, CodeBlock};
-use pt_common_slots::{Joins, common_slots, in_common};
-use pt_jump::PlaceSlots;
-use pt_places::Places;
-use pt_verify::{Sizes, sizes};
+use pt_base::{BlockId, Pc};
+use pt_code::Code;
+use pt_code_slots::{CodeSlots, code_slots};
+use pt_instr::Kind;
+use pt_place_slots::KindsAt;
 use std::alloc::Global;
+use std::fmt::Write;
 
-/// How many slots lie at each place, up to which one completions are held, and how many of the
-/// lowest are in common with one place.
-#[derive(Drop)]
-pub struct Slots {
-    counts: Vec<Option<u32>>,
-    held: Vec<u32>,
-    shared: Vec<u32>,
-}
-
-impl PlaceSlots for Slots {
-    ghost use Rattle.std.specs.Prelude.{slice_index_or, None};
-    ghost use Rattle.pt_jump.specs.Slots.{SlotsTold};
-
-    ghost told = { λ s. record {
-      count = λ pc. slice_index_or s.counts.items pc None;
-      held = λ pc. slice_index_or s.held.items pc 0;
-    } };
-
-    // nothing is promised of a block
-    ghost tells = { λ s b. ⊥ };
-
-    fn count(&self, pc: Pc) -> Option<u32> {
-        match self.counts.get(pc.0 as usize) {
-            None => None,
-            Some(count) => *count,
-        }
-    }
-
-    fn held(&self, pc: Pc) -> u32 {
-        match self.held.get(pc.0 as usize) {
-            None => 0,
-            Some(held) => *held,
-        }
-    }
-
-    fn is_shared(&self, slot: u32, _one: Pc, other: Pc) -> bool {
-        match self.shared.get(other.0 as usize) {
-            None => false,
-            Some(shared) => slot < *shared,
-        }
+fn letter(kind: Kind) -> &'static str {
+    match kind {
+        Kind::Value => "V",
+        Kind::Cell => "C",
+        Kind::Iter => "I",
+        Kind::Exc => "X",
+        Kind::Pending => "P",
+        Kind::With => "W",
     }
 }
 
-fn numbers(alloc: Global, text: &str) -> Result<Vec<u32>, NoRow> {
-    let mut all = Vec::new(alloc);
-    for word in text.split(",") {
-        all.push(word.parse().map_err(|_| NoRow)?)?;
-    }
-    Ok(all)
-}
-
-fn counts_of(alloc: Global, table: &[Option<u64>]) -> Result<Vec<Option<u32>>, NoRow> {
-    let mut all = Vec::new(alloc);
-    for size in table {
-        all.push(match size {
-            None => None,
-            Some(size) => Some(u32::try_from(*size).map_err(|_| NoRow)?),
-        })?;
-    }
-    Ok(all)
-}
-
-/// How many of the lowest slots, of so many, are the same at two places.
-fn shared_by(joins: &Joins, most: u32, one: Pc, other: Pc) -> u32
-    requires { IsForest joins.now.nodes.items }
+/// The first place up to one whose slot has this number.
+fn first_with(slots: &CodeSlots, block: BlockId, at: u32, slot: u32, number: u32) -> u32
+    requires { AreSound slots.now }
 {
-    for slot in 0..most {
-        if !in_common(joins, slot as u64, one, other) {
-            return slot;
+    for place in 0..at {
+        if let Some((_, other)) = slots.slot_at(block, Pc(place), slot) {
+            if other == number {
+                return place;
+            }
         }
     }
-    most
+    at
 }
 
-/// The same of each place.
-fn shared_with(
-    alloc: Global,
-    joins: &Joins,
-    counts: &[Option<u32>],
-    from: Pc,
-) -> Result<Vec<u32>, NoRow>
-    requires { IsForest joins.now.nodes.items }
+/// Whether the topmost slots of one kind are those of a list.
+fn has_top(kinds: &KindsAt) -> bool
+    requires { IsKinds kinds.now }
 {
-    let mut all = Vec::new(alloc);
-    for at in 0..counts.len() {
-        let to = Pc(u32::try_from(at).map_err(|_| NoRow)?);
-        all.push(shared_by(joins, counts[at].unwrap_or(0), from, to))?;
+    let length = kinds.len();
+    match kinds.top() {
+        None => length == 0,
+        Some(top) => kinds.get(length.saturating_sub(1)) == Some(top.kind)
+            && top.below.len().saturating_add(top.count) == length,
     }
-    Ok(all)
 }
 
-impl Slots {
-    /// Of a block that fits, for the completions that its places hold.
-    pub fn make(
-        alloc: Global,
-        code: &Code,
-        block: &CodeBlock,
-        from: Pc,
-        held: &str,
-    ) -> Result<Slots, NoRow> {
-        let Sizes::Agree(table) = sizes(alloc, code, block)? else {
-            return Err(NoRow);
-        };
-        let places = Places::make(alloc, block)?;
-        let joins = common_slots(alloc, block, &places, &table)?;
-        let counts = counts_of(alloc, &table)?;
-        let shared = shared_with(alloc, &joins, &counts, from)?;
-        Ok(Slots {
-            counts,
-            held: numbers(alloc, held)?,
-            shared,
-        })
+/// Writes the kind of a slot, and the first place with which it is in common.
+fn slot_in(
+    line: &mut String,
+    slots: &CodeSlots,
+    kinds: &KindsAt,
+    block: BlockId,
+    at: u32,
+    slot: u64,
+) -> Result<(), NoRow>
+    requires slots { AreSound slots.now }
+    requires kinds { IsKinds kinds.now }
+{
+    let narrow = u32::try_from(slot).map_err(|_| NoRow)?;
+    let (Some(kind), Some((same, number))) = (kinds.get(slot), slots.slot_at(block, Pc(at), narrow))
+    else {
+        return Err(NoRow);
+    };
+    if kind != same {
+        return Err(NoRow);
     }
+    line.push_str(letter(kind))?;
+    write!(line, "{},", first_with(slots, block, at, narrow, number))?;
+    Ok(())
+}
+
+/// Writes the slots of a place, from the lowest.
+fn place_in(line: &mut String, slots: &CodeSlots, block: BlockId, at: u32) -> Result<(), NoRow>
+    requires { AreSound slots.now }
+{
+    let Some(kinds) = slots.kinds_at(block, Pc(at)) else {
+        return Ok(());
+    };
+    if !has_top(&kinds) {
+        return Err(NoRow);
+    }
+    write!(line, "{at}:")?;
+    for slot in 0..kinds.len() {
+        slot_in(line, slots, &kinds, block, at, slot)?;
+    }
+    line.push_str(" ")?;
+    Ok(())
+}
+
+/// Writes the slots of each place of a block, up to its end.
+fn block_in(line: &mut String, slots: &CodeSlots, block: BlockId, end: usize) -> Result<(), NoRow>
+    requires { AreSound slots.now }
+{
+    let end = u32::try_from(end).map_err(|_| NoRow)?;
+    for at in 0..end {
+        place_in(line, slots, block, at)?;
+    }
+    line.push_str(";")?;
+    Ok(())
+}
+
+/// Writes the slots of each place of code that fits.
+pub fn slots_in(line: &mut String, alloc: Global, code: &Code) -> Result<(), NoRow> {
+    let slots = code_slots(alloc, code)?;
+    let blocks = code.blocks.as_slice();
+    for number in 0..blocks.len() {
+        let id = BlockId(u32::try_from(number).map_err(|_| NoRow)?);
+        block_in(line, &slots, id, blocks[number].instructions.len())?;
+    }
+    Ok(())
 }

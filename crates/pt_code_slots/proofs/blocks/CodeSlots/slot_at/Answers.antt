@@ -1,0 +1,24 @@
+use Rattle.std.proofs.Common.{◌≡◌, Some, false, length, subst}
+use Rattle.std.specs.Prelude.{nat_lt, slice_get}
+use Rattle.pt_code_slots.proofs.Making.{lent, some_there, these_tell}
+use Rattle.pt_fits.specs.Block.{block_of}
+use Rattle.pt_code_slots.proofs.blocks.CodeSlots.slot_at.Goals as goal
+
+pub returns-in-None : goal.returns-in-None
+returns-in-None c code b view told is v = absurd (some_there code c.args.self.now told c.args.block.0 b is view v
+    (subst (λ xs. false ≡ nat_lt c.args.block.0 (length xs)) c.deref.ensures.value c.in-None.ensures.lookup.0))
+
+pub slot_at-requires : goal.slot_at-requires
+slot_at-requires c = c.requires c.args.block.0 c.in-Some.slots.now
+    (subst (λ xs. slice_get xs c.args.block.0 ≡ Some c.in-Some.slots.now) c.deref.ensures.value
+    (lent c.deref.result.now c.args.block.0 c.in-Some.slots.now c.in-Some.ensures.lookup.0 c.in-Some.ensures.lookup.1))
+
+pub returns-in-Some : goal.returns-in-Some
+returns-in-Some c code b view told is v =
+    let here = (subst (λ xs. slice_get xs c.args.block.0 ≡ Some c.in-Some.slots.now) c.deref.ensures.value
+    (lent c.deref.result.now c.args.block.0 c.in-Some.slots.now c.in-Some.ensures.lookup.0 c.in-Some.ensures.lookup.1)) in
+    record {
+      tables = c.in-Some.slots.now;
+      is = here;
+      told = c.slot_at.ensures (block_of code b view) (these_tell code c.args.self.now told c.args.block.0 b is view v c.in-Some.slots.now here);
+    }

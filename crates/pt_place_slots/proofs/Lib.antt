@@ -1,0 +1,6 @@
+mod Elements
+mod Held
+mod Listing
+mod Seen
+mod Assembly
+mod Answering

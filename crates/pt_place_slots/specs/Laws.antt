@@ -1,0 +1,14 @@
+-- What is said of the tables of a block.
+use Rattle.std.specs.Prelude.{◌≡◌, ◌↔◌, ℕ}
+use Rattle.pt_fits.specs.Block.{Block}
+use Rattle.pt_fits.specs.Leaves.{Common}
+use Rattle.pt_jump.specs.Slots.{TellsSlots}
+use Rattle.pt_place_slots.specs.declared.tables.BlockSlots.{BlockSlots}
+use Rattle.pt_place_slots.specs.Tables.{IsNumber, IsSound, TellsBlock, told_of}
+
+abbrev pub NumbersTell : Block → BlockSlots → Type 0
+NumbersTell b s = TellsBlock b s → (slot q r m n : ℕ) → IsNumber s q slot m → IsNumber s r slot n
+    → (m ≡ n) ↔ Common b b.size slot q r
+
+abbrev pub AnswerJumps : Block → BlockSlots → Type 0
+AnswerJumps b s = IsSound s → TellsBlock b s → TellsSlots b (told_of s)
