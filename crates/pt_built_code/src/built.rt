@@ -1,0 +1,29 @@
+//! The first block that isn't supported.
+
+ghost use Rattle.std.specs.Prelude.{IfOk, MatchOption};
+ghost use Rattle.pt_built_code.specs.Built.{BuiltCode, IsUnbuiltCode};
+ghost use Rattle.pt_code.specs.File.{HasFile};
+
+use crate::blocks::is_built;
+use crate::texts::numbers_of_texts;
+use pt_base::{Line, Memory};
+use pt_code::Code;
+use pt_heap::Seed;
+use std::alloc::Global;
+
+/// The first line of the first block of a code that isn't supported yet, `None` where each is. The
+/// seed is that of the hashes of texts. For a code file of n bytes it takes expected time
+/// O(n log n), and O(n) memory.
+pub fn unbuilt(alloc: Global, seed: Seed, code: &Code) -> Result<Option<Line>, Memory>
+    requires { HasFile code.now }
+    ensures { IfOk result (λ found.
+        MatchOption found (BuiltCode code.now) (IsUnbuiltCode code.now)) }
+{
+    let numbers = numbers_of_texts(alloc, seed, code.texts.as_slice())?;
+    for block in code.blocks.as_slice() {
+        if !is_built(alloc, code, numbers.as_slice(), block)? {
+            return Ok(Some(block.first_line));
+        }
+    }
+    Ok(None)
+}

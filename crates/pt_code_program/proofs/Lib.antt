@@ -1,0 +1,5 @@
+mod Lists
+pub mod Objects
+pub mod Tables
+pub mod Operands
+pub mod Runs

@@ -1,0 +1,2 @@
+pub mod CodeProgram
+pub mod Laws

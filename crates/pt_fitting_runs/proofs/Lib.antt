@@ -1,0 +1,2 @@
+mod PlainAsks
+pub mod Runs

@@ -1,0 +1,38 @@
+use Rattle.pt_sinks.specs.declared.writing.WriteErr.TheVariants as error
+use Rattle.pt_runner.proofs.AdvanceLemmas.{if_err}
+use Rattle.pt_run_code.proofs.JoinLemmas.{code_run, has_blocks, is_ready, all_finished, all_broke_off, broke_off_at_once}
+use Rattle.pt_run_code.proofs.run.run_code.Goals as goal
+
+pub load-requires : goal.load-requires
+load-requires g c = has_blocks c.args.code.now c.requires.has_file
+
+pub run-requires : goal.run-requires
+run-requires g c = record {
+  ready = (
+    code_run c.args.code.now c.requires c.in_ok-loaded.loaded c.in_ok-loaded.ensures.tables c.in_ok-loaded.ensures.room,
+    is_ready c.args.code.now c.requires c.in_ok-loaded.loaded c.in_ok-loaded.ensures.tables c.in_ok-loaded.ensures.room c.in_ok-machine.machine c.in_ok-machine.ensures.begins
+        c.in_ok-machine.ensures.alone c.args.bound,
+  );
+}
+
+pub returns-in_err-loaded-clause-err : goal.returns-in_err-loaded-clause-err
+returns-in_err-loaded-clause-err g c =
+    if_err _ c.from_residual.result error.Memory c.from_residual.ensures
+    (broke_off_at_once c.args.code.now c.args.bound c.args.events _ _ _ _ (λ _ _ t. t) (λ _ _ t. t))
+
+pub returns-in_err-machine-clause-err : goal.returns-in_err-machine-clause-err
+returns-in_err-machine-clause-err g c =
+    if_err _ c.from_residual-in_err-machine.result error.Memory c.from_residual-in_err-machine.ensures
+    (broke_off_at_once c.args.code.now c.args.bound c.args.events _ _ _ _ (λ _ _ t. t) (λ _ _ t. t))
+
+pub returns-clause-ok : goal.returns-clause-ok
+returns-clause-ok g c =
+    all_finished c.args.code.now c.requires c.in_ok-loaded.loaded c.in_ok-loaded.ensures.tables c.in_ok-loaded.ensures.room c.args.bound c.args.events _ _ _ _ c.in_ok-machine.machine
+    (is_ready c.args.code.now c.requires c.in_ok-loaded.loaded c.in_ok-loaded.ensures.tables c.in_ok-loaded.ensures.room c.in_ok-machine.machine c.in_ok-machine.ensures.begins
+    c.in_ok-machine.ensures.alone c.args.bound) c.run.result c.run.ensures.ok
+
+pub returns-clause-err : goal.returns-clause-err
+returns-clause-err g c =
+    all_broke_off c.args.code.now c.requires c.in_ok-loaded.loaded c.in_ok-loaded.ensures.tables c.in_ok-loaded.ensures.room c.args.bound c.args.events _ _ _ _ c.in_ok-machine.machine
+    (is_ready c.args.code.now c.requires c.in_ok-loaded.loaded c.in_ok-loaded.ensures.tables c.in_ok-loaded.ensures.room c.in_ok-machine.machine c.in_ok-machine.ensures.begins
+    c.in_ok-machine.ensures.alone c.args.bound) c.run.result c.run.ensures.err

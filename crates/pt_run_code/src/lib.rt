@@ -1,0 +1,7 @@
+//! The run of a code from anyone that is read and fits: the tables and the machine made of it, and
+//! their run.
+#![tactic(auto)]
+
+mod run;
+
+pub use run::run_code;
