@@ -20,7 +20,7 @@ use Rattle.pt_prog.specs.declared.end.End.{End}
 use Rattle.pt_prog.specs.declared.end.End.TheVariants as end
 use Rattle.pt_prog.specs.LogText.{Text}
 use Rattle.pt_prog.specs.RunEnds.{ended}
-use Rattle.pt_prog.specs.Answer.{BrokeOffFor, IsAnswer, IsAnswerFor, IsEndFor, IsTextOf, WroteAll, WroteAllFor, WroteFront, WroteFrontFor, Wrote, asked_for, end_of, of_no_text, of_its_text, of_text, refused, unbuilt, ran, wrote_code, usage, read_fault, too_long}
+use Rattle.pt_prog.specs.Answer.{BrokeOffFor, IsAnswer, IsAnswerFor, IsCodeAnswer, IsEndFor, IsTextOf, WroteAll, WroteAllFor, WroteFront, WroteFrontFor, Wrote, asked_for, end_of, of_no_text, of_its_text, of_text, bad_code, unbuilt_code, ran_code, of_code, refused, unbuilt, ran, wrote_code, usage, read_fault, too_long}
 
 -- an answer is neither a fault of a write nor want of memory
 abbrev IsOrdinary : End → Type 0
@@ -35,8 +35,14 @@ ordinary_end n (bare.raised v w) = tt
 ordinary_end n bare.spent = tt
 ordinary_end n (bare.outside_at what line) = tt
 
+ordinary_code : (a : Asked) (bytes : Text) (e : End) (ws : List Write) → IsCodeAnswer a bytes e ws → IsOrdinary e
+ordinary_code a bytes e ws (bad_code error r is w) = subst IsOrdinary (sym is) tt
+ordinary_code a bytes e ws (unbuilt_code line r is w) = subst IsOrdinary (sym is) tt
+ordinary_code a bytes e ws (ran_code c o k r runs is w) = subst IsOrdinary (sym is) (ordinary_end a.steps o.ending)
+
 ordinary_for : (a : Asked) (text : Text) (e : End) (ws : List Write) → IsAnswerFor a text e ws → IsOrdinary e
-ordinary_for a text e ws (refused error r is w) = subst IsOrdinary (sym is) tt
+ordinary_for a text e ws (of_code r x) = ordinary_code a text e ws x
+ordinary_for a text e ws (refused error n r is w) = subst IsOrdinary (sym is) tt
 ordinary_for a text e ws (unbuilt line r u is w) = subst IsOrdinary (sym is) tt
 ordinary_for a text e ws (ran ss o k r b runs code is w) = subst IsOrdinary (sym is) (ordinary_end a.steps o.ending)
 ordinary_for a text e ws (wrote_code lines r l is w) = subst IsOrdinary (sym is) tt
@@ -61,6 +67,7 @@ module _ (misread : Type 0) (words : List (String Global)) (told : Text → Told
   wrote_all (end.Spent acts) ws i t = record { writes = ws; is_answer = i; took = t }
   wrote_all (end.Outside what line) ws i t = record { writes = ws; is_answer = i; took = t }
   wrote_all end.Usage ws i t = record { writes = ws; is_answer = i; took = t }
+  wrote_all (end.BadCode error) ws i t = record { writes = ws; is_answer = i; took = t }
   wrote_all (end.Refused error) ws i t = record { writes = ws; is_answer = i; took = t }
   wrote_all (end.TooLong which) ws i t = record { writes = ws; is_answer = i; took = t }
   wrote_all end.ReadFault ws i t = record { writes = ws; is_answer = i; took = t }

@@ -22,13 +22,24 @@ use Rattle.pt_run_script.specs.ScriptRun.{RunsTo}
 use Rattle.pt_built.specs.Built.{Built, unbuilt_of}
 use Rattle.pt_front.proofs.Once.{one_script, one_refusal, never_both}
 use Rattle.pt_words.specs.Words.{Asked}
+use Rattle.pt_words.specs.declared.line.Command.{Command}
+use Rattle.pt_words.specs.declared.line.Command.TheVariants as command
+use Rattle.pt_prog.specs.Limits.{reads_code}
 use Rattle.pt_prog.specs.declared.end.End.{End}
 use Rattle.pt_prog.specs.declared.end.End.TheVariants as end
 use Rattle.pt_prog.specs.LogText.{Text, final, line_of, totals}
-use Rattle.pt_prog.specs.Answer.{IsAnswerFor, IsEndFor, IsUnbuilt, IsBuilt, end_of, is_run, last_text, run_writes, tells_events, refused, unbuilt, ran, wrote_code}
+use Rattle.pt_prog.specs.Answer.{IsAnswerFor, IsEndFor, IsUnbuilt, IsBuilt, end_of, is_run, last_text, run_writes, tells_events, of_code, refused, unbuilt, ran, wrote_code}
 
 one_ending : (ss : Stms) (n : ℕ) (o p : Outcome Value World) → RunsTo ss n o → RunsTo ss n p → o ≡ p
 one_ending ss n o p a b = bare_runs_once (tree_machine value.None ss) (heap_host (program_of ss)) n the_module no_names (start_world (program_of ss)) o p a b
+
+-- what is run as a script is no code
+run_no_code : (c : Command) → is_run c ≡ true → reads_code c ≡ false
+run_no_code command.Run e = refl
+run_no_code command.Trace e = refl
+run_no_code command.Dis e = refl
+run_no_code command.Build e = refl
+run_no_code command.Exec e = absurd (true≢false (sym e))
 
 module _ (a : Asked) (text : Text) where
   one_line : (k l : Line) → IsUnbuilt text k → IsUnbuilt text l → end.Unbuilt k ≡ end.Unbuilt l
@@ -51,26 +62,31 @@ module _ (a : Asked) (text : Text) where
   run_or_code : is_run a.command ≡ true → is_run a.command ≡ false → ⊥
   run_or_code r l = true≢false (sym r ∙ l)
 
-  answers_once : (e f : End) (ws vs : List Write) → IsAnswerFor a text e ws → IsAnswerFor a text f vs → e ≡ f
-  answers_once e f ws vs (refused q x i u) (refused r y j v) = i ∙ ap (λ r. end.Refused r) (one_refusal text q r x y) ∙ sym j
-  answers_once e f ws vs (refused q x i u) (unbuilt l b y j v) = absurd (never_both text y.script q y.is_script x)
-  answers_once e f ws vs (refused q x i u) (ran ss o k b y r c j v) = absurd (never_both text ss q y.is_script x)
-  answers_once e f ws vs (refused q x i u) (wrote_code ls b y j v) = absurd (never_both text y.script q y.is_script x)
-  answers_once e f ws vs (unbuilt k a x i u) (refused r y j v) = absurd (never_both text x.script r x.is_script y)
-  answers_once e f ws vs (unbuilt k a x i u) (unbuilt l b y j v) = i ∙ one_line k l x y ∙ sym j
-  answers_once e f ws vs (unbuilt k a x i u) (ran ss o m b y r c j v) = absurd (not_both k ss x y)
-  answers_once e f ws vs (unbuilt k a x i u) (wrote_code ls b y j v) = absurd (run_or_code a b)
-  answers_once e f ws vs (ran ss o k a x r c i u) (refused q y j v) = absurd (never_both text ss q x.is_script y)
-  answers_once e f ws vs (ran ss o k a x r c i u) (unbuilt l b y j v) = absurd (not_both l ss y x)
-  answers_once e f ws vs (ran ss o k a x r c i u) (ran zz p m b y q d j v) = i ∙ one_end ss zz o p x y r q ∙ sym j
-  answers_once e f ws vs (ran ss o k a x r c i u) (wrote_code ls b y j v) = absurd (run_or_code a b)
-  answers_once e f ws vs (wrote_code ls a x i u) (refused q y j v) = absurd (never_both text x.script q x.is_script y)
-  answers_once e f ws vs (wrote_code ls a x i u) (unbuilt l b y j v) = absurd (run_or_code b a)
-  answers_once e f ws vs (wrote_code ls a x i u) (ran zz p m b y q d j v) = absurd (run_or_code b a)
-  answers_once e f ws vs (wrote_code ls a x i u) (wrote_code ms b y j v) = i ∙ sym j
+  code_or_script : {A : Type 0} → reads_code a.command ≡ false → reads_code a.command ≡ true → A
+  code_or_script n r = absurd (true≢false (sym r ∙ n))
 
-  pub once : (e f : End) → IsEndFor a text e → IsEndFor a text f → e ≡ f
-  once e f i j = answers_once e f i.0 j.0 i.1 j.1
+  answers_once : reads_code a.command ≡ false → (e f : End) (ws vs : List Write) → IsAnswerFor a text e ws → IsAnswerFor a text f vs → e ≡ f
+  answers_once plain e f ws vs (of_code r x) y = code_or_script plain r
+  answers_once plain e f ws vs x (of_code r y) = code_or_script plain r
+  answers_once plain e f ws vs (refused q n x i u) (refused r m y j v) = i ∙ ap (λ r. end.Refused r) (one_refusal text q r x y) ∙ sym j
+  answers_once plain e f ws vs (refused q n x i u) (unbuilt l b y j v) = absurd (never_both text y.script q y.is_script x)
+  answers_once plain e f ws vs (refused q n x i u) (ran ss o k b y r c j v) = absurd (never_both text ss q y.is_script x)
+  answers_once plain e f ws vs (refused q n x i u) (wrote_code ls b y j v) = absurd (never_both text y.script q y.is_script x)
+  answers_once plain e f ws vs (unbuilt k a x i u) (refused r m y j v) = absurd (never_both text x.script r x.is_script y)
+  answers_once plain e f ws vs (unbuilt k a x i u) (unbuilt l b y j v) = i ∙ one_line k l x y ∙ sym j
+  answers_once plain e f ws vs (unbuilt k a x i u) (ran ss o m b y r c j v) = absurd (not_both k ss x y)
+  answers_once plain e f ws vs (unbuilt k a x i u) (wrote_code ls b y j v) = absurd (run_or_code a b)
+  answers_once plain e f ws vs (ran ss o k a x r c i u) (refused q n y j v) = absurd (never_both text ss q x.is_script y)
+  answers_once plain e f ws vs (ran ss o k a x r c i u) (unbuilt l b y j v) = absurd (not_both l ss y x)
+  answers_once plain e f ws vs (ran ss o k a x r c i u) (ran zz p m b y q d j v) = i ∙ one_end ss zz o p x y r q ∙ sym j
+  answers_once plain e f ws vs (ran ss o k a x r c i u) (wrote_code ls b y j v) = absurd (run_or_code a b)
+  answers_once plain e f ws vs (wrote_code ls a x i u) (refused q n y j v) = absurd (never_both text x.script q x.is_script y)
+  answers_once plain e f ws vs (wrote_code ls a x i u) (unbuilt l b y j v) = absurd (run_or_code b a)
+  answers_once plain e f ws vs (wrote_code ls a x i u) (ran zz p m b y q d j v) = absurd (run_or_code b a)
+  answers_once plain e f ws vs (wrote_code ls a x i u) (wrote_code ms b y j v) = i ∙ sym j
+
+  pub once : (e f : End) → reads_code a.command ≡ false → IsEndFor a text e → IsEndFor a text f → e ≡ f
+  once e f plain i j = answers_once plain e f i.0 j.0 i.1 j.1
 
   -- and its run prints one output, whatever the log has
   no_prints : (b : Bool) (acts instructions depth : ℕ) → outs (totals b acts instructions depth) ≡ []
@@ -99,13 +115,15 @@ module _ (a : Asked) (text : Text) where
   same_final e f ws vs same u v = ap outs (u ∙ ap final same ∙ sym v)
 
   pub prints_once : (e f : End) (ws vs : List Write) → is_run a.command ≡ true → IsAnswerFor a text e ws → IsAnswerFor a text f vs → outs ws ≡ outs vs
-  prints_once e f ws vs runs (refused q x i u) (refused r y j v) = same_final e f ws vs (answers_once e f ws vs (refused q x i u) (refused r y j v)) u v
-  prints_once e f ws vs runs (refused q x i u) (unbuilt l b y j v) = absurd (never_both text y.script q y.is_script x)
-  prints_once e f ws vs runs (refused q x i u) (ran ss o k b y r c j v) = absurd (never_both text ss q y.is_script x)
-  prints_once e f ws vs runs (unbuilt k b x i u) (refused r y j v) = absurd (never_both text x.script r x.is_script y)
-  prints_once e f ws vs runs (unbuilt k b x i u) (unbuilt l c y j v) = same_final e f ws vs (answers_once e f ws vs (unbuilt k b x i u) (unbuilt l c y j v)) u v
+  prints_once e f ws vs runs (of_code r x) y = code_or_script (run_no_code a.command runs) r
+  prints_once e f ws vs runs x (of_code r y) = code_or_script (run_no_code a.command runs) r
+  prints_once e f ws vs runs (refused q n x i u) (refused r m y j v) = same_final e f ws vs (answers_once (run_no_code a.command runs) e f ws vs (refused q n x i u) (refused r m y j v)) u v
+  prints_once e f ws vs runs (refused q n x i u) (unbuilt l b y j v) = absurd (never_both text y.script q y.is_script x)
+  prints_once e f ws vs runs (refused q n x i u) (ran ss o k b y r c j v) = absurd (never_both text ss q y.is_script x)
+  prints_once e f ws vs runs (unbuilt k b x i u) (refused r m y j v) = absurd (never_both text x.script r x.is_script y)
+  prints_once e f ws vs runs (unbuilt k b x i u) (unbuilt l c y j v) = same_final e f ws vs (answers_once (run_no_code a.command runs) e f ws vs (unbuilt k b x i u) (unbuilt l c y j v)) u v
   prints_once e f ws vs runs (unbuilt k b x i u) (ran ss o m c y r d j v) = absurd (not_both k ss x y)
-  prints_once e f ws vs runs (ran ss o k b x r c i u) (refused q y j v) = absurd (never_both text ss q x.is_script y)
+  prints_once e f ws vs runs (ran ss o k b x r c i u) (refused q n y j v) = absurd (never_both text ss q x.is_script y)
   prints_once e f ws vs runs (ran ss o k b x r h i u) (unbuilt l c y j v) = absurd (not_both l ss y x)
   prints_once e f ws vs runs (ran ss o k b x r h i u) (ran zz p m c y q d j v) = ap outs u ∙ one_output ss zz o p k m x y r q ∙ sym (ap outs v)
   prints_once e f ws vs runs (wrote_code ls b x i u) y = absurd (run_or_code runs b)

@@ -1,6 +1,6 @@
 -- From what was written of a run, and behind it, to the answer for a text.
 use Rattle.std.proofs.Common.{◌≡◌, ◌∙◌, ◌++◌, ◌-◌, ◌^◌, ℕ, min, Bool, true, List, Option, Some, None, Result, Ok, Err, IfOk, IfErr, inl, inr, refl, sym, ap, subst}
-use Rattle.std.specs.Prelude.{IsErr, IsErrAnd}
+use Rattle.std.specs.Prelude.{IsErr, IsErrAnd, MatchOption}
 use Rattle.pt_base.specs.Taken.{Pieces}
 use Rattle.pt_tree.specs.Syntax.{Stms}
 use Rattle.pt_run.specs.Run.{Write}
@@ -14,6 +14,13 @@ use Rattle.pt_runner.proofs.AdvanceLemmas.{if_err}
 use Rattle.pt_runner.specs.declared.ending.Ended.{Ended}
 use Rattle.pt_runner.specs.declared.ending.RunEnd.{RunEnd}
 use Rattle.pt_runner.specs.declared.ending.RunEnd.TheVariants as run
+use Rattle.pt_bare_runs.specs.Strides.{Outcome}
+use Rattle.pt_code.specs.declared.Code.{Code}
+use Rattle.pt_runner.specs.Work.{Work}
+use Rattle.pt_base.specs.declared.numbers.Line.{Line}
+use Rattle.pt_verifier.specs.Verdict.{AllFit}
+use Rattle.pt_built_code.specs.Built.{BuiltCode, IsUnbuiltCode}
+use Rattle.pt_run_code.specs.CodeRun.{CodeBrokeOff, CodeFinished}
 use Rattle.pt_run_script.specs.ScriptRun.{ScriptBrokeOff, ScriptFinished}
 use Rattle.pt_sinks.specs.Writing.{Took, TookFront}
 use Rattle.pt_sinks.specs.declared.writing.WriteErr.{WriteErr}
@@ -24,7 +31,8 @@ use Rattle.pt_prog.specs.declared.end.End.{End}
 use Rattle.pt_prog.specs.declared.end.End.TheVariants as end
 use Rattle.pt_prog.specs.LogText.{Text, final_text, line_of, totals}
 use Rattle.pt_prog.specs.RunEnds.{end_of_run, last_of_run}
-use Rattle.pt_prog.specs.Answer.{BrokeOffFor, IsAnswerFor, IsBuilt, WroteAllFor, WroteFrontFor, end_of, is_run, last_text, of_answer, of_run, ran, run_writes, tells_events}
+use Rattle.pt_prog.specs.Limits.{reads_code}
+use Rattle.pt_prog.specs.Answer.{BrokeOffFor, IsAnswerFor, IsBuilt, IsFileOf, IsRunnableFile, IsUnbuiltFile, WroteAllFor, WroteFrontFor, end_of, is_run, last_text, of_answer, of_code, of_code_run, of_run, ran, ran_code, run_writes, tells_events}
 
 -- the end of a run is that of its outcome, and so is the log's last text
 pub same_end : (n : ℕ) (x : RunEnd) (e : Ending Value World) → IsEnding x e → end_of_run n x ≡ end_of n e
@@ -108,11 +116,39 @@ module _ (a : Asked) (text : Text) (out_old out_new log_old log_new : Pieces →
   every_ok_of (Ok x) ws e i f = record { writes = ws; is_answer = subst (λ y. IsAnswerFor a text y ws) (sym f.0) i; took = f.1 }
   every_ok_of (Err x) ws e i f = tt
 
--- a run that came to its outcome, and what the log got behind it
+-- what a run took that came to an outcome by this work
+pub record RunTaken (a : Asked) (x : Ended) (o : Outcome Value World) (w : Work) (out_old out_ran log_old log_ran : Pieces → Pieces → Type 0) : Type 0 where
+  units : o.units ≡ x.totals.acts
+  instructions : x.totals.instructions ≡ min w.instructions (2 ^ 64 - 1)
+  depth : x.totals.depth ≡ w.depth
+  ends : IsEnding x.end o.ending
+  took : Took out_old out_ran log_old log_ran (kept (tells_events a) o.written)
+
+-- the answer of a run, for a text of a script or for the bytes of code
+abbrev pub Says : Asked → Text → Outcome Value World → Work → Type 0
+Says a text o w = (e : End) (ws : List Write) → e ≡ end_of a.steps o.ending → ws ≡ run_writes a o w → IsAnswerFor a text e ws
+
 module _ (a : Asked) (text : Text) (ss : Stms) (is : IsBuilt text ss) (runs : is_run a.command ≡ true) (x : Ended) (out_old out_ran log_old log_ran : Pieces → Pieces → Type 0)
     (f : ScriptFinished ss a.steps (tells_events a) out_old out_ran log_old log_ran x) where
+  pub script_taken : RunTaken a x f.outcome f.work out_old out_ran log_old log_ran
+  script_taken = record { units = f.units; instructions = f.instructions; depth = f.depth; ends = f.ends; took = f.took }
+
+  pub script_says : Says a text f.outcome f.work
+  script_says e ws is_end are = ran ss f.outcome f.work runs is f.runs f.code_runs is_end are
+
+module _ (a : Asked) (text : Text) (c : Code) (is : IsRunnableFile text c) (reads : reads_code a.command ≡ true) (x : Ended)
+    (out_old out_ran log_old log_ran : Pieces → Pieces → Type 0) (f : CodeFinished c a.steps (tells_events a) out_old out_ran log_old log_ran x) where
+  pub code_taken : RunTaken a x f.outcome f.work out_old out_ran log_old log_ran
+  code_taken = record { units = f.units; instructions = f.instructions; depth = f.depth; ends = f.ends; took = f.took }
+
+  pub code_says : Says a text f.outcome f.work
+  code_says e ws is_end are = of_code reads (ran_code c f.outcome f.work is f.runs is_end are)
+
+-- a run that came to its outcome, and what the log got behind it
+module _ (a : Asked) (text : Text) (x : Ended) (o : Outcome Value World) (w : Work) (says : Says a text o w) (out_old out_ran log_old log_ran : Pieces → Pieces → Type 0)
+    (f : RunTaken a x o w out_old out_ran log_old log_ran) where
   abbrev written : List Write
-  written = kept (tells_events a) f.outcome.written
+  written = kept (tells_events a) o.written
 
   abbrev totals_written : List Write
   totals_written = totals a.stats x.totals.acts x.totals.instructions x.totals.depth
@@ -123,17 +159,17 @@ module _ (a : Asked) (text : Text) (ss : Stms) (is : IsBuilt text ss) (runs : is
   abbrev all_written : List Write
   all_written = written ++ (totals_written ++ last_written)
 
-  same_totals : totals_written ≡ totals a.stats f.outcome.units (min f.work.instructions (2 ^ 64 - 1)) f.work.depth
+  same_totals : totals_written ≡ totals a.stats o.units (min w.instructions (2 ^ 64 - 1)) w.depth
   same_totals = λ i. totals a.stats (sym f.units i) (f.instructions i) (f.depth i)
 
-  is_all : all_written ≡ run_writes a f.outcome f.work
+  is_all : all_written ≡ run_writes a o w
   is_all =
       ap (λ ts. written ++ (ts ++ last_written)) same_totals
-      ∙ ap (λ t. written ++ (totals a.stats f.outcome.units (min f.work.instructions (2 ^ 64 - 1)) f.work.depth ++ line_of t))
-      (same_last a.steps x.end f.outcome.ending f.ends)
+      ∙ ap (λ t. written ++ (totals a.stats o.units (min w.instructions (2 ^ 64 - 1)) w.depth ++ line_of t))
+      (same_last a.steps x.end o.ending f.ends)
 
   pub answer : IsAnswerFor a text (end_of_run a.steps x.end) all_written
-  answer = ran ss f.outcome f.work runs is f.runs f.code_runs (same_end a.steps x.end f.outcome.ending f.ends) is_all
+  answer = says (end_of_run a.steps x.end) all_written (same_end a.steps x.end o.ending f.ends) is_all
 
   module _ (out_new log_new : Pieces → Pieces → Type 0) where
     pub front_of_totals : (why : WriteErr) → TookFront out_ran out_new log_ran log_new why totals_written
@@ -171,3 +207,18 @@ module _ (a : Asked) (text : Text) (ss : Stms) (is : IsBuilt text ss) (runs : is
   pub front_of_run : (why : WriteErr) → ScriptBrokeOff ss a.steps (tells_events a) out_old out_new log_old log_new why
       → WroteFrontFor out_old out_new log_old log_new why a text
   front_of_run why b = of_run ss b.written runs is b.first b.took
+
+module _ (a : Asked) (text : Text) (c : Code) (is : IsRunnableFile text c) (reads : reads_code a.command ≡ true) (out_old out_new log_old log_new : Pieces → Pieces → Type 0) where
+  pub front_of_code_run : (why : WriteErr) → CodeBrokeOff c a.steps (tells_events a) out_old out_new log_old log_new why
+      → WroteFrontFor out_old out_new log_old log_new why a text
+  front_of_code_run why b = of_code_run c b.written reads is b.first b.took
+
+-- of a code file that is read and fits
+module _ (bytes : Text) (code : Code) (is : IsFileOf bytes code) (fits : AllFit code) where
+  pub runnable : (o : Option Line) → MatchOption o (BuiltCode code) (IsUnbuiltCode code) → o ≡ None → IsRunnableFile bytes code
+  runnable None built e = record { is_file = is.is_file; is_runnable = record { has_file = is.has_file; fit = fits; built = built } }
+  runnable (Some line) built e = absurd (let no : Some line ≡ None = e in cc)
+
+  pub unbuilt_file : (o : Option Line) (line : Line) → MatchOption o (BuiltCode code) (IsUnbuiltCode code) → o ≡ Some line → IsUnbuiltFile bytes line
+  unbuilt_file o line found e =
+      record { code = code; is_file = is; fits = fits; is_first = subst (λ p. MatchOption p (BuiltCode code) (IsUnbuiltCode code)) e found }

@@ -1,5 +1,5 @@
 -- What the program answers to its words and files, and what it writes: to out and to the log, to each in its order.
-use Rattle.std.specs.Prelude.{◌≡◌, ◌≤◌, ◌-◌, ◌^◌, ℕ, List, [], ◌∷◌, ◌++◌, Option, Some, None, Bool, true, false, ◌||◌, ◌⊎◌, length, map, min, option_map, string_bytes}
+use Rattle.std.specs.Prelude.{◌≡◌, ◌≤◌, ◌-◌, ◌^◌, ℕ, List, [], ◌∷◌, ◌++◌, Option, Some, None, Bool, true, false, ◌||◌, ◌⊎◌, length, map, min, option_map, string_bytes, Err}
 use Rattle.std.specs.declared.string.String.{String}
 use Rattle.std.specs.declared.alloc.Global.{Global}
 use Rattle.pt_base.specs.declared.numbers.Line.{Line}
@@ -23,6 +23,15 @@ use Rattle.pt_front.specs.Text.{IsScript, IsRefused}
 use Rattle.pt_front.specs.declared.refusal.Refusal.{Refusal}
 use Rattle.pt_code.specs.declared.Code.{Code}
 use Rattle.pt_code.specs.File.{HasFile, file}
+use Rattle.pt_code.specs.Refusals.{answer}
+use Rattle.pt_code.specs.declared.refusing.CodeErr.{CodeErr}
+use Rattle.pt_code.specs.declared.refusing.CodeErr.TheVariants as format
+use Rattle.pt_verifier.specs.Verdict.{AllFit, IsRefused as IsRefusedCode}
+use Rattle.pt_verifier.specs.declared.error.VerifyErr.{VerifyErr}
+use Rattle.pt_verifier.specs.declared.error.VerifyErr.TheVariants as misfit
+use Rattle.pt_built_code.specs.Built.{IsUnbuiltCode}
+use Rattle.pt_code_program.specs.Laws.{IsRunnable}
+use Rattle.pt_run_code.specs.CodeRun.{CodeRunsTo, CodeWritesFirst}
 use Rattle.pt_compile.specs.ScriptCode.{code_of}
 use Rattle.pt_listing.specs.Listing.{IsListing}
 use Rattle.pt_words.specs.Words.{Asked, command_line}
@@ -31,16 +40,27 @@ use Rattle.pt_words.specs.declared.line.Command.TheVariants as command
 use Rattle.pt_prog.specs.declared.end.End.{End}
 use Rattle.pt_prog.specs.declared.end.End.TheVariants as end
 use Rattle.pt_prog.specs.declared.end.File.TheVariants as file
-use Rattle.pt_prog.specs.Limits.{script_limit}
+use Rattle.pt_prog.specs.declared.end.CodeRefusal.{CodeRefusal}
+use Rattle.pt_prog.specs.declared.end.CodeRefusal.TheVariants as refusal
+use Rattle.pt_prog.specs.Limits.{limit_of, reads_code}
 use Rattle.pt_prog.specs.LogText.{Text, final_text, line_of, final, totals}
+
+-- P holds of what is there
+abbrev pub OfSome : {A : Type 0} → Option A → (A → Type 0) → Type 0
+OfSome None P = ⊥
+OfSome (Some x) P = P x
 
 -- what the words ask for, where they are a command line
 abbrev pub asked_for : List (String Global) → Option Asked
 asked_for words = command_line (map string_bytes words)
 
--- the name of the script in it
+-- the name of the file in it
 abbrev pub script_named : List (String Global) → Option Text
 script_named words = option_map (λ a. a.script) (asked_for words)
+
+-- P holds of what the words ask for
+abbrev pub OfAsked : List (String Global) → (Asked → Type 0) → Type 0
+OfAsked words P = OfSome (asked_for words) P
 
 -- the shelf tells P of the named text
 abbrev pub OfNamed : Option Text → (told : Text → Told) → (Told → Type 0) → Type 0
@@ -53,12 +73,14 @@ is_run command.Run = true
 is_run command.Trace = true
 is_run command.Dis = false
 is_run command.Build = false
+is_run command.Exec = false
 
 abbrev pub traces : Command → Bool
 traces command.Run = false
 traces command.Trace = true
 traces command.Dis = false
 traces command.Build = false
+traces command.Exec = false
 
 -- the log has a line for each event: `trace` is `run --events`
 abbrev pub tells_events : Asked → Bool
@@ -81,6 +103,7 @@ IsWrittenBy command.Run code bytes = ⊥
 IsWrittenBy command.Trace code bytes = ⊥
 IsWrittenBy command.Dis code bytes = IsListing code bytes
 IsWrittenBy command.Build code bytes = HasFile code × (bytes ≡ file code)
+IsWrittenBy command.Exec code bytes = ⊥
 
 -- the text is a script, and so the command writes its code
 pub record IsCodeBy (command : Command) (text bytes : Text) : Type 0 where
@@ -101,14 +124,64 @@ abbrev pub last_text : (n : ℕ) → Ending Value World → Option Text
 last_text n (bare.exited status text) = text
 last_text n e = final_text (end_of n e)
 
--- all that a run of a script writes that comes to an outcome: what the script prints and its events, the totals, and the last text. Of the totals the
--- acts are the script's, the others those of its code; the count of instructions stands still at the greatest u64
+-- all that a run writes that comes to an outcome: what is printed and its events, the totals, and the last text. Of the totals of a script the acts are
+-- the script's, the others those of its code; the count of instructions stands still at the greatest u64
 abbrev pub run_writes : Asked → Outcome Value World → Work → List Write
 run_writes a o w = kept (tells_events a) o.written ++ (totals a.stats o.units (min w.instructions (2 ^ 64 - 1)) w.depth ++ line_of (last_text a.steps o.ending))
 
+-- the bytes are no code file, for this reason
+pub record IsNoFile (bytes : Text) (error : CodeErr) : Type 0 where
+  pub is_answer : answer bytes ≡ Err error
+  pub in_memory : error ≡ format.Memory → ⊥
+
+-- they are the file of this code
+pub record IsFileOf (bytes : Text) (code : Code) : Type 0 where
+  pub is_file : bytes ≡ file code
+  pub has_file : HasFile code
+
+-- a code doesn't fit: its first block that doesn't is refused so
+pub record IsMisfitOf (code : Code) (error : VerifyErr) : Type 0 where
+  pub is_refused : IsRefusedCode code error
+  pub in_memory : error ≡ misfit.Memory → ⊥
+
+pub record IsMisfit (bytes : Text) (error : VerifyErr) : Type 0 where
+  pub code : Code
+  pub is_file : IsFileOf bytes code
+  pub misfits : IsMisfitOf code error
+
+-- so it is no code that is run
+pub data IsBadFile (bytes : Text) : CodeRefusal → Type 0 where
+  no_file : (error : CodeErr) → IsNoFile bytes error → IsBadFile bytes (refusal.Format error)
+  misfits : (error : VerifyErr) → IsMisfit bytes error → IsBadFile bytes (refusal.Misfit error)
+
+-- they are the file of this code, which fits
+pub record IsVerifiedFile (bytes : Text) (code : Code) : Type 0 where
+  pub is_file : IsFileOf bytes code
+  pub fits : AllFit code
+
+-- the code fits, and this is the line of its first block that isn't built
+pub record IsUnbuiltFile (bytes : Text) (line : Line) : Type 0 where
+  pub code : Code
+  pub is_file : IsFileOf bytes code
+  pub fits : AllFit code
+  pub is_first : IsUnbuiltCode code line
+
+-- the code fits, and all of it is built
+pub record IsRunnableFile (bytes : Text) (code : Code) : Type 0 where
+  pub is_file : bytes ≡ file code
+  pub is_runnable : IsRunnable code
+
+-- the answer for the bytes of a code file
+pub data IsCodeAnswer (a : Asked) (bytes : Text) (e : End) (ws : List Write) : Type 0 where
+  bad_code : (error : CodeRefusal) → IsBadFile bytes error → e ≡ end.BadCode error → ws ≡ final e → IsCodeAnswer a bytes e ws
+  unbuilt_code : (line : Line) → IsUnbuiltFile bytes line → e ≡ end.Unbuilt line → ws ≡ final e → IsCodeAnswer a bytes e ws
+  ran_code : (c : Code) (o : Outcome Value World) (w : Work) → IsRunnableFile bytes c → CodeRunsTo c a.steps o w → e ≡ end_of a.steps o.ending
+      → ws ≡ run_writes a o w → IsCodeAnswer a bytes e ws
+
 -- the answer for a text: the end, and all that is written
 pub data IsAnswerFor (a : Asked) (text : Text) (e : End) (ws : List Write) : Type 0 where
-  refused : (error : Refusal) → IsRefused text error → e ≡ end.Refused error → ws ≡ final e → IsAnswerFor a text e ws
+  of_code : reads_code a.command ≡ true → IsCodeAnswer a text e ws → IsAnswerFor a text e ws
+  refused : (error : Refusal) → reads_code a.command ≡ false → IsRefused text error → e ≡ end.Refused error → ws ≡ final e → IsAnswerFor a text e ws
   unbuilt : (line : Line) → is_run a.command ≡ true → IsUnbuilt text line → e ≡ end.Unbuilt line → ws ≡ final e → IsAnswerFor a text e ws
   ran : (script : Stms) (o : Outcome Value World) (w : Work) → is_run a.command ≡ true → IsBuilt text script → RunsTo script a.steps o
       → CodeRunsBy script a.steps o w → e ≡ end_of a.steps o.ending → ws ≡ run_writes a o w → IsAnswerFor a text e ws
@@ -118,17 +191,17 @@ pub data IsAnswerFor (a : Asked) (text : Text) (e : End) (ws : List Write) : Typ
 abbrev pub IsEndFor : Asked → Text → End → Type 0
 IsEndFor a text e = (ws : List Write) × IsAnswerFor a text e ws
 
--- the text of the script that the words name: the one that the shelf tells, or any within the limit where it doesn't tell
+-- the text of the file that the words name: the one that the shelf tells, or any within the limit where it doesn't tell
 pub record IsTextOf (words : List (String Global)) (told : Text → Told) (a : Asked) (text : Text) : Type 0 where
   pub asked : asked_for words ≡ Some a
   pub is_whole : IsWhole (told a.script) text
-  pub within : length text ≤ script_limit
+  pub within : length text ≤ limit_of a.command
 
 -- the answer to words, over a shelf that tells so, whose reading may have failed by a fault
 pub data IsAnswer (misread : Type 0) (words : List (String Global)) (told : Text → Told) (e : End) (ws : List Write) : Type 0 where
   usage : asked_for words ≡ None → e ≡ end.Usage → ws ≡ final e → IsAnswer misread words told e ws
   read_fault : (a : Asked) → asked_for words ≡ Some a → misread ⊎ IsLacked (told a.script) → e ≡ end.ReadFault → ws ≡ final e → IsAnswer misread words told e ws
-  too_long : (a : Asked) → asked_for words ≡ Some a → IsLonger (told a.script) script_limit → e ≡ end.TooLong file.First → ws ≡ final e
+  too_long : (a : Asked) → asked_for words ≡ Some a → IsLonger (told a.script) (limit_of a.command) → e ≡ end.TooLong file.First → ws ≡ final e
       → IsAnswer misread words told e ws
   of_text : (a : Asked) (text : Text) → IsTextOf words told a text → IsAnswerFor a text e ws → IsAnswer misread words told e ws
 
@@ -151,6 +224,8 @@ module _ (out_old out_new log_old log_new : Pieces → Pieces → Type 0) where
     of_answer : (e : End) (ws : List Write) → IsAnswerFor a text e ws → TookFront out_old out_new log_old log_new why ws → WroteFrontFor why a text
     of_run : (script : Stms) (ws : List Write) → is_run a.command ≡ true → IsBuilt text script → ScriptWritesFirst script a.steps ws
         → TookFront out_old out_new log_old log_new why (kept (tells_events a) ws) → WroteFrontFor why a text
+    of_code_run : (c : Code) (ws : List Write) → reads_code a.command ≡ true → IsRunnableFile text c → CodeWritesFirst c a.steps ws
+        → TookFront out_old out_new log_old log_new why (kept (tells_events a) ws) → WroteFrontFor why a text
 
   pub data WroteFront (why : WriteErr) (misread : Type 0) (words : List (String Global)) (told : Text → Told) : Type 0 where
     of_no_text : (e : End) (ws : List Write) → IsAnswer misread words told e ws → TookFront out_old out_new log_old log_new why ws
@@ -170,5 +245,5 @@ module _ (out_old out_new log_old log_new : Pieces → Pieces → Type 0) where
 
 -- the end is the one that each text within the limit says that the shelf tells of
 abbrev pub IsComplete : List (String Global) → (Text → Told) → End → Type 0
-IsComplete words told e = (a : Asked) (text : Text) → asked_for words ≡ Some a → told a.script ≡ Holds text → length text ≤ script_limit
+IsComplete words told e = (a : Asked) (text : Text) → asked_for words ≡ Some a → told a.script ≡ Holds text → length text ≤ limit_of a.command
     → IsEndFor a text e ⊎ (e ≡ end.Memory)

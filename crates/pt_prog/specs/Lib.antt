@@ -1,4 +1,5 @@
 pub mod Limits
+pub mod CodeRefusals
 pub mod Status
 pub mod LogText
 pub mod RunEnds

@@ -4,6 +4,7 @@ use Rattle.std.specs.Fmt.{decimal}
 use Rattle.pt_base.specs.Words.{word_of}
 use Rattle.pt_run.specs.Run.{Write, write, to_log}
 use Rattle.pt_front.specs.Refusals.{number_of, place_of}
+use Rattle.pt_prog.specs.CodeRefusals as code
 use Rattle.pt_prog.specs.declared.end.End.{End}
 use Rattle.pt_prog.specs.declared.end.End.TheVariants as end
 
@@ -15,6 +16,7 @@ final_text end.Usage = Some (codes "pt: usage")
 final_text (end.Spent acts) = Some (codes "pt: spent after " ++ (decimal acts ++ codes " acts"))
 final_text (end.Outside what line) = Some (codes "pt: outside the profile: " ++ (word_of what ++ (codes " at line " ++ decimal line.0)))
 final_text (end.Refused error) = Some (codes "pt: refused " ++ (decimal (number_of error) ++ (codes " at " ++ decimal (place_of error))))
+final_text (end.BadCode error) = Some (codes "pt: bad code " ++ (decimal (code.number_of error) ++ (codes " at " ++ decimal (code.place_of error))))
 final_text (end.TooLong which) = Some (codes "pt: too long")
 final_text end.ReadFault = Some (codes "pt: cannot read")
 final_text (end.Unbuilt line) = Some (codes "pt: not built at line " ++ decimal line.0)

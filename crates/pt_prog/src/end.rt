@@ -1,9 +1,12 @@
 ghost use Rattle.std.specs.Prelude.{◌≡◌};
+ghost use Rattle.pt_prog.specs.CodeRefusals.{format_number, format_place};
 ghost use Rattle.pt_prog.specs.Status.{status_of};
 
 use pt_base::{Line, What};
+use pt_code::CodeErr;
 use pt_front::Refusal;
 use pt_sinks::Out;
+use pt_verifier::VerifyErr;
 
 /// How a call of the program ends.
 #[derive(Debug, Drop)]
@@ -22,6 +25,8 @@ pub enum End {
     Usage,
     /// The text is no script.
     Refused { error: Refusal },
+    /// The bytes are no code file, or the code doesn't fit.
+    BadCode { error: CodeRefusal },
     /// A file is too long.
     TooLong { which: File },
     /// A file could not be read.
@@ -30,8 +35,73 @@ pub enum End {
     WriteFault { which: Out },
     /// Memory ran out.
     Memory,
-    /// The line of the first node of the script, in source order, that isn't built.
+    /// The line of the first node of the script, in source order, that isn't built, or of the first
+    /// such block of the code.
     Unbuilt { line: Line },
+}
+
+/// Why bytes are no code that is run. Want of memory is no refusal.
+#[derive(Clone, Copy, Debug, PartialEq, Eq)]
+pub enum CodeRefusal {
+    /// They are no code file.
+    Format(CodeErr),
+    /// The code doesn't fit.
+    Misfit(VerifyErr),
+}
+
+fn format_number(error: CodeErr) -> u8
+    ensures { result ≡ format_number error }
+{
+    match error {
+        CodeErr::Magic => 18,
+        CodeErr::Version { .. } => 19,
+        CodeErr::Truncated { .. } => 20,
+        CodeErr::Field { .. } => 21,
+        CodeErr::Trailing { .. } => 22,
+        CodeErr::Memory => 0,
+    }
+}
+
+fn format_place(error: CodeErr) -> usize
+    ensures { result ≡ format_place error }
+{
+    match error {
+        CodeErr::Magic | CodeErr::Memory => 0,
+        CodeErr::Version { got } => got as usize,
+        CodeErr::Truncated { at } | CodeErr::Field { at } | CodeErr::Trailing { at } => at,
+    }
+}
+
+impl CodeRefusal {
+    ghost use Rattle.std.specs.Prelude.{◌≡◌};
+    ghost use Rattle.pt_prog.specs.CodeRefusals.{number_of, place_of};
+
+    /// Its number, from 18 on.
+    pub fn number(&self) -> u8
+        ensures { result ≡ number_of self.now }
+    {
+        match self {
+            CodeRefusal::Format(error) => format_number(*error),
+            CodeRefusal::Misfit(error) => match error.refusal() {
+                Some((number, _)) => number,
+                None => 0,
+            },
+        }
+    }
+
+    /// The place that is told of it: a byte of the file or its version, a place or a row of a block, or
+    /// a block.
+    pub fn place(&self) -> usize
+        ensures { result ≡ place_of self.now }
+    {
+        match self {
+            CodeRefusal::Format(error) => format_place(*error),
+            CodeRefusal::Misfit(error) => match error.refusal() {
+                Some((_, place)) => place as usize,
+                None => 0,
+            },
+        }
+    }
 }
 
 /// A file that the words name.
@@ -53,6 +123,7 @@ pub fn status(end: &End) -> u8
         End::Spent { .. } => 3,
         End::Outside { .. } => 4,
         End::Refused { .. } => 6,
+        End::BadCode { .. } => 7,
         End::TooLong { .. } => 8,
         End::ReadFault => 9,
         End::WriteFault { .. } => 10,

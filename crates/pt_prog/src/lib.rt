@@ -6,12 +6,13 @@ mod build;
 mod dis;
 mod end;
 mod ending;
+mod exec;
 mod laws;
 mod log_text;
 mod program;
 mod running;
 
-pub use end::{End, File, status};
+pub use end::{CodeRefusal, End, File, status};
 pub use laws::{a_text_prints_one_output, a_text_says_one_end};
-pub use program::{SCRIPT_LIMIT, top};
+pub use program::{CODE_LIMIT, SCRIPT_LIMIT, top};
 pub use pt_sinks::Out;

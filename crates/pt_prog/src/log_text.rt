@@ -20,6 +20,9 @@ pub fn final_text(alloc: Global, end: &End) -> Result<Option<String>, AllocError
         End::Refused { error } => {
             format!(in alloc; "pt: refused {} at {}", error.number(), error.place())?
         }
+        End::BadCode { error } => {
+            format!(in alloc; "pt: bad code {} at {}", error.number(), error.place())?
+        }
         End::TooLong { .. } => String::from_str(alloc, "pt: too long")?,
         End::ReadFault => String::from_str(alloc, "pt: cannot read")?,
         End::Unbuilt { line } => format!(in alloc; "pt: not built at line {}", line.0)?,

@@ -1,9 +1,11 @@
-ghost use Rattle.std.specs.Prelude.{◌≡◌, ◌≢◌, ◌≤◌, ◌⊎◌, None, Some, Err, IfErr, IfOk, length};
+ghost use Rattle.std.specs.Prelude.{◌≡◌, ◌≢◌, ◌≤◌, ◌⊎◌, None, Some, Err, IfErr, IfOk};
+ghost use Rattle.std.specs.Prelude.{false, length};
 ghost use Rattle.pt_base.specs.Faults.{Rose};
 ghost use Rattle.pt_base.specs.Told.{IsLacked, IsLonger};
-ghost use Rattle.pt_prog.specs.Answer.{BrokeOffFor, IsComplete, OfNamed, WroteAllFor, Wrote};
+ghost use Rattle.pt_prog.specs.Answer.{BrokeOffFor, IsComplete, OfAsked, OfNamed, WroteAllFor};
+ghost use Rattle.pt_prog.specs.Answer.{Wrote};
 ghost use Rattle.pt_prog.specs.Answer.{asked_for, script_named};
-ghost use Rattle.pt_prog.specs.Limits.{script_limit};
+ghost use Rattle.pt_prog.specs.Limits.{limit_of, reads_code, script_limit};
 ghost use Rattle.pt_prog.specs.RunEnds.{ended};
 ghost use Rattle.pt_sinks.specs.declared.writing.Out.TheVariants as stream;
 ghost use Rattle.pt_words.specs.Asked.{asked};
@@ -12,6 +14,7 @@ use crate::build::file_of;
 use crate::dis::listing_of;
 use crate::end::{End, File};
 use crate::ending::write_final;
+use crate::exec::exec_file;
 use crate::running::run_built;
 use pt_base::{Failure, Shelf, ShelfErr, Sink};
 use pt_front::front;
@@ -22,6 +25,29 @@ use std::alloc::Global;
 /// How many bytes a script may have.
 pub const SCRIPT_LIMIT: u64 = 1_048_576;
 
+/// How many bytes a code file may have.
+pub const CODE_LIMIT: u64 = 16_777_216;
+
+fn reads_code(command: Command) -> bool
+    ensures { result ≡ reads_code command }
+{
+    match command {
+        Command::Exec => true,
+        Command::Run | Command::Trace | Command::Dis | Command::Build => false,
+    }
+}
+
+/// How many bytes the file of a command may have.
+fn limit_of(command: Command) -> u64
+    ensures { result ≡ limit_of command }
+{
+    if reads_code(command) {
+        CODE_LIMIT
+    } else {
+        SCRIPT_LIMIT
+    }
+}
+
 /// Answers for the text of a script: runs it, or writes its code to out, in one write.
 fn answer_text<O: Sink, L: Sink>(
     alloc: Global,
@@ -30,7 +56,8 @@ fn answer_text<O: Sink, L: Sink>(
     out: &mut O,
     log: &mut L,
 ) -> Result<End, WriteErr>
-    requires { length text.now ≤ script_limit }
+    requires within { length text.now ≤ script_limit }
+    requires reads { reads_code line.now.command ≡ false }
     ensures ok { IfOk result
         (WroteAllFor (O.taken out.old) (O.taken out.new) (L.taken log.old) (L.taken log.new)
         (asked line.now) text.now) }
@@ -64,7 +91,38 @@ fn answer_text<O: Sink, L: Sink>(
             put(Out::Out, bytes.as_slice(), out, log)?;
             Ok(End::Done)
         }
+        // The caller has seen to it that the command isn't this one.
+        Command::Exec => Err(WriteErr::Memory),
     }
+}
+
+/// Answers for the file that the words name.
+fn answer_file<O: Sink, L: Sink>(
+    alloc: Global,
+    line: &CommandLine,
+    bytes: &[u8],
+    out: &mut O,
+    log: &mut L,
+) -> Result<End, WriteErr>
+    requires { length bytes.now ≤ limit_of line.now.command }
+    ensures ok { IfOk result
+        (WroteAllFor (O.taken out.old) (O.taken out.new) (L.taken log.old) (L.taken log.new)
+        (asked line.now) bytes.now) }
+    ensures err { IfErr result
+        (BrokeOffFor (O.taken out.old) (O.taken out.new) (L.taken log.old) (L.taken log.new)
+        (asked line.now) bytes.now) }
+    ensures out_failed { result ≡ Err (WriteErr.Failed stream.Out)
+        → Rose (O.faults out.old) (O.faults out.new) × (O.faults out.new ≤ O.most out.new) }
+    ensures log_failed { result ≡ Err (WriteErr.Failed stream.Log)
+        → Rose (L.faults log.old) (L.faults log.new) × (L.faults log.new ≤ L.most log.new) }
+    ensures most { (O.most out.new ≡ O.most out.old) × (L.most log.new ≡ L.most log.old) }
+    ensures later { (O.faults out.old ≤ O.faults out.new)
+        × (L.faults log.old ≤ L.faults log.new) }
+{
+    if reads_code(line.command) {
+        return exec_file(alloc, line, bytes, out, log);
+    }
+    answer_text(alloc, line, bytes, out, log)
 }
 
 /// A write that failed, and want of memory, as ends.
@@ -78,11 +136,11 @@ fn ended(answer: Result<End, WriteErr>) -> End
     }
 }
 
-/// All that the program does: reads the words and the script that they name, and runs it, or writes
-/// the listing or the file of its code.
+/// All that the program does: reads the words and the file that they name, a script or code, and
+/// runs it, or writes the listing or the file of a script's code.
 ///
-/// The order of answers is Usage, ReadFault, TooLong, Refused, for a run Unbuilt, and then those of
-/// the run. Behind what a run writes the log gets the totals, where they are asked for, and the
+/// The order of answers is Usage, ReadFault, TooLong, Refused or BadCode, for a run Unbuilt, and then
+/// those of the run. Behind what a run writes the log gets the totals, where they are asked for, and the
 /// text of the end. After a write that failed nothing more is written.
 pub fn top<F: Shelf, O: Sink, L: Sink>(
     alloc: Global,
@@ -99,7 +157,7 @@ pub fn top<F: Shelf, O: Sink, L: Sink>(
     ensures read_fault { result ≡ End.ReadFault → Rose (F.faults shelf.old) (F.faults shelf.new)
         ⊎ OfNamed (script_named words.now) (F.told shelf.old) IsLacked }
     ensures too_long { result ≡ End.TooLong File.First
-        → OfNamed (script_named words.now) (F.told shelf.old) (λ t. IsLonger t script_limit) }
+        → OfAsked words.now (λ a. IsLonger (F.told shelf.old a.script) (limit_of a.command)) }
     ensures out_fault { result ≡ End.WriteFault stream.Out
         → Rose (O.faults out.old) (O.faults out.new) }
     ensures log_fault { result ≡ End.WriteFault stream.Log
@@ -127,8 +185,8 @@ pub fn top<F: Shelf, O: Sink, L: Sink>(
         Err(WordsErr::Usage) => return ended(write_final(alloc, End::Usage, out, log)),
         Err(WordsErr::Memory) => return End::Memory,
     };
-    match shelf.read(alloc, line.script, SCRIPT_LIMIT) {
-        Ok(text) => ended(answer_text(alloc, &line, text.as_slice(), out, log)),
+    match shelf.read(alloc, line.script, limit_of(line.command)) {
+        Ok(text) => ended(answer_file(alloc, &line, text.as_slice(), out, log)),
         Err(ShelfErr::Failed) => ended(write_final(alloc, End::ReadFault, out, log)),
         Err(ShelfErr::TooLong) => {
             let which = File::First;

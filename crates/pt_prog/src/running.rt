@@ -20,12 +20,12 @@ use pt_words::{Command, CommandLine};
 use std::alloc::Global;
 
 /// Whether the log has a line for each event.
-fn tells_events(line: &CommandLine) -> bool
+pub fn tells_events(line: &CommandLine) -> bool
     ensures { result ≡ tells_events (asked line.now) }
 {
     let traces = match line.command {
         Command::Trace => true,
-        Command::Run | Command::Dis | Command::Build => false,
+        Command::Run | Command::Dis | Command::Build | Command::Exec => false,
     };
     traces || line.events
 }

@@ -65,7 +65,7 @@ abbrev pub sort_words : List Text → Sorted → Option Sorted
 sort_words [] s = Some s
 sort_words (word ∷ words) s = option_and_then (sort_words words) (put_word word s)
 
--- the command, the script, how many acts its run may take, and what the log is to have
+-- the command, its file, how many acts its run may take, and what the log is to have
 pub record Asked : Type 0 where
   pub command : Command
   pub script : Text
@@ -89,13 +89,14 @@ steps_of [] = Some default_steps
 steps_of (value ∷ []) = number_of value
 steps_of values = None
 
--- the commands that are there: each takes one file, a script
+-- the commands that are there: each takes one file, `exec` one of code and the others a script
 abbrev pub command_named : Text → Option Command
 command_named word =
     if bytes_eq word (codes "run") then Some command.Run
     else (if bytes_eq word (codes "trace") then Some command.Trace
     else (if bytes_eq word (codes "dis") then Some command.Dis
-    else (if bytes_eq word (codes "build") then Some command.Build else None)))
+    else (if bytes_eq word (codes "build") then Some command.Build
+    else (if bytes_eq word (codes "exec") then Some command.Exec else None))))
 
 abbrev pub asked_by : Sorted → Option Command → (script : Text) → Option ℕ → Option Asked
 asked_by s (Some c) script (Some n) =

@@ -9,13 +9,15 @@ pub enum Command {
     Dis,
     /// The file of a script's code is made.
     Build,
+    /// A code file is run.
+    Exec,
 }
 
 /// What the words of a command line ask for.
 #[derive(Clone, Copy, Debug, PartialEq, Eq)]
 pub struct CommandLine<'a> {
     pub command: Command,
-    /// The name of the script's file. It isn't empty and doesn't begin with `-`.
+    /// The name of the file, a script's or of code. It isn't empty and doesn't begin with `-`.
     pub script: &'a str,
     /// How many acts the run may take.
     pub steps: u64,

@@ -19,6 +19,7 @@ fn command_named(word: &str) -> Option<Command>
         "trace" => Some(Command::Trace),
         "dis" => Some(Command::Dis),
         "build" => Some(Command::Build),
+        "exec" => Some(Command::Exec),
         _ => None,
     }
 }

@@ -23,6 +23,7 @@ fn tell(line: &mut String, end: &End) -> Result<(), AllocError> {
         End::Outside { what, line: at } => write!(line, "outside {what} {}", at.0),
         End::Usage => line.push_str("usage"),
         End::Refused { error } => write!(line, "refused {} {}", error.number(), error.place()),
+        End::BadCode { error } => write!(line, "bad code {} {}", error.number(), error.place()),
         End::TooLong { which } => write!(line, "too long {which:?}"),
         End::ReadFault => line.push_str("read fault"),
         End::WriteFault { which } => write!(line, "write fault {which:?}"),

@@ -16,12 +16,12 @@ use Rattle.pt_prog.proofs.program.answer_text.Goals as goal
 pub returns-in-Err-Refused-clause-ok : goal.returns-in-Err-Refused-clause-ok
 returns-in-Err-Refused-clause-ok g c =
     every_ok_of (asked c.args.line.now) c.args.text.now _ _ _ _ c.write_final.result (final (end.Refused c.in-Err-Refused.error)) (end.Refused c.in-Err-Refused.error)
-    (refused c.in-Err-Refused.error (subst (IfRefused (IsRefused c.args.text.now)) c.in-Err-Refused.field-0-is c.in-Err-Refused.ensures) refl refl) c.write_final.ensures.ok
+    (refused c.in-Err-Refused.error c.requires.reads (subst (IfRefused (IsRefused c.args.text.now)) c.in-Err-Refused.field-0-is c.in-Err-Refused.ensures) refl refl) c.write_final.ensures.ok
 
 pub returns-in-Err-Refused-clause-err : goal.returns-in-Err-Refused-clause-err
 returns-in-Err-Refused-clause-err g c =
     every_err_of (asked c.args.line.now) c.args.text.now _ _ _ _ c.write_final.result (final (end.Refused c.in-Err-Refused.error)) (end.Refused c.in-Err-Refused.error)
-    (refused c.in-Err-Refused.error (subst (IfRefused (IsRefused c.args.text.now)) c.in-Err-Refused.field-0-is c.in-Err-Refused.ensures) refl refl) c.write_final.ensures.err
+    (refused c.in-Err-Refused.error c.requires.reads (subst (IfRefused (IsRefused c.args.text.now)) c.in-Err-Refused.field-0-is c.in-Err-Refused.ensures) refl refl) c.write_final.ensures.err
 
 pub returns-in_err-put-in-Dis-clause-err : goal.returns-in_err-put-in-Dis-clause-err
 returns-in_err-put-in-Dis-clause-err g c =
@@ -53,8 +53,8 @@ returns-in_err-put-in-Build-clause-err g c =
     (search rules)) refl refl)
     c.in_err-put-in-Build.ensures.err)
 
-pub returns-clause-ok : goal.returns-clause-ok
-returns-clause-ok g c =
+pub returns-in-Build-clause-ok : goal.returns-in-Build-clause-ok
+returns-in-Build-clause-ok g c =
     record {
       writes = write to_out c.as_slice.result.now ∷ [];
       is_answer = wrote_code c.as_slice.result.now (ap is_run c.in-Build.is)

@@ -25,15 +25,15 @@ returns-in-Ok-read-clause-writes g c =
     let whole = subst (IsWhole (g.F.Shelf.told c.args.shelf.now c.in-Ok.line.script.now)) (sym c.as_slice.ensures.value) c.in-Ok-read.ensures.whole in
     let is : IsTextOf c.args.words.now (g.F.Shelf.told c.args.shelf.now) (asked c.in-Ok.line) c.as_slice.result.now =
     record { asked = c.in-Ok.ensures; is_whole = whole; within = search rules } in
-    rw c.ended-in-Ok-read.ensures (its_text _ c.args.words.now (g.F.Shelf.told c.args.shelf.now) _ _ _ _ (asked c.in-Ok.line) c.as_slice.result.now is c.answer_text.result
-    c.answer_text.ensures.ok c.answer_text.ensures.err)
+    rw c.ended-in-Ok-read.ensures (its_text _ c.args.words.now (g.F.Shelf.told c.args.shelf.now) _ _ _ _ (asked c.in-Ok.line) c.as_slice.result.now is c.answer_file.result
+    c.answer_file.ensures.ok c.answer_file.ensures.err)
 
 pub returns-in-Ok-read-clause-complete : goal.returns-in-Ok-read-clause-complete
 returns-in-Ok-read-clause-complete g c no_read no_out no_log a text is holds within =
     let whole = subst (IsWhole (g.F.Shelf.told c.args.shelf.now c.in-Ok.line.script.now)) (sym c.as_slice.ensures.value) c.in-Ok-read.ensures.whole in
-    let never = no_fault c.answer_text.result (λ f. no_out (c.answer_text.ensures.out_failed f).0) (λ f. no_log (c.answer_text.ensures.log_failed f).0) in
+    let never = no_fault c.answer_file.result (λ f. no_out (c.answer_file.ensures.out_failed f).0) (λ f. no_log (c.answer_file.ensures.log_failed f).0) in
     rw c.ended-in-Ok-read.ensures (complete c.args.words.now (g.F.Shelf.told c.args.shelf.now) (asked c.in-Ok.line) c.as_slice.result.now c.in-Ok.ensures whole _
-    (end_said (asked c.in-Ok.line) c.as_slice.result.now _ _ _ _ c.answer_text.result c.answer_text.ensures.ok never) a text is holds)
+    (end_said (asked c.in-Ok.line) c.as_slice.result.now _ _ _ _ c.answer_file.result c.answer_file.ensures.ok never) a text is holds)
 
 pub returns-in-Err-Failed-clause-writes : goal.returns-in-Err-Failed-clause-writes
 returns-in-Err-Failed-clause-writes g c =
