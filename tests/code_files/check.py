@@ -121,7 +121,7 @@ def check(script):
     try:
         file = reader.read(data)
     except reader.BadFile as e:
-        raise Differs(f"no code file, at {e}") from None
+        raise Differs("no code file: {} at {}".format(*e.args)) from None
     if reader.listing(file).encode() != by_program("dis", script):
         raise Differs("the file has other code than the listing")
     with open(script, encoding="utf-8") as f:

@@ -1,5 +1,7 @@
-"""Reads code files, by their format alone: docs/CODE_FILES.md. What isn't one is BadFile, with the place of the fault."""
+"""Reads code files, by their format alone: docs/CODE_FILES.md. What isn't one is BadFile, with the number of its refusal and its place."""
 import dataclasses
+
+MAGIC, VERSION, TRUNCATED, FIELD, TRAILING = range(18, 23)
 
 NONE, FALSE, TRUE, INTEGER, TEXT, ELLIPSIS = range(6)
 MODULE, FUNCTION, GENERATOR, CLASS, GENERATOR_EXPRESSION = range(5)
@@ -92,7 +94,7 @@ FreshCell cell
 
 
 class BadFile(Exception):
-    """The format fails at a place."""
+    """The format fails: the number of the refusal, and the place; of a version the one that is there."""
 
 
 @dataclasses.dataclass
@@ -127,7 +129,7 @@ class Reader:
 
     def take(self, count):
         if self.at + count > len(self.data):
-            raise BadFile(len(self.data))
+            raise BadFile(TRUNCATED, len(self.data))
         self.at += count
         return self.data[self.at - count:self.at]
 
@@ -135,25 +137,25 @@ class Reader:
         at = self.at
         (value,) = self.take(1)
         if value >= bound:
-            raise BadFile(at)
+            raise BadFile(FIELD, at)
         return value
 
-    def number(self, bound=MOST):
+    def number(self, bound=MOST, least=0):
         at = self.at
         value = int.from_bytes(self.take(4), "little")
-        if value >= bound:
-            raise BadFile(at)
+        if not least <= value < bound:
+            raise BadFile(FIELD, at)
         return value
 
-    def items(self, item):
-        return [item() for _ in range(self.number())]
+    def items(self, item, **within):
+        return [item() for _ in range(self.number(**within))]
 
     def text(self):
         at = self.at
         try:
             return self.take(self.number()).decode()
         except UnicodeDecodeError:
-            raise BadFile(at) from None
+            raise BadFile(FIELD, at) from None
 
     def constant(self, texts):
         tag = self.byte(6)
@@ -163,21 +165,18 @@ class Reader:
             return texts[self.number(len(texts))]
         return {NONE: None, FALSE: False, TRUE: True, ELLIPSIS: ...}[tag]
 
-    def names(self, texts):
-        return self.items(lambda: texts[self.number(len(texts))])
+    def names(self, texts, **within):
+        return self.items(lambda: texts[self.number(len(texts))], **within)
 
     def instructions(self, bounds):
-        at = self.at
-        count = self.number()
+        count = self.number(least=1)
         first, end = self.at, self.at + count
-        if count == 0:
-            raise BadFile(at)
         found = []
         while self.at < end:
             at = self.at
             name, *operands = OPERATIONS[self.byte(len(OPERATIONS))]
             if at + 1 + 4 * len(operands) > end:
-                raise BadFile(at)
+                raise BadFile(FIELD, at)
             found.append((at - first, name, [self.number(bounds[kind]) for kind in operands]))
         return found
 
@@ -187,21 +186,15 @@ class Reader:
         at = self.at
         kind = self.byte(5)
         if (kind == MODULE) != is_first:
-            raise BadFile(at)
+            raise BadFile(FIELD, at)
         first_line = self.number()
         most = MOST if kind in (FUNCTION, GENERATOR) else 1
         plain = self.number(most)
         flags = self.byte(4 if most == MOST else 1)
         keyword_only = self.number(most)
-        at = self.at
-        local_names = self.names(texts)
-        if len(local_names) < plain + keyword_only + flags % 2 + flags // 2:
-            raise BadFile(at)
+        local_names = self.names(texts, least=plain + keyword_only + flags % 2 + flags // 2)
         cells = self.names(texts)
-        at = self.at
-        free = self.names(texts)
-        if is_first and free:
-            raise BadFile(at)
+        free = self.names(texts, bound=1 if is_first else MOST)
         bounds = {"number": MOST, "constant": len(file.constants), "text": len(texts), "local": len(local_names), "cell": len(cells) + len(free),
                   "list": len(file.lists), "block": blocks, "unary": 3, "binary": 12, "comparison": 10, "conversion": 3, "flag": 2}
         instructions = self.instructions(bounds)
@@ -211,21 +204,25 @@ class Reader:
         return Block(name, kind, first_line, plain, flags % 2 == 1, flags // 2 == 1, keyword_only, local_names, cells, free, instructions, marks,
                      handlers, starts)
 
+    def heading(self):
+        for byte in b"PTCF":
+            if self.take(1)[0] != byte:
+                raise BadFile(MAGIC, 0)
+        (version,) = self.take(1)
+        if version != 1:
+            raise BadFile(VERSION, version)
+
     def file(self):
-        if self.take(4) != b"PTCF" or self.take(1) != b"\x01":
-            raise BadFile(0)
+        self.heading()
         file = File([], [], [], [])
         file.texts = self.items(self.text)
         file.constants = self.items(lambda: self.constant(file.texts))
         file.lists = self.items(lambda: self.names(file.texts))
-        at = self.at
-        count = self.number()
-        if count == 0:
-            raise BadFile(at)
+        count = self.number(least=1)
         for number in range(count):
             file.blocks.append(self.block(file, number == 0, count))
         if self.at != len(self.data):
-            raise BadFile(self.at)
+            raise BadFile(TRAILING, self.at)
         return file
 
 

@@ -54,7 +54,11 @@ def read(data):
     if r.bytes(5) != b"PTCF\x01":
         raise BadFile
     texts = r.listed(r.text)
-    r.listed(lambda: r.bytes({3: 16, 4: 4}.get(r.byte(), 0)))
+
+    def constant():
+        tag = r.byte()
+        return bytes([tag]) + r.bytes({3: 16, 4: 4}.get(tag, 0))
+    constants = r.listed(constant)
     lists = r.listed(lambda: r.listed(r.number))
 
     def block():
@@ -69,7 +73,7 @@ def read(data):
     blocks = r.listed(block)
     if r.at != len(data):
         raise BadFile
-    return {"texts": texts, "lists": lists, "blocks": blocks}
+    return {"texts": texts, "constants": constants, "lists": lists, "blocks": blocks}
 
 
 def instructions(code):
@@ -114,20 +118,26 @@ class Block:
     def captured(self, n):
         return len(self.code["blocks"][n]["free"]) if n < len(self.code["blocks"]) else 0
 
+    def values(self, count):
+        return V * count
+
+    def kinds_at_start(self):
+        return I if self.b["kind"] == EXPRESSION else ""
+
     def effect(self, op, args):
         """What is taken, how deep a value is read below that, what is given."""
         if op in (32, 33, 34, 40):
-            return V * args[0], 0, V
+            return self.values(args[0]), 0, V
         if op == 35:
-            return V * (2 * args[0]), 0, V
+            return self.values(2 * args[0]), 0, V
         if op == 41:
-            return V, 0, V * args[0]
+            return V, 0, self.values(args[0])
         if op == 42:
-            return V, 0, V * (args[0] + args[1] + 1)
+            return V, 0, self.values(args[0] + args[1] + 1)
         if op in (45, 46, 47):
-            return V * (args[0] + 1), 0, V
+            return self.values(args[0] + 1), 0, V
         if op == 48:
-            return V * args[1] + C * self.captured(args[0]), 0, V
+            return self.values(args[1]) + C * self.captured(args[0]), 0, V
         if op == 49:
             return V + C * self.captured(args[0]), 0, V
         if op == 50:
@@ -183,7 +193,7 @@ class Block:
     def gets(self, p):
         """All pairs of a place and kinds that it gets through the instructions at p and below; None where two lengths meet, as there may be
         kinds without end then."""
-        first = (0, I if self.b["kind"] == EXPRESSION else "")
+        first = (0, self.kinds_at_start())
         seen, due = {first}, [first]
         lengths = {0: len(first[1])}
         while due:
@@ -202,8 +212,8 @@ class Block:
         """How many slots each place gets, or the least place up to which these numbers disagree, and how."""
         def failing(reached):
             return [n for n, row in enumerate(self.b["handlers"])
-                    if any(row[0] <= q < row[1] and row[3] > self.spared(q, V * size) for q, size in reached.items())]
-        first = 1 if self.b["kind"] == EXPRESSION else 0
+                    if any(row[0] <= q < row[1] and row[3] > self.spared(q, self.values(size)) for q, size in reached.items())]
+        first = len(self.kinds_at_start())
         found = {}
         for p in sorted(self.at):
             found, due, meet = {0: first}, [0], False
@@ -211,7 +221,7 @@ class Block:
                 q = due.pop()
                 if q > p:
                     continue
-                for r, ks, _ in self.steps(q, V * found[q]):
+                for r, ks, _ in self.steps(q, self.values(found[q])):
                     if r in self.at and r not in found:
                         found[r] = len(ks)
                         due.append(r)
@@ -221,7 +231,7 @@ class Block:
                 return "meet %d" % p
             if failing(reached):
                 return "row %d at %d" % (failing(reached)[0], p)
-            if any(not self.has_enough(q, V * size) for q, size in reached.items()):
+            if any(not self.has_enough(q, self.values(size)) for q, size in reached.items()):
                 return "few %d" % p
         return " ".join("%d:%d" % item for item in sorted(found.items()))
 
@@ -347,14 +357,16 @@ class Block:
         in_order([s[0] for s in self.b["starts"]])
         return hold
 
+    def first_disagreement(self):
+        return next(filter(None, map(self.disagrees, sorted(self.at))), None)
+
     def refusal(self):
         hold = self.tables()
         if False in hold:
             return (26, hold.index(False))
-        for p in sorted(self.at):
-            bad = self.disagrees(p)
-            if bad:
-                return bad
+        bad = self.first_disagreement()
+        if bad:
+            return bad
         gets = self.gets(self.size)
         places = {q for q, _ in gets}
         lost = [q for q in places if self.at[q][0] == LEAVE and self.at[q][1][0] not in places]

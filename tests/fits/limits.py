@@ -1,13 +1,12 @@
-"""Rows of code files of which it is told, block by block, which row of the tables fails first, and where sizes agree which Leave is lost, whether a
-place is too deep, and where the least silent loop begins: by the plain checker. A row has the file in hex, and behind it what places let go on of
-Leaves that are held: `BLOCK@PC>TARGET,TARGET`."""
+"""Rows of code files of which it is told, block by block, which row of the tables fails first, and where sizes agree whether a Leave has too few slots,
+which Leave is lost, whether a place is too deep, and where the least silent loop begins: by the plain checker. A row has the file in hex."""
 import random
 from checker import END_FINALLY, LEAVE, MODULE, MOST, Block, read
 from random_code import PLAIN, random_block
 from rows import ROWS, block, code_bytes, file
 
 RANDOM = 4000
-KEPT = 60
+KEPT = 40
 TABLES = 120
 
 
@@ -63,12 +62,15 @@ class Limits:
             self.departs, self.goes, _ = b.leaves(b.size, self.lists)
 
     def held(self):
-        """From each EndFinally the targets of the Leaves that it lets go on."""
-        found = {}
-        for t, q, _ in self.departs if self.agree else ():
-            if self.b.at[q][0] == END_FINALLY:
-                found.setdefault(q, set()).add(t)
-        return found
+        """Whether an EndFinally lets a Leave go on."""
+        return self.agree and any(self.b.at[q][0] == END_FINALLY for _, q, _ in self.departs)
+
+    def few(self):
+        """Whether a Leave has fewer slots than its target, where it goes on or under a row that takes it."""
+        sizes = {q: len(ks) for q, ks in self.lists}
+        left = [(t, len(ks)) for t, q, ks in self.departs]
+        left += [(t, min(len(ks), self.b.taker(q, t)[3])) for t, q, ks in self.departs if self.b.taker(q, t)]
+        return any(low < sizes.get(t, 0) for t, low in left)
 
     def lost(self):
         reached = {q for q, _ in self.lists}
@@ -80,6 +82,7 @@ class Limits:
     def told(self):
         words = [] if self.row is None else ["row %d" % self.row]
         if self.agree:
+            words += ["few"] if self.few() else []
             words += [] if self.lost() is None else ["lost %d" % self.lost()]
             words += ["deep"] if any(len(ks) > MOST for _, ks in self.lists) else []
             words += [] if self.loop() is None else ["loop %d" % self.loop()]
@@ -94,11 +97,6 @@ def is_code(data):
 def limits(data):
     code = read(data)
     return [Limits(Block(code, b)) for b in code["blocks"]]
-
-
-def row_of(data, all_limits):
-    held = ["%d@%d>%s" % (n, pc, ",".join(map(str, sorted(ts)))) for n, one in enumerate(all_limits) for pc, ts in sorted(one.held().items())]
-    return " ".join([data.hex()] + held)
 
 
 def rows():
@@ -119,4 +117,4 @@ def rows():
     for n in range(TABLES):
         data = random_tables(rng)
         found.append(("tables %d" % n, data, limits(data)))
-    return [(name, row_of(data, told), "".join(one.told() + ";" for one in told)) for name, data, told in found]
+    return [(name, data.hex(), "".join(one.told() + ";" for one in told)) for name, data, told in found]

@@ -33,9 +33,9 @@ def code_bytes(lines):
     return out
 
 
-def block(lines, marks=(), handlers=(), starts=(), kind=0, parameters=0, keyword_only=0, local=(), cells=(), free=()):
+def block(lines, marks=(), handlers=(), starts=(), kind=0, parameters=0, keyword_only=0, flags=0, local=(), cells=(), free=()):
     return b"".join([
-        number(0), bytes([kind]), number(1), number(parameters), b"\0", number(keyword_only), listed([number(n) for n in local]),
+        number(0), bytes([kind]), number(1), number(parameters), bytes([flags]), number(keyword_only), listed([number(n) for n in local]),
         listed([number(n) for n in cells]), listed([number(n) for n in free]), text(code_bytes(lines)),
         listed([number(pc) + number(n) + number(1) + b"\0" for n, pc in enumerate(marks)]),
         listed([number(f) + number(t) + number(g) + number(d) + bytes([a]) for f, t, g, d, a in handlers]),
@@ -110,6 +110,12 @@ ROWS = [
     ("the earlier place", one("Const 0; Iter; Return; Pop"), "24 Kind block 0 pc 6"),
     ("two lengths before a handler", one("Const 0; Jump 0", handlers=[(5, 10, 0, 2, 0)]), "23 Stack block 0 pc 5"),
     ("a handler before too few slots", one("Pop; Const 0; Return; EndHandler; Const 0; Return", handlers=[(0, 1, 7, 1, 0)]), "26 Table block 0 row 0"),
+    ("cuts that differ before a handler that is too deep", one("Const 0; Nop; Jump 12; Nop; Iter; Jump 11; Rethrow",
+                                                               handlers=[(5, 12, 18, 1, 0), (11, 12, 18, 2, 0)]), "26 Table block 0 row 0"),
+    ("a handler that is too deep before cuts that differ", one("Const 0; Nop; Jump 12; Nop; Iter; Jump 11; Rethrow",
+                                                               handlers=[(11, 12, 18, 2, 0), (5, 12, 18, 1, 0)]), "26 Table block 0 row 0"),
+    ("cuts that differ before too few slots", one("Const 0; Nop; Jump 16; ListAdd 2; Iter; Const 0; Jump 11; Rethrow", handlers=[(5, 16, 27, 1, 0)]),
+     "26 Table block 0 row 0"),
     ("the least of two handlers", one("Nop; Const 0; Return; EndHandler; Const 0; Return", handlers=[(0, 1, 7, 0, 0), (0, 1, 7, 2, 0), (0, 1, 7, 1, 0)]),
      "26 Table block 0 row 1"),
     ("too few slots before another kind", one("Const 0; Iter; Binary 0; Return"), "23 Stack block 0 pc 6"),

@@ -1,16 +1,23 @@
 #!/usr/bin/env python3
-"""Writes the tables of test_fits or test_jumps, with what the plain checker tells of each row.
+"""Writes the tables of test_fits, test_jumps or test_verify, with what the plain checker tells of each row.
 
     tables.py DIRECTORY        of one of these crates
 """
 import os
 import sys
 import common
+import cuts
 import jumps
 import limits
+import refusals
 import sizes
+import slots
 
-TABLES = {"test_fits": (sizes, limits, common), "test_jumps": (jumps,)}
+TABLES = {
+    "test_fits": (sizes, limits, common, cuts),
+    "test_jumps": (jumps, slots),
+    "test_verify": (refusals,),
+}
 
 
 def main(directory):

@@ -43,7 +43,8 @@ fn write_common(
     table: &[Option<u64>],
 ) -> Result<(), NoRow> {
     let places = Places::make(alloc, block)?;
-    let joins = common_slots(alloc, block, &places, table)?;
+    let last = u32::try_from(block.instructions.len()).map_err(|_| NoRow)?;
+    let joins = common_slots(alloc, block, &places, table, Pc(last))?;
     for at in 0..table.len() {
         let pc = u32::try_from(at).map_err(|_| NoRow)?;
         if let Some(size) = table[at] {

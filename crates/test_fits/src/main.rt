@@ -1,13 +1,16 @@
 //! What is told of code files, which stand in tables in hex: how many slots their places get, what
-//! is refused by places and sizes, and which slots are the same at two places.
+//! is refused by places and sizes, under which handler row cuts differ, and which slots are the same
+//! at two places.
 #![tactic(auto)]
 
 mod blocks;
 mod common;
+mod cuts;
 mod limits;
 
 use blocks::{NoRow, sizes_in};
 use common::common_in;
+use cuts::cuts_in;
 use limits::limits_in;
 use pt_code::Code;
 use std::alloc::Global;
@@ -21,14 +24,13 @@ fn code_of(alloc: Global, digits: &str) -> Result<Code, NoRow> {
 
 /// Writes what is told of each block of a code file, by the name of the table.
 fn answer(line: &mut String, alloc: Global, name: &str, row: &str) -> Result<(), NoRow> {
-    let (digits, words) = row.split_once(" ").unwrap_or((row, ""));
-    let code = code_of(alloc, digits)?;
-    let blocks = code.blocks.as_slice();
-    for number in 0..blocks.len() {
+    let code = code_of(alloc, row)?;
+    for block in code.blocks.as_slice() {
         match name {
-            "common.txt" => common_in(line, alloc, &code, &blocks[number])?,
-            "limits.txt" => limits_in(line, alloc, &code, number, words)?,
-            _ => sizes_in(line, alloc, &code, &blocks[number])?,
+            "common.txt" => common_in(line, alloc, &code, block)?,
+            "cuts.txt" => cuts_in(line, alloc, &code, block)?,
+            "limits.txt" => limits_in(line, alloc, &code, block)?,
+            _ => sizes_in(line, alloc, &code, block)?,
         }
     }
     Ok(())
