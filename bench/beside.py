@@ -1,10 +1,11 @@
 """Runs a program of benchmarks and CPython's own operations beside each other, each at one size and at twice the size.
 
 Times are those of the processor, in the program and in the system for it. They are taken in rounds, in each of which every call
-runs once at both sizes, so that whatever else the machine does meets all of them alike; what is printed is the median of the
-rounds, and the least and the greatest of their ratios. On a machine that does other work these differ by a third and more. Where
-valgrind is there, it counts the program's instructions too, once, since they are the same each time, and at small sizes, since it
-is slow: work that is linear doubles them, while times also tell how far the data lies.
+runs once at both sizes, so that whatever else the machine does meets all of them alike. What is printed is the least of the rounds,
+and the ratio of the least times: higher ones come of other work of the machine, and aren't those of what is timed (LIB `timeit`,
+`Timer.repeat`). Beside it stand the medians and their ratio, which tell how much other work there was. Where valgrind is there, it
+counts the program's instructions too, once, since they are the same each time, and at small sizes, since it is slow: work that is
+linear doubles them, while times also tell how far the data lies.
 """
 
 import multiprocessing
@@ -18,7 +19,10 @@ import time
 
 import timing
 
-ROUNDS = 5
+# how often each call is run
+ROUNDS = timing.RUNS
+# what is told of the times of all rounds
+TELLERS = (min, statistics.median)
 # the greatest size at which instructions are counted, and at twice which
 COUNTED = 50_000
 
@@ -28,7 +32,7 @@ class Program:
 
     def __init__(self, crate, empty):
         self.path = timing.program(crate, *empty)
-        self.start = statistics.median(self.run(empty)[0] for _ in range(ROUNDS))
+        self.start = min(self.run(empty)[0] for _ in range(ROUNDS))
         self.first_count = self.counted(empty)
 
     def run(self, words):
@@ -73,14 +77,14 @@ def alone(call, size, turns):
 
 
 class Figures:
-    """What a call takes at a size and at twice the size, so many times each: times of the program and of CPython round by round, and
-    the greatest memory; and instructions, at a size that may be less."""
+    """What a call takes at a size and at twice the size, so many times each: of the times of the program and of CPython the least and
+    the medians, and the greatest memory; and instructions, at a size that may be less."""
 
     def __init__(self, own, theirs, counts, memory):
         self.own, self.theirs, self.counts, self.memory = own, theirs, counts, memory
 
     def beyond(self, begun):
-        """The figures without those of what a run began with, in the same round."""
+        """The figures without those of what a run began with."""
         own = [less(*both) for both in zip(self.own, begun.own)]
         theirs = [less(*both) for both in zip(self.theirs, begun.theirs)]
         return Figures(own, theirs, less(self.counts, begun.counts), self.memory)
@@ -100,26 +104,22 @@ def measured(program, calls, size, turns=1):
             theirs[call].append(tuple(alone(call, it, turns) for it in sizes))
     few = min(size, COUNTED)
     counts = {call: tuple(program.instructions([call.__name__, str(it)]) for it in (few, 2 * few)) for call in calls}
-    return [Figures(own[call], theirs[call], counts[call], memory[call]) for call in calls]
+    return [Figures(told(own[call]), told(theirs[call]), counts[call], memory[call]) for call in calls]
+
+
+def told(rounds):
+    """The least times at both sizes, and the medians."""
+    return [tuple(teller(times) for times in zip(*rounds)) for teller in TELLERS]
 
 
 def heading():
-    print(f"{'':12} {'size':>9} {'seconds':>8} {'twice':>8} {'ratio':>6} {'least and most':>14} {'of each, instructions':>22} {'ratio':>6} "
-          f"{'KiB':>8} {'CPython':>8} {'twice':>8} {'ratio':>6} {'least and most':>14}", flush=True)
-
-
-def medians(rounds):
-    """The median times at both sizes, their ratio, and the least and the greatest ratio of a round."""
-    once, twice = (statistics.median(times) for times in zip(*rounds))
-    ratios = [it[1] / it[0] for it in rounds]
-    return once, twice, twice / once, min(ratios), max(ratios)
+    times = f"{'twice':>8} {'ratio':>6} {'median':>8} {'twice':>8} {'ratio':>6}"
+    print(f"{'':12} {'size':>9} {'seconds':>8} {times} {'of each, instructions':>22} {'ratio':>6} {'KiB':>8} {'CPython':>8} {times}", flush=True)
 
 
 def row(name, size, figures):
     """Prints the figures of a call."""
-    once, twice, ratio, low, high = medians(figures.own)
+    own, theirs = (" ".join(f"{once:8.3f} {twice:8.3f} {twice / once:6.2f}" for once, twice in it) for it in (figures.own, figures.theirs))
     count, more = figures.counts
     counts = f"{'':22} {'':>6}" if count is None else f"{count / min(size, COUNTED):22.1f} {more / count:6.3f}"
-    theirs, theirs_twice, theirs_ratio, theirs_low, theirs_high = medians(figures.theirs)
-    print(f"{name:12} {size:9} {once:8.3f} {twice:8.3f} {ratio:6.2f} {low:7.2f} {high:6.2f} {counts} {figures.memory:8} "
-          f"{theirs:8.3f} {theirs_twice:8.3f} {theirs_ratio:6.2f} {theirs_low:7.2f} {theirs_high:6.2f}", flush=True)
+    print(f"{name:12} {size:9} {own} {counts} {figures.memory:8} {theirs}", flush=True)

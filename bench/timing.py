@@ -1,11 +1,11 @@
 """Times the front end on files of 1 MiB of several shapes, and of twice the size.
 
-Each is run five times. What is printed: the median time beyond that of an empty file, the greatest
-memory, and the ratio of the times.
+Each is run seven times. What is printed: the least time beyond that of an empty file, the greatest
+memory, and the ratio of the times. Of repeats the least is told, here and in what uses this: higher
+times come of what else the machine does (LIB `timeit`, `Timer.repeat`).
 """
 
 import os
-import statistics
 import subprocess
 import sys
 import tempfile
@@ -17,7 +17,8 @@ CRATES = TOP / "crates"
 # the programs that read a text as a kind
 PROGRAMS = {"tokens": "test_tokens", "trees": "test_front", "scopes": "test_front"}
 MEBIBYTE = 1 << 20
-RUNS = 5
+# how often each is run
+RUNS = 7
 
 ORDINARY = '''
 def area(width, height=1, *, scale=1):
@@ -56,9 +57,9 @@ def run_once(words, output=None, log=None):
 
 
 def run(words, output=None):
-    """Seconds and peak KiB: the median and the greatest of the runs, with what they write into this file, where it is given."""
+    """Seconds and peak KiB: the least and the greatest of the runs, with what they write into this file, where it is given."""
     rows = [run_once(words, output) for _ in range(RUNS)]
-    return statistics.median(r[0] for r in rows), max(r[1] for r in rows)
+    return min(r[0] for r in rows), max(r[1] for r in rows)
 
 
 def needs():

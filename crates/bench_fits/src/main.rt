@@ -1,12 +1,14 @@
 //! What the benchmark of a verifier times: of each block of a code file the first row of its tables
-//! that fails, the sizes of its places, and its limits.
+//! that fails, the sizes of its places, its limits, and how it fails by kinds.
 #![tactic(auto)]
 
 use pt_base::Memory;
 use pt_block_limits::{Cycles, is_too_deep, lost_leave, silent_loops};
 use pt_block_tables::first_bad_row;
 use pt_code::{Code, CodeBlock, read};
+use pt_kind_failures::kind_failures;
 use pt_places::Places;
+use pt_standing::Defaults;
 use pt_verify::{Sizes, sizes};
 use std::alloc::Global;
 use std::process::ExitCode;
@@ -30,10 +32,32 @@ fn limits(
     }
 }
 
+fn kinds(
+    alloc: Global,
+    code: &Code,
+    defaults: &Defaults,
+    block: &CodeBlock,
+    places: &Places,
+    table: &[Option<u64>],
+) -> Result<&'static str, Memory> {
+    let limit = block.instructions.len();
+    let told = kind_failures(alloc, code, defaults, block, places, table, limit)?;
+    if told.row.is_some() {
+        Ok("row")
+    } else if told.clash {
+        Ok("clash")
+    } else if told.strays {
+        Ok("strays")
+    } else {
+        Ok("agree")
+    }
+}
+
 /// What is told of a block, by the name of a piece.
 fn told(
     alloc: Global,
     code: &Code,
+    defaults: &Defaults,
     block: &CodeBlock,
     piece: &str,
 ) -> Result<&'static str, Memory> {
@@ -56,6 +80,9 @@ fn told(
         };
     }
     match sizes(alloc, code, block)? {
+        Sizes::Agree(table) if piece == "kinds" => {
+            kinds(alloc, code, defaults, block, &places, &table)
+        }
         Sizes::Agree(table) => limits(alloc, block, &places, &table),
         _ => Ok("disagree"),
     }
@@ -63,9 +90,10 @@ fn told(
 
 /// What is told of the last block of a code file, behind all others.
 fn told_of_all(alloc: Global, code: &Code, piece: &str) -> Result<&'static str, Memory> {
+    let defaults = Defaults::make(alloc, code)?;
     let mut answer = "none";
     for block in code.blocks.as_slice() {
-        answer = told(alloc, code, block, piece)?;
+        answer = told(alloc, code, &defaults, block, piece)?;
     }
     Ok(answer)
 }
