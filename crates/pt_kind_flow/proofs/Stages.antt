@@ -1,5 +1,4 @@
 -- The stages of a search: it starts, a list arrives, a vertex gets its edges, and nothing is left to do.
-use Rattle.std.proofs.lemmas.List.Elements.{Contains-push, Contains-append_left}
 use Rattle.std.proofs.Common.{◌≡◌, ℕ, zero, suc, ◌<◌, ◌≤◌, List, [], ◌∷◌, ◌++◌, length, take, replicate, set, Option, Some, None, refl, sym, ap, ◌∙◌, subst, arith, ◌⊎◌, inl, inr, get_or}
 use Rattle.std.specs.Prelude.{Contains}
 use Rattle.std.specs.BinaryHeap.{heap_items}
@@ -18,9 +17,9 @@ use Rattle.pt_kind_flow.specs.declared.flow.Arrival.{Arrival}
 use Rattle.pt_kind_flow.specs.declared.flow.Flow.{Flow}
 use Rattle.pt_kind_flow.specs.Flow as F
 use Rattle.pt_kind_flow.specs.Flow.{Graph, edges_at, edges_of, Comes, IsLongest, IsExact, entry, graph, told, AreLongest, Descends}
-use Rattle.pt_kind_flow.specs.Search.{Grows, Seen, Open, Leads, IsFlow, IsSearch, IsFirstTable, GoneOn, GoesOn, Settled, Opens, AllDescend, Tells}
+use Rattle.pt_kind_flow.specs.Search.{Grows, Seen, Open, Leads, IsFlow, IsSearch, IsFirstTable, GoneOn, GoesOn, Settled, Opens, AllDescend}
 use Rattle.pt_kind_flow.proofs.Beginnings.{begins_same}
-use Rattle.pt_kind_flow.proofs.Forests.{grows_itself, grown, still_inside, grows_then}
+use Rattle.pt_kind_flow.proofs.Forests.{grows_itself, grown, still_inside}
 use Rattle.pt_kind_flow.proofs.Partings.{exact_more}
 use Rattle.pt_kind_flow.proofs.Leading.{lt_or}
 use Rattle.pt_kind_flow.proofs.Waiting.{same_again, open_as}
@@ -39,32 +38,10 @@ same_graph es fs ks ls e k = ap (λ x. graph_of x ks) e ∙ ap (λ x. graph_of f
 -- a list arrives
 
 abbrev pub with_forest : Flow → Forest → Flow
-with_forest f forest = record { forest = forest; first = f.first; edges = f.edges; table = f.table; work = f.work; changed = f.changed }
+with_forest f forest = record { forest = forest; first = f.first; edges = f.edges; table = f.table; work = f.work }
 
 abbrev pub with_work : Flow → BinaryHeap Arrival Global → Flow
-with_work f work = record { forest = f.forest; first = f.first; edges = f.edges; table = f.table; work = work; changed = f.changed }
-
-pub tells_itself : (f : Flow) → IsForest f.forest → Tells f f
-tells_itself f is = record { changes = record { grows = grows_itself f.forest is; same = λ v. inl refl }; more = λ v c. c }
-
-pub tells_then : (one two three : Flow) → Tells one two → Tells two three → Tells one three
-tells_then one two three t u = record {
-  changes = record {
-    grows = grows_then one.forest two.forest three.forest t.changes.grows u.changes.grows;
-    same = λ v. elim (u.changes.same v) [ inl e ↦ elim (t.changes.same v) [ inl d ↦ inl (e ∙ d) | inr c ↦ inr (u.more v c) ] | inr c ↦ inr c ];
-  };
-  more = λ v c. u.more v (t.more v c);
-}
-
-gone_tells : (old : Flow) (f1 : Forest) (new : Flow) (v list : ℕ) (told : Option ℕ) → Grows old.forest f1 → GoneOn (with_forest old f1) new v list told → Tells old new
-gone_tells old f1 new v list told grows g = record {
-  changes = record { grows = grows_then old.forest f1 new.forest grows g.leads.grows; same = λ u. by_place u (cases_eq u v) };
-  more = λ u c. subst (λ xs. Contains xs u) (sym g.changed) (Contains-append_left old.changed.items (v ∷ []) u c);
-}
-  where
-    by_place : (u : ℕ) → (u ≡ v) ⊎ (u ≡ v → ⊥) → (entry new.table.items u ≡ entry old.table.items u) ⊎ Contains new.changed.items u
-    by_place u (inl e) = inr (subst (λ w. Contains new.changed.items w) (sym e) (subst (λ xs. Contains xs v) (sym g.changed) (Contains-push old.changed.items v)))
-    by_place u (inr ne) = inl (ap (λ T. entry T u) g.table ∙ get_or-set_other old.table.items v u (Some list) None ne)
+with_work f work = record { forest = f.forest; first = f.first; edges = f.edges; table = f.table; work = work }
 
 -- the search after a list was told of a vertex
 gone : (old : Flow) (f1 : Forest) (new : Flow) (v list : ℕ) (told : Option ℕ) → AllDescend (graph old) → IsInside old.forest old.first → Grows old.forest f1
@@ -77,7 +54,6 @@ gone old f1 new v list told sorted inside grows g o = record {
     sorted = subst AllDescend (sym same) sorted;
   };
   same = same;
-  tells = gone_tells old f1 new v list told grows g;
 }
   where
     same : graph new ≡ graph old
@@ -86,10 +62,10 @@ gone old f1 new v list told sorted inside grows g o = record {
 
 module _ (old : Flow) (a : Arrival) (o : Open (graph old) old.forest old.table.items (heap_items old.work ++ a ∷ [])) (inside : IsInside old.forest old.first) (sorted : AllDescend (graph old)) where
   pub arrived_far : length old.table.items ≤ a.to → GoesOn old old
-  arrived_far h = record { search = record { opens = skip_far (graph old) old.forest old.table.items (heap_items old.work) a o h; first = inside; sorted = sorted }; same = refl; tells = tells_itself old o.forest }
+  arrived_far h = record { search = record { opens = skip_far (graph old) old.forest old.table.items (heap_items old.work) a o h; first = inside; sorted = sorted }; same = refl }
 
   pub arrived_known : (known count : ℕ) → entry old.table.items a.to ≡ Some known → IsCommon (list_at old.forest known) (list_at old.forest a.list) count → count ≡ length (list_at old.forest known) → GoesOn old old
-  arrived_known known count e c whole = record { search = record { opens = skip_known (graph old) old.forest old.table.items (heap_items old.work) a o known count e c whole; first = inside; sorted = sorted }; same = refl; tells = tells_itself old o.forest }
+  arrived_known known count e c whole = record { search = record { opens = skip_known (graph old) old.forest old.table.items (heap_items old.work) a o known count e c whole; first = inside; sorted = sorted }; same = refl }
 
   -- it waits until it is as urgent as any other
   pub arrived_again : (work : BinaryHeap Arrival Global) (b : Arrival) → IsPermutation (b ∷ heap_items old.work) (heap_items work) → b.to ≡ a.to → b.list ≡ a.list
@@ -101,7 +77,6 @@ module _ (old : Flow) (a : Arrival) (o : Open (graph old) old.forest old.table.i
       sorted = sorted;
     };
     same = refl;
-    tells = record { changes = record { grows = grows_itself old.forest o.forest; same = λ v. inl refl }; more = λ v c. c };
   }
 
   pub due_is_inside : IsInside old.forest a.list
@@ -215,9 +190,6 @@ module _ (old mid : Flow) (v : ℕ) (es : List Edge) (flow : IsFlow old) (none :
   first_inside : IsInside mid.forest mid.first
   first_inside = subst (λ f. IsInside f mid.first) (sym forest) (subst (λ i. IsInside old.forest i) (sym first) flow.first)
 
-  grows_on : Grows old.forest mid.forest
-  grows_on = subst (λ f. Grows old.forest f) (sym forest) (grows_itself old.forest flow.opens.forest)
-
   pub all_sorted : AllDescend (graph mid)
   all_sorted u = by_place (cases_eq u v)
     where
@@ -239,7 +211,6 @@ module _ (old mid : Flow) (v : ℕ) (es : List Edge) (flow : IsFlow old) (none :
     };
     edges_are = is;
     first = same_first;
-    changes = record { grows = grows_on; same = λ u. inl (ap (λ T. entry T.items u) table) };
   }
 
   module _ (list : ℕ) (told : entry mid.table.items v ≡ Some list) (room : v < length mid.table.items) (new : Flow) (g : GoneOn mid new v list None) where
@@ -263,19 +234,12 @@ module _ (old mid : Flow) (v : ℕ) (es : List Edge) (flow : IsFlow old) (none :
       flow = s.flow;
       edges_are = ap (λ h. h.edges) s.same ∙ (ap (λ h. h.edges) same ∙ is);
       first = ap (λ h. h.first) s.same ∙ (ap (λ h. h.first) same ∙ same_first);
-      changes = record {
-        grows = grows_then old.forest mid.forest end.forest grows_on all.changes.grows;
-        same = λ u. elim (all.changes.same u) [ inl e ↦ inl (e ∙ ap (λ T. entry T.items u) table) | inr c ↦ inr c ];
-      };
     }
-      where
-        all : Tells mid end
-        all = tells_then mid new end (gone_tells mid mid.forest new v list None (grows_itself mid.forest (subst IsForest (sym forest) flow.opens.forest)) g) s.tells
 
 -- arrivals one after the other
 
-pub goes_twice : (one two three : Flow) → GoesOn one two → IsSearch three → graph three ≡ graph two → Tells two three → GoesOn one three
-goes_twice one two three g search e t = record { search = search; same = e ∙ g.same; tells = tells_then one two three g.tells t }
+pub goes_twice : (one two three : Flow) → GoesOn one two → IsSearch three → graph three ≡ graph two → GoesOn one three
+goes_twice one two three g search e = record { search = search; same = e ∙ g.same }
 
 no_more : {X : Type 0} (left rest more : List X) → left ≡ rest ++ more → length more ≡ 0 → length rest ≡ 0 → left ≡ []
 no_more left [] [] e h k = e

@@ -1,5 +1,5 @@
 -- What the search for the beginnings of lists knows while it goes on.
-use Rattle.std.specs.Prelude.{◌≡◌, ◌⊎◌, ℕ, ◌<◌, ◌≤◌, List, [], length, Contains, slice_set as set, Option, Some, Bool, true, false, nat_le, None, ◌∷◌, ◌++◌}
+use Rattle.std.specs.Prelude.{◌≡◌, ◌⊎◌, ℕ, ◌<◌, ◌≤◌, List, [], length, Contains, slice_set as set, Option, Some, Bool, true, false, nat_le, None}
 use Rattle.std.specs.BinaryHeap.{heap_items}
 use Rattle.pt_instr.specs.Effects.{Kinds}
 use Rattle.pt_kinds.specs.declared.forest.Forest.{Forest}
@@ -92,33 +92,18 @@ pub record GoneOn (old new : Flow) (vertex list : ℕ) (told : Option ℕ) : Typ
   pub table : new.table.items ≡ set old.table.items vertex (Some list)
   pub edges : new.edges ≡ old.edges
   pub first : new.first ≡ old.first
-  pub changed : new.changed.items ≡ old.changed.items ++ vertex ∷ []
-
--- lists keep their numbers, and of vertices that haven't changed the same is told
-pub record Changes (old new : Flow) : Type 0 where
-  pub grows : Grows old.forest new.forest
-  pub same : (v : ℕ) → (entry new.table.items v ≡ entry old.table.items v)
-      ⊎ Contains new.changed.items v
-
--- those that changed before are among those that have
-pub record Tells (old new : Flow) : Type 0 where
-  pub changes : Changes old new
-  pub more : (v : ℕ) → Contains old.changed.items v → Contains new.changed.items v
 
 -- a search that goes on over the same graph
 pub record GoesOn (old new : Flow) : Type 0 where
   pub search : IsSearch new
   pub same : graph new ≡ graph old
-  pub tells : Tells old new
 
 pub record Settled (old new : Flow) : Type 0 where
   pub flow : IsFlow new
   pub same : graph new ≡ graph old
-  pub tells : Tells old new
 
 -- the vertex has its edges now
 pub record Opens (old new : Flow) (vertex : ℕ) (edges : List Edge) : Type 0 where
   pub flow : IsFlow new
   pub edges_are : (graph new).edges ≡ set (graph old).edges vertex edges
   pub first : (graph new).first ≡ (graph old).first
-  pub changes : Changes old new

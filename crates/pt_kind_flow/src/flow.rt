@@ -39,8 +39,6 @@ pub struct Flow {
     pub edges: Vec<Vec<Edge>>,
     pub table: Vec<Option<usize>>,
     pub work: BinaryHeap<Arrival>,
-    /// The vertices of which a list was told since one got its edges last.
-    pub changed: Vec<usize>,
 }
 
 /// Adds an arrival along each edge of a vertex, but for those that it had before.
@@ -115,7 +113,6 @@ impl Flow {
             edges,
             table,
             work: BinaryHeap::new(alloc),
-            changed: Vec::new(alloc),
         })
     }
 
@@ -141,7 +138,6 @@ impl Flow {
         ensures { IfOk result (λ _. GoneOn self.old self.new vertex list told) }
     {
         self.table[vertex] = Some(list);
-        self.changed.push(vertex)?;
         add_led(
             &mut self.forest,
             &mut self.work,
@@ -205,8 +201,6 @@ impl Flow {
 
     /// Gives a vertex its edges, and sees to all that comes along them. Those that depend on fewer
     /// slots come later, so that they aren't looked at where its list gets shorter above these.
-    /// What is told of other vertices than those that changed stays the same, and so do lists by
-    /// their numbers.
     ///
     /// # Errors
     ///
@@ -219,7 +213,6 @@ impl Flow {
         requires sorted { Descends edges.items }
         ensures { IfOk result (λ _. Opens self.old self.new vertex edges.items) }
     {
-        self.changed.clear();
         self.edges[vertex] = edges;
         let Some(list) = self.table[vertex] else {
             return Ok(());

@@ -2,15 +2,14 @@ use Rattle.std.proofs.Common.{refl}
 use Rattle.std.specs.BinaryHeap.{heap_items}
 use Rattle.pt_kind_flow.specs.Flow.{graph}
 use Rattle.pt_kind_flow.proofs.Waiting.{open_taken}
-use Rattle.pt_kind_flow.proofs.Stages.{tells_itself, goes_twice}
+use Rattle.pt_kind_flow.proofs.Stages.{goes_twice}
 use Rattle.pt_kind_flow.proofs.flow.Flow.settle.Goals as goal
 
 pub loop-left-init : goal.loop-left-init
-loop-left-init c = record { search = c.requires; same = refl; tells = tells_itself c.args.self.now c.requires.opens.forest }
+loop-left-init c = record { search = c.requires; same = refl }
 
 pub loop-left-preserved : goal.loop-left-preserved
 loop-left-preserved c = let g = c.in_ok-arrive.ensures in goes_twice c.args.self.now c.loop-left.self c.arrive.new.self c.loop-left.invariant g.search g.same
-    (record { changes = record { grows = g.tells.changes.grows; same = g.tells.changes.same }; more = g.tells.more })
 
 pub arrive-requires-clause-opens : goal.arrive-requires-clause-opens
 arrive-requires-clause-opens c = let s = c.loop-left.self in
