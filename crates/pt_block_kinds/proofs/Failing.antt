@@ -1,6 +1,5 @@
 -- Where fewer slots are in common, lists differ; and where they differ fewer are.
 use Rattle.std.proofs.Common.{◌≡◌, ℕ, ◌+◌, ◌<◌, ◌≤◌, zero, suc, Bool, true, false, List, [], ◌∷◌, ◌++◌, length, take, Option, Some, None, refl, sym, ap, ◌∙◌, subst, arith, inl, inr, length-append, get_or}
-use Rattle.std.proofs.lemmas.List.{length-map}
 use Rattle.std.specs.Prelude.{◌&&◌, nat_eq, slice_get}
 use Rattle.std.specs.Bool.{Decides}
 use Rattle.std.proofs.lemmas.Bool.{false≢true}
@@ -94,7 +93,7 @@ module _ (f : Flow) (flow : IsFlow f) where
   longest = are_longest f flow
 
   -- the one list that comes, where not fewer slots are in common
-  one_list : (v n : ℕ) → v < length f.edges.items → (IsShort f v n → ⊥) → (ks : Kinds) → Comes (graph f) v ks → length ks ≤ n
+  one_list : (v n : ℕ) → v < length f.edges → (IsShort f v n → ⊥) → (ks : Kinds) → Comes (graph f) v ks → length ks ≤ n
       → (l : Kinds) × ((told f v ≡ Some l) × (ks ≡ l))
   one_list v n lt none ks c h = by (told f v) refl
     where
@@ -111,7 +110,7 @@ module _ (f : Flow) (flow : IsFlow f) where
         ),
       )
 
-  pub same_list : (v n : ℕ) → v < length f.edges.items → (IsShort f v n → ⊥) → (ks ls : Kinds) → Comes (graph f) v ks → Comes (graph f) v ls → length ks ≤ n → length ls ≤ n
+  pub same_list : (v n : ℕ) → v < length f.edges → (IsShort f v n → ⊥) → (ks ls : Kinds) → Comes (graph f) v ks → Comes (graph f) v ls → length ks ≤ n → length ls ≤ n
       → are_kinds ks ls ≡ false → ⊥
   same_list v n lt none ks ls c e h k differ =
       let (l, (s, x)) = one_list v n lt none ks c h in
@@ -132,8 +131,8 @@ module _ (b : Block) (p : ℕ) (T : List (Option ℕ)) (kinds : BlockKinds) (d :
   gotten : ComesAsGotten b p (length T) base g
   gotten = come_as_gotten b p T d.levels g d.is seen sizes
 
-  vertices : length f.edges.items ≡ base + length b.handlers
-  vertices = sym (length-map f.edges.items (λ es. es.items)) ∙ d.is.long
+  vertices : length f.edges ≡ base + length b.handlers
+  vertices = d.is.long
 
   -- rows
 
@@ -181,7 +180,7 @@ module _ (b : Block) (p : ℕ) (T : List (Option ℕ)) (kinds : BlockKinds) (d :
 
   -- places
 
-  pub place_below : (q : ℕ) (i : Ins) → b.at q ≡ Some i → q < length f.edges.items
+  pub place_below : (q : ℕ) (i : Ins) → b.at q ≡ Some i → q < length f.edges
   place_below q i e = let h = seen.below q i e in let v = vertices in omega (arith, h, v)
 
   pub short_meets : ShortPlace f T → TwoMeet b p

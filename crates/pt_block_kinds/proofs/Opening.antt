@@ -2,7 +2,7 @@
 use Rattle.std.proofs.Common.{◌≡◌, ℕ, ◌+◌, ◌-◌, ◌<◌, ◌≤◌, zero, suc, List, [], ◌∷◌, length, Option, Some, None, refl, sym, ap, ◌∙◌, subst, arith, ◌⊎◌, inl, inr, Bor}
 use Rattle.std.specs.Prelude.{nat_lt, cond, slice_get, slice_index_or, option_map, is_some, IfSome}
 use Rattle.std.proofs.lemmas.Bool.{cases_eq, false≢true}
-use Rattle.std.proofs.lemmas.List.{length-set, length-map, get_or-set_same, get_or-set_other}
+use Rattle.std.proofs.lemmas.List.{length-set, get_or-set_same, get_or-set_other}
 use Rattle.pt_instr.specs.Effects.{Kinds}
 use Rattle.pt_ranges.specs.declared.handlers.Handler.{Handler}
 use Rattle.pt_code.specs.View.{Ins}
@@ -39,8 +39,8 @@ module _ (first : Kinds) (size : ℕ) (leads : ℕ → List Lead) (v : ℕ) (old
   lt : v < size
   lt = let l = d.low in omega (arith, l)
 
-  pub room : v < length old.edges.items
-  room = let l = d.long in let m = length-map old.edges.items (λ es. es.items) in let h = lt in omega (arith, h, l, m)
+  pub room : v < length old.edges
+  room = let l = d.long in let h = lt in omega (arith, h, l)
 
   pub none_yet : edges_at (graph old).edges v ≡ []
   none_yet = d.rest v (omega arith)

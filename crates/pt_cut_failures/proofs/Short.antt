@@ -2,7 +2,6 @@
 use Rattle.std.proofs.Common.{◌≡◌, ℕ, ◌+◌, ◌<◌, ◌≤◌, Bool, true, false, List, length, Option, Some, None, refl, sym, ap, ◌∙◌, subst, arith, get_or}
 use Rattle.std.specs.Prelude.{Contains, slice_get}
 use Rattle.std.proofs.lemmas.Bool.{leb-true}
-use Rattle.std.proofs.lemmas.List.{length-map}
 use Rattle.std.proofs.lemmas.Option.{get_or_from_slice_get, slice_get_within}
 use Rattle.pt_instr.specs.Effects.{Kinds}
 use Rattle.pt_ranges.specs.declared.handlers.Handler.{Handler}
@@ -63,8 +62,8 @@ module _ (b : Block) (p : ℕ) (T : List (Option ℕ)) (f : Flow) (d : Draws b p
           R.differs k.reached k.under m.reached m.under
           (subst (λ xs. are_kinds (cut row k.kinds) xs ≡ false) m.is (subst (λ xs. are_kinds xs other ≡ false) k.is (differ short.kinds one other q)))
 
-  vertex_in : (n : ℕ) (row : Handler) → slice_get b.handlers n ≡ Some row → count + n < length f.edges.items
-  vertex_in n row is = let h = slice_get_within b.handlers n row is in let e = d.is.long in let m = length-map f.edges.items (λ es. es.items) in omega (arith, h, e, m)
+  vertex_in : (n : ℕ) (row : Handler) → slice_get b.handlers n ≡ Some row → count + n < length f.edges
+  vertex_in n row is = let h = slice_get_within b.handlers n row is in let e = d.is.long in omega (arith, h, e)
 
   cuts_same : (n : ℕ) (row : Handler) → n < asked → slice_get b.handlers n ≡ Some row → (IsShort f (count + n) row.depth → ⊥) → CutsDiffer b p row → ⊥
   cuts_same n row lt is none (R.differs {q = q} {r = r} {i = i} {j = j} {ks = ks} {ls = ls} one c other e apart) =

@@ -2,6 +2,7 @@ mod Beginnings
 mod Forests
 mod Leading
 mod Partings
+mod Spans
 mod Theory
 mod Waiting
 pub mod Stages

@@ -6,7 +6,7 @@ use Rattle.std.specs.List.Sorted.{IsPermutation}
 use Rattle.std.specs.declared.collections.BinaryHeap.{BinaryHeap}
 use Rattle.std.specs.declared.alloc.Global.{Global}
 use Rattle.std.proofs.lemmas.Bool.{cases_eq}
-use Rattle.std.proofs.lemmas.List.{length-set, length-map, length-replicate, get_or-set_other, get_or-set_same}
+use Rattle.std.proofs.lemmas.List.{length-set, length-replicate, get_or-set_other, get_or-set_same}
 use Rattle.std.proofs.lemmas.Option.{same_Some, slice_get-get_or, slice_get_read}
 use Rattle.pt_instr.specs.Effects.{Kinds}
 use Rattle.pt_kinds.specs.declared.forest.Forest.{Forest}
@@ -16,7 +16,7 @@ use Rattle.pt_kind_flow.specs.declared.edges.Edge.{Edge}
 use Rattle.pt_kind_flow.specs.declared.flow.Arrival.{Arrival}
 use Rattle.pt_kind_flow.specs.declared.flow.Flow.{Flow}
 use Rattle.pt_kind_flow.specs.Flow as F
-use Rattle.pt_kind_flow.specs.Flow.{Graph, edges_at, edges_of, Comes, IsLongest, IsExact, entry, graph, told, AreLongest, Descends}
+use Rattle.pt_kind_flow.specs.Flow.{Graph, edges_at, Comes, IsLongest, IsExact, entry, graph, told, AreLongest, Descends}
 use Rattle.pt_kind_flow.specs.Search.{Grows, Seen, Open, Leads, IsFlow, IsSearch, IsFirstTable, GoneOn, GoesOn, Settled, Opens, AllDescend}
 use Rattle.pt_kind_flow.proofs.Beginnings.{begins_same}
 use Rattle.pt_kind_flow.proofs.Forests.{grows_itself, grown, still_inside}
@@ -57,7 +57,7 @@ gone old f1 new v list told sorted inside grows g o = record {
 }
   where
     same : graph new ≡ graph old
-    same = same_graph (edges_of new.edges) (edges_of old.edges) (list_at new.forest new.first) (list_at old.forest old.first) (ap (λ es. edges_of es) g.edges)
+    same = same_graph new.edges old.edges (list_at new.forest new.first) (list_at old.forest old.first) g.edges
         (ap (λ i. list_at new.forest i) g.first ∙ (g.leads.grows.kept old.first (still_inside old.forest f1 old.first grows inside) ∙ grows.kept old.first inside))
 
 module _ (old : Flow) (a : Arrival) (o : Open (graph old) old.forest old.table.items (heap_items old.work ++ a ∷ [])) (inside : IsInside old.forest old.first) (sorted : AllDescend (graph old)) where
@@ -219,7 +219,7 @@ module _ (old mid : Flow) (v : ℕ) (es : List Edge) (flow : IsFlow old) (none :
         (subst (λ W. Leads mid.forest new.forest (edges_at (graph mid).edges v) list None W (heap_items new.work)) no_work g.leads)
 
     same : graph new ≡ graph mid
-    same = same_graph (edges_of new.edges) (edges_of mid.edges) (list_at new.forest new.first) (list_at mid.forest mid.first) (ap (λ x. edges_of x) g.edges)
+    same = same_graph new.edges mid.edges (list_at new.forest new.first) (list_at mid.forest mid.first) g.edges
         (ap (λ i. list_at new.forest i) g.first ∙ g.leads.grows.kept mid.first first_inside)
 
     pub opens_search : IsSearch new
@@ -252,7 +252,7 @@ pub are_longest : (flow : Flow) → IsFlow flow → AreLongest flow
 are_longest flow is = record {
   sound = λ v ks e. let m = map_some (list_at flow.forest) (entry flow.table.items v) ks e in
       subst (λ ls. IsLongest (graph flow) v ls) m.1.1 (longest_at (graph flow) flow.forest flow.table.items o v m.0 m.1.0);
-  whole = λ v ks lt c e. none_at (graph flow) flow.forest flow.table.items o v ks (subst (λ n. v < n) (sym (length-map flow.edges.items (λ es. es.items))) lt) c
+  whole = λ v ks lt c e. none_at (graph flow) flow.forest flow.table.items o v ks lt c
       (map_none (list_at flow.forest) (entry flow.table.items v) e);
 }
   where

@@ -1,5 +1,5 @@
 -- Lists of kinds that go along the edges of a graph (data flow over the slots of an operand stack).
-use Rattle.std.specs.Prelude.{◌≡◌, ℕ, zero, suc, ◌<◌, List, [], ◌∷◌, ◌++◌, length, map, Contains, slice_index_or, slice_get, Bool, true, false, if◌then◌else◌, Option, Some, None, option_map, Vec, ◌+◌, ◌≤◌}
+use Rattle.std.specs.Prelude.{◌≡◌, ℕ, zero, suc, ◌<◌, List, [], ◌∷◌, ◌++◌, length, Contains, slice_index_or, slice_get, Bool, true, false, if◌then◌else◌, Option, Some, None, option_map, ◌+◌, ◌≤◌}
 use Rattle.std.specs.List.{flat_map}
 use Rattle.pt_instr.specs.declared.kinds.Kind.{Kind}
 use Rattle.pt_instr.specs.Effects.{Kinds}
@@ -87,11 +87,8 @@ pub record IsLongest (g : Graph) (vertex : ℕ) (ks : Kinds) : Type 0 where
 abbrev pub entry : {X : Type 0} → List (Option X) → (vertex : ℕ) → Option X
 entry table v = slice_index_or table v None
 
-abbrev pub edges_of : {Y Z : Type 0} → Vec (Vec Edge Y) Z → List (List Edge)
-edges_of edges = map (λ es. es.items) edges.items
-
 abbrev pub graph : Flow → Graph
-graph f = record { edges = edges_of f.edges; first = list_at f.forest f.first }
+graph f = record { edges = f.edges; first = list_at f.forest f.first }
 
 -- the beginning that is told of a vertex
 abbrev pub told : Flow → (vertex : ℕ) → Option Kinds
@@ -100,5 +97,5 @@ told f v = option_map (list_at f.forest) (entry f.table.items v)
 -- of each vertex the longest list is told with which all begin that come there; None where none do
 pub record AreLongest (f : Flow) : Type 0 where
   pub sound : (v : ℕ) (ks : Kinds) → told f v ≡ Some ks → IsLongest (graph f) v ks
-  pub whole : (v : ℕ) (ks : Kinds) → v < length f.edges.items → Comes (graph f) v ks
+  pub whole : (v : ℕ) (ks : Kinds) → v < length f.edges → Comes (graph f) v ks
       → told f v ≡ None → ⊥

@@ -1,2 +1,3 @@
+pub mod EdgeLists
 pub mod Flow
 pub mod Search

@@ -4,9 +4,10 @@ ghost use Rattle.std.specs.List.{flat_map};
 ghost use Rattle.std.specs.BinaryHeap.{heap_items};
 ghost use Rattle.pt_instr.specs.Runs.{kinds_of};
 ghost use Rattle.pt_kinds.specs.Forest.{IsForest, IsInside, list_at};
-ghost use Rattle.pt_kind_flow.specs.Flow.{AreLongest, Descends, edges_at, edges_of, entry, graph, told};
+ghost use Rattle.pt_kind_flow.specs.Flow.{AreLongest, Descends, edges_at, entry, graph, told};
 ghost use Rattle.pt_kind_flow.specs.Search.{AllDescend, GoesOn, GoneOn, IsFirstTable, IsFlow, IsSearch, Leads, Open, Opens, Settled};
 
+use crate::edge_lists::EdgeLists;
 use crate::edges::{Edge, led, push_runs};
 use pt_base::Memory;
 use pt_instr::Run;
@@ -36,7 +37,7 @@ pub struct Flow {
     pub forest: Forest,
     /// The kinds with which the first vertex starts.
     pub first: usize,
-    pub edges: Vec<Vec<Edge>>,
+    pub edges: EdgeLists,
     pub table: Vec<Option<usize>>,
     pub work: BinaryHeap<Arrival>,
 }
@@ -69,17 +70,6 @@ fn add_led(
     Ok(())
 }
 
-/// So many vertices without edges.
-fn edges_of_none(alloc: Global, count: usize) -> Result<Vec<Vec<Edge>>, Memory>
-    ensures { IfOk result (λ edges. edges_of edges ≡ replicate count []) }
-{
-    let mut edges = Vec::new(alloc);
-    for counter in 0..count {
-        edges.push(Vec::new(alloc))?;
-    }
-    Ok(edges)
-}
-
 /// A table in which the first vertex alone has its list.
 fn first_table(alloc: Global, count: usize, first: usize) -> Result<Vec<Option<usize>>, Memory>
     ensures { IfOk result (λ table. IsFirstTable count first table.items) }
@@ -100,12 +90,12 @@ impl Flow {
     /// `Memory` for want of it.
     pub fn new(alloc: Global, count: usize, first: &[Run]) -> Result<Flow, Memory>
         ensures flow { IfOk result (λ flow. IsFlow flow) }
-        ensures edges { IfOk result (λ flow. (graph flow).edges ≡ replicate count []) }
+        ensures edges { IfOk result (λ flow. flow.edges ≡ replicate count []) }
         ensures first { IfOk result (λ flow. (graph flow).first ≡ flat_map kinds_of first.now) }
     {
         let mut forest = Forest::new(alloc)?;
         let first = push_runs(&mut forest, 0, first)?;
-        let edges = edges_of_none(alloc, count)?;
+        let edges = EdgeLists::new(alloc, count)?;
         let table = first_table(alloc, count, first)?;
         Ok(Flow {
             forest,
@@ -133,15 +123,15 @@ impl Flow {
         requires forest { IsForest self.old.forest }
         requires inside { IsInside self.old.forest list }
         requires room { vertex < length self.old.table.items }
-        requires edges { vertex < length self.old.edges.items }
-        requires sorted { Descends (edges_at (graph self.old).edges vertex) }
+        requires edges { vertex < length self.old.edges }
+        requires sorted { Descends (edges_at self.old.edges vertex) }
         ensures { IfOk result (λ _. GoneOn self.old self.new vertex list told) }
     {
         self.table[vertex] = Some(list);
         add_led(
             &mut self.forest,
             &mut self.work,
-            self.edges[vertex].as_slice(),
+            self.edges.at(vertex),
             list,
             told,
         )
@@ -204,16 +194,16 @@ impl Flow {
     ///
     /// # Errors
     ///
-    /// `Memory` for want of it, and where a list would pass 2^64 slots or 2^64 lists have come
-    /// along edges.
+    /// `Memory` for want of it, where there are 2^32 edges, and where a list would pass 2^64 slots or
+    /// 2^64 lists have come along edges.
     pub fn open(&mut self, vertex: usize, edges: Vec<Edge>) -> Result<(), Memory>
         requires flow { IsFlow self.old }
-        requires inside { vertex < length self.old.edges.items }
-        requires none { edges_at (graph self.old).edges vertex ≡ [] }
+        requires inside { vertex < length self.old.edges }
+        requires none { edges_at self.old.edges vertex ≡ [] }
         requires sorted { Descends edges.items }
         ensures { IfOk result (λ _. Opens self.old self.new vertex edges.items) }
     {
-        self.edges[vertex] = edges;
+        self.edges.set(vertex, edges)?;
         let Some(list) = self.table[vertex] else {
             return Ok(());
         };

@@ -2,8 +2,10 @@
 //! a vertex.
 #![tactic(auto)]
 
+mod edge_lists;
 mod edges;
 mod flow;
 
+pub use edge_lists::EdgeLists;
 pub use edges::Edge;
 pub use flow::Flow;
