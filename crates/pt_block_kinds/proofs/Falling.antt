@@ -11,7 +11,7 @@ use Rattle.pt_ranges.specs.declared.handlers.Handler.{Handler}
 use Rattle.pt_places.specs.declared.places.Place.{Place}
 use Rattle.pt_sizes.specs.Flow.{entry}
 use Rattle.pt_sizes.specs.Waiting as W
-use Rattle.pt_sizes.specs.Waiting.{Level, up, stretch_of, stretch, Index}
+use Rattle.pt_sizes.specs.Waiting.{Level, up, stretch_of, stretch, AllWait}
 use Rattle.pt_step_graph.specs.Graph.{width}
 use Rattle.pt_step_graph.proofs.Numbers.{none_in, only_one}
 use Rattle.pt_fits.specs.Block.{Links, captured, effect}
@@ -135,19 +135,19 @@ module _ (j : Instr) (f n : ℕ) where
         ],
       )
 
-  place_falls : (count q next : ℕ) (t : Option ℕ) → Falls (place_leads count e n q next t)
-  place_falls count q next t = let own = own_falls q next t in let l = lead (count + q) few [] false in
-      falls_append (inside count (own_leads e n q next t)) (l ∷ []) (falls_inside count (own_leads e n q next t) own.0) (alone l)
-      (λ x y c d. let a = own.1 x (in_inside count (own_leads e n q next t) x c).1 in let b = sym (ap depends (only_one l y d)) in omega (arith, a, b))
+  place_falls : (count base q next : ℕ) (t : Option ℕ) → Falls (place_leads count base e n q next t)
+  place_falls count base q next t = let own = own_falls q next t in let l = lead (count + q) few [] false in
+      falls_append (inside count (own_leads e n q next t)) (inside base (l ∷ [])) (falls_inside count (own_leads e n q next t) own.0) (falls_inside base (l ∷ []) (alone l))
+      (λ x y c d. let a = own.1 x (in_inside count (own_leads e n q next t) x c).1 in let b = sym (ap depends (only_one l y (in_inside base (l ∷ []) y d).1)) in omega (arith, a, b))
 
-from_falls : (count : ℕ) (links : Links) (p q : ℕ) (o : Option Place) (s : Option ℕ) → Falls (leads_from count links p q o s)
-from_falls count links p q None None = tt
-from_falls count links p q None (Some n) = tt
-from_falls count links p q (Some i) None = tt
-from_falls count links p q (Some i) (Some n) = by (nat_le q p)
+from_falls : (count base : ℕ) (links : Links) (p q : ℕ) (o : Option Place) (s : Option ℕ) → Falls (leads_from count base links p q o s)
+from_falls count base links p q None None = tt
+from_falls count base links p q None (Some n) = tt
+from_falls count base links p q (Some i) None = tt
+from_falls count base links p q (Some i) (Some n) = by (nat_le q p)
   where
-    by : (t : Bool) → Falls (if t then place_leads count (effect links i.instr) n q i.next.0 (target_of i.instr) else [])
-    by true = place_falls i.instr (captured links i.instr) n count q i.next.0 (target_of i.instr)
+    by : (t : Bool) → Falls (if t then place_leads count base (effect links i.instr) n q i.next.0 (target_of i.instr) else [])
+    by true = place_falls i.instr (captured links i.instr) n count base q i.next.0 (target_of i.instr)
     by false = tt
 
 -- a stretch
@@ -191,10 +191,10 @@ up_down : (k v : ℕ) → up k (down k v) ≡ v
 up_down zero v = refl
 up_down (suc k) v = let e = up_down k (2 * v) in (let z : up k (down k (2 * v)) / 2 ≡ v = omega (arith, e) in z)
 
-pub all_below : (rows : List Handler) (count deepest : ℕ) (levels : List Level) → Index (numbered 0 rows) count levels
+pub all_below : (rows : List Handler) (count deepest : ℕ) (levels : List Level) → AllWait (numbered 0 rows) count levels
     → ((row : Handler) → Contains rows row → row.depth ≤ deepest) → AllBelow deepest levels
-all_below rows count deepest levels index deep k v row c =
-    let known = index.known (down k v) row (record { level = k; among = subst (λ w. Contains (stretch levels k w) row) (sym (up_down k v)) c }) in
+all_below rows count deepest levels wait deep k v row c =
+    let known = wait.known (down k v) row (record { level = k; among = subst (λ w. Contains (stretch levels k w) row) (sym (up_down k v)) c }) in
     let (j, (found, (s, e))) = in_numbered 0 rows row known.0 in
     let h = deep found (got_in rows j found s) in
     subst (λ r. r.depth ≤ deepest) e h
@@ -207,8 +207,8 @@ vertex_falls links rows place p T levels deepest v sorted low = by (nat_lt v (le
     landing None = tt
     landing (Some row) = let l = lead row.target.0 row.depth (held_by row ∷ []) false in falls_inside (length T) (l ∷ []) (alone l)
 
-    by : (s t : Bool) → Falls (cond s (leads_from (length T) links p v place (entry T v))
+    by : (s t : Bool) → Falls (cond s (leads_from (length T) (length T + width levels) links p v place (entry T v))
         (cond t (stretch_leads (length T + width levels) deepest (length T) levels (v - length T)) (landing_leads (length T) (slice_get rows (v - (length T + width levels))))))
-    by true t = from_falls (length T) links p v place (entry T v)
+    by true t = from_falls (length T) (length T + width levels) links p v place (entry T v)
     by false true = stretch_falls (length T + width levels) deepest (length T) levels (v - length T) sorted low
     by false false = landing (slice_get rows (v - (length T + width levels)))

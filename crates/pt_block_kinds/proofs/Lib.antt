@@ -1,3 +1,4 @@
+pub mod Laying
 pub mod Lists
 pub mod Stretches
 pub mod Adding

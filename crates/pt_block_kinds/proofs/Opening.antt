@@ -69,8 +69,8 @@ module _ (first : Kinds) (size : ℕ) (leads : ℕ → List Lead) (v : ℕ) (old
 pub edges_descend : (links : Links) (rows : List Handler) (place : Option Place) (p : ℕ) (T : List (Option ℕ)) (plan : Plan) (v : ℕ) (es : List Edge)
     → IsPlan rows (length T) plan → leads_of es ≡ vertex_leads links rows place p T (levels_of plan.waiting.levels) plan.deepest v → Descends es
 edges_descend links rows place p T plan v es is e = falls_descends es (subst Falls (sym e)
-    (vertex_falls links rows place p T (levels_of plan.waiting.levels) plan.deepest v is.index.sorted
-    (all_below rows (length T) plan.deepest (levels_of plan.waiting.levels) is.index is.deep)))
+    (vertex_falls links rows place p T (levels_of plan.waiting.levels) plan.deepest v is.laid.wait.sorted
+    (all_below rows (length T) plan.deepest (levels_of plan.waiting.levels) is.laid.wait is.deep)))
 
 none_got : (xs : List Handler) (j : ℕ) → length xs ≤ j → slice_get xs j ≡ None
 none_got [] j h = refl
@@ -96,7 +96,7 @@ pub row_leads : (links : Links) (rows : List Handler) (place : Option Place) (p 
 row_leads links rows place p T plan is v behind r e f = let h = not_below v plan.rows_from behind in let first = is.first in
     ap (landing_leads (length T)) (lent rows (v - plan.rows_from) r e f
     ∙ ap (λ n. slice_get rows (v - n)) first)
-    ∙ sym (ap (λ t. cond t (leads_from (length T) links p v place (entry T v))
+    ∙ sym (ap (λ t. cond t (leads_from (length T) (length T + width (levels_of plan.waiting.levels)) links p v place (entry T v))
     (cond (nat_lt v (length T + width (levels_of plan.waiting.levels)))
     (stretch_leads (length T + width (levels_of plan.waiting.levels)) plan.deepest (length T) (levels_of plan.waiting.levels) (v - length T))
     (landing_leads (length T) (slice_get rows (v - (length T + width (levels_of plan.waiting.levels)))))))
@@ -123,7 +123,7 @@ draws c b view places has p T plan is f kinds flow rows from none d = record {
   levels = levels_of plan.waiting.levels;
   is = subst (λ f. IsGraph (block_of c b view) p T (levels_of plan.waiting.levels) (graph f)) (sym flow) (record {
     deepest = plan.deepest;
-    index = is.index;
+    laid = is.laid;
     deep = is.deep;
     first = d.starts;
     long = d.long ∙ (is.size ∙ ap (λ n. n + length b.handlers) is.first);
@@ -138,7 +138,7 @@ draws c b view places has p T plan is f kinds flow rows from none d = record {
   where
     none_behind : (v : ℕ) → plan.size ≤ v → vertex_leads (links_of c) b.handlers (place_at (view v)) p T (levels_of plan.waiting.levels) plan.deepest v ≡ []
     none_behind v h = let a = is.size in let e = is.first in
-        ap (λ t. cond t (leads_from (length T) (links_of c) p v (place_at (view v)) (entry T v))
+        ap (λ t. cond t (leads_from (length T) (length T + width (levels_of plan.waiting.levels)) (links_of c) p v (place_at (view v)) (entry T v))
         (cond (nat_lt v (length T + width (levels_of plan.waiting.levels)))
         (stretch_leads (length T + width (levels_of plan.waiting.levels)) plan.deepest (length T) (levels_of plan.waiting.levels) (v - length T))
         (landing_leads (length T) (slice_get b.handlers (v - (length T + width (levels_of plan.waiting.levels)))))))

@@ -57,28 +57,28 @@ module _ (b : Block) (p : ℕ) (T : List (Option ℕ)) (levels : List Level) (g 
   abbrev at_other : ℕ → List Lead
   at_other v = cond (nat_lt v base) (stretch_leads base is.deepest n levels (v - n)) (landing_leads n (slice_get b.handlers (v - base)))
 
-  at_place : (v : ℕ) → v < n → leads v ≡ leads_from n b.links p v (place_at (b.at v)) (entry T v)
-  at_place v lt = ap (λ t. cond t (leads_from n b.links p v (place_at (b.at v)) (entry T v)) (at_other v)) (lt_true v n lt)
+  at_place : (v : ℕ) → v < n → leads v ≡ leads_from n base b.links p v (place_at (b.at v)) (entry T v)
+  at_place v lt = ap (λ t. cond t (leads_from n base b.links p v (place_at (b.at v)) (entry T v)) (at_other v)) (lt_true v n lt)
 
   at_stretch : (v i : ℕ) → v ≡ n + i → i < width levels → leads v ≡ stretch_leads base is.deepest n levels i
-  at_stretch v i e lt = ap (λ t. cond t (leads_from n b.links p v (place_at (b.at v)) (entry T v)) (at_other v)) (lt_false v n (omega (arith, e)))
+  at_stretch v i e lt = ap (λ t. cond t (leads_from n base b.links p v (place_at (b.at v)) (entry T v)) (at_other v)) (lt_false v n (omega (arith, e)))
       ∙ (ap (λ t. cond t (stretch_leads base is.deepest n levels (v - n)) (landing_leads n (slice_get b.handlers (v - base)))) (lt_true v base (omega (arith, e, lt)))
       ∙ ap (λ k. stretch_leads base is.deepest n levels k) (let f : v - n ≡ i = omega (arith, e) in f))
 
   at_row : (v j : ℕ) → v ≡ base + j → leads v ≡ landing_leads n (slice_get b.handlers j)
-  at_row v j e = ap (λ t. cond t (leads_from n b.links p v (place_at (b.at v)) (entry T v)) (at_other v)) (lt_false v n (omega (arith, e)))
+  at_row v j e = ap (λ t. cond t (leads_from n base b.links p v (place_at (b.at v)) (entry T v)) (at_other v)) (lt_false v n (omega (arith, e)))
       ∙ (ap (λ t. cond t (stretch_leads base is.deepest n levels (v - n)) (landing_leads n (slice_get b.handlers (v - base)))) (lt_false v base (omega (arith, e)))
       ∙ ap (λ k. landing_leads n (slice_get b.handlers k)) (let f : v - base ≡ j = omega (arith, e) in f))
 
-  some_levels : (q : ℕ) → q < n → 0 < length levels
-  some_levels q lt = by_length levels is.index.tall.tall
+  some_levels : (q : ℕ) → n + q < base → 0 < length levels
+  some_levels q lt = by levels (omega (arith, lt))
     where
-      by_length : (ls : List Level) → up (length ls) n ≡ 0 → 0 < length ls
-      by_length [] e = absurd (let f : n ≡ 0 = e in omega (arith, f, lt))
-      by_length (l ∷ ls) e = omega arith
+      by : (ls : List Level) → q < width ls → 0 < length ls
+      by [] h = absurd (omega (arith, h))
+      by (l ∷ ls) h = omega arith
 
   in_level : (k q : ℕ) → q < n → k < length levels → up k q < length (level_at levels k)
-  in_level k q lt h = let a : up k n < length (level_at levels k) = is.index.tall.wide k h in let c = up_le k q n (omega arith) in omega (arith, a, c)
+  in_level k q lt h = let a : up k n < length (level_at levels k) = is.laid.wide k h in let c = up_le k q n (omega arith) in omega (arith, a, c)
 
   in_width : (k q : ℕ) → q < n → k < length levels → number levels k (up k q) < width levels
   in_width k q lt h = number_in levels k (up k q) h (in_level k q lt h)
@@ -97,9 +97,9 @@ module _ (b : Block) (p : ℕ) (T : List (Option ℕ)) (levels : List Level) (g 
     size_is : entry T q ≡ Some (length ls)
     size_is = sizes.whole q (length ls) (kinds_have_sizes b p q ls r.gets)
 
-    leads_here : leads q ≡ place_leads n e (length ls) q i.next (target_of i.instr)
-    leads_here = at_place q in_n ∙ (ap (λ o. leads_from n b.links p q (place_at o) (entry T q)) r.stands ∙ (ap (λ o. leads_from n b.links p q (place_at (Some i)) o) size_is
-        ∙ ap (λ t. cond t (place_leads n e (length ls) q i.next (target_of i.instr)) []) (le-leb q p r.low)))
+    leads_here : leads q ≡ place_leads n base e (length ls) q i.next (target_of i.instr)
+    leads_here = at_place q in_n ∙ (ap (λ o. leads_from n base b.links p q (place_at o) (entry T q)) r.stands ∙ (ap (λ o. leads_from n base b.links p q (place_at (Some i)) o) size_is
+        ∙ ap (λ t. cond t (place_leads n base e (length ls) q i.next (target_of i.instr)) []) (le-leb q p r.low)))
 
     -- the lowest slots are those of the place, as far as rows need them
     abbrev Low : Kinds → Type 0
@@ -120,7 +120,8 @@ module _ (b : Block) (p : ℕ) (T : List (Option ℕ)) (levels : List Level) (g 
           led_along l ls,
           λ c. (
             subst (λ v. Comes g v (led_along l ls)) f (along q ls l c (subst (λ xs. Contains xs l) (sym leads_here)
-                (Contains-append_right (inside n (own_leads e (length ls) q i.next (target_of i.instr))) (l ∷ []) l (the_one l)))),
+                (Contains-append_right (inside n (own_leads e (length ls) q i.next (target_of i.instr))) (inside base (l ∷ [])) l
+                (inside_has base (l ∷ []) l (the_one l) (let w = in_width zero q in_n h in omega (arith, f, w)))))),
             low_first,
           ),
         )
@@ -167,7 +168,7 @@ module _ (b : Block) (p : ℕ) (T : List (Option ℕ)) (levels : List Level) (g 
         let numbered_row = with_number j row in
         let z : 0 + j ≡ j = omega arith in
         let among = subst (λ k. Contains (numbered 0 b.handlers) (with_number k row)) z (numbered_has 0 b.handlers j row s) in
-        let w = is.index.whole q numbered_row in_n among (row_covers row c).1 in
+        let w = is.laid.wait.whole q numbered_row in_n among (row_covers row c).1 in
         let h : w.level < length levels = level_in levels w.level (up w.level q) numbered_row w.among in
         let (x, rest) = to_stretch w.level h in
         let (d, low) = rest come in
@@ -194,7 +195,7 @@ module _ (b : Block) (p : ℕ) (T : List (Option ℕ)) (levels : List Level) (g 
     where
       own : Along b q i ks (own_leads (effect b.links i.instr) (length ks) q i.next (target_of i.instr)) s → Comes g s.to s.kinds
       own a = subst (λ xs. Comes g s.to xs) a.is (subst (λ v. Comes g v (led_along a.lead ks)) a.to (along q ks a.lead come (subst (λ xs. Contains xs a.lead) (sym (leads_here q i ks r))
-          (Contains-append_left (inside n (own_leads (effect b.links i.instr) (length ks) q i.next (target_of i.instr))) (lead (n + q) (left (effect b.links i.instr) (length ks)) [] false ∷ []) a.lead
+          (Contains-append_left (inside n (own_leads (effect b.links i.instr) (length ks) q i.next (target_of i.instr))) (inside base (lead (n + q) (left (effect b.links i.instr) (length ks)) [] false ∷ [])) a.lead
           (inside_has n _ a.lead a.among (subst (λ v. v < n) (sym a.to) lt))))))
 
       by_row : (row : Handler) → Contains i.rows row → row.target.0 < n → Comes g row.target.0 (cut row ks ++ held_by row ∷ [])
@@ -220,38 +221,39 @@ module _ (b : Block) (p : ℕ) (T : List (Option ℕ)) (levels : List Level) (g 
         → ks ≡ cut found ls → At v ks
     nowhere : n ≡ 0 → At v ks
 
-  from_ins : (q : ℕ) (i : Ins) (ks : Kinds) (r : Reached b p q i ks) (l : Lead) → Contains (place_leads n (effect b.links i.instr) (length ks) q i.next (target_of i.instr)) l
+  from_ins : (q : ℕ) (i : Ins) (ks : Kinds) (r : Reached b p q i ks) (l : Lead) → Contains (place_leads n base (effect b.links i.instr) (length ks) q i.next (target_of i.instr)) l
       → At l.to (led_along l ks)
   from_ins q i ks r l c = elim (Contains-append_cases (inside n (own_leads (effect b.links i.instr) (length ks) q i.next (target_of i.instr)))
-      (lead (n + q) (left (effect b.links i.instr) (length ks)) [] false ∷ []) l c) [
+      (inside base (lead (n + q) (left (effect b.links i.instr) (length ks)) [] false ∷ [])) l c) [
         | inl d ↦ (let (lt, among) = in_inside n _ l d in let s = leads_step b q i ks l among in on_place lt (λ j f. P.onward r.gets r.low (at_ins s.kept s.among) j f))
-        | inr d ↦ subst (λ l. At l.to (led_along l ks)) (only_one (lead (n + q) (left (effect b.links i.instr) (length ks)) [] false) l d)
-            (in_stretch q 0 r (some_levels q (in_n q i ks r)) (ap (λ i. n + i) (sym (number_first levels q))) (low_first q i ks r))
+        | inr d ↦ (let first = lead (n + q) (left (effect b.links i.instr) (length ks)) [] false in let (lt, among) = in_inside base (first ∷ []) l d in let same = only_one first l among in
+            subst (λ l. At l.to (led_along l ks)) same
+            (in_stretch q 0 r (some_levels q (subst (λ l. l.to < base) (sym same) lt)) (ap (λ i. n + i) (sym (number_first levels q))) (low_first q i ks r)))
       ]
     where
       at_ins : (kept : ℕ) → Contains (by_instruction (effect b.links i.instr) ks q i) (step l.to (led_along l ks) kept) → Contains (steps b q ks) (step l.to (led_along l ks) kept)
       at_ins kept d = subst (λ o. Contains (steps_of b.links q ks o) (step l.to (led_along l ks) kept)) (sym r.stands)
           (Contains-append_left (by_instruction (effect b.links i.instr) ks q i) (by_handlers (effect b.links i.instr) ks i.rows) (step l.to (led_along l ks) kept) d)
 
-  from_place : (v : ℕ) (ks : Kinds) → ((j : Ins) → b.at v ≡ Some j → Gets b p v ks) → (l : Lead) → Contains (leads_from n b.links p v (place_at (b.at v)) (entry T v)) l → At l.to (led_along l ks)
+  from_place : (v : ℕ) (ks : Kinds) → ((j : Ins) → b.at v ≡ Some j → Gets b p v ks) → (l : Lead) → Contains (leads_from n base b.links p v (place_at (b.at v)) (entry T v)) l → At l.to (led_along l ks)
   from_place v ks h l c = by (b.at v) (entry T v) refl refl c
     where
-      by : (o : Option Ins) (m : Option ℕ) → b.at v ≡ o → entry T v ≡ m → Contains (leads_from n b.links p v (place_at o) m) l → At l.to (led_along l ks)
+      by : (o : Option Ins) (m : Option ℕ) → b.at v ≡ o → entry T v ≡ m → Contains (leads_from n base b.links p v (place_at o) m) l → At l.to (led_along l ks)
       by None m f s d = absurd (none_in l d)
       by (Some i) None f s d = absurd (none_in l d)
       by (Some i) (Some m) f s d = by_low (nat_le v p) refl d
         where
-          by_low : (t : Bool) → nat_le v p ≡ t → Contains (cond t (place_leads n (effect b.links i.instr) m v i.next (target_of i.instr)) []) l → At l.to (led_along l ks)
+          by_low : (t : Bool) → nat_le v p ≡ t → Contains (cond t (place_leads n base (effect b.links i.instr) m v i.next (target_of i.instr)) []) l → At l.to (led_along l ks)
           by_low false u x = absurd (none_in l x)
           by_low true u x =
               let r : Reached b p v i ks = record { gets = h i f; low = leb-true v p u; stands = f } in
               let same : m ≡ length ks = same_Some m (length ks) (sym s ∙ size_is v i ks r) in
-              from_ins v i ks r l (subst (λ z. Contains (place_leads n (effect b.links i.instr) z v i.next (target_of i.instr)) l) same x)
+              from_ins v i ks r l (subst (λ z. Contains (place_leads n base (effect b.links i.instr) z v i.next (target_of i.instr)) l) same x)
 
   from_stretch : (q k : ℕ) (i : Ins) (ls x : Kinds) (r : Reached b p q i ls) → k < length levels → Low q i ls r x → (l : Lead)
       → Contains (stretch_leads base is.deepest n levels (number levels k (up k q))) l → At l.to (led_along l x)
   from_stretch q k i ls x r h low l c = elim (leads_of_stretch base is.deepest n levels k (up k q) (number levels k (up k q)) l h (in_level k q (in_n q i ls r) h) refl c) [
-    | inl (found, (among, f)) ↦ (let (known, t) = is.index.known q found (record { level = k; among = among }) in let (j, (row, (s, same))) = in_numbered 0 b.handlers found known in
+    | inl (found, (among, f)) ↦ (let (known, t) = is.laid.wait.known q found (record { level = k; among = among }) in let (j, (row, (s, same))) = in_numbered 0 b.handlers found known in
         subst (λ l. At l.to (led_along l x)) f (subst (λ found. At (base + found.target.0) (led_by found.depth [] false x)) same
         (by_row j row s (subst (λ found. covers found (record { 0 = q }) ≡ true) (sym same) t))))
     | inr (a, f) ↦ subst (λ l. At l.to (led_along l x)) f (in_stretch q (suc k) r a refl (low_above q i ls r x low))

@@ -2,7 +2,7 @@
 use Rattle.std.specs.Prelude.{◌≡◌, ℕ, ◌+◌, ◌<◌, ◌≤◌, List, [], length, Contains, Option}
 use Rattle.pt_instr.specs.Effects.{Kinds}
 use Rattle.pt_ranges.specs.declared.handlers.Handler.{Handler}
-use Rattle.pt_sizes.specs.Waiting.{Level, Index, levels_of}
+use Rattle.pt_sizes.specs.Waiting.{Level, levels_of}
 use Rattle.pt_step_graph.specs.Graph.{width}
 use Rattle.pt_fits.specs.Block.{Block}
 use Rattle.pt_kind_flow.specs.declared.flow.Flow.{Flow}
@@ -10,12 +10,12 @@ use Rattle.pt_kind_flow.specs.Flow.{graph, edges_at}
 use Rattle.pt_kind_flow.specs.Search.{IsFlow}
 use Rattle.pt_block_kinds.specs.declared.graph.BlockKinds.{BlockKinds}
 use Rattle.pt_block_kinds.specs.declared.graph.Plan.{Plan}
-use Rattle.pt_block_kinds.specs.Leads.{Lead, leads_of, numbered}
-use Rattle.pt_block_kinds.specs.Graph.{rows_from, IsGraph}
+use Rattle.pt_block_kinds.specs.Leads.{Lead, leads_of}
+use Rattle.pt_block_kinds.specs.Graph.{AreLaid, rows_from, IsGraph}
 
 -- where rows lie over a count of places
 pub record IsPlan (rows : List Handler) (count : ℕ) (plan : Plan) : Type 0 where
-  pub index : Index (numbered 0 rows) count (levels_of plan.waiting.levels)
+  pub laid : AreLaid rows count (levels_of plan.waiting.levels)
   pub deep : (row : Handler) → Contains rows row → row.depth ≤ plan.deepest
   pub first : plan.rows_from ≡ count + width (levels_of plan.waiting.levels)
   pub size : plan.size ≡ plan.rows_from + length rows

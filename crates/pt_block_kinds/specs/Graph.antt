@@ -1,10 +1,10 @@
 -- The graph of a block up to a place, and what has to be known of the sizes there.
-use Rattle.std.specs.Prelude.{◌≡◌, ℕ, ◌+◌, ◌<◌, ◌≤◌, List, length, filter, Contains, Option, Some, None}
+use Rattle.std.specs.Prelude.{◌≡◌, ℕ, ◌+◌, ◌<◌, ◌≤◌, List, [], length, filter, slice_index_or, Contains, Option, Some, None}
 use Rattle.pt_ranges.specs.declared.handlers.Handler.{Handler}
 use Rattle.pt_ranges.specs.Rows.{covers}
 use Rattle.pt_code.specs.View.{Ins}
 use Rattle.pt_sizes.specs.Flow.{entry}
-use Rattle.pt_sizes.specs.Waiting.{Level, Index}
+use Rattle.pt_sizes.specs.Waiting.{Level, AllWait, up}
 use Rattle.pt_step_graph.specs.Graph.{width}
 use Rattle.pt_fits.specs.Block.{Block, kinds_at_start}
 use Rattle.pt_verify.specs.Sizes.{Sized, RowTooDeep}
@@ -24,6 +24,11 @@ pub record IsSeen (b : Block) (count : ℕ) : Type 0 where
   pub rows : (pc : ℕ) (i : Ins) → b.at pc ≡ Some i
       → i.rows ≡ filter (λ row. covers row (record { 0 = pc })) b.handlers
 
+-- the rows wait on levels, each of which has a stretch for each place
+pub record AreLaid (rows : List Handler) (count : ℕ) (levels : List Level) : Type 0 where
+  pub wait : AllWait (numbered 0 rows) count levels
+  pub wide : (k : ℕ) → k < length levels → up k count < length (slice_index_or levels k [])
+
 -- the first vertex of the rows
 abbrev pub rows_from : List (Option ℕ) → List Level → ℕ
 rows_from T levels = length T + width levels
@@ -31,7 +36,7 @@ rows_from T levels = length T + width levels
 pub record IsGraph (b : Block) (p : ℕ) (T : List (Option ℕ)) (levels : List Level) (g : Graph)
     : Type 0 where
   pub deepest : ℕ
-  pub index : Index (numbered 0 b.handlers) (length T) levels
+  pub laid : AreLaid b.handlers (length T) levels
   pub deep : (row : Handler) → Contains b.handlers row → row.depth ≤ deepest
   pub first : g.first ≡ kinds_at_start b.kind
   pub long : length g.edges ≡ rows_from T levels + length b.handlers

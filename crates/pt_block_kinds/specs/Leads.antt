@@ -37,7 +37,7 @@ leads_of edges = map lead_of edges
 abbrev pub led_along : Lead → Kinds → Kinds
 led_along l ks = led_by l.keeps l.given l.raises ks
 
--- those that lead to places
+-- those that lead to the first vertices, so many of them
 abbrev pub inside : (count : ℕ) → List Lead → List Lead
 inside count [] = []
 inside count (l ∷ ls) = if nat_lt l.to count then l ∷ inside count ls else inside count ls
@@ -64,19 +64,21 @@ own_leads e n pc next t =
     then leads_again e.again n pc ++ (leads_behind e n next e.gives ++ leads_aside e n t e.aside)
     else []
 
-abbrev pub place_leads : (count : ℕ) → Effect → (size pc next : ℕ) → (target : Option ℕ)
-    → List Lead
-place_leads count e n pc next t =
-    inside count (own_leads e n pc next t) ++ lead (count + pc) (left e n) [] false ∷ []
+-- and the one to the least stretch, if there are stretches
+abbrev pub place_leads : (count rows_from : ℕ) → Effect → (size pc next : ℕ)
+    → (target : Option ℕ) → List Lead
+place_leads count base e n pc next t =
+    inside count (own_leads e n pc next t)
+    ++ inside base (lead (count + pc) (left e n) [] false ∷ [])
 
 -- from an instruction at the limit or below whose place has a size
-abbrev pub leads_from : (count : ℕ) → Links → (limit pc : ℕ) → Option Place → (size : Option ℕ)
-    → List Lead
-leads_from count links limit pc (Some p) (Some n) =
+abbrev pub leads_from : (count rows_from : ℕ) → Links → (limit pc : ℕ) → Option Place
+    → (size : Option ℕ) → List Lead
+leads_from count base links limit pc (Some p) (Some n) =
     if nat_le pc limit
-    then place_leads count (effect links p.instr) n pc p.next.0 (target_of p.instr)
+    then place_leads count base (effect links p.instr) n pc p.next.0 (target_of p.instr)
     else []
-leads_from count links limit pc p n = []
+leads_from count base links limit pc p n = []
 
 -- rows by their numbers: each has its number as its target
 abbrev pub numbered : (first : ℕ) → List Handler → List Handler
@@ -111,7 +113,7 @@ abbrev pub vertex_leads : Links → List Handler → Option Place → (limit : �
     → (sizes : List (Option ℕ)) → List Level → (deepest vertex : ℕ) → List Lead
 vertex_leads links rows place p T levels deepest v =
     if nat_lt v (length T)
-    then leads_from (length T) links p v place (entry T v)
+    then leads_from (length T) (length T + width levels) links p v place (entry T v)
     else if nat_lt v (length T + width levels)
     then stretch_leads (length T + width levels) deepest (length T) levels (v - length T)
     else landing_leads (length T) (slice_get rows (v - (length T + width levels)))

@@ -8,6 +8,7 @@ ghost use Rattle.pt_sizes.specs.Waiting.{level_of, levels_of};
 ghost use Rattle.pt_step_graph.specs.Graph.{width};
 ghost use Rattle.pt_fits.specs.Block.{block_of, kinds_at_start, links_of};
 ghost use Rattle.pt_block_kinds.specs.Leads.{Lead, leads_from, leads_of, numbered, vertex_leads};
+ghost use Rattle.pt_block_kinds.specs.Graph.{AreLaid};
 ghost use Rattle.pt_block_kinds.specs.Drawing.{DrawnFrom, Draws, IsPlan};
 
 use crate::leads::{add_stretch, edges_of_place, edges_of_row, sum};
@@ -78,11 +79,24 @@ fn width(levels: &[Vec<Vec<Handler>>]) -> Result<usize, Memory>
     }
 }
 
+/// The rows with their numbers by the places that they cover. Where there are none, no level is made.
+fn waiting(alloc: Global, rows: &[Handler], count: usize) -> Result<Waiting, Memory>
+    ensures { IfOk result (λ waiting. AreLaid rows.now count (levels_of waiting.levels)) }
+{
+    if rows.is_empty() {
+        return Ok(Waiting {
+            levels: Vec::new(alloc),
+        });
+    }
+    let numbered = numbered(alloc, rows)?;
+    let waiting = Waiting::build(alloc, &numbered, count)?;
+    Ok(waiting)
+}
+
 fn lay_rows(alloc: Global, rows: &[Handler], count: usize) -> Result<Plan, Memory>
     ensures { IfOk result (λ plan. IsPlan rows.now count plan) }
 {
-    let numbered = numbered(alloc, rows)?;
-    let waiting = Waiting::build(alloc, &numbered, count)?;
+    let waiting = waiting(alloc, rows, count)?;
     let rows_from = sum(count, width(&waiting.levels)?)?;
     Ok(Plan {
         waiting,
@@ -107,13 +121,14 @@ fn edges_from(
     alloc: Global,
     code: &Code,
     count: usize,
+    rows_from: usize,
     limit: usize,
     at: usize,
     place: Option<&Place>,
     size: Option<u64>,
 ) -> Result<Vec<Edge>, Memory>
-    ensures { IfOk result (λ edges. leads_of edges.items ≡ leads_from count (links_of code.now)
-        limit at (option_map (λ p. p.now) place.entry) size) }
+    ensures { IfOk result (λ edges. leads_of edges.items ≡ leads_from count rows_from
+        (links_of code.now) limit at (option_map (λ p. p.now) place.entry) size) }
 {
     let (Some(place), Some(size)) = (place, size) else {
         return Ok(Vec::new(alloc));
@@ -125,6 +140,7 @@ fn edges_from(
     edges_of_place(
         alloc,
         count,
+        rows_from,
         &effect,
         size,
         at,
@@ -162,7 +178,17 @@ fn edges_of_vertex(
     let count = sizes.len();
     if vertex < count {
         let place = place_at(places, vertex)?;
-        return edges_from(alloc, code, count, limit, vertex, place, sizes[vertex]);
+        let size = sizes[vertex];
+        return edges_from(
+            alloc,
+            code,
+            count,
+            plan.rows_from,
+            limit,
+            vertex,
+            place,
+            size,
+        );
     }
     if vertex < plan.rows_from {
         let mut edges = Vec::with_capacity(alloc, 1)?;

@@ -40,7 +40,7 @@ pub fn sum(a: usize, b: usize) -> Result<usize, Memory>
     a.checked_add(b).ok_or(Memory)
 }
 
-/// Adds an edge, if it leads to a place.
+/// Adds an edge, if it leads to one of the first vertices, so many of them.
 fn add(edges: &mut Vec<Edge>, count: usize, edge: Edge) -> Result<(), Memory>
     ensures { IfOk result (λ _. leads_of edges.new.items
         ≡ leads_of edges.old.items ++ inside count (lead_of edge ∷ [])) }
@@ -179,6 +179,7 @@ pub fn add_own(
 pub fn edges_of_place(
     alloc: Global,
     places: usize,
+    rows_from: usize,
     effect: &Effect,
     size: u64,
     at: usize,
@@ -186,16 +187,20 @@ pub fn edges_of_place(
     target: Option<usize>,
 ) -> Result<Vec<Edge>, Memory>
     ensures { IfOk result (λ edges. leads_of edges.items
-        ≡ place_leads places effect.now size at next target) }
+        ≡ place_leads places rows_from effect.now size at next target) }
 {
     let mut edges = Vec::with_capacity(alloc, 2)?;
     add_own(&mut edges, places, effect, size, at, next, target)?;
-    edges.push(Edge {
-        to: sum(places, at)?,
-        keeps: left(effect, size),
-        given: no_runs(),
-        raises: false,
-    })?;
+    add(
+        &mut edges,
+        rows_from,
+        Edge {
+            to: sum(places, at)?,
+            keeps: left(effect, size),
+            given: no_runs(),
+            raises: false,
+        },
+    )?;
     Ok(edges)
 }
 
