@@ -3,10 +3,11 @@
 #![tactic(auto)]
 
 use pt_base::Memory;
+use pt_block_kinds::kinds_up_to;
 use pt_block_limits::{Cycles, is_too_deep, lost_leave, silent_loops};
 use pt_block_tables::first_bad_row;
 use pt_code::{Code, CodeBlock, read};
-use pt_kind_failures::kind_failures;
+use pt_kind_failures::{kind_failures, least_cut};
 use pt_places::Places;
 use pt_standing::Defaults;
 use pt_verify::{Sizes, sizes};
@@ -41,10 +42,15 @@ fn kinds(
     table: &[Option<u64>],
 ) -> Result<&'static str, Memory> {
     let limit = block.instructions.len();
-    let told = kind_failures(alloc, code, defaults, block, places, table, limit)?;
-    if told.row.is_some() {
-        Ok("row")
-    } else if told.clash {
+    if table.len() < limit {
+        return Err(Memory);
+    }
+    let kinds = kinds_up_to(alloc, code, block, places, table, limit)?;
+    if least_cut(block, table, &kinds)?.is_some() {
+        return Ok("row");
+    }
+    let told = kind_failures(code, defaults, block, places, table, limit, kinds)?;
+    if told.clash {
         Ok("clash")
     } else if told.strays {
         Ok("strays")

@@ -5,4 +5,4 @@ mod failures;
 mod finding;
 mod lacking;
 
-pub use failures::kind_failures;
+pub use failures::{kind_failures, least_cut};

@@ -1,17 +1,16 @@
 -- Of how a block fails up to a place its refusal there follows.
-use Rattle.std.proofs.Common.{◌≡◌, ◌⊎◌, inl, inr, ℕ, zero, suc, ◌+◌, ◌<◌, Bool, true, false, ◌||◌, List, [], ◌∷◌, length, Option, Some, None, refl, sym, ap, ◌∙◌, subst, arith}
+use Rattle.std.proofs.Common.{◌≡◌, ◌⊎◌, inl, inr, ℕ, zero, suc, ◌+◌, Bool, true, false, ◌||◌, List, [], ◌∷◌, length, Option, Some, None, refl, sym, ap, ◌∙◌, subst, arith}
 use Rattle.std.specs.Prelude.{Contains, slice_get}
 use Rattle.std.specs.Bool.{Decides}
 use Rattle.std.proofs.lemmas.Bool.{false≢true}
 use Rattle.pt_ranges.specs.declared.handlers.Handler.{Handler}
 use Rattle.pt_ranges.specs.Rows.{covers}
 use Rattle.pt_fits.specs.Block.{Block}
-use Rattle.pt_fits.specs.Tables.{IsRow}
 use Rattle.pt_fits.specs.Agreement as A
 use Rattle.pt_fits.specs.Agreement.{HandlerFails, KindsClash, LengthsMeet, Strays, TooFew}
 use Rattle.pt_fits.specs.Fits as F
-use Rattle.pt_fits.specs.Fits.{IsLeast, NumberFails}
-use Rattle.pt_verify.specs.Sizes.{Lacks, RowTooDeep, SizesMeet}
+use Rattle.pt_fits.specs.Fits.{NumberFails, table}
+use Rattle.pt_verify.specs.Sizes.{SizesMeet}
 use Rattle.pt_verify.specs.PlaceTable as T
 use Rattle.pt_verify.specs.PlaceTable.{SizesDisagree}
 use Rattle.pt_verify.specs.Refusals as R
@@ -24,8 +23,8 @@ use Rattle.pt_refusals.specs.declared.failures.Failures.TheVariants as failures
 use Rattle.pt_refusals.specs.declared.failures.KindFailures.{KindFailures}
 use Rattle.pt_refusals.specs.declared.failures.LeaveFailures.{LeaveFailures}
 use Rattle.pt_refusals.specs.Told as D
-use Rattle.pt_refusals.specs.Told.{Clashes, DeepOf, LeaveClashes, TellsAgreeing, TellsDeep, TellsFailures, TellsFew, TellsLeast, TellsLeastBelow}
-use Rattle.pt_refusals.specs.Verdicts.{agreeing, behind_meeting, refusal_at, too_deep, too_few}
+use Rattle.pt_refusals.specs.Told.{Clashes, DeepOf, LeaveClashes, TellsAgreeing, TellsDeep, TellsFailures, TellsFew, TellsLeast, TellsRow}
+use Rattle.pt_refusals.specs.Verdicts.{agreeing, behind_rows, refusal_at, too_deep, too_few}
 use Rattle.pt_refusals.specs.Laws.{BlocksListRows, ListsRows, PlacesAreTold, SizesTellFailures, TellsPlace}
 
 listed_at : {X : Type 0} (xs : List X) (x : X) → Contains xs x → (k : ℕ) × (slice_get xs k ≡ Some x)
@@ -41,9 +40,9 @@ fails : {P : Type 0} (t : Bool) → Decides t P → t ≡ false → P → ⊥
 fails t d e p = false≢true (sym e ∙ d.1 p)
 
 -- how a block fails up to a place, each way asked only where none before it fails
-record Failing (b : Block) (p : ℕ) (r : Option ℕ) (f c s : Bool) : Type 0 where
+record Failing (b : Block) (p : ℕ) (f c s : Bool) : Type 0 where
   apart : LengthsMeet b p → ⊥
-  rows : TellsLeast (NumberFails b p) r
+  rows : (row : Handler) → HandlerFails b p row → ⊥
   few : Decides f (TooFew b p)
   clash : f ≡ false → Decides c (KindsClash b p)
   strays : Decides s (Strays b p)
@@ -63,20 +62,18 @@ module _ {b : Block} {p : ℕ} (lists : ListsRows b) where
   no_row : TellsLeast (NumberFails b p) None → (row : Handler) → HandlerFails b p row → ⊥
   no_row none row f = let (n, g) = numbered row f in none n g
 
-  told_behind : (row : Option ℕ) (few clash strays : Bool) → Failing b p row few clash strays
-      → TellsPlace b p (behind_meeting p row few clash strays)
-  told_behind (Some n) few clash strays f = F.handlers f.apart n f.rows
-  told_behind None true clash strays f = F.enough f.apart (no_row f.rows) (holds true f.few refl)
-  told_behind None false true strays f = F.kinds f.apart (no_row f.rows) (fails false f.few refl) (holds true (f.clash refl) refl)
-  told_behind None false false true f =
-      F.inside f.apart (no_row f.rows) (fails false f.few refl) (fails false (f.clash refl) refl) (holds true f.strays refl)
-  told_behind None false false false f = record {
-    lengths = f.apart;
-    handlers = no_row f.rows;
-    enough = fails false f.few refl;
-    kinds = fails false (f.clash refl) refl;
-    inside = fails false f.strays refl;
-  }
+told_behind : {b : Block} {p : ℕ} (few clash strays : Bool) → Failing b p few clash strays → TellsPlace b p (behind_rows p few clash strays)
+told_behind true clash strays f = F.enough f.apart f.rows (holds true f.few refl)
+told_behind false true strays f = F.kinds f.apart f.rows (fails false f.few refl) (holds true (f.clash refl) refl)
+told_behind false false true f =
+    F.inside f.apart f.rows (fails false f.few refl) (fails false (f.clash refl) refl) (holds true f.strays refl)
+told_behind false false false f = record {
+  lengths = f.apart;
+  handlers = f.rows;
+  enough = fails false f.few refl;
+  kinds = fails false (f.clash refl) refl;
+  inside = fails false f.strays refl;
+}
 
 nothing : {P : Type 0} → (P → ⊥) → Decides false P
 nothing none = ((λ e. absurd (false≢true e)), (λ p. absurd (none p)))
@@ -112,15 +109,25 @@ module _ (b : Block) (p : ℕ) where
   -- a row that is too deep, and those before it
   told_deep : (row : ℕ) (cuts : Option ℕ) → TellsDeep b p row cuts → TellsPlace b p (Some (too_deep row cuts))
   told_deep row (Some n) t = F.handlers (λ m. t.apart (met m)) n (record {
-    holds = cuts_fail n t.before.1.holds;
-    least = λ m lt f. elim (row_either m f) [
-      | inl d ↦ t.deep.least m (let below = t.before.0 in omega (arith, lt, below)) d
-      | inr c ↦ t.before.1.least m lt c
+    holds = cuts_fail n t.before.holds.1;
+    least = λ m lt f. let below = t.before.holds.0 in elim (row_either m f) [
+      | inl d ↦ t.deep.least m (omega (arith, lt, below)) d
+      | inr c ↦ t.before.least m lt (omega (arith, lt, below), c)
     ];
   })
   told_deep row None t = F.handlers (λ m. t.apart (met m)) row (record {
     holds = deep_fails row t.deep.holds;
-    least = λ m lt f. elim (row_either m f) [ inl d ↦ t.deep.least m lt d | inr c ↦ t.before m lt c ];
+    least = λ m lt f. elim (row_either m f) [ inl d ↦ t.deep.least m lt d | inr c ↦ t.before m (lt, c) ];
+  })
+
+  -- where sizes agree, rows fail by cuts alone
+  by_cuts : (SizesDisagree b p → ⊥) → (n : ℕ) → NumberFails b p n → CutsOf b p n
+  by_cuts agree n f = elim (row_either n f) [ inl d ↦ absurd (agree (T.deep d.row d.deep)) | inr c ↦ c ]
+
+  told_row : (row : ℕ) → TellsRow b p row → TellsPlace b p (Some (table row))
+  told_row row t = F.handlers (λ m. t.agree (T.meet (met m))) row (record {
+    holds = cuts_fail row t.cut.holds;
+    least = λ m lt f. t.cut.least m lt (by_cuts t.agree m f);
   })
 
   module _ (lists : ListsRows b) where
@@ -133,23 +140,15 @@ module _ (b : Block) (p : ℕ) where
         (no_row lists (λ n f. elim (row_either n f) [ inl d ↦ t.shallow d.row d.deep | inr c ↦ t.rows n c ]))
         (let x = (lack_as_few b p).kinds t.few in A.lacks x.reached x.fails)
 
-    -- where sizes agree, rows fail by cuts alone
     told_agreeing : (k : KindFailures) (l : LeaveFailures) → TellsAgreeing b p k l → TellsPlace b p (agreeing p k l)
-    told_agreeing k l t = told_behind lists k.row l.lacks (k.clash || l.clash) k.strays (record {
+    told_agreeing k l t = told_behind l.lacks (k.clash || l.clash) k.strays (record {
       apart = λ m. t.agree (T.meet (met m));
-      rows = rows k.row t.kinds.rows;
+      rows = no_row lists (λ n f. t.uncut n (by_cuts t.agree n f));
       few = few l.lacks t.leaves.lacks;
       clash = λ e. clash k.clash l.clash t.kinds.clash (λ c. t.leaves.clash c (fails l.lacks t.leaves.lacks e));
       strays = t.kinds.strays;
     })
       where
-        by_cuts : (n : ℕ) → NumberFails b p n → CutsOf b p n
-        by_cuts n f = elim (row_either n f) [ inl d ↦ absurd (t.agree (T.deep d.row d.deep)) | inr c ↦ c ]
-
-        rows : (r : Option ℕ) → TellsLeast (CutsOf b p) r → TellsLeast (NumberFails b p) r
-        rows (Some n) r = record { holds = cuts_fail n r.holds; least = λ m lt f. r.least m lt (by_cuts m f) }
-        rows None r = λ n f. r n (by_cuts n f)
-
         few : (u : Bool) → Decides u (LeaveLacks b p) → Decides u (TooFew b p)
         few true d = something (by_leave (d.0 refl))
           where
@@ -185,6 +184,7 @@ module _ (b : Block) (p : ℕ) where
     told_failures failures.Meet t = F.lengths ((sizes_meet_as_lengths b p).lengths t)
     told_failures (failures.TooDeep row cuts) t = told_deep row cuts t
     told_failures (failures.TooFew cuts) t = told_few cuts t
+    told_failures (failures.Cut row) t = told_row row t
     told_failures (failures.Agree k l) t = told_agreeing k l t
 
 pub places_are_told : (b : Block) → PlacesAreTold b

@@ -1,5 +1,5 @@
 -- What fails up to a place fails up to one behind it.
-use Rattle.std.proofs.Common.{ℕ, ◌+◌, ◌≤◌, arith}
+use Rattle.std.proofs.Common.{arith}
 use Rattle.pt_fits.specs.Block.{Block}
 use Rattle.pt_fits.proofs.OneAnswer.{disagrees_up}
 use Rattle.pt_refusals.specs.Laws.{DisagreementStays}

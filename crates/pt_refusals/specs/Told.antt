@@ -39,8 +39,11 @@ abbrev pub TellsLeast : (ℕ → Type 0) → Option ℕ → Type 0
 TellsLeast P (Some n) = IsLeast P n
 TellsLeast P None = (n : ℕ) → P n → ⊥
 
+-- of the numbers below a bound
+abbrev pub TellsLeastBelow : (ℕ → Type 0) → (bound : ℕ) → Option ℕ → Type 0
+TellsLeastBelow P bound = TellsLeast (λ n. (n < bound) × P n)
+
 pub record TellsKinds (b : Block) (p : ℕ) (told : KindFailures) : Type 0 where
-  pub rows : TellsLeast (CutsOf b p) told.row
   pub clash : Decides told.clash (Clashes b p)
   pub strays : Decides told.strays (Strays b p)
 
@@ -49,11 +52,6 @@ pub record TellsKinds (b : Block) (p : ℕ) (told : KindFailures) : Type 0 where
 pub record TellsLeaves (b : Block) (p : ℕ) (told : LeaveFailures) : Type 0 where
   pub lacks : Decides told.lacks (LeaveLacks b p)
   pub clash : (Clashes b p → ⊥) → (LeaveLacks b p → ⊥) → Decides told.clash (LeaveClashes b p)
-
--- of the numbers below a bound the least with a property that no lesser one has
-abbrev pub TellsLeastBelow : (ℕ → Type 0) → (bound : ℕ) → Option ℕ → Type 0
-TellsLeastBelow P bound (Some n) = (n < bound) × IsLeast P n
-TellsLeastBelow P bound None = (n : ℕ) → n < bound → P n → ⊥
 
 -- the row with this number is to leave too many slots
 pub record DeepOf (b : Block) (p n : ℕ) : Type 0 where
@@ -72,8 +70,13 @@ pub record TellsFew (b : Block) (p : ℕ) (cuts : Option ℕ) : Type 0 where
   pub few : Lacks b p
   pub rows : TellsLeast (CutsOf b p) cuts
 
+pub record TellsRow (b : Block) (p row : ℕ) : Type 0 where
+  pub agree : SizesDisagree b p → ⊥
+  pub cut : IsLeast (CutsOf b p) row
+
 pub record TellsAgreeing (b : Block) (p : ℕ) (k : KindFailures) (l : LeaveFailures) : Type 0 where
   pub agree : SizesDisagree b p → ⊥
+  pub uncut : (n : ℕ) → CutsOf b p n → ⊥
   pub kinds : TellsKinds b p k
   pub leaves : TellsLeaves b p l
 
@@ -82,4 +85,5 @@ abbrev pub TellsFailures : (b : Block) (p : ℕ) → Failures → Type 0
 TellsFailures b p failures.Meet = SizesMeet b p
 TellsFailures b p (failures.TooDeep row cuts) = TellsDeep b p row cuts
 TellsFailures b p (failures.TooFew cuts) = TellsFew b p cuts
+TellsFailures b p (failures.Cut row) = TellsRow b p row
 TellsFailures b p (failures.Agree k l) = TellsAgreeing b p k l

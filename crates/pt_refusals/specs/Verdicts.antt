@@ -18,16 +18,15 @@ misfit_of (refusal.Table row) = table row
 misfit_of (refusal.SilentLoop pc) = silent_loop pc
 misfit_of refusal.Depth = depth
 
--- a handler row comes first, then too few slots, another kind, a target
-abbrev pub behind_meeting : (p : ℕ) → (row : Option ℕ) → (few clash strays : Bool) → Option Misfit
-behind_meeting p (Some n) few clash strays = Some (table n)
-behind_meeting p None true clash strays = Some (stack p)
-behind_meeting p None false true strays = Some (kind p)
-behind_meeting p None false false true = Some (target p)
-behind_meeting p None false false false = None
+-- too few slots come first, then another kind, a target
+abbrev pub behind_rows : (p : ℕ) → (few clash strays : Bool) → Option Misfit
+behind_rows p true clash strays = Some (stack p)
+behind_rows p false true strays = Some (kind p)
+behind_rows p false false true = Some (target p)
+behind_rows p false false false = None
 
 abbrev pub agreeing : (p : ℕ) → KindFailures → LeaveFailures → Option Misfit
-agreeing p k l = behind_meeting p k.row l.lacks (k.clash || l.clash) k.strays
+agreeing p k l = behind_rows p l.lacks (k.clash || l.clash) k.strays
 
 -- cuts that differ come before a row that is too deep, and before too few slots
 abbrev pub too_deep : (row : ℕ) → (cuts : Option ℕ) → Misfit
@@ -42,6 +41,7 @@ abbrev pub refusal_at : (p : ℕ) → Failures → Option Misfit
 refusal_at p failures.Meet = Some (stack p)
 refusal_at p (failures.TooDeep row cuts) = Some (too_deep row cuts)
 refusal_at p (failures.TooFew cuts) = Some (too_few p cuts)
+refusal_at p (failures.Cut row) = Some (table row)
 refusal_at p (failures.Agree k l) = agreeing p k l
 
 -- a Leave that is lost, the depth, and loops

@@ -1,11 +1,11 @@
 //! How a block fails, and why it is refused.
+ghost use Rattle.std.specs.Prelude.{◌≡◌, ◌+◌, option_map, IfOk};
 
-/// How a block fails up to a place by the kinds of its slots, aside from Leaves.
+use pt_base::Memory;
+
+/// How a block fails up to a place by the kinds of its slots, aside from Leaves and handler rows.
 #[derive(Clone, Copy, Debug)]
 pub struct KindFailures {
-    /// The least table row under which slots of two kinds would stay. Rows are counted through
-    /// marks, handlers and starts.
-    pub row: Option<usize>,
     /// A place gets two lists, or an instruction finds another kind or may not stand there.
     pub clash: bool,
     /// An instruction goes on to where none stands.
@@ -37,7 +37,9 @@ pub enum Failures {
     TooFew {
         cuts: Option<usize>,
     },
-    /// The numbers of slots agree.
+    /// The numbers of slots agree. The least row under which slots of two kinds would stay.
+    Cut(usize),
+    /// The numbers of slots agree, and under no row would slots of two kinds stay.
     Agree {
         kinds: KindFailures,
         leaves: LeaveFailures,
@@ -53,4 +55,21 @@ pub enum Refusal {
     Table(usize),
     SilentLoop(usize),
     Depth,
+}
+
+/// The number of a row, counted through so many before.
+///
+/// # Errors
+///
+/// `Memory` where it passes 2^64, as in no table.
+pub fn counted(before: usize, row: Option<usize>) -> Result<Option<usize>, Memory>
+    ensures { IfOk result (λ number. number ≡ option_map (λ k. before + k) row) }
+{
+    match row {
+        None => Ok(None),
+        Some(row) => match before.checked_add(row) {
+            None => Err(Memory),
+            Some(number) => Ok(Some(number)),
+        },
+    }
 }

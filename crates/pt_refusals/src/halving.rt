@@ -1,6 +1,7 @@
 //! The first place that refuses a block.
 ghost use Rattle.std.specs.Prelude.{◌≤◌, option_map, IfOk};
 ghost use Rattle.pt_fits.specs.Block.{Block};
+ghost use Rattle.pt_fits.specs.Fits.{Refused, RefusedAt, TablesHold};
 ghost use Rattle.pt_refusals.specs.Laws.{TellsFirst, TellsPlace};
 ghost use Rattle.pt_refusals.specs.Verdicts.{misfit_of};
 
@@ -29,20 +30,18 @@ pub trait Probe {
             → TellsPlace b place (option_map misfit_of refusal)) };
 }
 
-/// What refuses a block whose tables hold, at the first place up to which it doesn't agree, or that
-/// it agrees up to the last. It asks of at most one place more than the last has binary digits.
+/// What refuses a block whose tables hold, at the first place up to which it doesn't agree, of a place
+/// that refuses it. It asks of at most as many places as the last has binary digits.
 ///
 /// # Errors
 ///
 /// `Memory` for want of it.
-pub fn first_refusal<P: Probe>(probe: &P, last: usize) -> Result<Option<Refusal>, Memory>
+pub fn refusal_up_to<P: Probe>(probe: &P, last: usize, refusal: Refusal) -> Result<Refusal, Memory>
     requires { last ≤ P.last probe.now }
-    ensures { IfOk result (λ refusal. (b : Block) → P.tells probe.now b
-        → TellsFirst b last (option_map misfit_of refusal)) }
+    ensures { IfOk result (λ first. (b : Block) → P.tells probe.now b
+        → RefusedAt b last (misfit_of refusal) → TablesHold b → Refused b (misfit_of first)) }
 {
-    let Some(mut found) = probe.refusal_at(last)? else {
-        return Ok(None);
-    };
+    let mut found = refusal;
     let mut low = 0;
     let mut high = last;
     while low < high {
@@ -55,5 +54,21 @@ pub fn first_refusal<P: Probe>(probe: &P, last: usize) -> Result<Option<Refusal>
             }
         }
     }
-    Ok(Some(found))
+    Ok(found)
+}
+
+/// The same, or that the block agrees up to the last place. It asks of this one too.
+///
+/// # Errors
+///
+/// `Memory` for want of it.
+pub fn first_refusal<P: Probe>(probe: &P, last: usize) -> Result<Option<Refusal>, Memory>
+    requires { last ≤ P.last probe.now }
+    ensures { IfOk result (λ refusal. (b : Block) → P.tells probe.now b
+        → TellsFirst b last (option_map misfit_of refusal)) }
+{
+    match probe.refusal_at(last)? {
+        None => Ok(None),
+        Some(refusal) => Ok(Some(refusal_up_to(probe, last, refusal)?)),
+    }
 }

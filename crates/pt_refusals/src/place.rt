@@ -4,13 +4,11 @@ ghost use Rattle.pt_refusals.specs.Verdicts.{agreeing, misfit_of, refusal_at};
 
 use crate::failures::{Failures, KindFailures, LeaveFailures, Refusal};
 
-/// What refuses a block at a place up to which numbers of slots agree.
+/// What refuses a block at a place up to which numbers of slots agree, and cuts.
 fn agreeing(place: usize, kinds: &KindFailures, leaves: &LeaveFailures) -> Option<Refusal>
     ensures { option_map misfit_of result ≡ agreeing place kinds.now leaves.now }
 {
-    if let Some(row) = kinds.row {
-        Some(Refusal::Table(row))
-    } else if leaves.lacks {
+    if leaves.lacks {
         Some(Refusal::Stack(place))
     } else if kinds.clash || leaves.clash {
         Some(Refusal::Kind(place))
@@ -31,6 +29,7 @@ pub fn refusal_at(place: usize, failures: &Failures) -> Option<Refusal>
         Failures::TooDeep { row, cuts } => Some(Refusal::Table(cuts.unwrap_or(*row))),
         Failures::TooFew { cuts: None } => Some(Refusal::Stack(place)),
         Failures::TooFew { cuts: Some(row) } => Some(Refusal::Table(*row)),
+        Failures::Cut(row) => Some(Refusal::Table(*row)),
         Failures::Agree { kinds, leaves } => agreeing(place, kinds, leaves),
     }
 }

@@ -2,7 +2,7 @@
 use Rattle.std.proofs.Common.{◌≡◌, ◌⊎◌, inl, inr, ℕ, ◌+◌, ◌<◌, ◌≤◌, List, length, get_or, Some, None, refl, sym, ap, ◌∙◌, subst, arith}
 use Rattle.std.specs.Prelude.{slice_get}
 use Rattle.std.proofs.lemmas.Bool.{cases_order}
-use Rattle.std.proofs.lemmas.Option.{same_Some, slice_get_past, slice_get_read}
+use Rattle.std.proofs.lemmas.Option.{same_Some, slice_get_read, slice_get_within}
 use Rattle.pt_code.specs.declared.Code.{Code}
 use Rattle.pt_code.specs.declared.CodeBlock.{CodeBlock}
 use Rattle.pt_fits.specs.Fits.{depth, kind, silent_loop, stack, table, target}
@@ -32,16 +32,8 @@ one_more_fits c n b fit is here k d lt e = by (cases_order k n)
     by (inr (inl low)) = fit k d low e
     by (inr (inr high)) = absurd (omega (arith, lt, high))
 
-listed_below : {X : Type 0} (xs : List X) (n : ℕ) (x : X) → slice_get xs n ≡ Some x → n < length xs
-listed_below xs n x e = by (cases_order n (length xs))
-  where
-    by : (n ≡ length xs) ⊎ ((n < length xs) ⊎ (length xs < n)) → n < length xs
-    by (inl same) = absurd (let none : slice_get xs n ≡ None = slice_get_past xs n (omega (arith, same)) in let no : None ≡ Some x = sym none ∙ e in cc)
-    by (inr (inl low)) = low
-    by (inr (inr high)) = absurd (let none : slice_get xs n ≡ None = slice_get_past xs n (omega (arith, high)) in let no : None ≡ Some x = sym none ∙ e in cc)
-
 pub all_fit : (c : Code) (n : ℕ) → length c.blocks ≤ n → FitBelow c n → AllFit c
-all_fit c n le fit k b e = fit k b (let low = listed_below c.blocks k b e in omega (arith, low, le)) e
+all_fit c n le fit k b e = fit k b (let low = slice_get_within c.blocks k b e in omega (arith, low, le)) e
 
 pub listed_at : (blocks seen : List CodeBlock) (n : ℕ) (b : CodeBlock) → seen ≡ blocks → n < length seen → b ≡ get_or seen n b → slice_get blocks n ≡ Some b
 listed_at blocks seen n b e lt is = subst (λ xs. slice_get xs n ≡ Some b) e (slice_get_read seen (length seen) n b refl lt is)

@@ -1,2 +1,4 @@
+pub mod LeaveLemmas
 pub mod ProbeLemmas
 pub mod ErrorLemmas
+pub mod LawLemmas

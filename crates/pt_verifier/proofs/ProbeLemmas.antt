@@ -1,17 +1,21 @@
 -- What the pieces tell of a block, put together.
 use Rattle.std.proofs.Common.{◌≡◌, ◌⊎◌, inl, inr, ℕ, zero, suc, ◌+◌, ◌<◌, ◌≤◌, Bool, true, false, nat_eq, if◌then◌else◌, List, [], ◌∷◌, length, Option, Some, None, option_map, refl, sym, ◌∙◌, subst, arith, eqb-true, eq-eqb, true≢false}
-use Rattle.std.specs.Prelude.{slice_get}
 use Rattle.std.proofs.lemmas.Bool.{cases_order}
+use Rattle.std.proofs.lemmas.Option.{slice_get_within}
+use Rattle.pt_ranges.specs.declared.handlers.Handler.{Handler}
 use Rattle.pt_code.specs.View.{Ins, IsView}
 use Rattle.pt_code.specs.declared.Code.{Code}
 use Rattle.pt_code.specs.declared.CodeBlock.{CodeBlock}
 use Rattle.pt_sizes.specs.declared.flow.Sizes.{Sizes}
 use Rattle.pt_sizes.specs.declared.flow.Sizes.TheVariants as sizes
 use Rattle.pt_fits.specs.Block.{Block, block_of}
+use Rattle.pt_fits.specs.Agreement as A
+use Rattle.pt_fits.specs.Agreement.{Agrees, HandlerFails}
 use Rattle.pt_fits.specs.Fits.{IsLeast, TablesHold}
 use Rattle.pt_verify.specs.Sizes.{SizesMeet}
 use Rattle.pt_verify.specs.PlaceTable.{AreSizes, AreSizesUpTo, DeepFirst, FewFirst, SizesDisagree, TellsSizes}
-use Rattle.pt_verify.specs.Refusals.{CutsOf}
+use Rattle.pt_verify.specs.Refusals as R
+use Rattle.pt_verify.specs.Refusals.{CutsDiffer, CutsOf}
 use Rattle.pt_block_limits.specs.Limits.{HasHeld, LetsGo}
 use Rattle.pt_common_slots.specs.Common.{RowsLead}
 use Rattle.pt_cut_failures.specs.Cuts.{TellsCutBelow}
@@ -21,9 +25,10 @@ use Rattle.pt_refusals.specs.declared.failures.Failures.TheVariants as failures
 use Rattle.pt_refusals.specs.Told.{TellsFailures, TellsLeast, TellsLeastBelow}
 use Rattle.pt_refusals.specs.Laws.{ListsRows}
 use Rattle.pt_refusals.proofs.Placing.{rows_listed, sizes_tell_failures}
+use Rattle.pt_verifier.specs.declared.probe.Answer.{Answer}
 use Rattle.pt_verifier.specs.declared.probe.BlockProbe.{BlockProbe}
 use Rattle.pt_verifier.specs.declared.probe.Disagreement.TheVariants.{Meet, TooDeep, TooFew}
-use Rattle.pt_verifier.specs.Probing.{TellsOf, disagreement_at, last_of}
+use Rattle.pt_verifier.specs.Probing.{TellsAnswer, TellsOf, disagreement_at, last_of}
 
 some_none : {X : Type 0} (x : X) → Some x ≡ None → ⊥
 some_none x e = cc
@@ -79,32 +84,30 @@ module _ (b : Block) (p : ℕ) where
 
   -- cuts are counted among handler rows, and through the tables
   pub cut_counted : (rows n m : ℕ) → TellsCutBelow b p rows (Some n) → m ≡ length b.marks + n → TellsLeastBelow (CutsOf b p) (length b.marks + rows) (Some m)
-  cut_counted rows n m t e =
-      let below = t.0 in (
-        (omega (arith, below, e)),
-        record {
-          holds = subst (CutsOf b p) (sym e) t.1.holds;
-          least = λ k lt c. let at = c.number.counted in t.1.least c.number.among (omega (arith, lt, e, at)) (subst (CutsOf b p) at c);
-        },
-      )
+  cut_counted rows n m t e = let below = t.0 in record {
+    holds = (omega (arith, below, e), subst (CutsOf b p) (sym e) t.1.holds);
+    least = λ k lt c. let at = c.1.number.counted in t.1.least c.1.number.among (omega (arith, lt, e, at)) (subst (CutsOf b p) at c.1);
+  }
 
   pub no_cut : (rows : ℕ) → TellsCutBelow b p rows None → TellsLeastBelow (CutsOf b p) (length b.marks + rows) None
-  no_cut rows t n lt c = let at = c.number.counted in t c.number.among (omega (arith, lt, at)) (subst (CutsOf b p) at c)
+  no_cut rows t n c = let at = c.1.number.counted in let lt = c.0 in t c.1.number.among (omega (arith, lt, at)) (subst (CutsOf b p) at c.1)
 
   pub counted_cut : (rows : ℕ) (row told : Option ℕ) → TellsCutBelow b p rows row → told ≡ option_map (λ k. length b.marks + k) row
       → TellsLeastBelow (CutsOf b p) (length b.marks + rows) told
   counted_cut rows (Some n) told t e = subst (TellsLeastBelow (CutsOf b p) (length b.marks + rows)) (sym e) (cut_counted rows n (length b.marks + n) t refl)
   counted_cut rows None told t e = subst (TellsLeastBelow (CutsOf b p) (length b.marks + rows)) (sym e) (no_cut rows t)
 
-  listed_below : {X : Type 0} (xs : List X) (n : ℕ) (x : X) → slice_get xs n ≡ Some x → n < length xs
-  listed_below [] n x e = absurd (none_some x e)
-  listed_below (y ∷ ys) zero x e = omega arith
-  listed_below (y ∷ ys) (suc n) x e = let h = listed_below ys n x e in omega (arith, h)
-
   -- all rows are so many
   pub cuts_of_all : (cuts : Option ℕ) → TellsLeastBelow (CutsOf b p) (length b.marks + length b.handlers) cuts → TellsLeast (CutsOf b p) cuts
-  cuts_of_all (Some n) t = t.1
-  cuts_of_all None t = λ n c. t n (let at = c.number.counted in let low = listed_below b.handlers c.number.among c.row c.number.is in omega (arith, at, low)) c
+  cuts_of_all (Some n) t = record { holds = t.holds.1; least = λ m lt c. let low = t.holds.0 in t.least m lt (omega (arith, lt, low), c) }
+  cuts_of_all None t = λ n c. t n (let at = c.number.counted in let low = slice_get_within b.handlers c.number.among c.row c.number.is in omega (arith, at, low), c)
+
+  -- a block doesn't agree up to where cuts differ
+  pub cuts_disagree : (n : ℕ) → CutsOf b p n → Agrees b p → ⊥
+  cuts_disagree n c a = a.handlers c.row (by_cuts c.differ)
+    where
+      by_cuts : {row : Handler} → CutsDiffer b p row → HandlerFails b p row
+      by_cuts (R.differs r c s d e) = A.differs r c s d e
 
 module _ (b : Block) (p : ℕ) where
   pub told_deep : (n deep : ℕ) (cuts : Option ℕ) → DeepFirst b p n → deep ≡ length b.marks + n
@@ -128,6 +131,9 @@ module _ (probe : BlockProbe) (b : Block) (t : TellsOf probe b) where
 
   pub its_lists : ListsRows b
   its_lists = subst ListsRows (sym t.same) (rows_listed probe.code.now probe.block.now t.view t.seen)
+
+  pub told_of_its : (p : ℕ) (answer : Answer) → TellsAnswer its p answer → TellsAnswer b p answer
+  told_of_its p answer = subst (λ x. TellsAnswer x p answer) (sym t.same)
 
 pub lead : (c : Code) (b : CodeBlock) (view : ℕ → Option Ins) → IsView b view → TablesHold (block_of c b view) → RowsLead (block_of c b view)
 lead c b view v hold pc i e row among = rows_land (block_of c b view) hold row (rows_listed c b view v pc i e row among)

@@ -1,2 +1,4 @@
+pub mod Leaves
 pub mod Probing
 pub mod Verdict
+pub mod Laws

@@ -5,10 +5,15 @@ use Rattle.pt_places.specs.PlaceTable.{HasPlaces}
 use Rattle.pt_sizes.specs.declared.flow.Sizes.{Sizes}
 use Rattle.pt_sizes.specs.declared.flow.Sizes.TheVariants as sizes
 use Rattle.pt_fits.specs.Block.{Block, block_of}
+use Rattle.pt_fits.specs.Agreement.{Agrees}
 use Rattle.pt_fits.specs.Fits.{TablesHold}
 use Rattle.pt_verify.specs.PlaceTable.{TellsSizes}
 use Rattle.pt_standing.specs.Names.{TellsDefaults}
 use Rattle.pt_takers.specs.Takers.{TellsTakers}
+use Rattle.pt_step_graph.specs.Graph.{bundles_of}
+use Rattle.pt_held_leaves.specs.Held.{HasHeldUpTo}
+use Rattle.pt_refusals.specs.Told.{TellsFailures}
+use Rattle.pt_verifier.specs.declared.probe.Answer.{Answer}
 use Rattle.pt_verifier.specs.declared.probe.BlockProbe.{BlockProbe}
 use Rattle.pt_verifier.specs.declared.probe.Disagreement.{Disagreement}
 use Rattle.pt_verifier.specs.declared.probe.Disagreement.TheVariants.{Meet, TooDeep, TooFew}
@@ -36,3 +41,8 @@ pub record TellsOf (probe : BlockProbe) (b : Block) : Type 0 where
   pub takers : TellsTakers probe.block.now.handlers (length probe.block.now.instructions + 1) probe.takers.now
   pub tables : TablesHold b
   pub sizes : TellsSizes b probe.sizes.now
+
+-- how it fails up to a place, and if it doesn't, which Leaves each EndFinally lets go on
+pub record TellsAnswer (b : Block) (p : ℕ) (answer : Answer) : Type 0 where
+  pub failures : TellsFailures b p answer.failures
+  pub held : Agrees b p → HasHeldUpTo b p (bundles_of answer.held.bundles) answer.held.held.items

@@ -1,5 +1,5 @@
 //! What refuses a block of a code.
-ghost use Rattle.std.specs.Prelude.{ℕ, length, Option, option_map, IfOk};
+ghost use Rattle.std.specs.Prelude.{ℕ, ◌≤◌, length, Option, option_map, IfOk};
 ghost use Rattle.pt_code.specs.View.{Ins, IsView};
 ghost use Rattle.pt_fits.specs.Block.{Block, block_of};
 ghost use Rattle.pt_places.specs.PlaceTable.{HasPlaces};
@@ -13,38 +13,18 @@ ghost use Rattle.pt_refusals.specs.Laws.{TellsBlock};
 ghost use Rattle.pt_refusals.specs.Verdicts.{misfit_of};
 ghost use Rattle.pt_verifier.specs.Probing.{TellsOf, last_of};
 
-use crate::probe::{BlockProbe, last_of};
+use crate::probe::{Answer, BlockProbe, last_of};
 use pt_base::{Memory, Pc};
 use pt_block_limits::{Cycles, is_too_deep, lost_leave, silent_loops};
 use pt_block_tables::first_bad_row;
 use pt_code::{Code, CodeBlock};
-use pt_common_slots::common_slots;
-use pt_held_leaves::{HeldLeaves, held_leaves};
+use pt_held_leaves::HeldLeaves;
 use pt_places::Places;
-use pt_refusals::{Refusal, first_refusal, refusal_behind};
+use pt_refusals::{Refusal, first_refusal, refusal_at, refusal_behind, refusal_up_to};
 use pt_standing::Defaults;
 use pt_takers::Takers;
 use pt_verify::{Sizes, sizes};
 use std::alloc::Global;
-
-/// The Leaves that an EndFinally lets go on, in the whole block.
-fn all_held(probe: &BlockProbe<'_>, sizes: &[Option<u64>]) -> Result<HeldLeaves, Memory>
-    ensures { IfOk result (λ told. (b : Block) → TellsOf probe.now b → AreSizes b sizes.now
-        → HasHeld b (bundles_of told.bundles) told.held.items) }
-{
-    let Ok(end) = u32::try_from(probe.block.instructions.len()) else {
-        return Err(Memory);
-    };
-    let joins = common_slots(probe.alloc, probe.block, probe.places, sizes, Pc(end))?;
-    held_leaves(
-        probe.alloc,
-        probe.places,
-        probe.takers,
-        &joins,
-        sizes,
-        Pc(end),
-    )
-}
 
 /// The least place of a silent loop, or ranks, for the Leaves that are let go on.
 fn loops_of(
@@ -66,29 +46,56 @@ fn loops_of(
     )
 }
 
-/// What refuses a block that agrees, for the sizes of its places.
+/// What refuses a block that agrees, for the sizes of its places and the Leaves that are let go on.
 fn refusal_of_agreeing(
     probe: &BlockProbe<'_>,
     sizes: &[Option<u64>],
+    held: HeldLeaves,
 ) -> Result<Option<Refusal>, Memory>
     ensures { IfOk result (λ refusal. (b : Block) → TellsOf probe.now b → AreSizes b sizes.now
+        → HasHeld b (bundles_of held.bundles) held.held.items
         → Agrees b b.size → TellsBlock b (option_map misfit_of refusal)) }
 {
-    let held = all_held(probe, sizes)?;
     let lost = lost_leave(probe.places, sizes)?;
     let loops = loops_of(probe, sizes, held)?;
     Ok(refusal_behind(lost, is_too_deep(sizes), &loops))
 }
 
-/// What refuses a block that agrees up to the last place of which it was asked.
-fn refusal_behind_last(probe: &BlockProbe<'_>) -> Result<Option<Refusal>, Memory>
-    ensures { IfOk result (λ refusal. (b : Block) → TellsOf probe.now b
-        → Agrees b (last_of probe.now.sizes.now (length probe.now.block.now.instructions))
+/// What refuses a block whose sizes agree, for these: it is asked of its end, and where it doesn't
+/// agree there, of the places before.
+fn refusal_of_sized(
+    probe: &BlockProbe<'_>,
+    sizes: &[Option<u64>],
+) -> Result<Option<Refusal>, Memory>
+    requires { length probe.now.block.now.instructions
+        ≤ last_of probe.now.sizes.now (length probe.now.block.now.instructions) }
+    ensures { IfOk result (λ refusal. (b : Block) → TellsOf probe.now b → AreSizes b sizes.now
         → TellsBlock b (option_map misfit_of refusal)) }
 {
-    match probe.sizes {
-        Sizes::Agree(sizes) => refusal_of_agreeing(probe, sizes),
-        _ => Err(Memory),
+    let last = probe.block.instructions.len();
+    let Ok(end) = u32::try_from(last) else {
+        return Err(Memory);
+    };
+    let answer = probe.by_sizes(Pc(end), sizes)?;
+    let Answer { failures, held } = answer;
+    match refusal_at(last, &failures) {
+        None => refusal_of_agreeing(probe, sizes, held),
+        Some(refusal) => {
+            drop(held);
+            Ok(Some(refusal_up_to(probe, last, refusal)?))
+        }
+    }
+}
+
+/// What refuses a block whose sizes don't agree.
+fn refusal_of_unsized(probe: &BlockProbe<'_>) -> Result<Option<Refusal>, Memory>
+    ensures { IfOk result (λ refusal. (b : Block) → TellsOf probe.now b
+        → TellsBlock b (option_map misfit_of refusal)) }
+{
+    let last = last_of(probe.sizes, probe.block.instructions.len());
+    match first_refusal(probe, last)? {
+        Some(refusal) => Ok(Some(refusal)),
+        None => Err(Memory),
     }
 }
 
@@ -97,10 +104,9 @@ fn refusal_by_probe(probe: &BlockProbe<'_>) -> Result<Option<Refusal>, Memory>
     ensures { IfOk result (λ refusal. (b : Block) → TellsOf probe.now b
         → TellsBlock b (option_map misfit_of refusal)) }
 {
-    let last = last_of(probe.sizes, probe.block.instructions.len());
-    match first_refusal(probe, last)? {
-        Some(refusal) => Ok(Some(refusal)),
-        None => refusal_behind_last(probe),
+    match probe.sizes {
+        Sizes::Agree(sizes) => refusal_of_sized(probe, sizes),
+        _ => refusal_of_unsized(probe),
     }
 }
 
@@ -134,7 +140,7 @@ fn refusal_of_laid(
 }
 
 /// What refuses a block of a code, or that it fits, where it is told of its blocks and lists. Most of
-/// the time goes to the flow of kinds, slots in common and held Leaves, which are asked twice where
+/// the time goes to the flow of kinds, slots in common and held Leaves, which are asked once where
 /// the block agrees, and else once more for each halving of its bytes.
 ///
 /// # Errors

@@ -67,7 +67,9 @@ fn check(alloc: Global, code: &Code) -> Result<(), VerifyErr>
 }
 
 /// Verifies code: each of its blocks fits, so that it is never stuck (FITS.md), or its first block is
-/// refused that doesn't. The code is dropped at a refusal.
+/// refused that doesn't. The code is dropped at a refusal. Code that was read is verified exactly
+/// where it fits, want of memory aside (`code_that_fits_is_verified`). Of a block whose bytes are no
+/// instructions, as none is of code that was read, nothing is told.
 ///
 /// # Errors
 ///

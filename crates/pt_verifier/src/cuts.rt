@@ -1,5 +1,5 @@
 //! The rows under which cuts differ, counted through the tables of a block.
-ghost use Rattle.std.specs.Prelude.{◌≡◌, ◌<◌, ◌+◌, ℕ, Option, option_map, length, IfOk};
+ghost use Rattle.std.specs.Prelude.{◌<◌, ◌+◌, ℕ, Option, length, IfOk};
 ghost use Rattle.pt_code.specs.View.{Ins, IsView};
 ghost use Rattle.pt_places.specs.PlaceTable.{HasPlaces};
 ghost use Rattle.pt_fits.specs.Block.{block_of};
@@ -12,20 +12,8 @@ use pt_base::Memory;
 use pt_code::{Code, CodeBlock};
 use pt_cut_failures::first_differing;
 use pt_places::Places;
+use pt_refusals::counted;
 use std::alloc::Global;
-
-/// The number of a row, counted through so many before.
-fn counted(count: usize, row: Option<usize>) -> Result<Option<usize>, Memory>
-    ensures { IfOk result (λ n. n ≡ option_map (λ k. count + k) row) }
-{
-    match row {
-        None => Ok(None),
-        Some(row) => match count.checked_add(row) {
-            None => Err(Memory),
-            Some(number) => Ok(Some(number)),
-        },
-    }
-}
 
 /// The least table row under which cuts differ, of so many first handler rows, none of which is too
 /// deep.

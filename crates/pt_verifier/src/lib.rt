@@ -5,7 +5,10 @@ mod block;
 mod code;
 mod cuts;
 mod error;
+mod laws;
+mod leaves;
 mod probe;
 
 pub use code::{Verified, verify};
 pub use error::VerifyErr;
+pub use laws::code_that_fits_is_verified;

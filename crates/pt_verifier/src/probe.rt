@@ -3,12 +3,15 @@ ghost use Rattle.std.specs.Prelude.{◌≡◌};
 ghost use Rattle.pt_verifier.specs.Probing.{disagreement_at, last_of};
 
 use crate::cuts::first_cut;
+use crate::leaves::{held_up_to, no_leaves};
 use pt_base::{Memory, Pc};
+use pt_block_kinds::{BlockKinds, kinds_up_to};
 use pt_code::{Code, CodeBlock};
-use pt_kind_failures::kind_failures;
-use pt_leave_failures::leave_failures;
+use pt_held_leaves::{HeldLeaves, leaves_lack};
+use pt_kind_failures::{kind_failures, least_cut};
+use pt_leave_clashes::leaves_clash;
 use pt_places::Places;
-use pt_refusals::{Failures, Probe, Refusal};
+use pt_refusals::{Failures, LeaveFailures, Probe, Refusal};
 use pt_standing::Defaults;
 use pt_takers::Takers;
 use pt_verify::{Sizes, sizes_up_to};
@@ -24,6 +27,14 @@ pub struct BlockProbe<'a> {
     pub places: &'a Places,
     pub takers: &'a Takers,
     pub sizes: &'a Sizes,
+}
+
+/// What is told of a block up to a place up to which numbers of slots agree: how it fails, and if it
+/// doesn't, the Leaves that each EndFinally lets go on.
+#[derive(Drop)]
+pub struct Answer {
+    pub failures: Failures,
+    pub held: HeldLeaves,
 }
 
 /// How numbers of slots disagree at a place.
@@ -58,12 +69,15 @@ pub fn last_of(sizes: &Sizes, size: usize) -> usize
 }
 
 impl<'a> BlockProbe<'a> {
-    ghost use Rattle.std.specs.Prelude.{◌≡◌, ◌≤◌, length, Some, IfOk};
+    ghost use Rattle.std.specs.Prelude.{◌≡◌, ◌≤◌, ℕ, length, Some, IfOk};
     ghost use Rattle.pt_fits.specs.Block.{Block};
     ghost use Rattle.pt_verify.specs.PlaceTable.{AreSizesUpTo, SizesDisagree};
+    ghost use Rattle.pt_verify.specs.Refusals.{CutsOf};
+    ghost use Rattle.pt_kind_flow.specs.Search.{IsFlow};
+    ghost use Rattle.pt_block_kinds.specs.Drawing.{Draws};
     ghost use Rattle.pt_refusals.specs.Told.{TellsFailures};
     ghost use Rattle.pt_verifier.specs.declared.probe.Disagreement.TheVariants.{TooDeep, TooFew};
-    ghost use Rattle.pt_verifier.specs.Probing.{TellsOf, disagreement_at, last_of};
+    ghost use Rattle.pt_verifier.specs.Probing.{TellsAnswer, TellsOf, disagreement_at, last_of};
 
     /// How it fails up to a place by a row that is too deep.
     fn too_deep(&self, place: usize, row: usize) -> Result<Failures, Memory>
@@ -89,32 +103,55 @@ impl<'a> BlockProbe<'a> {
         Ok(Failures::TooFew { cuts })
     }
 
-    /// How it fails up to a place, for the sizes that places get up to there.
-    fn by_sizes(&self, place: Pc, sizes: &[Option<u64>]) -> Result<Failures, Memory>
-        ensures { IfOk result (λ told. (b : Block) → TellsOf self.now b
-            → AreSizesUpTo b place.0 sizes.now → TellsFailures b place.0 told) }
+    /// What is told of it up to a place, for the kinds of slots there, where no cuts differ. The flow
+    /// of kinds is dropped before slots in common are asked.
+    fn by_kinds(
+        &self,
+        place: Pc,
+        sizes: &[Option<u64>],
+        kinds: BlockKinds,
+    ) -> Result<Answer, Memory>
+        requires flow { IsFlow kinds.flow }
+        requires long { length self.now.block.now.instructions ≤ length sizes.now }
+        ensures { IfOk result (λ answer. (b : Block) → TellsOf self.now b
+            → AreSizesUpTo b place.0 sizes.now → Draws b place.0 sizes.now kinds
+            → ((n : ℕ) → CutsOf b place.0 n → ⊥) → TellsAnswer b place.0 answer) }
     {
+        let (block, places, takers) = (self.block, self.places, self.takers);
         let limit = place.0 as usize;
-        let (block, places) = (self.block, self.places);
-        let kinds = kind_failures(
-            self.alloc,
-            self.code,
-            self.defaults,
-            block,
-            places,
-            sizes,
-            limit,
-        )?;
-        let leaves = leave_failures(
-            self.alloc,
-            self.code,
-            block,
-            places,
-            self.takers,
-            sizes,
-            place,
-        )?;
-        Ok(Failures::Agree { kinds, leaves })
+        let clash = leaves_clash(places, sizes, &kinds, place);
+        let (code, defaults) = (self.code, self.defaults);
+        let told = kind_failures(code, defaults, block, places, sizes, limit, kinds)?;
+        let held = held_up_to(self.alloc, block, places, takers, sizes, place)?;
+        let lacks = leaves_lack(places, takers, sizes, &held, place)?;
+        Ok(Answer {
+            failures: Failures::Agree {
+                kinds: told,
+                leaves: LeaveFailures { lacks, clash },
+            },
+            held,
+        })
+    }
+
+    /// What is told of it up to a place, for the sizes that places get up to there. Where cuts differ,
+    /// Leaves aren't asked.
+    pub fn by_sizes(&self, place: Pc, sizes: &[Option<u64>]) -> Result<Answer, Memory>
+        ensures { IfOk result (λ answer. (b : Block) → TellsOf self.now b
+            → AreSizesUpTo b place.0 sizes.now → TellsAnswer b place.0 answer) }
+    {
+        let block = self.block;
+        let limit = place.0 as usize;
+        if sizes.len() < block.instructions.len() {
+            return Err(Memory);
+        }
+        let kinds = kinds_up_to(self.alloc, self.code, block, self.places, sizes, limit)?;
+        match least_cut(block, sizes, &kinds)? {
+            None => self.by_kinds(place, sizes, kinds),
+            Some(row) => Ok(Answer {
+                failures: Failures::Cut(row),
+                held: no_leaves(self.alloc),
+            }),
+        }
     }
 
     /// How it fails up to a place up to which numbers of slots agree.
@@ -126,7 +163,10 @@ impl<'a> BlockProbe<'a> {
             return Err(Memory);
         };
         match sizes_up_to(self.alloc, self.code, self.block, Pc(limit))? {
-            Sizes::Agree(sizes) => self.by_sizes(Pc(limit), &sizes),
+            Sizes::Agree(sizes) => {
+                let answer = self.by_sizes(Pc(limit), &sizes)?;
+                Ok(answer.failures)
+            }
             _ => Err(Memory),
         }
     }

@@ -10,7 +10,7 @@ use Rattle.pt_verifier.proofs.ProbeLemmas.{its, its_tables}
 use Rattle.pt_verifier.proofs.block.refusal_of_agreeing.Goals as goal
 
 pub returns : goal.returns
-returns c = λ b t are agrees.
+returns c = λ b t are held agrees.
     let probe = c.args.probe.now in
     let code = probe.code.now in
     let block = probe.block.now in
@@ -21,4 +21,4 @@ returns c = λ b t are agrees.
     subst (λ m. TellsBlock b m) (sym c.refusal_behind.ensures) (subst (λ x. TellsBlock x (refusal_behind c.in_ok-lost.lost c.is_too_deep.result c.in_ok-loops.loops)) (sym t.same)
     (agreeing_blocks_are_told i (its_tables probe b t) its_agree _
     (c.in_ok-lost.ensures i (view_is_laid code block t.view t.seen) t.places its_are) _ (c.is_too_deep.ensures i its_are) _
-    (subst (λ x. TellsLoops x c.in_ok-loops.loops) t.same (c.in_ok-loops.ensures b t are (c.in_ok-held.ensures b t are)))))
+    (subst (λ x. TellsLoops x c.in_ok-loops.loops) t.same (c.in_ok-loops.ensures b t are held))))

@@ -1,8 +1,9 @@
 use Rattle.std.proofs.Common.{◌-◌, ◌≤◌}
 use Rattle.pt_fits.specs.Block.{Block}
+use Rattle.pt_fits.specs.Fits.{RefusedAt}
 use Rattle.pt_refusals.specs.Laws.{FirstSearch}
 use Rattle.pt_refusals.specs.Verdicts.{misfit_of}
-use Rattle.pt_refusals.proofs.halving.first_refusal.Given as goal
+use Rattle.pt_refusals.proofs.halving.refusal_up_to.Given as goal
 
 abbrev pub decreases-loop-low : goal.decreases-loop-low
 decreases-loop-low g l = l.high - l.low
@@ -11,5 +12,6 @@ abbrev pub invariant-loop-low : goal.invariant-loop-low
 invariant-loop-low g l = record {
   order : l.low ≤ l.high;
   inside : l.high ≤ l.fn.last;
-  search : (b : Block) → g.P.Probe.tells l.probe b → FirstSearch b l.low l.high (misfit_of l.found);
+  search : (b : Block) → g.P.Probe.tells l.probe b → RefusedAt b l.fn.last (misfit_of l.fn.refusal)
+      → FirstSearch b l.low l.high (misfit_of l.found);
 }

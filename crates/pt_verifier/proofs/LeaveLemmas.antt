@@ -1,0 +1,55 @@
+-- Where no Leave stands, no slot holds one.
+use Rattle.std.proofs.Common.{◌≡◌, ℕ, ◌<◌, ◌≤◌, List, [], length, Option, Some, None, ap, ◌∙◌, arith}
+use Rattle.pt_instr.specs.declared.Instr.TheVariants.{Leave}
+use Rattle.pt_instr.specs.Effects.{Kinds}
+use Rattle.pt_ranges.specs.declared.handlers.Handler.{Handler}
+use Rattle.pt_code.specs.View.{Ins, IsView}
+use Rattle.pt_code.specs.declared.Code.{Code}
+use Rattle.pt_code.specs.declared.CodeBlock.{CodeBlock}
+use Rattle.pt_places.specs.declared.places.Place.{Place}
+use Rattle.pt_places.specs.PlaceTable.{HasPlaces, place_at, place_of}
+use Rattle.pt_fits.specs.Block.{Block, block_of}
+use Rattle.pt_fits.specs.Places.{Reached}
+use Rattle.pt_fits.specs.Leaves as L
+use Rattle.pt_fits.specs.Leaves.{Departs, Holds}
+use Rattle.pt_held_leaves.specs.Held.{HasHeldUpTo}
+use Rattle.pt_kind_failures.proofs.Seen.{is_seen}
+use Rattle.pt_verifier.specs.Leaves.{HasLeave, is_leave}
+
+-- a Leave is reached
+record Stands (b : Block) (p : ℕ) : Type 0 where
+  pc : ℕ
+  ins : Ins
+  kinds : Kinds
+  reached : Reached b p pc ins kinds
+  target : ℕ
+  is : ins.instr ≡ Leave (record { 0 = target })
+
+-- one that goes on, or that a slot holds, stands somewhere
+mutual
+  departs_stands : {b : Block} {p t q : ℕ} {rows : List Handler} {ks : Kinds} → Departs b p t q rows ks → Stands b p
+  departs_stands {t = t} (L.leaves {q = q} {i = i} {ks = ks} r e) = record { pc = q; ins = i; kinds = ks; reached = r; target = t; is = e }
+  departs_stands (L.let_go r e h) = holds_stands h
+
+  holds_stands : {b : Block} {p t q d : ℕ} → Holds b p t q d → Stands b p
+  holds_stands (L.caught c row e) = departs_stands c
+  holds_stands (L.exited r e h) = holds_stands h
+  holds_stands (L.shared c h) = holds_stands h
+
+some_is_none : {X : Type 0} (x : X) → None ≡ Some x → ⊥
+some_is_none x e = cc
+
+module _ (c : Code) (block : CodeBlock) (view : ℕ → Option Ins) (v : IsView block view) (places : List (Option Place)) (has : HasPlaces view places)
+    (p end : ℕ) (below : (pc : ℕ) → pc < length block.instructions → pc ≤ p → pc < end) where
+  has_leave : Stands (block_of c block view) p → HasLeave places end
+  has_leave s = record {
+    pc = s.pc;
+    low = below s.pc ((is_seen c block view v (length block.instructions) (omega arith)).below s.pc s.ins s.reached.stands) s.reached.low;
+    here = ap is_leave (has s.pc ∙ ap place_at s.reached.stands) ∙ ap (λ i. is_leave (Some (place_of i s.ins.mark s.ins.next))) s.is;
+  }
+
+  pub none_held : (HasLeave places end → ⊥) → HasHeldUpTo (block_of c block view) p [] []
+  none_held none = record {
+    sound = λ pc t i. absurd (some_is_none i.bundle i.is);
+    whole = λ pc t l. absurd (none (has_leave (holds_stands l.holds)));
+  }
