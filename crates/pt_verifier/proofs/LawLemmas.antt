@@ -1,5 +1,6 @@
 -- Code that fits isn't refused.
 use Rattle.std.proofs.Common.{ℕ, refl}
+use Rattle.std.proofs.lemmas.Option.{get_or_from_slice_get, slice_get_within}
 use Rattle.pt_code.specs.declared.Code.{Code}
 use Rattle.pt_code.specs.File.{HasFile}
 use Rattle.pt_fits.specs.Block.{block_of}
@@ -7,14 +8,13 @@ use Rattle.pt_fits.specs.Fits.{Misfit, depth, kind, silent_loop, stack, table, t
 use Rattle.pt_fits.proofs.OneAnswer.{fits_isnt_refused}
 use Rattle.pt_fits.proofs.ViewLaid.{view_is_laid}
 use Rattle.pt_verify.proofs.ViewLemmas.{blocks_are_seen}
-use Rattle.pt_takers.proofs.Lists.{got_in}
 use Rattle.pt_verifier.specs.declared.error.VerifyErr.TheVariants as err
 use Rattle.pt_verifier.specs.Verdict.{AllFit, FirstRefused}
 use Rattle.pt_verifier.specs.Laws.{FittingIsUnrefused}
 
 none_refused : (c : Code) → HasFile c → AllFit c → (n : ℕ) (m : Misfit) → FirstRefused c n m → ⊥
 none_refused c has fit n m r =
-    let seen = blocks_are_seen c has r.block (got_in c.blocks n r.block r.is) in
+    let seen = blocks_are_seen c has r.block (n, slice_get_within c.blocks n r.block r.is, get_or_from_slice_get c.blocks n r.block r.block r.is) in
     fits_isnt_refused (block_of c r.block seen.view) (view_is_laid c r.block seen.view seen.is) (fit n r.block r.is seen.view seen.is) m (r.refused seen.view seen.is)
 
 pub fitting_is_unrefused : (c : Code) → FittingIsUnrefused c
