@@ -33,8 +33,8 @@ returns-in-None c = IfOk-weaker c.refusal_of_agreeing.result _ _
     (subst (Agrees b) (sym last ∙ end) agrees))
     c.refusal_of_agreeing.ensures
 
-pub returns-in-Some : goal.returns-in-Some
-returns-in-Some c = λ b t are.
+pub returns-in_ok-refusal_up_to-in-Some : goal.returns-in_ok-refusal_up_to-in-Some
+returns-in_ok-refusal_up_to-in-Some c = λ b t are.
     let probe = c.args.probe.now in
     let sizes = c.args.sizes.now in
     let failures = c.in_ok-answer.answer.failures in
@@ -43,6 +43,6 @@ returns-in-Some c = λ b t are.
     let last : c.in-Ok.end ≡ c.len-last.result = omega (arith, c.in-Ok.ensures) in
     let answer = c.in_ok-answer.ensures b t (subst (λ n. AreSizesUpTo b n sizes) (sym end) (all_sizes b sizes are)) in
     let place = places_are_told b (its_lists probe b t) c.len-last.result failures (subst (λ n. TellsFailures b n failures) last answer.failures) in
-    c.in_ok-refusal_up_to.ensures b t
+    c.in_ok-refusal_up_to-in-Some.ensures b t
     (subst (λ r. TellsPlace b c.len-last.result (option_map misfit_of r)) c.in-Some.is (subst (TellsPlace b c.len-last.result) (sym c.refusal_at.ensures) place))
     t.tables
