@@ -77,8 +77,9 @@ def stands(self, pc):
 
 def stands_by_numbers(self, pc):
     op, args = self.at[pc][:2]
-    if op != 48 or not WholeBlock.may_stand(self, pc):
-        return WholeBlock.may_stand(self, pc)
+    may = WholeBlock.may_stand(self, pc)
+    if op != 48 or not may:
+        return may
     other = self.code["blocks"][args[0]]
     return set(self.code["lists"][args[2]]) <= set(other["locals"][:other["parameters"] + other["keyword_only"]])
 
@@ -101,15 +102,19 @@ def no_lost_leaves(self):
     return None if bad and bad[0] == 25 and self.disagrees(self.size) is None else bad
 
 
-def deeper(self):
-    bad = WholeBlock.refusal(self)
-    return bad if bad != (28, None) or any(len(ks) > checker.MOST + 1 for _, ks in self.gets(self.size)) else None
+def where_too_deep(otherwise):
+    """Tells of a block that is too deep something else."""
+    def refusal(self):
+        bad = WholeBlock.refusal(self)
+        return otherwise(self, bad) if bad == (28, None) else bad
+    return changed(refusal=refusal)
 
 
-def loops_first(self):
-    bad = WholeBlock.refusal(self)
-    if bad != (28, None):
-        return bad
+def one_slot_more(self, bad):
+    return bad if any(len(ks) > checker.MOST + 1 for _, ks in self.gets(self.size)) else None
+
+
+def loops_first(self, bad):
     loop = self.silent_loop(self.leaves(self.size, self.gets(self.size))[1])
     return bad if loop is None else (27, loop)
 
@@ -141,8 +146,8 @@ ERRORS = {
     "two slots swapped must be values": changed(swaps_iterator=lambda self, op, taken: False),
     "a generator expression starts without an iterator": changed(kinds_at_start=lambda self: files.Runs(())),
     "Leaves that are lost": changed(refusal=no_lost_leaves),
-    "one slot more": changed(refusal=deeper),
-    "loops before the depth": changed(refusal=loops_first),
+    "one slot more": where_too_deep(one_slot_more),
+    "loops before the depth": where_too_deep(loops_first),
     "tables last": changed(refusal=tables_last),
     "starts that aren't tried": changed(tables=marks_alone),
 }
