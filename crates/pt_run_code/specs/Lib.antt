@@ -1,1 +1,2 @@
+pub mod NamedText
 pub mod CodeRun

@@ -3,5 +3,6 @@
 #![tactic(auto)]
 
 mod run;
+mod texts;
 
 pub use run::run_code;

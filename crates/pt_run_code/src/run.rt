@@ -4,6 +4,7 @@ ghost use Rattle.pt_code_program.specs.Laws.{IsRunnable};
 ghost use Rattle.pt_run_code.specs.CodeRun.{CodeBrokeOff, CodeFinished};
 ghost use Rattle.pt_sinks.specs.declared.writing.Out.TheVariants as stream;
 
+use crate::texts::names_too_much;
 use pt_base::Sink;
 use pt_code::Code;
 use pt_code_loader::{load, start};
@@ -14,19 +15,21 @@ use std::alloc::Global;
 
 /// Runs a code that has a file, whose blocks fit and which is supported, under a bound on acts,
 /// whoever made it. What it prints goes to out, and with `events` the lines of events to the log,
-/// each in one write. Each of the two takes its own in the order of the run; how they lie beside each
-/// other is told only where a write breaks off.
+/// each in one write. Each of the two takes its own in the order of the run; how they lie beside
+/// each other is told only where a write breaks off.
 ///
 /// Where it isn't broken off, it ends as the run of the code does under this bound, it has taken as
 /// many acts, instructions and slots, and all that the run writes was written. It is never stuck.
 ///
-/// Before the run it takes expected time and memory linear in the code, but for texts that many
-/// blocks name: each block has copies of its own of the texts that it names.
+/// Before the run it takes expected time and memory linear in the code and in the text that the
+/// code names, each text as often as it is named: a block or a list has copies of its own of the
+/// texts that it names.
 ///
 /// # Errors
 ///
-/// Failed where a sink's count of faults rose, and Memory. A front of what the run writes is then
-/// written.
+/// Failed where a sink's count of faults rose, and Memory: for want of it, and where the code names
+/// more than 1,073,741,824 bytes of text. A front of what the run writes is then written, and in
+/// the last case nothing.
 pub fn run_code<O: Sink, L: Sink>(
     alloc: Global,
     seed: Seed,
@@ -49,6 +52,9 @@ pub fn run_code<O: Sink, L: Sink>(
     ensures later { (O.faults out.old ≤ O.faults out.new)
         × (L.faults log.old ≤ L.faults log.new) }
 {
+    if names_too_much(code) {
+        return Err(WriteErr::Memory);
+    }
     let loaded = load(alloc, seed, code)?;
     let mut machine = start(alloc, seed, &loaded)?;
     run(alloc, &loaded.tables, &mut machine, bound, events, out, log)

@@ -3,6 +3,10 @@ use Rattle.pt_runner.proofs.AdvanceLemmas.{if_err}
 use Rattle.pt_run_code.proofs.JoinLemmas.{code_run, has_blocks, is_ready, all_finished, all_broke_off, broke_off_at_once}
 use Rattle.pt_run_code.proofs.run.run_code.Goals as goal
 
+pub returns-then-names_too_much-clause-err : goal.returns-then-names_too_much-clause-err
+returns-then-names_too_much-clause-err g c =
+    broke_off_at_once c.args.code.now c.args.bound c.args.events _ _ _ _ (λ _ _ t. t) (λ _ _ t. t)
+
 pub load-requires : goal.load-requires
 load-requires g c = has_blocks c.args.code.now c.requires.has_file
 
