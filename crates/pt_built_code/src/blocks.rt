@@ -1,6 +1,7 @@
 //! Whether a block is supported yet.
 
-ghost use Rattle.std.specs.Prelude.{◌≡◌, ◌+◌, ◌++◌, ℕ, ◌&&◌, IfOk, Decides, length, nat_eq, not};
+ghost use Rattle.std.specs.Prelude.{◌≡◌, ◌+◌, ◌++◌, ℕ, ◌&&◌, IfOk, Decides};
+ghost use Rattle.std.specs.Prelude.{length, nat_eq, not};
 ghost use Rattle.std.specs.List.{IsDistinct};
 ghost use Rattle.std.specs.Str.{bytes_eq};
 ghost use Rattle.pt_built_code.specs.Built.{IsBuiltBlock, has_slots_by_kind, is_plain_kind, named_by};
@@ -22,7 +23,8 @@ fn is_plain_kind(kind: BlockKind) -> bool
 }
 
 fn has_slots_by_kind(kind: BlockKind, has_names: bool) -> bool
-    ensures { (names : ℕ) → (has_names ≡ not (nat_eq names 0)) → result ≡ has_slots_by_kind kind names }
+    ensures { (names : ℕ) → (has_names ≡ not (nat_eq names 0))
+        → result ≡ has_slots_by_kind kind names }
 {
     match kind {
         BlockKind::Module => !has_names,
@@ -48,7 +50,8 @@ fn is_of_built_kind(block: &CodeBlock) -> bool
 
 /// Whether no two local names are the same text.
 fn has_different_locals(alloc: Global, numbers: &[usize], block: &CodeBlock) -> Result<bool, Memory>
-    ensures { IfOk result (λ different. (c : Code) → IsReadBlock c block.now → TellsTexts c.texts numbers.now
+    ensures { IfOk result (λ different. (c : Code) → IsReadBlock c block.now
+        → TellsTexts c.texts numbers.now
         → Decides different (IsDistinct bytes_eq (named_by c.texts block.now.locals))) }
 {
     let mut locals = Seq::new(alloc);
@@ -59,8 +62,9 @@ fn has_different_locals(alloc: Global, numbers: &[usize], block: &CodeBlock) -> 
 
 /// Whether no two names of cells or free names are.
 fn has_different_cells(alloc: Global, numbers: &[usize], block: &CodeBlock) -> Result<bool, Memory>
-    ensures { IfOk result (λ different. (c : Code) → IsReadBlock c block.now → TellsTexts c.texts numbers.now
-        → Decides different (IsDistinct bytes_eq (named_by c.texts (block.now.cells ++ block.now.free)))) }
+    ensures { IfOk result (λ different. (c : Code) → IsReadBlock c block.now
+        → TellsTexts c.texts numbers.now → Decides different
+        (IsDistinct bytes_eq (named_by c.texts (block.now.cells ++ block.now.free)))) }
 {
     let mut cells = Seq::new(alloc);
     add_numbers(numbers, block.cells.as_slice(), &mut cells)?;

@@ -14,6 +14,10 @@ use std::alloc::Global;
 /// The first line of the first block of a code that isn't supported yet, `None` where each is. The
 /// seed is that of the hashes of texts. For a code file of n bytes it takes expected time
 /// O(n log n), and O(n) memory.
+///
+/// # Errors
+///
+/// `Memory` for want of it.
 pub fn unbuilt(alloc: Global, seed: Seed, code: &Code) -> Result<Option<Line>, Memory>
     requires { HasFile code.now }
     ensures { IfOk result (λ found.

@@ -20,7 +20,8 @@ fn number_of(numbers: &[usize], name: TextNo) -> usize
 
 /// Puts the numbers of names behind others.
 pub fn add_numbers(numbers: &[usize], names: &[TextNo], to: &mut Seq<usize>) -> Result<(), Memory>
-    ensures { OnOk result (to.new ≡ to.old ++ map (λ name. number_of numbers.now name.0) names.now) }
+    ensures { OnOk result
+        (to.new ≡ to.old ++ map (λ name. number_of numbers.now name.0) names.now) }
 {
     for name in names {
         to.push(number_of(numbers, *name))?;
