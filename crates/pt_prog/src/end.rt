@@ -89,8 +89,8 @@ impl CodeRefusal {
         }
     }
 
-    /// The place that is told of it: a byte of the file or its version, a place or a row of a block, or
-    /// a block.
+    /// The place that is told of it: a byte of the file or its version, a place or a row of a block,
+    /// or a block.
     pub fn place(&self) -> usize
         ensures { result ≡ place_of self.now }
     {

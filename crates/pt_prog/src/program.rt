@@ -92,7 +92,7 @@ fn answer_text<O: Sink, L: Sink>(
             Ok(End::Done)
         }
         // The caller has seen to it that the command isn't this one.
-        Command::Exec => Err(WriteErr::Memory),
+        Command::Exec => unreachable!(),
     }
 }
 
@@ -139,9 +139,9 @@ fn ended(answer: Result<End, WriteErr>) -> End
 /// All that the program does: reads the words and the file that they name, a script or code, and
 /// runs it, or writes the listing or the file of a script's code.
 ///
-/// The order of answers is Usage, ReadFault, TooLong, Refused or BadCode, for a run Unbuilt, and then
-/// those of the run. Behind what a run writes the log gets the totals, where they are asked for, and the
-/// text of the end. After a write that failed nothing more is written.
+/// The order of answers is Usage, ReadFault, TooLong, Refused or BadCode, for a run Unbuilt, and
+/// then those of the run. Behind what a run writes the log gets the totals, where they are asked
+/// for, and the text of the end. After a write that failed nothing more is written.
 pub fn top<F: Shelf, O: Sink, L: Sink>(
     alloc: Global,
     words: &[String],

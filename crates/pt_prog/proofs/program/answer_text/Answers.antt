@@ -1,4 +1,4 @@
-use Rattle.std.proofs.Common.{rules, ◌≡◌, ◌∷◌, [], ap, refl, string_bytes, subst}
+use Rattle.std.proofs.Common.{rules, ◌≡◌, ◌∙◌, ◌∷◌, [], ap, refl, string_bytes, subst, sym, true≢false}
 use Rattle.pt_base.specs.Failures.{IfRefused}
 use Rattle.pt_compile.specs.ScriptCode.{code_of}
 use Rattle.pt_front.specs.Text.{IsRefused}
@@ -8,6 +8,7 @@ use Rattle.pt_tree.specs.StatementFold.{script_of}
 use Rattle.pt_words.specs.Asked.{asked}
 use Rattle.pt_prog.specs.LogText.{final}
 use Rattle.pt_prog.specs.Answer.{is_run, wrote_code, of_answer, refused}
+use Rattle.pt_prog.specs.Limits.{reads_code}
 use Rattle.pt_prog.specs.declared.end.End.TheVariants as end
 use Rattle.pt_prog.proofs.ListingLemmas.{by_build, by_dis}
 use Rattle.pt_prog.proofs.RunLemmas.{every_err, every_err_of, every_ok_of}
@@ -62,3 +63,6 @@ returns-in-Build-clause-ok g c =
           (search rules)) refl refl;
       took = c.in_ok-put-in-Build.ensures.ok;
     }
+
+pub unreachable-requires : goal.unreachable-requires
+unreachable-requires g c = true≢false (sym (ap reads_code c.in-Exec.is) ∙ c.requires.reads)
