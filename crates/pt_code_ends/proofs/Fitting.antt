@@ -1,0 +1,63 @@
+-- In a block that fits jumps go on to places that get kinds alone, and a turn leads soundly on.
+use Rattle.std.proofs.Common.{◌≡◌, ℕ, ◌∷◌, length, refl, sym, ap, ◌∙◌, subst, reverse}
+use Rattle.pt_instr.specs.declared.Instr.{Instr}
+use Rattle.pt_instr.specs.declared.Instr.TheVariants as instr
+use Rattle.pt_instr.specs.Effects.{Kinds}
+use Rattle.pt_code.specs.View.{Ins}
+use Rattle.pt_control.specs.Turn.{Turn, act, note, move, over, stuck}
+use Rattle.pt_slots.specs.Slots.{jump_to, Completion, by, pending, Slots, State, on, thrown_to, reraises, off}
+use Rattle.pt_slots.specs.CodeObject.{CodeObject, Extras}
+use Rattle.pt_slots.specs.Machine.{turn}
+use Rattle.pt_fits.specs.Block.{Block, kinds_at_start}
+use Rattle.pt_fits.specs.Places.{Gets, Reached}
+use Rattle.pt_fits.specs.Places as places
+use Rattle.pt_fits.specs.Fits.{Fits, Arrives}
+use Rattle.pt_fits.specs.Laws as laws
+use Rattle.pt_fits.specs.Laws.{Runs, MayHold, Stack, At, Sound, GoesOn, Starts}
+use Rattle.pt_fits.proofs.Ways.{place_of, holds_arrive}
+use Rattle.pt_fits.proofs.SlotLaw.{slots_fit}
+use Rattle.pt_code_ends.proofs.Strides.{TurnIn}
+use Rattle.pt_code_ends.proofs.Turns.{HeldAlike, JumpsAlike, AlikeHere, AlikeAt}
+
+pub goes_in : {V : Type 0} (b : Block) (t : Turn (State V) V) → GoesOn b t → TurnIn (λ s. Sound b s) t
+goes_in b (act m a next) g = g
+goes_in b (note n next) g = g
+goes_in b (move s) g = g
+goes_in b (over e) g = tt
+goes_in b stuck g = tt
+
+module _ {V : Type 0} (code : CodeObject V) (b : Block) (runs : Runs code b) (fits : Fits b) (depth_at : ℕ → ℕ) (extras : Extras)
+    (depths : (pc : ℕ) (ks : Kinds) → Gets b b.size pc ks → depth_at pc ≡ length ks) where
+  arrived : (t : ℕ) → Arrives b t → code.depth_at t ≡ depth_at t
+  arrived t a = runs.depth_at t a.kinds a.gets ∙ sym (depths t a.kinds a.gets)
+
+  held_alike : (pc d : ℕ) (c : Completion V) → MayHold {V = V} b pc d (pending c) → HeldAlike code depth_at extras c
+  held_alike pc d (by (jump_to t)) h = arrived t (holds_arrive b fits h)
+  held_alike pc d c h = tt
+
+  jumps_alike : (pc : ℕ) (i : Ins) (ks : Kinds) → Reached b b.size pc i ks → (j : Instr) → i.instr ≡ j → (ss : Slots V) → Stack b pc (reverse ks) ss
+      → JumpsAlike code depth_at extras j ss
+  jumps_alike pc i ks r (instr.Leave t) e ss st = arrived t.0 (fits.arrives pc i ks r t.0 e)
+  jumps_alike pc i ks r instr.EndFinally e (pending c ∷ ss) st = held_alike pc (length ss) c st.holds.0
+  jumps_alike pc i ks r j e ss st = tt
+
+  here_alike : (pc : ℕ) (ss : Slots V) → At b pc ss → AlikeHere code depth_at extras (code.at pc) ss
+  here_alike pc ss a =
+      let (i, e) = place_of a.gets in
+      subst (λ o. AlikeHere code depth_at extras o ss) (sym (runs.at pc ∙ e))
+      (jumps_alike pc i a.kinds (record { gets = a.gets; low = runs.inside pc i e; stands = e }) i.instr refl ss a.stack)
+
+  pub sound_alike : (s : State V) → Sound b s → AlikeAt code depth_at extras s
+  sound_alike (on pc ss) a = here_alike pc ss a
+  sound_alike (thrown_to pc v ss) h = tt
+  sound_alike (reraises v rows ss) h = tt
+  sound_alike (off e) h = tt
+
+pub turn_in : {V : Type 0} (code : CodeObject V) (b : Block) → Runs code b → Fits b → (s : State V) → Sound b s → TurnIn (λ s. Sound b s) (turn code s)
+turn_in code b runs fits s sound = goes_in b (turn code s) (slots_fit code b runs fits s sound)
+
+pub starts_sound : {V : Type 0} (b : Block) {s : State V} → Starts b s → Sound b s
+starts_sound b (laws.empty i e k) =
+    record { kinds = kinds_at_start b.kind; gets = places.start i e; stack = record { kinds = ap reverse (sym k); holds = tt } }
+starts_sound b (laws.iterating i e k v) =
+    record { kinds = kinds_at_start b.kind; gets = places.start i e; stack = record { kinds = ap reverse (sym k); holds = (tt, tt) } }
