@@ -117,6 +117,23 @@ def deep_rows(size):
                             rows=[row(5 * i, 5 * i + 5, handlers + 7 * i, i) for i in range(count)])])
 
 
+def depths_over_all(size):
+    """Handler rows over all places, each of which leaves one slot more."""
+    count = size // 48
+    start = op(CONST, 0) + op(UNPACK, count)
+    code = start + bytes([NOP]) * (size // 2) + END
+    return code_file([block(code + (bytes([END_HANDLER]) + END) * count,
+                            rows=[row(len(start), len(code) - 6, len(code) + 7 * i, i) for i in range(count)])])
+
+
+def nested_depths(size):
+    """Handler rows one in the other, each of which leaves one slot more."""
+    count = size // 30
+    code = op(CONST, 0) * count + bytes([POP]) * count + END
+    return code_file([block(code + (bytes([END_HANDLER]) + END) * count,
+                            rows=[row(5 * i, 6 * count - i, len(code) + 7 * i, i) for i in range(count)])])
+
+
 def runs(size):
     """Slots of two kinds by turns."""
     count = size // 11
@@ -242,7 +259,7 @@ def pairs_of_defaults(size):
 
 
 SHAPES = (straight, branches, long_cycle, small_cycles, backwards, rows_over_all, nested_rows, rows_over_one, chained_rows, random_rows,
-          unpacks, deep_rows, runs, shortened, many_blocks, leaves, parts)
+          unpacks, deep_rows, depths_over_all, nested_depths, runs, shortened, many_blocks, leaves, parts)
 # what is read and refused or run as a whole, too
 WHOLE = (*SHAPES, swaps, marks, hundred_thousand_blocks, leaves_over_one_row, nested_parts, nested_withs, long_defaults, pairs_of_defaults)
 # as many pairs of a Leave and of what holds it as the square of the file's size
