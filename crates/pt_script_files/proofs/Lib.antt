@@ -1,0 +1,5 @@
+mod Numbers
+mod Named
+pub mod Supported
+pub mod Programs
+pub mod Runs
