@@ -1,5 +1,5 @@
--- Which code is supported yet. No rule of code asks for it: each condition is what the machine lacks. That the code of each supported script meets them
--- isn't proved (Library Reference, "inspect": code objects; Language Reference 4.2.2, 6.2.8, 6.2.9, 8.8).
+-- Which code is supported yet. No rule of code asks for it: each condition is what the machine lacks. The code of each supported script that has a file
+-- meets them (Library Reference, "inspect": code objects; Language Reference 4.2.2, 6.2.8, 6.2.9, 8.8).
 use Rattle.std.specs.Prelude.{◌≡◌, ◌<◌, ℕ, ◌+◌, nat_eq, List, [], ◌++◌, length, map, slice_get, slice_index_or, Bool, true, false, Option, Some}
 use Rattle.std.specs.List.{IsDistinct}
 use Rattle.std.specs.Str.{bytes_eq}

@@ -17,7 +17,7 @@ use Rattle.pt_slots.specs.BlockObject.{IsBlockObject}
 use Rattle.pt_slots.specs.Machine as slots
 use Rattle.pt_fits.specs.Block.{Block, block_of, kinds_at_start}
 use Rattle.pt_fits.specs.Places.{Gets}
-use Rattle.pt_fits.specs.Fits.{Fits}
+use Rattle.pt_fits.specs.Fits.{AllFit, Fits}
 use Rattle.pt_fits.specs.Laws as laws
 use Rattle.pt_fits.specs.Laws.{Runs, Sound, Starts}
 use Rattle.pt_verify.proofs.ObjectRuns.{object_runs}
@@ -33,7 +33,7 @@ use Rattle.pt_code_machine.specs.CodeBlocks.{machine, start_of}
 use Rattle.pt_code_loader.specs.Loaded.{iterates}
 use Rattle.pt_runner.specs.Work.{Work, RunDoes}
 use Rattle.pt_runner.proofs.GoesTo.{does_one_work, runs_so}
-use Rattle.pt_code_program.specs.CodeProgram.{AreObjectsOf, BlocksFit, code_blocks, iterates_by, number_in, program_of_code, the_module}
+use Rattle.pt_code_program.specs.CodeProgram.{AreObjectsOf, code_blocks, iterates_by, number_in, program_of_code, the_module}
 use Rattle.pt_code_program.proofs.Objects.{at_number, begins}
 use Rattle.pt_run_code.specs.CodeRun.{nothing, of_run}
 use Rattle.pt_code_ends.specs.Laws.{CodeRunsToOneOutcome, OutcomeBeginsWithFirstWrites}
@@ -76,7 +76,7 @@ module _ (c : Code) (has : HasFile c) where
         subst (λ (t : Bool). Starts (blocks b) (if t then slots.start_generator (or_null (object (number b)).null iterator) else slots.start))
         (sym (ap iterates_by (there b))) (starts_by (blocks b) first.0 first.1 (block b).kind refl (object (number b)).null iterator)
 
-  module _ (fit : BlocksFit c) where
+  module _ (fit : AllFit c) where
     fits : (object : ℕ → CodeObject Value) (are : AreObjectsOf c object) (b : BlockId) → Fits (blocks object are b)
     fits object are b = fit (number b) (block b) (there b) (object (number b)).at (is object are b).view
 

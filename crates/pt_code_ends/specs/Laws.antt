@@ -5,17 +5,17 @@ use Rattle.pt_code.specs.declared.Code.{Code}
 use Rattle.pt_code.specs.File.{HasFile}
 use Rattle.pt_run.specs.Run.{Write}
 use Rattle.pt_bare_runs.specs.Strides.{Outcome}
+use Rattle.pt_fits.specs.Fits.{AllFit}
 use Rattle.pt_host.specs.World.{World}
 use Rattle.pt_runner.specs.Work.{Work}
-use Rattle.pt_code_program.specs.CodeProgram.{BlocksFit}
 use Rattle.pt_run_code.specs.CodeRun.{CodeRunsTo, CodeWritesFirst}
 
 -- under a bound on acts it comes to one outcome at most, by one work
 abbrev pub CodeRunsToOneOutcome : Type 0
-CodeRunsToOneOutcome = (c : Code) → HasFile c → BlocksFit c → (n : ℕ) (o p : Outcome Value World) (k l : Work)
+CodeRunsToOneOutcome = (c : Code) → HasFile c → AllFit c → (n : ℕ) (o p : Outcome Value World) (k l : Work)
     → CodeRunsTo c n o k → CodeRunsTo c n p l → (o ≡ p) × (k ≡ l)
 
 -- where it comes to one, all that this writes begins with what the run writes first
 abbrev pub OutcomeBeginsWithFirstWrites : Type 0
-OutcomeBeginsWithFirstWrites = (c : Code) → HasFile c → BlocksFit c → (n : ℕ) (o : Outcome Value World) (k : Work) (ws : List Write)
+OutcomeBeginsWithFirstWrites = (c : Code) → HasFile c → AllFit c → (n : ℕ) (o : Outcome Value World) (k : Work) (ws : List Write)
     → CodeRunsTo c n o k → CodeWritesFirst c n ws → (rest : List Write) × (o.written ≡ ws ++ rest)

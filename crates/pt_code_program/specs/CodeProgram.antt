@@ -5,11 +5,8 @@ use Rattle.pt_tree.specs.Syntax.{Name}
 use Rattle.pt_heap.specs.declared.value.Value.{Value}
 use Rattle.pt_code.specs.declared.CodeBlock.{CodeBlock}
 use Rattle.pt_code.specs.declared.Code.{Code}
-use Rattle.pt_code.specs.View.{Ins, IsView}
 use Rattle.pt_slots.specs.CodeObject.{CodeObject}
 use Rattle.pt_slots.specs.BlockObject.{IsBlockObject}
-use Rattle.pt_fits.specs.Block.{block_of}
-use Rattle.pt_fits.specs.Fits.{Fits}
 use Rattle.pt_run.specs.Machine.{BlockId}
 use Rattle.pt_code_machine.specs.CodeBlocks.{CodeBlocks}
 use Rattle.pt_host.specs.World.{CodeFacts, Program}
@@ -58,10 +55,6 @@ module _ (c : Code) where
     pub of_blocks : (n : ℕ) (b : CodeBlock) → slice_get c.blocks n ≡ Some b → IsBlockObject c b (object n)
     pub truths : (n : ℕ) → HasHeapTruths (object n)
     pub extras : (n : ℕ) → HasHeapExtras (object n)
-
-  -- each block fits, as it is seen
-  abbrev pub BlocksFit : Type 0
-  BlocksFit = (n : ℕ) (b : CodeBlock) → slice_get c.blocks n ≡ Some b → (view : ℕ → Option Ins) → IsView b view → Fits (block_of c b view)
 
 -- the run of a code begins in its module
 abbrev pub the_module : BlockId

@@ -4,6 +4,7 @@ use Rattle.pt_heap.specs.declared.value.Value.{Value}
 use Rattle.pt_code.specs.declared.Code.{Code}
 use Rattle.pt_code.specs.File.{HasFile}
 use Rattle.pt_slots.specs.CodeObject.{CodeObject}
+use Rattle.pt_fits.specs.Fits.{AllFit}
 use Rattle.pt_host.specs.World.{no_names, start_world}
 use Rattle.pt_host.specs.HeapHost.{heap_host}
 use Rattle.pt_bare_runs.specs.Laws.{NeverStuck}
@@ -14,11 +15,11 @@ use Rattle.pt_code_tables.specs.Tables.{AreTablesOf}
 use Rattle.pt_code_loader.specs.declared.loading.Loaded.{Loaded}
 use Rattle.pt_code_loader.specs.Loaded.{IsLoadedCode}
 use Rattle.pt_built_code.specs.Built.{BuiltCode}
-use Rattle.pt_code_program.specs.CodeProgram.{AreObjectsOf, BlocksFit, code_blocks, program_of_code, the_module}
+use Rattle.pt_code_program.specs.CodeProgram.{AreObjectsOf, code_blocks, program_of_code, the_module}
 
 pub record IsRunnable (c : Code) : Type 0 where
   pub has_file : HasFile c
-  pub fit : BlocksFit c
+  pub fit : AllFit c
   pub built : BuiltCode c
 
 -- code objects of the blocks; the tables are those of the program and of these, and its texts are the program's

@@ -7,11 +7,11 @@ use Rattle.pt_code.specs.declared.CodeBlock.{CodeBlock}
 use Rattle.pt_code.specs.declared.Code.{Code}
 use Rattle.pt_code.specs.View.{Ins, IsView}
 use Rattle.pt_fits.specs.Block.{block_of}
-use Rattle.pt_fits.specs.Fits.{Fits}
+use Rattle.pt_fits.specs.Fits.{AllFit, Fits}
 use Rattle.pt_place_slots.specs.declared.tables.BlockSlots.{BlockSlots}
 use Rattle.pt_place_slots.specs.Tables.{IsSound, TellsBlock}
 use Rattle.pt_code_slots.specs.declared.blocks.CodeSlots.{CodeSlots}
-use Rattle.pt_code_slots.specs.Blocks.{AllFit, HasTablesBelow, TellsCode}
+use Rattle.pt_code_slots.specs.Blocks.{HasTablesBelow, TellsCode}
 
 none_some : {X : Type 0} (x : X) → None ≡ Some x → ⊥
 none_some x e = cc

@@ -10,11 +10,6 @@ use Rattle.pt_place_slots.specs.declared.tables.BlockSlots.{BlockSlots}
 use Rattle.pt_place_slots.specs.Tables.{IsSound, TellsBlock, TellsSlotAt}
 use Rattle.pt_code_slots.specs.declared.blocks.CodeSlots.{CodeSlots}
 
--- each block fits, by each view that its bytes have
-abbrev pub AllFit : Code → Type 0
-AllFit c = (n : ℕ) (b : CodeBlock) → slice_get c.blocks n ≡ Some b → (view : ℕ → Option Ins)
-    → IsView b view → Fits (block_of c b view)
-
 abbrev pub AllSound : List BlockSlots → Type 0
 AllSound all = (n : ℕ) (s : BlockSlots) → slice_get all n ≡ Some s → IsSound s
 

@@ -5,14 +5,14 @@ ghost use Rattle.pt_code.specs.declared.Code.{Code};
 ghost use Rattle.pt_code.specs.declared.CodeBlock.{CodeBlock};
 ghost use Rattle.pt_code.specs.View.{Ins, IsView};
 ghost use Rattle.pt_fits.specs.Block.{block_of};
-ghost use Rattle.pt_fits.specs.Fits.{Fits};
+ghost use Rattle.pt_fits.specs.Fits.{AllFit, Fits};
 ghost use Rattle.pt_fits.specs.Jumps.{Jumps};
 ghost use Rattle.pt_fits.specs.Places.{Gets};
 ghost use Rattle.pt_jump.specs.Targets.{answer_of};
 ghost use Rattle.pt_block_kinds.specs.Told.{TellsListAt};
 ghost use Rattle.pt_place_slots.specs.Kinds.{IsKinds, kinds_of};
 ghost use Rattle.pt_place_slots.specs.Tables.{IsSound, TellsBlock};
-ghost use Rattle.pt_code_slots.specs.Blocks.{AllFit, AreSound, TellsCode, TellsSlot};
+ghost use Rattle.pt_code_slots.specs.Blocks.{AreSound, TellsCode, TellsSlot};
 
 use pt_base::{BlockId, Line, Memory, Pc};
 use pt_code::{Code, CodeBlock, Start};

@@ -123,20 +123,20 @@ at_entry test (e ∷ es) f q ks h = here (nat_eq e.pc q && are_kinds e.kinds ks)
     here false g h ih = ih h
 
 -- a Leave that departs stands somewhere
-record Stands (b : Block) (p : ℕ) : Type 0 where
-  pc : ℕ
-  ins : Ins
-  kinds : Kinds
-  reached : Reached b p pc ins kinds
-  target : ℕ
-  is : ins.instr ≡ instr.Leave (record { 0 = target })
+pub record Stands (b : Block) (p : ℕ) : Type 0 where
+  pub pc : ℕ
+  pub ins : Ins
+  pub kinds : Kinds
+  pub reached : Reached b p pc ins kinds
+  pub target : ℕ
+  pub is : ins.instr ≡ instr.Leave (record { 0 = target })
 
 mutual
-  departs_stands : {b : Block} {p t q : ℕ} {rows : List Handler} {ks : Kinds} → Departs b p t q rows ks → Stands b p
+  pub departs_stands : {b : Block} {p t q : ℕ} {rows : List Handler} {ks : Kinds} → Departs b p t q rows ks → Stands b p
   departs_stands {t = t} (L.leaves {q = q} {i = i} {ks = ks} r e) = record { pc = q; ins = i; kinds = ks; reached = r; target = t; is = e }
   departs_stands (L.let_go r e h) = holds_stands h
 
-  holds_stands : {b : Block} {p t q d : ℕ} → Holds b p t q d → Stands b p
+  pub holds_stands : {b : Block} {p t q d : ℕ} → Holds b p t q d → Stands b p
   holds_stands (L.caught c row e) = departs_stands c
   holds_stands (L.exited r e h) = holds_stands h
   holds_stands (L.shared c h) = holds_stands h

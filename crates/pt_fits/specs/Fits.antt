@@ -1,10 +1,12 @@
 -- Which blocks fit, so that code from anyone can run, and why one is refused.
-use Rattle.std.specs.Prelude.{◌≡◌, ℕ, ◌<◌, length, Some, None}
+use Rattle.std.specs.Prelude.{◌≡◌, ℕ, ◌<◌, length, slice_get, Option, Some, None}
 use Rattle.pt_instr.specs.declared.Instr.TheVariants.{Leave}
 use Rattle.pt_instr.specs.Effects.{Kinds}
 use Rattle.pt_ranges.specs.declared.handlers.Handler.{Handler}
-use Rattle.pt_code.specs.View.{Ins}
-use Rattle.pt_fits.specs.Block.{Block}
+use Rattle.pt_code.specs.declared.CodeBlock.{CodeBlock}
+use Rattle.pt_code.specs.declared.Code.{Code}
+use Rattle.pt_code.specs.View.{Ins, IsView}
+use Rattle.pt_fits.specs.Block.{Block, block_of}
 use Rattle.pt_fits.specs.Places.{Gets, Reached}
 use Rattle.pt_fits.specs.Leaves.{Goes}
 use Rattle.pt_fits.specs.Tables.{RowFails, IsRow}
@@ -64,6 +66,13 @@ pub record Fits (b : Block) : Type 0 where
   pub arrives : AllArrive b
   pub shallow : TooDeep b → ⊥
   pub loops : (pc : ℕ) → SilentLoop b pc → ⊥
+
+-- a block of a code fits by each view that its bytes have
+abbrev pub BlockFits : Code → CodeBlock → Type 0
+BlockFits c b = (view : ℕ → Option Ins) → IsView b view → Fits (block_of c b view)
+
+abbrev pub AllFit : Code → Type 0
+AllFit c = (n : ℕ) (b : CodeBlock) → slice_get c.blocks n ≡ Some b → BlockFits c b
 
 -- why a block is refused, and where
 pub data Misfit : Type 0 where

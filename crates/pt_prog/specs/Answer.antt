@@ -14,6 +14,7 @@ use Rattle.pt_sinks.specs.declared.writing.WriteErr.TheVariants as error
 use Rattle.pt_bare_runs.specs.Strides as bare
 use Rattle.pt_bare_runs.specs.Strides.{Ending, Outcome}
 use Rattle.pt_heap.specs.declared.value.Value.{Value}
+use Rattle.pt_fits.specs.Fits.{AllFit}
 use Rattle.pt_host.specs.World.{World}
 use Rattle.pt_machine_state.specs.Writing.{kept}
 use Rattle.pt_runner.specs.Work.{Work}
@@ -26,7 +27,7 @@ use Rattle.pt_code.specs.File.{HasFile, file}
 use Rattle.pt_code.specs.Refusals.{answer}
 use Rattle.pt_code.specs.declared.refusing.CodeErr.{CodeErr}
 use Rattle.pt_code.specs.declared.refusing.CodeErr.TheVariants as format
-use Rattle.pt_verifier.specs.Verdict.{AllFit, IsRefused as IsRefusedCode}
+use Rattle.pt_verifier.specs.Verdict.{IsRefused as IsRefusedCode}
 use Rattle.pt_verifier.specs.declared.error.VerifyErr.{VerifyErr}
 use Rattle.pt_verifier.specs.declared.error.VerifyErr.TheVariants as misfit
 use Rattle.pt_built_code.specs.Built.{IsUnbuiltCode}

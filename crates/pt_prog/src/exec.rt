@@ -4,12 +4,12 @@ ghost use Rattle.std.specs.Prelude.{◌≡◌, ◌≤◌, Err, IfErr, IfOk, true
 ghost use Rattle.pt_base.specs.Failures.{IfRefused};
 ghost use Rattle.pt_base.specs.Faults.{Rose};
 ghost use Rattle.pt_base.specs.declared.failure.Failure.TheVariants as failure;
+ghost use Rattle.pt_fits.specs.Fits.{AllFit};
 ghost use Rattle.pt_prog.specs.Answer.{BrokeOffFor, IsBadFile, IsFileOf, IsMisfitOf, IsNoFile};
 ghost use Rattle.pt_prog.specs.Answer.{IsVerifiedFile, WroteAllFor};
 ghost use Rattle.pt_prog.specs.Limits.{reads_code};
 ghost use Rattle.pt_prog.specs.declared.end.CodeRefusal.TheVariants as refusal;
 ghost use Rattle.pt_sinks.specs.declared.writing.Out.TheVariants as stream;
-ghost use Rattle.pt_verifier.specs.Verdict.{AllFit};
 ghost use Rattle.pt_words.specs.Asked.{asked};
 
 use crate::end::{CodeRefusal, End};

@@ -20,8 +20,9 @@ use Rattle.pt_code_program.specs.CodeProgram.{AreObjectsOf, code_blocks, program
 use Rattle.pt_sinks.specs.Writing.{Took, TookFront}
 use Rattle.pt_sinks.specs.declared.writing.WriteErr.{WriteErr}
 
--- the run of code objects of the code's blocks that may take n acts comes to this outcome by this work. They differ in no more than how many slots they
--- know at places to which no way comes, which no run sees. A block's cells and free names have numbers in one row
+-- the run of code objects of the code's blocks that may take n acts comes to this outcome by this work. They differ in how many slots they know at
+-- places to which no way comes, which no run sees, and in which operations stand for those that no tree asks for, all of which leave the profile. A
+-- block's cells and free names have numbers in one row
 pub record CodeRunsTo (c : Code) (n : ℕ) (o : Outcome Value World) (w : Work) : Type 0 where
   pub cells_fit : CellsFit c
   pub object : ℕ → CodeObject Value

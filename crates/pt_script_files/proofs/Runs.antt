@@ -16,6 +16,7 @@ use Rattle.pt_code.specs.declared.Code.{Code}
 use Rattle.pt_code.specs.declared.CodeBlock.{CodeBlock}
 use Rattle.pt_slots.specs.CodeObject.{CodeObject}
 use Rattle.pt_slots.specs.BlockObject.{IsBlockObject}
+use Rattle.pt_fits.specs.Fits.{AllFit}
 use Rattle.pt_compile.specs.ScriptCode.{code_block, code_of, kind_of}
 use Rattle.pt_operands_fit.proofs.Operands.{operands_fit}
 use Rattle.pt_code_machine.specs.CodeBlocks.{CodeBlocks, machine}
@@ -36,7 +37,7 @@ use Rattle.pt_script_runs.specs.Blocks.{script_code, the_module}
 use Rattle.pt_script_runs.specs.Laws.{AreItsObjects, code_machine}
 use Rattle.pt_script_runs.proofs.Objects.{code_of_script_writes_nothing_else, script_has_its_bare_runs}
 use Rattle.pt_script_program.specs.ScriptProgram.{program_of, the_module_block}
-use Rattle.pt_code_program.specs.CodeProgram.{AreObjectsOf, BlocksFit, code_blocks, iterates_by, number_in, number_or_module, program_of_code}
+use Rattle.pt_code_program.specs.CodeProgram.{AreObjectsOf, code_blocks, iterates_by, number_in, number_or_module, program_of_code}
 use Rattle.pt_run_code.specs.CodeRun.{CodeRunsTo, CodeWritesFirst, nothing, of_run}
 use Rattle.pt_run_script.specs.ScriptRun.{AreCodeOf, CodeRunsBy, RunsTo, ScriptWritesFirst}
 use Rattle.pt_script_files.specs.Laws.{CodeRunsAsScript, HasCodeFile, ScriptRunsAsCode, ScriptWritesAsCode}
@@ -158,7 +159,7 @@ module _ (text : List ℕ) (ss : Stms) (h : HasCodeFile text ss) where
             does = subst (λ p. Run n o w p (code_blocks code own)) (sym program) (subst (Run n o w (program_of ss)) (sym same) r.does);
           }
 
-      script_run : BlocksFit code → CodeRunsTo code n o w → CodeRunsBy ss n o w
+      script_run : AllFit code → CodeRunsTo code n o w → CodeRunsBy ss n o w
       script_run fit r = record {
         fits = fit;
         object = r.object;

@@ -4,6 +4,7 @@ use Rattle.pt_tree.specs.Syntax.{Stms}
 use Rattle.pt_run.specs.Run.{Write}
 use Rattle.pt_bare_runs.specs.Strides.{Outcome}
 use Rattle.pt_heap.specs.declared.value.Value.{Value}
+use Rattle.pt_fits.specs.Fits.{AllFit}
 use Rattle.pt_host.specs.World.{World}
 use Rattle.pt_built.specs.Built.{Built}
 use Rattle.pt_front.specs.Text.{IsScript}
@@ -18,7 +19,7 @@ use Rattle.pt_built_code.specs.Built.{BuiltCode}
 use Rattle.pt_runner.specs.Work.{Work}
 use Rattle.pt_code_loader.specs.Loaded.{IsShallow}
 use Rattle.pt_script_program.specs.ScriptProgram.{program_of}
-use Rattle.pt_code_program.specs.CodeProgram.{BlocksFit, program_of_code}
+use Rattle.pt_code_program.specs.CodeProgram.{program_of_code}
 use Rattle.pt_code_program.specs.Laws.{IsRunnable}
 use Rattle.pt_run_code.specs.CodeRun.{CodeRunsTo, CodeWritesFirst}
 use Rattle.pt_run_script.specs.ScriptRun.{CodeRunsBy, RunsTo, ScriptWritesFirst}
@@ -55,7 +56,7 @@ CodeRunsAsScript = (text : List ℕ) (ss : Stms) → HasCodeFile text ss → (n 
 
 -- and the other way round
 abbrev pub ScriptRunsAsCode : Type 0
-ScriptRunsAsCode = (text : List ℕ) (ss : Stms) → HasCodeFile text ss → BlocksFit (code_of ss) → (n : ℕ) (o : Outcome Value World) (w : Work)
+ScriptRunsAsCode = (text : List ℕ) (ss : Stms) → HasCodeFile text ss → AllFit (code_of ss) → (n : ℕ) (o : Outcome Value World) (w : Work)
     → CodeRunsTo (code_of ss) n o w → RunsTo ss n o × CodeRunsBy ss n o w
 
 -- what the run of the code writes first the script writes first, whether or not it comes to an outcome

@@ -5,11 +5,11 @@ use Rattle.std.proofs.lemmas.Bool.{cases_order}
 use Rattle.std.proofs.lemmas.Option.{same_Some, slice_get_read, slice_get_within}
 use Rattle.pt_code.specs.declared.Code.{Code}
 use Rattle.pt_code.specs.declared.CodeBlock.{CodeBlock}
-use Rattle.pt_fits.specs.Fits.{depth, kind, silent_loop, stack, table, target}
+use Rattle.pt_fits.specs.Fits.{AllFit, BlockFits, depth, kind, silent_loop, stack, table, target}
 use Rattle.pt_refusals.specs.declared.failures.Refusal.{Refusal}
 use Rattle.pt_refusals.specs.declared.failures.Refusal.TheVariants as refusal
 use Rattle.pt_refusals.specs.Verdicts.{misfit_of}
-use Rattle.pt_verifier.specs.Verdict.{AllFit, BlockFits, FirstRefused, IsRefused, place_of, placed}
+use Rattle.pt_verifier.specs.Verdict.{FirstRefused, IsRefused, place_of, placed}
 
 pub is_refused : (c : Code) (n : ℕ) (r : Refusal) (block place : ℕ) → block ≡ n → place ≡ place_of r → FirstRefused c n (misfit_of r)
     → IsRefused c (placed (record { 0 = block }) r place)

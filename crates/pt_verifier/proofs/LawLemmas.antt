@@ -4,12 +4,12 @@ use Rattle.std.proofs.lemmas.Option.{get_or_from_slice_get, slice_get_within}
 use Rattle.pt_code.specs.declared.Code.{Code}
 use Rattle.pt_code.specs.File.{HasFile}
 use Rattle.pt_fits.specs.Block.{block_of}
-use Rattle.pt_fits.specs.Fits.{Misfit, depth, kind, silent_loop, stack, table, target}
+use Rattle.pt_fits.specs.Fits.{AllFit, Misfit, depth, kind, silent_loop, stack, table, target}
 use Rattle.pt_fits.proofs.OneAnswer.{fits_isnt_refused}
 use Rattle.pt_fits.proofs.ViewLaid.{view_is_laid}
 use Rattle.pt_verify.proofs.ViewLemmas.{blocks_are_seen}
 use Rattle.pt_verifier.specs.declared.error.VerifyErr.TheVariants as err
-use Rattle.pt_verifier.specs.Verdict.{AllFit, FirstRefused}
+use Rattle.pt_verifier.specs.Verdict.{FirstRefused}
 use Rattle.pt_verifier.specs.Laws.{FittingIsUnrefused}
 
 none_refused : (c : Code) → HasFile c → AllFit c → (n : ℕ) (m : Misfit) → FirstRefused c n m → ⊥

@@ -16,26 +16,6 @@ use Rattle.pt_held_leaves.specs.Held.{HasHeldUpTo}
 use Rattle.pt_kind_failures.proofs.Seen.{is_seen}
 use Rattle.pt_verifier.specs.Leaves.{HasLeave, is_leave}
 
--- a Leave is reached
-record Stands (b : Block) (p : ℕ) : Type 0 where
-  pc : ℕ
-  ins : Ins
-  kinds : Kinds
-  reached : Reached b p pc ins kinds
-  target : ℕ
-  is : ins.instr ≡ Leave (record { 0 = target })
-
--- one that goes on, or that a slot holds, stands somewhere
-mutual
-  departs_stands : {b : Block} {p t q : ℕ} {rows : List Handler} {ks : Kinds} → Departs b p t q rows ks → Stands b p
-  departs_stands {t = t} (L.leaves {q = q} {i = i} {ks = ks} r e) = record { pc = q; ins = i; kinds = ks; reached = r; target = t; is = e }
-  departs_stands (L.let_go r e h) = holds_stands h
-
-  holds_stands : {b : Block} {p t q d : ℕ} → Holds b p t q d → Stands b p
-  holds_stands (L.caught c row e) = departs_stands c
-  holds_stands (L.exited r e h) = holds_stands h
-  holds_stands (L.shared c h) = holds_stands h
-
 some_is_none : {X : Type 0} (x : X) → None ≡ Some x → ⊥
 some_is_none x e = cc
 

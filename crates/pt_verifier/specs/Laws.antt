@@ -2,9 +2,10 @@
 use Rattle.std.specs.Prelude.{◌≡◌}
 use Rattle.pt_code.specs.declared.Code.{Code}
 use Rattle.pt_code.specs.File.{HasFile}
+use Rattle.pt_fits.specs.Fits.{AllFit}
 use Rattle.pt_verifier.specs.declared.error.VerifyErr.{VerifyErr}
 use Rattle.pt_verifier.specs.declared.error.VerifyErr.TheVariants.{Memory}
-use Rattle.pt_verifier.specs.Verdict.{AllFit, IsRefused}
+use Rattle.pt_verifier.specs.Verdict.{IsRefused}
 
 -- code that fits isn't refused, but for want of memory
 abbrev pub FittingIsUnrefused : Code → Type 0

@@ -5,21 +5,15 @@ use Rattle.pt_code.specs.declared.CodeBlock.{CodeBlock}
 use Rattle.pt_code.specs.declared.Code.{Code}
 use Rattle.pt_code.specs.View.{Ins, IsView}
 use Rattle.pt_fits.specs.Block.{block_of}
-use Rattle.pt_fits.specs.Fits.{Fits, Misfit, Refused, stack, kind, target, table, silent_loop, depth}
+use Rattle.pt_fits.specs.Fits.{BlockFits, Misfit, Refused, stack, kind, target, table, silent_loop, depth}
 use Rattle.pt_refusals.specs.declared.failures.Refusal.{Refusal}
 use Rattle.pt_refusals.specs.declared.failures.Refusal.TheVariants as refusal
 use Rattle.pt_verifier.specs.declared.error.VerifyErr.{VerifyErr}
 use Rattle.pt_verifier.specs.declared.error.VerifyErr.TheVariants as err
 
--- a block fits by each view that its bytes have
-abbrev pub BlockFits : Code → CodeBlock → Type 0
-BlockFits c b = (view : ℕ → Option Ins) → IsView b view → Fits (block_of c b view)
-
+-- a block is refused by each view that its bytes have
 abbrev pub BlockRefused : Code → CodeBlock → Misfit → Type 0
 BlockRefused c b m = (view : ℕ → Option Ins) → IsView b view → Refused (block_of c b view) m
-
-abbrev pub AllFit : Code → Type 0
-AllFit c = (n : ℕ) (b : CodeBlock) → slice_get c.blocks n ≡ Some b → BlockFits c b
 
 -- the first block that doesn't fit is refused
 pub record FirstRefused (c : Code) (n : ℕ) (m : Misfit) : Type 0 where

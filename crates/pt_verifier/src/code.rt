@@ -1,6 +1,7 @@
 //! Code that fits.
 ghost use Rattle.std.specs.Prelude.{◌≡◌, IfErr, IfOk, OnOk};
-ghost use Rattle.pt_verifier.specs.Verdict.{AllFit, IsRefused};
+ghost use Rattle.pt_fits.specs.Fits.{AllFit};
+ghost use Rattle.pt_verifier.specs.Verdict.{IsRefused};
 
 use crate::block::block_refusal;
 use crate::error::{VerifyErr, error_of};
