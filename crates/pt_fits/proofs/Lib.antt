@@ -6,6 +6,7 @@ pub mod Certificates
 pub mod RowProofs
 pub mod OneAnswer
 pub mod ViewLaid
+pub mod Alike
 pub mod CommonSlots
 pub mod JumpLaw
 pub mod NeverStuck

@@ -13,6 +13,7 @@ use Rattle.pt_fits.specs.Places.{Gets, Reached}
 use Rattle.pt_fits.specs.Leaves as L
 use Rattle.pt_fits.specs.Leaves.{Departs, Leaving}
 use Rattle.pt_fits.proofs.KindLemmas.{same_kinds, prefix_taken}
+use Rattle.pt_fits.proofs.Alike.{get_taken, step_alike}
 use Rattle.pt_fits.proofs.CommonSlots.{front}
 use Rattle.pt_verify.specs.PlaceTable.{SizesDisagree}
 use Rattle.pt_verify.specs.Refusals as R
@@ -25,7 +26,6 @@ use Rattle.pt_refusals.specs.Told.{Clashes, LeaveClashes}
 use Rattle.pt_leave_clashes.specs.Others.{LeavesOthers}
 use Rattle.pt_leave_clashes.specs.Laws.{ClashAtPlaces}
 use Rattle.pt_leave_clashes.proofs.Beginnings.{begun}
-use Rattle.pt_leave_clashes.proofs.Alike.{get_taken, step_alike}
 
 -- a place gets kinds of which slot d has this kind
 record There (b : Block) (p pc d : ℕ) (o : Option Kind) : Type 0 where

@@ -1,4 +1,3 @@
 mod Beginnings
-mod Alike
 mod Law
 mod Deciding
