@@ -1,13 +1,14 @@
 """Rows of code files whose blocks agree, and which slots of their places the plain checker finds in common: of each slot of a place, from the lowest, the
 first place with which it is."""
 import random
-from checker import MODULE, Block, common, read
+from checker import Block, common, read
 from random_code import random_block
-from rows import ROWS, block, code_bytes, file
+from rows import ROWS, block, code_bytes, file, is_code
 
 RANDOM = 1000
 NESTED = 60
 MOST = 40
+LONGEST = 2500
 
 
 class Parts:
@@ -95,20 +96,20 @@ def told(b):
     return "".join(words)
 
 
-def is_code(data):
-    """Only the first block is a module."""
-    return all((b["kind"] == MODULE) == (n == 0) for n, b in enumerate(read(data)["blocks"]))
-
-
-def rows():
-    """Name, row and answer, of those whose blocks agree."""
-    rng = random.Random(31)
+def rows_of(told, seed, blocks):
+    """Name, row and answer, of code of whose blocks something is told: of the rows that are written, so many random blocks and nested parts."""
+    rng = random.Random(seed)
     found = [(name, data) for name, data, _ in ROWS if is_code(data)]
-    found += [("random %d" % n, random_block(rng)) for n in range(RANDOM)] + [("nested %d" % n, nested_block(rng)) for n in range(NESTED)]
+    found += [("random %d" % n, random_block(rng)) for n in range(blocks)] + [("nested %d" % n, nested_block(rng)) for n in range(NESTED)]
     rows = []
     for name, data in found:
         code = read(data)
-        answers = [told(Block(code, b)) for b in code["blocks"]]
-        if None not in answers and len(data) < 2500:
+        answers = [told(Block(code, b)) for b in code["blocks"]] if len(data) < LONGEST else [None]
+        if None not in answers:
             rows.append((name, data.hex(), "".join(answer + ";" for answer in answers)))
     return rows
+
+
+def rows():
+    """Of code whose blocks agree."""
+    return rows_of(told, 31, RANDOM)

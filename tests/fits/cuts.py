@@ -2,8 +2,7 @@
 cuts differ first, before the row that is too deep, or of all rows where none is."""
 import random
 from checker import Block, read
-from rows import ROWS, block, code_bytes, file
-from sizes import is_code
+from rows import ROWS, block, code_bytes, file, is_code
 
 RANDOM = 16000
 KEPT = 30

@@ -1,9 +1,9 @@
 """Rows of code files of which it is told, block by block, which row of the tables fails first, and where sizes agree whether a Leave has too few slots,
 which Leave is lost, whether a place is too deep, and where the least silent loop begins: by the plain checker. A row has the file in hex."""
 import random
-from checker import END_FINALLY, LEAVE, MODULE, MOST, Block, read
+from checker import END_FINALLY, LEAVE, MOST, Block, read
 from random_code import PLAIN, random_block
-from rows import ROWS, block, code_bytes, file
+from rows import ROWS, block, code_bytes, file, is_code
 
 RANDOM = 4000
 KEPT = 40
@@ -87,11 +87,6 @@ class Limits:
             words += ["deep"] if any(len(ks) > MOST for _, ks in self.lists) else []
             words += [] if self.loop() is None else ["loop %d" % self.loop()]
         return "".join(word + " " for word in words)
-
-
-def is_code(data):
-    """Only the first block is a module."""
-    return all((b["kind"] == MODULE) == (n == 0) for n, b in enumerate(read(data)["blocks"]))
 
 
 def limits(data):

@@ -3,8 +3,7 @@
 program it tries them by the plain reader and the plain checker."""
 import sys
 from files import answer, told
-from rows import A, HELD, ROWS, block, file, number, one
-from sizes import is_code
+from rows import A, HELD, ROWS, block, file, is_code, number, one, otherwise
 
 B = A.replace(b"\0\0\0\0\x3a", b"\0\0\0\0\x47")
 END = "Const 0; Return"
@@ -222,13 +221,9 @@ def rows():
 
 
 def main():
-    bad = 0
-    for name, digits, want in rows():
-        got = told(answer(bytes.fromhex(digits)))
-        if got != want:
-            bad += 1
-            print("%s: %s, and not %s" % (name, got, want))
-    print("%d whole files, %d of them otherwise" % (len(rows()), bad))
+    tried = rows()
+    bad = otherwise((name, told(answer(bytes.fromhex(digits))), want) for name, digits, want in tried)
+    print("%d whole files, %d of them otherwise" % (len(tried), bad))
     return bad > 0
 
 

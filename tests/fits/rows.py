@@ -1,6 +1,6 @@
 """Rows of code that fits, and of code that is refused, with the answer that the rules give. They are tried by the plain checker."""
 import struct
-from checker import Block, jump, read, said, verify
+from checker import MODULE, Block, jump, read, said, verify
 
 NAMES = """Nop Const Local SetLocal DelLocal Cell SetCell DelCell Global SetGlobal DelGlobal Name SetName DelName PushCell Pop Copy Copy2 Swap Rot3
 Attr SetAttr DelAttr Item SetItem DelItem Slice Unary Not Binary InPlace Compare Tuple List Set Dict ListAdd SetAdd DictAdd Format Join Unpack
@@ -48,6 +48,19 @@ def file(blocks, texts=(b"m", b"x", b"y"), lists=((), (1,), (1, 2), (1, 1))):
 
 def one(lines, **fields):
     return file([block(lines, **fields)])
+
+
+def is_code(data):
+    """Only the first block is a module."""
+    return all((b["kind"] == MODULE) == (n == 0) for n, b in enumerate(read(data)["blocks"]))
+
+
+def otherwise(answers):
+    """How many answers, each behind a name and before the one that is wanted, are otherwise; these are printed."""
+    bad = [row for row in answers if row[1] != row[2]]
+    for row in bad:
+        print("%s: %s, and not %s" % row)
+    return len(bad)
 
 
 A = bytes.fromhex("50544346 01 01000000 01000000 6d 01000000 00 00000000 01000000 00000000 00 01000000 00000000 00 00000000 00000000 00000000 00000000"
@@ -155,18 +168,15 @@ JUMPS = [
     ("out of it into the loop", HELD_BREAK, 17, 1, "out of finally"),
 ]
 
+
+def jumped(code, pc, line):
+    """Where a jump in the first block leads, or why the code is refused."""
+    bad = verify(code)
+    return said(bad) if bad else jump(Block(code, code["blocks"][0]), pc, line)
+
+
 if __name__ == "__main__":
-    bad = 0
-    for name, data, want in ROWS:
-        got = said(verify(read(data)))
-        if got != want:
-            bad += 1
-            print("%s: %s, and not %s" % (name, got, want))
-    for name, data, pc, line, want in JUMPS:
-        code = read(data)
-        got = said(verify(code)) if verify(code) else jump(Block(code, code["blocks"][0]), pc, line)
-        if got != want:
-            bad += 1
-            print("%s: %s, and not %s" % (name, got, want))
+    bad = otherwise((name, said(verify(read(data))), want) for name, data, want in ROWS)
+    bad += otherwise((name, jumped(read(data), pc, line), want) for name, data, pc, line, want in JUMPS)
     print("%d rows, %d of them otherwise" % (len(ROWS) + len(JUMPS), bad))
     raise SystemExit(bad > 0)

@@ -1,8 +1,8 @@
 """Rows of code files in hex, and what the plain checker tells of the sizes of their blocks."""
 import random
-from checker import MODULE, Block, read
+from checker import Block, read
 from random_code import random_block
-from rows import ROWS, block, file
+from rows import ROWS, block, file, is_code
 
 RANDOM = 300
 WIDE = 60
@@ -18,11 +18,6 @@ def wide_block(rng):
         start = rng.randrange(slots) if rng.random() < 0.03 else min(depth + rng.randrange(slots), slots - 1)
         handlers.append((5 * start, min(5 * (start + rng.randrange(1, slots + 2)), behind), behind + depth, depth, rng.randrange(2)))
     return file([block("; ".join(["Const 0"] * slots + ["Return"] + ["Rethrow"] * depths), handlers=handlers)])
-
-
-def is_code(data):
-    """Only the first block is a module."""
-    return all((b["kind"] == MODULE) == (n == 0) for n, b in enumerate(read(data)["blocks"]))
 
 
 def told(data):

@@ -1,13 +1,9 @@
 """Rows of code files that fit, and the slots of each place of their blocks, from the lowest: its kind, and the first place with which it is in common, as
 the plain checker finds them."""
-import random
-from checker import Block, common, read
-from common import MOST, is_code, nested_block
-from random_code import random_block
-from rows import ROWS
+from checker import common
+from common import MOST, rows_of
 
 RANDOM = 3000
-NESTED = 60
 
 
 def told(b):
@@ -27,13 +23,5 @@ def told(b):
 
 
 def rows():
-    """Name, row and answer, of those whose blocks fit."""
-    rng = random.Random(57)
-    found = [(name, data) for name, data, _ in ROWS if is_code(data)]
-    found += [("random %d" % n, random_block(rng)) for n in range(RANDOM)] + [("nested %d" % n, nested_block(rng)) for n in range(NESTED)]
-    rows = []
-    for name, data in found:
-        answers = [told(Block(read(data), b)) for b in read(data)["blocks"]] if len(data) < 2500 else [None]
-        if None not in answers:
-            rows.append((name, data.hex(), "".join(answer + ";" for answer in answers)))
-    return rows
+    """Of code whose blocks fit."""
+    return rows_of(told, 57, RANDOM)
