@@ -3,7 +3,7 @@
 program it tries them by the plain reader and the plain checker."""
 import sys
 from files import answer, told
-from rows import A, HELD, ROWS, block, file, is_code, number, one, otherwise
+from rows import A, HELD, ROWS, block, file, is_code, number, one, otherwise, plain
 
 B = A.replace(b"\0\0\0\0\x3a", b"\0\0\0\0\x47")
 END = "Const 0; Return"
@@ -169,15 +169,19 @@ FITTING = [
     ("the place that leads to another kind", one("Jump 7; EndHandler; Nop; Const 0; Jump 5"), "24 Kind block 0 pc 12"),
     ("the place that leads to one that strays", one("Jump 10; Jump 99; Jump 5"), "25 Target block 0 pc 10"),
     # what comes behind all places
-    ("too few slots before a lost Leave", one("Const 0; JumpIf 15; Leave 16; Pop; Const 0; Return"), "23 Stack block 0 pc 15"),
-    ("a lost Leave before a loop", one("Const 0; JumpIf 15; Leave 20; Jump 15; Const 0; Return"), "25 Target block 0 pc 10"),
-    ("the least of two lost Leaves", one("Const 0; JumpIf 15; Leave 20; Leave 25; Const 0; Const 0; Return"), "25 Target block 0 pc 10"),
-    ("the least of two loops", one("Const 0; JumpIf 15; Jump 10; Jump 15"), "27 SilentLoop block 0 pc 10"),
+    *plain("""
+    too few slots before a lost Leave | Const 0; JumpIf 15; Leave 16; Pop; Const 0; Return | 23 Stack block 0 pc 15
+    a lost Leave before a loop | Const 0; JumpIf 15; Leave 20; Jump 15; Const 0; Return | 25 Target block 0 pc 10
+    the least of two lost Leaves | Const 0; JumpIf 15; Leave 20; Leave 25; Const 0; Const 0; Return | 25 Target block 0 pc 10
+    the least of two loops | Const 0; JumpIf 15; Jump 10; Jump 15 | 27 SilentLoop block 0 pc 10
+    """),
     ("too many slots in a block behind a mark", one("Const 0; Unpack 4294967295; Jump 10", marks=[10]), "28 Depth block 0"),
-    ("2^33 slots", one("Const 0; UnpackStar 4294967295 4294967295; Return"), "28 Depth block 0"),
-    ("2^33 slots that aren't there", one("Dict 4294967295; Return"), "23 Stack block 0 pc 0"),
-    ("2^32 slots that aren't there", one("Call 4294967295; Return"), "23 Stack block 0 pc 0"),
-    ("as many slots again", one("Const 0; Unpack 4294967295; Tuple 4294967295; Return"), "28 Depth block 0"),
+    *plain("""
+    2^33 slots | Const 0; UnpackStar 4294967295 4294967295; Return | 28 Depth block 0
+    2^33 slots that aren't there | Dict 4294967295; Return | 23 Stack block 0 pc 0
+    2^32 slots that aren't there | Call 4294967295; Return | 23 Stack block 0 pc 0
+    as many slots again | Const 0; Unpack 4294967295; Tuple 4294967295; Return | 28 Depth block 0
+    """),
     # names of defaults are compared as texts, with those of parameters that may have one
     ("a default by another number of its name", same_texts("Const 0; MakeFunction 1 1 1; Return", (2,), parameters=1, local=[1]), "fits"),
     ("a default twice by two numbers", same_texts("Const 0; Const 0; MakeFunction 1 2 1; Return", (1, 2), parameters=1, local=[1]), "24 Kind block 0 pc 10"),
@@ -196,11 +200,13 @@ FITTING = [
     ("a handler row over what isn't reached", one("Const 0; Return; Nop; Const 0; Return", handlers=[(6, 7, 0, 9, 0)]), "fits"),
     ("a loop that isn't reached", one("Const 0; Return; Jump 6"), "fits"),
     # Leaves
-    ("a Leave with fewer slots than its target", one("Const 0; Const 0; JumpIf 21; Pop; Leave 21; Return"), "23 Stack block 0 pc 16"),
-    ("a Leave before its target gets slots", one("Const 0; JumpIf 15; Leave 21; Const 0; Nop; Return"), "23 Stack block 0 pc 20"),
-    ("a Leave with another kind than its target", one("Const 0; Const 0; JumpIf 21; Iter; Leave 21; Return"), "24 Kind block 0 pc 16"),
-    ("a Leave with more slots than its target", one("Const 0; JumpIf 20; Const 0; Leave 20; Const 0; Return"), "fits"),
-    ("a Leave within an instruction", one("Const 0; JumpIf 15; Leave 16; Const 0; Return"), "25 Target block 0 pc 10"),
+    *plain("""
+    a Leave with fewer slots than its target | Const 0; Const 0; JumpIf 21; Pop; Leave 21; Return | 23 Stack block 0 pc 16
+    a Leave before its target gets slots | Const 0; JumpIf 15; Leave 21; Const 0; Nop; Return | 23 Stack block 0 pc 20
+    a Leave with another kind than its target | Const 0; Const 0; JumpIf 21; Iter; Leave 21; Return | 24 Kind block 0 pc 16
+    a Leave with more slots than its target | Const 0; JumpIf 20; Const 0; Leave 20; Const 0; Return | fits
+    a Leave within an instruction | Const 0; JumpIf 15; Leave 16; Const 0; Return | 25 Target block 0 pc 10
+    """),
     ("a Leave that an except row covers", one(HELD, handlers=[(15, 20, 21, 0, 0)]), "24 Kind block 0 pc 21"),
     ("a Leave whose target the row covers", one(HELD, handlers=[(15, 21, 21, 0, 1)]), "fits"),
     ("a Leave of which a row leaves enough", one(HELD, handlers=[(15, 20, 21, 1, 1)]), "fits"),

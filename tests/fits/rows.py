@@ -50,6 +50,12 @@ def one(lines, **fields):
     return file([block(lines, **fields)])
 
 
+def plain(table):
+    """Rows of modules without tables: each line has a name, instructions and an answer."""
+    rows = (line.strip().split(" | ") for line in table.strip().split("\n"))
+    return [(name, one(lines), answer) for name, lines, answer in rows]
+
+
 def is_code(data):
     """Only the first block is a module."""
     return all((b["kind"] == MODULE) == (n == 0) for n, b in enumerate(read(data)["blocks"]))
@@ -75,12 +81,14 @@ ROWS = [
     ("a target outside", one("35 09000000"), "25 Target block 0 pc 0"),
     ("a Leave that is held", one(HELD, handlers=[(15, 20, 21, 0, 1)]), "23 Stack block 0 pc 15"),
     # each refusal
-    ("nothing to drop", one("Pop; Const 0; Return"), "23 Stack block 0 pc 0"),
-    ("two lengths at a place", one("Const 0; Jump 0"), "23 Stack block 0 pc 5"),
-    ("two kinds at a place", one("Const 0; Const 0; JumpIf 17; Iter; Nop; Pop; Return"), "24 Kind block 0 pc 16"),
-    ("two kinds of one length", one("Const 0; Const 0; JumpIf 16; Iter; Jump 16"), "24 Kind block 0 pc 15"),
-    ("an iterator is returned", one("Const 0; Iter; Return"), "24 Kind block 0 pc 6"),
-    ("a yield in a module", one("Const 0; Yield; Return"), "24 Kind block 0 pc 5"),
+    *plain("""
+    nothing to drop | Pop; Const 0; Return | 23 Stack block 0 pc 0
+    two lengths at a place | Const 0; Jump 0 | 23 Stack block 0 pc 5
+    two kinds at a place | Const 0; Const 0; JumpIf 17; Iter; Nop; Pop; Return | 24 Kind block 0 pc 16
+    two kinds of one length | Const 0; Const 0; JumpIf 16; Iter; Jump 16 | 24 Kind block 0 pc 15
+    an iterator is returned | Const 0; Iter; Return | 24 Kind block 0 pc 6
+    a yield in a module | Const 0; Yield; Return | 24 Kind block 0 pc 5
+    """),
     ("a name in a function", file([block("Const 0; Return"), block("Name 0; Return", kind=1)]), "24 Kind block 1 pc 0"),
     ("a name in a class", file([block("Const 0; Return"), block("Name 0; Return", kind=3)]), "fits"),
     ("more names than arguments", one("Const 0; CallKw 0 1; Return"), "24 Kind block 0 pc 5"),
@@ -97,15 +105,17 @@ ROWS = [
     ("a generator expression", file([block("Const 0; Iter; MakeGenerator 1; Return"), block("Next 13; Yield; Pop; Jump 0; Const 0; Return", kind=4, marks=[0])]),
      "25 Target block 1 pc 0"),
     ("its loop", file([block("Const 0; Iter; MakeGenerator 1; Return"), block("Next 12; Yield; Pop; Jump 0; Const 0; Return", kind=4, marks=[0])]), "fits"),
-    ("nothing to add to", one("Const 0; ListAdd 0; Const 0; Return"), "24 Kind block 0 pc 5"),
-    ("too deep to add to", one("Const 0; ListAdd 1; Const 0; Return"), "23 Stack block 0 pc 5"),
-    ("a value to add to", one("Const 0; Const 0; ListAdd 1; Return"), "fits"),
-    ("a fall from the end", one("Const 0"), "25 Target block 0 pc 0"),
-    ("into an instruction", one("Jump 6; Const 0; Return"), "25 Target block 0 pc 0"),
-    ("a Leave that is lost", one("Leave 6; Nop; Const 0; Return"), "25 Target block 0 pc 0"),
-    ("a Leave outside", one("Leave 9; Nop; Const 0; Return"), "25 Target block 0 pc 0"),
-    ("too many slots", one("Const 0; Unpack 16777217; Return"), "28 Depth block 0"),
-    ("as many as may be", one("Const 0; Unpack 16777216; Return"), "fits"),
+    *plain("""
+    nothing to add to | Const 0; ListAdd 0; Const 0; Return | 24 Kind block 0 pc 5
+    too deep to add to | Const 0; ListAdd 1; Const 0; Return | 23 Stack block 0 pc 5
+    a value to add to | Const 0; Const 0; ListAdd 1; Return | fits
+    a fall from the end | Const 0 | 25 Target block 0 pc 0
+    into an instruction | Jump 6; Const 0; Return | 25 Target block 0 pc 0
+    a Leave that is lost | Leave 6; Nop; Const 0; Return | 25 Target block 0 pc 0
+    a Leave outside | Leave 9; Nop; Const 0; Return | 25 Target block 0 pc 0
+    too many slots | Const 0; Unpack 16777217; Return | 28 Depth block 0
+    as many as may be | Const 0; Unpack 16777216; Return | fits
+    """),
     ("a mark within an instruction", one("Const 0; Return", marks=[1]), "26 Table block 0 row 0"),
     ("marks that don't rise", one("Const 0; Return", marks=[5, 0]), "26 Table block 0 row 1"),
     ("a handler up to the end", one("Const 0; Return; Pop; Return", handlers=[(0, 8, 6, 0, 0)]), "24 Kind block 0 pc 6"),
@@ -131,12 +141,14 @@ ROWS = [
      "26 Table block 0 row 0"),
     ("the least of two handlers", one("Nop; Const 0; Return; EndHandler; Const 0; Return", handlers=[(0, 1, 7, 0, 0), (0, 1, 7, 2, 0), (0, 1, 7, 1, 0)]),
      "26 Table block 0 row 1"),
-    ("too few slots before another kind", one("Const 0; Iter; Binary 0; Return"), "23 Stack block 0 pc 6"),
-    ("another kind before a target", one("Const 0; Iter; Pop"), "24 Kind block 0 pc 6"),
-    ("a target of a Leave before what comes later", one("Const 0; JumpIf 15; Leave 16; Pop"), "25 Target block 0 pc 10"),
-    ("a lost Leave before the depth", one("Const 0; JumpIf 15; Leave 26; Const 0; Unpack 16777217; Return"), "25 Target block 0 pc 10"),
-    ("the depth before a loop", one("Const 0; Unpack 16777217; Jump 10"), "28 Depth block 0"),
-    ("the least place of a loop", one("Nop; Nop; Jump 1"), "27 SilentLoop block 0 pc 1"),
+    *plain("""
+    too few slots before another kind | Const 0; Iter; Binary 0; Return | 23 Stack block 0 pc 6
+    another kind before a target | Const 0; Iter; Pop | 24 Kind block 0 pc 6
+    a target of a Leave before what comes later | Const 0; JumpIf 15; Leave 16; Pop | 25 Target block 0 pc 10
+    a lost Leave before the depth | Const 0; JumpIf 15; Leave 26; Const 0; Unpack 16777217; Return | 25 Target block 0 pc 10
+    the depth before a loop | Const 0; Unpack 16777217; Jump 10 | 28 Depth block 0
+    the least place of a loop | Nop; Nop; Jump 1 | 27 SilentLoop block 0 pc 1
+    """),
     ("a loop with a mark", one("Nop; Nop; Jump 1", marks=[2]), "fits"),
     ("a loop through a handler", one("Nop; EndHandler; Jump 0", handlers=[(0, 1, 1, 0, 0)]), "23 Stack block 0 pc 0"),
     ("a handler that covers itself", one("Const 0; Return; EndHandler; Const 0; Return", handlers=[(0, 13, 6, 0, 0)]), "27 SilentLoop block 0 pc 6"),
