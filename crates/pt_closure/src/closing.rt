@@ -1,62 +1,57 @@
-ghost use Rattle.std.specs.Prelude.{◌≡◌, ◌+◌, ◌++◌, ◌∷◌, [], List, IfOk};
+ghost use Rattle.std.specs.Prelude.{◌<◌, ◌++◌, ◌∷◌, [], List, IfOk};
 ghost use Rattle.pt_closure.specs.Closure.{AreSeen, IsClosure, Open, Pair};
 
 use crate::follows::Follows;
 use crate::found::Found;
 use pt_base::Memory;
+use pt_budget::Budget;
 use std::alloc::Global;
 
-/// How many pairs are looked at, each as often as it follows: a bound on time and memory.
-const MOST_STEPS: u64 = 0x0200_0000;
-
-fn spend(left: u64) -> Result<u64, Memory>
-    ensures { IfOk result (λ less. left ≡ less + 1) }
-{
-    match left.checked_sub(1) {
-        None => Err(Memory),
-        Some(less) => Ok(less),
-    }
-}
-
-/// Sees to a pair that is due.
+/// Sees to a pair that is due: one step, and where it is new one for each way on that is looked at.
 fn step<F: Follows>(
     rule: &F,
     found: &mut Found,
     work: &mut Vec<(usize, usize)>,
     pair: (usize, usize),
+    budget: &mut Budget,
 ) -> Result<(), Memory>
     requires { AreSeen found.old }
     ensures seen { IfOk result (λ _. AreSeen found.new) }
     ensures known { IfOk result (λ _. (next : Pair → List Pair) → F.tells rule.now next
         → (seeds : List Pair) → Open next seeds (work.old.items ++ pair ∷ []) found.old.pairs.items
         → Open next seeds work.new.items found.new.pairs.items) }
+    ensures taken { IfOk result (λ _. budget.new.left < budget.old.left) }
 {
+    budget.spend(1)?;
     if found.add(pair)? {
+        budget.spend(rule.looks(pair) as u64)?;
         rule.add_next(pair, work)?;
     }
     Ok(())
 }
 
 /// The least set of pairs that has the given ones and what follows from each of it, each pair once.
-/// Where w is how many pairs follow from those of the set it takes time O(w log w), and memory.
+/// Each pair takes a step as often as it is given or follows, and once as many as ways on are looked
+/// at for what follows from it (`Follows::looks`). So where w of these are looked at, and none gives
+/// more than one pair, s given pairs take s + 2w steps at most: time O((s + w) log (s + w)), and
+/// memory O(s + w).
 ///
 /// # Errors
 ///
-/// `Memory` for want of it, and where w passes 2^25.
+/// `Memory` for want of it, and where fewer steps are left.
 pub fn closure<F: Follows>(
     alloc: Global,
     rule: &F,
     seeds: Vec<(usize, usize)>,
+    budget: &mut Budget,
 ) -> Result<Vec<(usize, usize)>, Memory>
     ensures { IfOk result (λ found. (next : Pair → List Pair) → F.tells rule.now next
         → IsClosure next seeds.items found.items) }
 {
     let mut found = Found::new(alloc);
     let mut work = seeds;
-    let mut left = MOST_STEPS;
     while let Some(pair) = work.pop() {
-        left = spend(left)?;
-        step(rule, &mut found, &mut work, pair)?;
+        step(rule, &mut found, &mut work, pair, budget)?;
     }
     let Found { pairs, seen: _ } = found;
     Ok(pairs)

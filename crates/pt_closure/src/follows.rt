@@ -7,6 +7,9 @@ use pt_base::Memory;
 pub trait Follows {
     ghost tells: { Self → (Pair → List Pair) → Type 0 };
 
+    /// How many ways on are looked at for what follows from a pair.
+    fn looks(&self, pair: (usize, usize)) -> usize;
+
     /// Adds what follows from a pair.
     ///
     /// # Errors

@@ -9,4 +9,4 @@ invariant-loop-pair g l = record {
 }
 
 abbrev pub decreases-loop-pair : goal.decreases-loop-pair
-decreases-loop-pair g l = l.left
+decreases-loop-pair g l = l.budget.left
