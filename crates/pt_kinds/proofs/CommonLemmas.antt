@@ -152,3 +152,7 @@ common_end ks ls low high c h = record {
   same = c.same;
   most = λ n a b e. let m = c.most n a b e in omega (arith, m, h);
 }
+
+-- the shorter list is the beginning of the other
+pub common_whole : (ks ls : Kinds) (high : ℕ) → high ≤ length ks → high ≤ length ls → ((n : ℕ) → n ≤ length ks → n ≤ length ls → n ≤ high) → take high ks ≡ take high ls → IsCommon ks ls high
+common_whole ks ls high h k m e = record { inside = (h, k); same = e; most = λ n a b _. m n a b }

@@ -50,7 +50,8 @@ impl Forest {
         is_same_run(self.run_at(one, depth), self.run_at(other, depth))
     }
 
-    /// How many of the lowest slots of two lists are of the same kinds.
+    /// How many of the lowest slots of two lists are of the same kinds. Lists of which one begins with
+    /// the other, as equal ones do, take one comparison.
     pub fn common(&self, one: usize, other: usize) -> u64
         requires forest { IsForest self.now }
         requires one { IsInside self.now one }
@@ -59,6 +60,9 @@ impl Forest {
     {
         let mut low = 0;
         let mut high = self.len(one).min(self.len(other));
+        if self.agrees(one, other, high) {
+            return high;
+        }
         while low < high {
             let middle = high - (high - low) / 2;
             if self.agrees(one, other, middle) {

@@ -10,5 +10,5 @@ loop-low-preserved c =
     let above : low < high - (high - low) / 2 = omega (arith, lt) in
     let under : high - (high - low) / 2 ≤ high = omega arith in
     let one : high - (high - low) / 2 - 1 + 1 ≡ high - (high - low) / 2 = omega (arith, lt, above) in
-    common_less (list_at c.args.self.now c.args.one) (list_at c.args.self.now c.args.other) low high c.loop-low.invariant (high - (high - low) / 2) above under c.if-agrees.ensures
+    common_less (list_at c.args.self.now c.args.one) (list_at c.args.self.now c.args.other) low high c.loop-low.invariant (high - (high - low) / 2) above under c.if-agrees-2.ensures
     (high - (high - low) / 2 - 1) one
