@@ -5,9 +5,9 @@ import sys
 from timing import TOP
 
 sys.path.append(str(TOP / "tests" / "fits"))
-from rows import file, listed, number  # noqa: E402
+from rows import file, listed, number, text  # noqa: E402
 
-NOP, CONST, POP, SWAP, TUPLE, UNPACK, MAKE_FUNCTION, ITER, JUMP, JUMP_IF, RETURN = 0, 1, 15, 18, 32, 41, 48, 51, 53, 54, 58
+NOP, CONST, POP, COPY, SWAP, TUPLE, UNPACK, MAKE_FUNCTION, ITER, JUMP, JUMP_IF, RETURN = 0, 1, 15, 16, 18, 32, 41, 48, 51, 53, 54, 58
 END_HANDLER, ENTER, NORMAL, EXIT, END_FINALLY, LEAVE = 66, 68, 69, 70, 71, 72
 
 
@@ -258,9 +258,190 @@ def pairs_of_defaults(size):
     return code_file([block(code)] + [block(END, kind=1, parameters=each)] * many, names(count), [each] * many)
 
 
+def leaves_by_ends(size):
+    """Leaves for as many targets, which one row takes, and as many EndFinallys on its slot, each of which lets all of them go on."""
+    count = size // 32
+    part = 15 * count + 5
+    ends = part + 10 * count
+    targets = ends + 6 * count
+    code = (exits_to(range(targets, targets + count), 0) + op(JUMP, targets)
+            + b"".join(op(CONST, 0) + op(JUMP_IF, ends + 6 * i) for i in range(count)) + (bytes([END_FINALLY]) + op(JUMP, targets)) * count
+            + bytes([NOP]) * count + END)
+    return code_file([block(code, rows=[row(0, 15 * count, part, 0, 1)])])
+
+
+def ends_under_row(size):
+    """The same, where an always row lies over all of them and their targets, and so takes none."""
+    count = size // 33
+    part = 15 * count + 5
+    ends = part + 10 * count
+    targets = ends + 6 * count
+    code = (exits_to(range(targets, targets + count), 0) + op(JUMP, targets)
+            + b"".join(op(CONST, 0) + op(JUMP_IF, ends + 6 * i) for i in range(count)) + (bytes([END_FINALLY]) + op(JUMP, targets)) * count
+            + bytes([NOP]) * count + END)
+    outer = len(code)
+    return code_file([block(code + bytes([END_FINALLY]) + END, rows=[row(0, 15 * count, part, 0, 1), row(part, outer, outer, 0, 1)])])
+
+
+def leaves_within_rows(size):
+    """Leaves that run one after the other, under as many always rows, none of which takes them."""
+    count = size // 32
+    code = b"".join(op(CONST, 0) + op(JUMP_IF, 15 * i + 15) + op(LEAVE, 15 * i + 15) for i in range(count)) + END
+    return code_file([block(code + bytes([END_FINALLY]) + END, rows=[row(0, len(code), len(code), 0, 1)] * count)])
+
+
+# as many pairs of a Leave and of what holds it as are still followed in a block
+GRID = 5700
+
+
+def grid_code(count, start, behind):
+    """Instructions from a place on: so many Leaves out of as many `finally` parts one around the other, as `grid_of_leaves` has them, and the rows."""
+    parts = start + 15 * count + 5
+    targets = parts + 6 * count
+    code = (exits_to(range(targets, targets + count), start) + op(JUMP, targets) + (bytes([END_FINALLY]) + op(JUMP, targets)) * count
+            + bytes([NOP]) * count + behind)
+    return code, [row(start, parts + 6 * i, parts + 6 * i, 0, 1) for i in range(count)]
+
+
+def many_grids(size):
+    """Blocks, in each of which nearly as many pairs are followed as in one may be."""
+    count = min(GRID, size // 100)
+    code, rows = grid_code(count, 0, END)
+    grid = block(code, rows=rows, kind=1)
+    return code_file([block(END)] + [grid] * (size // len(grid)))
+
+
+def refused_grid(size):
+    """The same in one block which is refused at its end, so that it is asked again and again."""
+    count = min(GRID, size // 60)
+    bad = op(CONST, 0) + bytes([ITER, RETURN])
+    code, rows = grid_code(count, 0, bytes([NOP]) * (size - 39 * count) + bad)
+    return code_file([block(code, rows=rows)])
+
+
+def refused_at_end(size):
+    """Places that agree up to the last one, which finds another kind."""
+    return code_file([block(bytes([NOP]) * size + op(CONST, 0) + bytes([ITER, RETURN]))])
+
+
+def too_few_at_end(size):
+    """Places that agree up to the last one, which finds too few slots."""
+    return code_file([block(bytes([NOP]) * size + bytes([POP]) + END)])
+
+
+def unreached_pairs(size):
+    """As `pairs_of_defaults`, with instructions that nothing leads to and which are asked nevertheless."""
+    many = int((size / 39) ** 0.5)
+    count = (size - 13 * many * many) // (8 * many)
+    each = tuple(range(count))
+    code = END + b"".join(op(MAKE_FUNCTION, n + 1, count, of) for n in range(many) for of in range(many))
+    return code_file([block(code)] + [block(END, kind=1, parameters=each)] * many, names(count), [each] * many)
+
+
+def deep_runs(count, slots):
+    """Instructions that give slots of two kinds by turns, so many runs of each, those of values of so many slots."""
+    return (op(CONST, 0) + op(UNPACK, slots) + op(CONST, 0) + bytes([ITER])) * count
+
+
+def rows_over_runs(size, behind=END, slots=16):
+    """Places with lists of many runs, under handler rows that lie in many stretches and leave nearly all of the slots."""
+    count = size // 51
+    start = deep_runs(count, slots)
+    places = max(size - 16 * count - 17 * count, 4)
+    code = start + bytes([NOP]) * places + behind
+    depth = (slots + 1) * count
+    rows = [row(len(start) + 1 + 2 * (i % (places // 8)), len(code) - len(behind) - 1 - 2 * (i % (places // 8)), len(code), depth) for i in range(count)]
+    return code_file([block(code + bytes([END_HANDLER]) + END, rows=rows)])
+
+
+def refused_under_rows(size):
+    """The same in a block that is refused at its end, with so many slots that only the refusals behind it would tell."""
+    count = size // 51
+    return rows_over_runs(size, op(CONST, 0) + bytes([ITER, RETURN]), (2 ** 32 - 1) // count - 1)
+
+
+def branches_over_runs(size):
+    """Places with lists of many runs, to each of which two ways lead."""
+    count = size // 44
+    start = deep_runs(count, 2)
+    first = len(start)
+    return code_file([block(start + b"".join(op(CONST, 0) + op(JUMP_IF, first + 10 * i + 10) for i in range(size // 16)) + END)])
+
+
+def stretches_too_few(size):
+    """A handler row over each stretch of places, so that a place lies in one on each level, and at the end too few slots."""
+    least = 7
+    count = size * 64 // 81
+    code = bytes([NOP]) * count + bytes([POP]) + END
+    rows = [row(at, at + (1 << level), len(code)) for level in range(least, count.bit_length()) for at in range(0, count - (1 << level) + 1, 1 << level)]
+    return code_file([block(code + bytes([END_HANDLER]) + END, rows=rows)])
+
+
+def one_always_row(size):
+    """A Leave, and one always row over all places."""
+    code = op(CONST, 0) + op(JUMP_IF, 15) + op(LEAVE, 15) + bytes([NOP]) * size + END
+    return code_file([block(code + bytes([END_FINALLY]) + END, rows=[row(0, len(code), len(code), 0, 1)])])
+
+
+def file_of(texts, constants, lists, blocks):
+    """A code file of lists that are bytes already, each with its count."""
+    return b"PTCF\x01" + b"".join(number(count) + items for count, items in (texts, constants, lists)) + listed(blocks)
+
+
+ONE_TEXT, ONE_CONSTANT, NONE = (1, text(b"m")), (1, b"\0"), (0, b"")
+
+
+def many_constants(size):
+    """Constants of one byte each."""
+    return file_of(ONE_TEXT, (size, b"\0" * size), NONE, [block(END)])
+
+
+def empty_lists(size):
+    """Lists of no text."""
+    return file_of(ONE_TEXT, ONE_CONSTANT, (size // 4, number(0) * (size // 4)), [block(END)])
+
+
+def empty_texts(size):
+    """The empty text again and again."""
+    return file_of((size // 4, number(0) * (size // 4)), ONE_CONSTANT, NONE, [block(END)])
+
+
+def short_texts(size):
+    """Texts that differ."""
+    count = size // 16
+    return file_of((count, b"".join(text(b"%012x" % (n * 0x9e3779b97f4a % 2 ** 48)) for n in range(count))), ONE_CONSTANT, NONE, [block(END)])
+
+
+def texts_alike(size):
+    """Texts that differ at their ends alone, as many as each has bytes."""
+    length = int(size ** 0.5)
+    count = size // (length + 4)
+    return file_of((count, b"".join(text(b"a" * (length - 8) + b"%08d" % n) for n in range(count))), ONE_CONSTANT, NONE, [block(END)])
+
+
+# how much text is named
+NAMED = 2 ** 30
+
+
+def long_names(size):
+    """Blocks with one name, so long that as much text is named as may be."""
+    one = block(END, kind=1)
+    count = max(size // 2 // len(one), 1)
+    return file_of((1, text(b"m" * min(size // 2, NAMED // (count + 1)))), ONE_CONSTANT, NONE, [block(END)] + [one] * count)
+
+
+def long_constants(size):
+    """Constants of one text, so long that as much text is named as may be."""
+    count = max(size // 10, 1)
+    return file_of((1, text(b"m" * min(size // 2, NAMED // (count + 1)))), (count, (b"\4" + number(0)) * count), NONE, [block(END)])
+
+
 SHAPES = (straight, branches, long_cycle, small_cycles, backwards, rows_over_all, nested_rows, rows_over_one, chained_rows, random_rows,
-          unpacks, deep_rows, depths_over_all, nested_depths, runs, shortened, many_blocks, leaves, parts)
+          unpacks, deep_rows, depths_over_all, nested_depths, runs, shortened, many_blocks, leaves, parts, rows_over_runs, branches_over_runs,
+          one_always_row)
 # what is read and refused or run as a whole, too
-WHOLE = (*SHAPES, swaps, marks, hundred_thousand_blocks, leaves_over_one_row, nested_parts, nested_withs, long_defaults, pairs_of_defaults)
-# as many pairs of a Leave and of what holds it as the square of the file's size
-SQUARE = (grid_of_leaves,)
+WHOLE = (*SHAPES, swaps, marks, hundred_thousand_blocks, leaves_over_one_row, nested_parts, nested_withs, long_defaults, pairs_of_defaults,
+         unreached_pairs, refused_at_end, too_few_at_end, refused_under_rows, stretches_too_few, many_grids, many_constants, empty_lists,
+         empty_texts, short_texts, texts_alike, long_names, long_constants)
+# as many pairs of a Leave and of what holds it, or of a row that doesn't take it, as the square of the file's size
+SQUARE = (grid_of_leaves, leaves_by_ends, ends_under_row, leaves_within_rows, refused_grid)
