@@ -8,10 +8,16 @@ ghost use Rattle.pt_standing.specs.Texts.{AreIds, HasMarks};
 use crate::ids::ids_of;
 use crate::marks::{are_distinct, are_marked, mark_all};
 use pt_base::Memory;
+use pt_budget::Budget;
 use pt_code::{Code, CodeBlock};
 use pt_instr::{Instr, TextNo, decode};
 use std::alloc::Global;
 use std::collections::BTreeMap;
+
+/// How many names of lists are looked at for pairs of a block and a list: a bound on time. In the
+/// code of a script each `def` and `lambda` makes one pair, of its own block and the names of its
+/// defaults, so there are no more of them than bytes of the script.
+const MOST_NAMES: u64 = 0x0200_0000;
 
 /// Of the blocks and lists that instructions of a code name together, whether the texts of the list
 /// are different and each is that of a parameter of the block.
@@ -25,14 +31,14 @@ impl Defaults {
     ghost use Rattle.pt_standing.specs.Names.{TellsDefaults, TellsMore, told_of};
 
     /// Goes through the instructions of a code once. For a code of n bytes it takes memory O(n) and
-    /// time O(n log n), and for each pair of a block and a list as many steps more as the shorter
-    /// one of the list and the block's parameters has names: O(n^1.5) where instructions name each
-    /// of some 1,000 blocks with each of as many lists, O(n) where each list is named with few.
+    /// time O(n log n), and a step more for each name that is looked at: for each pair of a block
+    /// and a list the names up to the first that isn't a parameter's, at most 2^25 in all.
     ///
     /// # Errors
     ///
-    /// `Memory` for want of it, and where the code names a text that it hasn't, as none of a file
-    /// does.
+    /// `Memory` for want of it, where these names are more than 2^25, as where instructions name
+    /// each of some 1,000 blocks with each of as many lists, and where the code names a text that
+    /// it hasn't, as none of a file does.
     pub fn make(alloc: Global, code: &Code) -> Result<Defaults, Memory>
         ensures { IfOk result (λ d. TellsDefaults code.now d) }
     {
@@ -125,6 +131,7 @@ fn is_among_marked(
     distinct: &[bool],
     list: usize,
     by: usize,
+    budget: &mut Budget,
 ) -> Result<bool, Memory>
     ensures { IfOk result (λ told. (names : List Name)
         → AreDistinctLists code.now.texts code.now.lists distinct.now
@@ -132,7 +139,7 @@ fn is_among_marked(
         → told ≡ are_among names ((links_of code.now).texts list)) }
 {
     match (code.lists.get(list), distinct.get(list)) {
-        (Some(texts), Some(true)) => are_marked(ids, marks, texts.as_slice(), by),
+        (Some(texts), Some(true)) => are_marked(ids, marks, texts.as_slice(), by, budget),
         (Some(_), Some(false)) => Ok(false),
         _ => Err(Memory),
     }
@@ -148,6 +155,7 @@ fn tell_lists(
     lists: &[u32],
     block: usize,
     by: usize,
+    budget: &mut Budget,
 ) -> Result<(), Memory>
     ensures { OnOk result (AreDistinctLists code.now.texts code.now.lists distinct.now
         → HasMarks code.now.texts ids.now marks.now by ((links_of code.now).parameters block)
@@ -156,7 +164,7 @@ fn tell_lists(
     for list in lists {
         let list = *list as usize;
         if defaults.find(block, list).is_none() {
-            let told = is_among_marked(code, ids, marks, distinct, list, by)?;
+            let told = is_among_marked(code, ids, marks, distinct, list, by, budget)?;
             defaults.tell(block, list, told)?;
         }
     }
@@ -179,13 +187,24 @@ fn told_defaults(
     let mut defaults = Defaults {
         told: BTreeMap::new(alloc),
     };
+    let mut budget = Budget::new(MOST_NAMES);
     let blocks = code.blocks.as_slice();
     for number in 0..blocks.len() {
         let by = number + 1;
         mark_all(ids, marks, parameters(&blocks[number]), by)?;
         if let Some(lists) = asked.get(number) {
             let lists = lists.as_slice();
-            tell_lists(&mut defaults, code, ids, marks, distinct, lists, number, by)?;
+            tell_lists(
+                &mut defaults,
+                code,
+                ids,
+                marks,
+                distinct,
+                lists,
+                number,
+                by,
+                &mut budget,
+            )?;
         }
     }
     Ok(defaults)

@@ -7,6 +7,7 @@ ghost use Rattle.pt_fits.specs.Standing.{are_distinct, is_among};
 ghost use Rattle.pt_standing.specs.Texts.{AreFresh, HasMarks, IsIdIn, MarkIs, Marked, MarksOne, text_at};
 
 use pt_base::Memory;
+use pt_budget::Budget;
 use pt_instr::TextNo;
 
 /// The number of a text that stands for all that are the same.
@@ -50,12 +51,19 @@ pub fn mark_all(
     Ok(())
 }
 
-/// Whether texts have a mark.
-pub fn are_marked(ids: &[usize], marks: &[usize], list: &[u32], by: usize) -> Result<bool, Memory>
+/// Whether texts have a mark. Each that is looked at takes a step of the budget.
+pub fn are_marked(
+    ids: &[usize],
+    marks: &[usize],
+    list: &[u32],
+    by: usize,
+    budget: &mut Budget,
+) -> Result<bool, Memory>
     ensures { IfOk result (λ told. (all names : List Name) → HasMarks all ids.now marks.now by names
         → told ≡ list_all (is_among names) (map (text_at all) list.now)) }
 {
     for text in list {
+        budget.spend(1)?;
         if mark_on(ids, marks, *text)? != by {
             return Ok(false);
         }
