@@ -1,38 +1,34 @@
 -- Texts have one number where they are the same.
-use Rattle.std.proofs.Common.{◌≡◌, ◌⊎◌, inl, inr, ℕ, ◌+◌, ◌<◌, Bool, true, false, nat_eq, if◌then◌else◌, List, [], ◌∷◌, ◌++◌, length, Option, Some, None, refl, sym, ap, ◌∙◌, subst, arith, eqb-true, eq-eqb, length-append}
+use Rattle.std.proofs.Common.{◌≡◌, ◌⊎◌, inl, inr, ℕ, ◌+◌, ◌<◌, Bool, true, false, nat_eq, if◌then◌else◌, List, [], ◌∷◌, ◌++◌, length, Some, None, refl, sym, ap, ◌∙◌, subst, arith, eqb-true, eq-eqb, length-append}
 use Rattle.std.specs.Str.{bytes_eq}
 use Rattle.std.specs.BTreeMap.{BTreeMap, get_by_text}
 use Rattle.std.specs.declared.string.String.{String}
 use Rattle.std.specs.declared.alloc.Global.{Global}
-use Rattle.std.proofs.lemmas.Bool.{cases_order}
 use Rattle.std.proofs.lemmas.List.{get_or_append_left}
 use Rattle.std.proofs.lemmas.Option.{same_Some}
 use Rattle.std.proofs.lemmas.Slice.Eq.{bytes_eq-Decides}
 use Rattle.std.proofs.Math.Seq.{get_or-append_seam}
 use Rattle.pt_tree.specs.Syntax.{Name}
+use Rattle.pt_sizes.proofs.Tables.{below_or, some_or_none}
 use Rattle.pt_standing.specs.Texts.{AreIds, IdGiven, Knows, id_at, text_at}
-
-none_some : {X : Type 0} (o : Option X) (x : X) → o ≡ None → o ≡ Some x → ⊥
-none_some o x n s = let e : None ≡ Some x = sym n ∙ s in cc
 
 module _ (texts : List Name) (n : ℕ) (known known' : BTreeMap (String Global) ℕ) (ids : List ℕ) (id : ℕ) (k : Knows texts n known ids)
     (given : IdGiven known known' (text_at texts n) n id) where
   the_id : (t : ℕ) → t < n → text_at texts n ≡ text_at texts t → (get_by_text known (text_at texts n) ≡ Some id) ⊎ ((get_by_text known (text_at texts n) ≡ None) × (id ≡ n))
       → Some id ≡ Some (id_at ids t)
   the_id t lt same (inl e) = sym e ∙ (ap (get_by_text known) same ∙ k.found t lt)
-  the_id t lt same (inr (none, e)) = absurd (none_some (get_by_text known (text_at texts n)) (id_at ids t) none (ap (get_by_text known) same ∙ k.found t lt))
+  the_id t lt same (inr (none, e)) = absurd (some_or_none (id_at ids t) (sym (ap (get_by_text known) same ∙ k.found t lt) ∙ none))
 
   still : (t : ℕ) → t < n → (b : Bool) → bytes_eq (text_at texts n) (text_at texts t) ≡ b → get_by_text known' (text_at texts t) ≡ Some (id_at ids t)
   still t lt true e = given.others (text_at texts t) ∙ (ap (λ b. if b then Some id else get_by_text known (text_at texts t)) e
       ∙ the_id t lt ((bytes_eq-Decides (text_at texts n) (text_at texts t)).0 e) given.old_or_new)
   still t lt false e = given.others (text_at texts t) ∙ (ap (λ b. if b then Some id else get_by_text known (text_at texts t)) e ∙ k.found t lt)
 
-  found : (t : ℕ) → t < n + 1 → (t < n) ⊎ ((t ≡ n) ⊎ (n < t)) → get_by_text known' (text_at texts t) ≡ Some (id_at (ids ++ id ∷ []) t)
-  found t lt (inl low) = still t low (bytes_eq (text_at texts n) (text_at texts t)) refl
+  found : (t : ℕ) → (t < n) ⊎ (t ≡ n) → get_by_text known' (text_at texts t) ≡ Some (id_at (ids ++ id ∷ []) t)
+  found t (inl low) = still t low (bytes_eq (text_at texts n) (text_at texts t)) refl
       ∙ ap (λ i. Some i) (sym (get_or_append_left ids (id ∷ []) 0 t (let l = k.long in omega (arith, l, low))))
-  found t lt (inr (inl e)) = ap (λ m. get_by_text known' (text_at texts m)) e ∙ (given.here
+  found t (inr e) = ap (λ m. get_by_text known' (text_at texts m)) e ∙ (given.here
       ∙ ap (λ i. Some i) (sym (ap (λ m. id_at (ids ++ id ∷ []) m) (e ∙ sym k.long) ∙ get_or-append_seam ids id [] 0)))
-  found t lt (inr (inr high)) = absurd (omega (arith, lt, high))
 
   of_new : (x : Name) (m : ℕ) → text_at texts n ≡ x → m ≡ id → (get_by_text known (text_at texts n) ≡ Some id) ⊎ ((get_by_text known (text_at texts n) ≡ None) × (id ≡ n))
       → (m < n + 1) × (text_at texts m ≡ x)
@@ -49,12 +45,9 @@ module _ (texts : List Name) (n : ℕ) (known known' : BTreeMap (String Global) 
   pub knows_more : (more : List ℕ) → more ≡ ids ++ id ∷ [] → Knows texts (n + 1) known' more
   knows_more more e = subst (Knows texts (n + 1) known') (sym e) (record {
     long = let a = length-append ids (id ∷ []) in let l = k.long in omega (arith, a, l);
-    found = λ t lt. found t lt (cases t);
+    found = λ t lt. found t (below_or t n lt);
     sound = λ x m g. sound x m g (bytes_eq (text_at texts n) x) refl;
   })
-    where
-      cases : (t : ℕ) → (t < n) ⊎ ((t ≡ n) ⊎ (n < t))
-      cases t = elim (cases_order t n) [ inl e ↦ inr (inl e) | inr (inl l) ↦ inl l | inr (inr l) ↦ inr (inr l) ]
 
 pub are_ids : (texts : List Name) (known : BTreeMap (String Global) ℕ) (ids : List ℕ) (n : ℕ) → n ≡ length texts → Knows texts n known ids → AreIds texts ids
 are_ids texts known ids n e k = record {

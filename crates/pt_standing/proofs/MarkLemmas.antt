@@ -1,31 +1,19 @@
 -- Marks on texts are marks on their numbers.
-use Rattle.std.proofs.Common.{◌≡◌, ℕ, ◌+◌, ◌<◌, Bool, true, false, not, ◌&&◌, ◌||◌, nat_eq, List, [], ◌∷◌, ◌++◌, length, map, take, drop, get_or, refl, sym, ap, ◌∙◌, subst, arith, eqb-true, eq-eqb, true≢false, get_or-set_same, get_or-set_other}
+use Rattle.std.proofs.Common.{◌≡◌, inl, inr, ℕ, ◌+◌, ◌<◌, Bool, true, false, not, ◌&&◌, ◌||◌, nat_eq, List, [], ◌∷◌, ◌++◌, length, map, take, drop, get_or, refl, sym, ap, ◌∙◌, subst, arith, eqb-true, eq-eqb, true≢false, get_or-set_same, get_or-set_other}
 use Rattle.std.specs.Prelude.{slice_set, slice_index_or}
 use Rattle.std.specs.List.{list_all}
 use Rattle.std.specs.Str.{bytes_eq}
-use Rattle.std.proofs.lemmas.List.{length-set, map-append, take-append-drop, take_more}
+use Rattle.std.proofs.lemmas.Bool.{and_cases, and_left, and_right, ne_eqb, not-false, not_from_true, or_from, or_left, or_right}
+use Rattle.std.proofs.lemmas.Cmp.{nat_list_eq_equiv}
+use Rattle.std.proofs.lemmas.List.{length-set, map-append, map_more, take-append-drop}
 use Rattle.std.proofs.lemmas.List.Folds.{list_any-append, list_all-map, list_all_at, list_all_more}
-use Rattle.std.proofs.lemmas.Slice.Eq.{bytes_eq-Decides}
-use Rattle.pt_instr.specs.declared.TextNo.{TextNo}
 use Rattle.pt_tree.specs.Syntax.{Name}
 use Rattle.pt_fits.specs.Standing.{are_distinct, is_among}
 use Rattle.pt_standing.specs.Texts.{AreFresh, HasMarks, MarkIs, Marked, MarksOne, id_at, mark_on, text_at}
 
-or_last : (x y : Bool) → y ≡ true → (x || (y || false)) ≡ true
-or_last true true e = refl
-or_last false true e = refl
-or_last true false e = absurd (true≢false (sym e))
-or_last false false e = absurd (true≢false (sym e))
-
 or_none : (x y : Bool) → y ≡ false → (x || (y || false)) ≡ x
-or_none true true e = absurd (true≢false e)
-or_none false true e = absurd (true≢false e)
-or_none true false e = refl
-or_none false false e = refl
-
-apart : (m n : ℕ) → m < n → (b : Bool) → nat_eq m n ≡ b → nat_eq m n ≡ false
-apart m n lt true e = absurd (let h : m ≡ n = eqb-true m n e in omega arith)
-apart m n lt false e = e
+or_none true y e = refl
+or_none false y e = or_from y false e refl
 
 among_last : (names : List Name) (x y : Name) → is_among (names ++ x ∷ []) y ≡ (is_among names y || (bytes_eq y x || false))
 among_last names x y = list_any-append (bytes_eq y) names (x ∷ [])
@@ -42,7 +30,7 @@ module _ (all : List Name) (ids : List ℕ) where
   no_names marks by f = record {
     ids_are = f.ids_are;
     long = f.long;
-    each = λ t lt. apart (mark_on ids marks t) by (f.low (id_at ids t)) (nat_eq (mark_on ids marks t) by) refl;
+    each = λ t lt. ne_eqb (mark_on ids marks t) by (λ e. let h = f.low (id_at ids t) in omega (arith, h, e));
   }
 
   pub fresh_up : (marks : List ℕ) (by : ℕ) → AreFresh all ids marks by → AreFresh all ids marks (by + 1)
@@ -63,8 +51,8 @@ module _ (all : List Name) (ids : List ℕ) where
           → nat_eq (mark_on ids new u) by ≡ is_among (names ++ text_at all t ∷ []) (text_at all u)
       each u lt true e =
           eq-eqb (mark_on ids new u) by (set_here old new (id_at ids t) (id_at ids u) by m.low m.is (eqb-true (id_at ids u) (id_at ids t) e))
-          ∙ sym (among_last names (text_at all t) (text_at all u) ∙ or_last (is_among names (text_at all u)) (bytes_eq (text_at all u) (text_at all t))
-          (sym (h.ids_are.same u t lt within) ∙ e))
+          ∙ sym (among_last names (text_at all t) (text_at all u) ∙ or_right (is_among names (text_at all u)) _
+          (or_left (bytes_eq (text_at all u) (text_at all t)) false (sym (h.ids_are.same u t lt within) ∙ e)))
       each u lt false e =
           ap (λ k. nat_eq k by) (set_apart old new (id_at ids t) (id_at ids u) by m.is (λ s. true≢false (sym (eq-eqb (id_at ids u) (id_at ids t) s) ∙ e)))
           ∙ (h.each u lt ∙ sym (among_last names (text_at all t) (text_at all u) ∙ or_none (is_among names (text_at all u)) (bytes_eq (text_at all u) (text_at all t))
@@ -98,15 +86,6 @@ module _ (all : List Name) (ids : List ℕ) where
       ∙ h.each t (let a = m.within in let b = h.ids_are.long in omega (arith, a, b))
 
 -- one more name of a list
-pub named_more : (all : List Name) (texts : List TextNo) (i : ℕ) (d : TextNo) → i < length texts
-    → map (λ t. text_at all t.0) (take (i + 1) texts) ≡ map (λ t. text_at all t.0) (take i texts) ++ text_at all (get_or texts i d).0 ∷ []
-named_more all texts i d lt = ap (map (λ (t : TextNo). text_at all t.0)) (take_more texts i d lt)
-    ∙ map-append (λ (t : TextNo). text_at all t.0) (take i texts) (get_or texts i d ∷ [])
-
-pub listed_more : (all : List Name) (list : List ℕ) (i d : ℕ) → i < length list
-    → map (text_at all) (take (i + 1) list) ≡ map (text_at all) (take i list) ++ text_at all (get_or list i d) ∷ []
-listed_more all list i d lt = ap (map (text_at all)) (take_more list i d lt) ∙ map-append (text_at all) (take i list) (get_or list i d ∷ [])
-
 pub all_more : (all names : List Name) (list : List ℕ) (i d : ℕ) → i < length list → list_all (is_among names) (map (text_at all) (take i list)) ≡ true
     → is_among names (text_at all (get_or list i d)) ≡ true → list_all (is_among names) (map (text_at all) (take (i + 1) list)) ≡ true
 all_more all names list i d lt e f =
@@ -118,16 +97,6 @@ pub not_all : (all names : List Name) (list : List ℕ) (i d : ℕ) → i < leng
     → is_among names (text_at all (get_or list i d)) ≡ false → false ≡ list_all (is_among names) (map (text_at all) list)
 not_all all names list i d lt f = sym (list_all-map (is_among names) (text_at all) list ∙ list_all_at (λ t. is_among names (text_at all t)) list i d lt f)
 
--- texts are different just where none is among those before it
-bytes_eq-sym : (x y : Name) → bytes_eq x y ≡ bytes_eq y x
-bytes_eq-sym x y = by (bytes_eq x y) refl (bytes_eq y x) refl
-  where
-    by : (a : Bool) → bytes_eq x y ≡ a → (b : Bool) → bytes_eq y x ≡ b → a ≡ b
-    by true e true f = refl
-    by true e false f = sym ((bytes_eq-Decides y x).1 (sym ((bytes_eq-Decides x y).0 e))) ∙ f
-    by false e true f = sym (sym ((bytes_eq-Decides x y).1 (sym ((bytes_eq-Decides y x).0 f))) ∙ e)
-    by false e false f = refl
-
 shuffle : (a b d i : Bool) → (not (a || (b || false)) && (d && not i)) ≡ ((not a && d) && not (b || i))
 shuffle true true d i = refl
 shuffle true false d i = refl
@@ -136,55 +105,39 @@ shuffle false true false i = refl
 shuffle false false true i = refl
 shuffle false false false i = refl
 
+-- texts are different just where none is among those before it
 distinct_last : (xs : List Name) (y : Name) → are_distinct (xs ++ y ∷ []) ≡ (are_distinct xs && not (is_among xs y))
 distinct_last [] y = refl
 distinct_last (x ∷ xs) y =
     ap (λ b. not b && are_distinct (xs ++ y ∷ [])) (among_last xs y x)
     ∙ (ap (λ b. not (is_among xs x || (bytes_eq x y || false)) && b) (distinct_last xs y)
     ∙ (shuffle (is_among xs x) (bytes_eq x y) (are_distinct xs) (is_among xs y)
-    ∙ ap (λ b. (not (is_among xs x) && are_distinct xs) && not (b || is_among xs y)) (bytes_eq-sym x y)))
+    ∙ ap (λ b. (not (is_among xs x) && are_distinct xs) && not (b || is_among xs y)) (nat_list_eq_equiv.symm x y)))
 
 pub distinct_more : (all : List Name) (list : List ℕ) (i d : ℕ) → i < length list → are_distinct (map (text_at all) (take i list)) ≡ true
     → is_among (map (text_at all) (take i list)) (text_at all (get_or list i d)) ≡ false → are_distinct (map (text_at all) (take (i + 1) list)) ≡ true
 distinct_more all list i d lt e f =
-    ap are_distinct (listed_more all list i d lt)
+    ap are_distinct (map_more (text_at all) list i d lt)
     ∙ (distinct_last (map (text_at all) (take i list)) (text_at all (get_or list i d))
     ∙ (ap (λ b. b && not (is_among (map (text_at all) (take i list)) (text_at all (get_or list i d)))) e ∙ ap not f))
-
-and_false : (x : Bool) → (x && false) ≡ false
-and_false true = refl
-and_false false = refl
 
 -- what isn't different stays so, whatever comes behind
 same_behind : (xs ys : List Name) → are_distinct xs ≡ false → are_distinct (xs ++ ys) ≡ false
 same_behind [] ys e = absurd (true≢false e)
-same_behind (x ∷ xs) ys e = by (is_among xs x) refl (are_distinct xs) refl (same_behind xs ys)
-  where
-    by : (a : Bool) → is_among xs x ≡ a → (d : Bool) → are_distinct xs ≡ d → (are_distinct xs ≡ false → are_distinct (xs ++ ys) ≡ false)
-        → (not (is_among (xs ++ ys) x) && are_distinct (xs ++ ys)) ≡ false
-    by true f d g behind = ap (λ b. not b && are_distinct (xs ++ ys)) (list_any-append (bytes_eq x) xs ys ∙ ap (λ b. b || is_among ys x) f)
-    by false f true g behind = absurd (true≢false (sym (ap (λ b. not b && are_distinct xs) f ∙ g) ∙ e))
-    by false f false g behind = ap (λ b. not (is_among (xs ++ ys) x) && b) (behind g) ∙ and_false (not (is_among (xs ++ ys) x))
+same_behind (x ∷ xs) ys e = elim (and_cases (not (is_among xs x)) (are_distinct xs) e) [
+  | inl f ↦ and_left _ (are_distinct (xs ++ ys)) (not_from_true _ (list_any-append (bytes_eq x) xs ys ∙ or_left _ (is_among ys x) (not-false _ f)))
+  | inr f ↦ and_right (not (is_among (xs ++ ys) x)) _ (same_behind xs ys f)
+]
 
 pub not_distinct : (all : List Name) (list : List ℕ) (i d : ℕ) → i < length list
     → is_among (map (text_at all) (take i list)) (text_at all (get_or list i d)) ≡ true → false ≡ are_distinct (map (text_at all) list)
 not_distinct all list i d lt f = sym (ap (λ xs. are_distinct (map (text_at all) xs)) (sym (take-append-drop (i + 1) list))
     ∙ (ap are_distinct (map-append (text_at all) (take (i + 1) list) (drop (i + 1) list))
     ∙ same_behind (map (text_at all) (take (i + 1) list)) (map (text_at all) (drop (i + 1) list))
-    (ap are_distinct (listed_more all list i d lt) ∙ (distinct_last (map (text_at all) (take i list)) (text_at all (get_or list i d))
-    ∙ (ap (λ b. are_distinct (map (text_at all) (take i list)) && not b) f ∙ and_false (are_distinct (map (text_at all) (take i list))))))))
+    (ap are_distinct (map_more (text_at all) list i d lt) ∙ (distinct_last (map (text_at all) (take i list)) (text_at all (get_or list i d))
+    ∙ (ap (λ b. are_distinct (map (text_at all) (take i list)) && not b) f ∙ and_right (are_distinct (map (text_at all) (take i list))) false refl)))))
 
 -- so far the texts of a list are different, and have a mark
 pub record DistinctSoFar (all : List Name) (ids marks : List ℕ) (by : ℕ) (list : List ℕ) (i : ℕ) : Type 0 where
   pub marked : Marked all ids marks by (map (text_at all) (take i list))
   pub distinct : are_distinct (map (text_at all) (take i list)) ≡ true
-
-pub equal_marks : (m n : ℕ) → m ≡ n → nat_eq m n ≡ true
-equal_marks m n e = eq-eqb m n e
-
-pub other_marks : (m n : ℕ) → (m ≡ n → ⊥) → nat_eq m n ≡ false
-other_marks m n ne = by (nat_eq m n) refl
-  where
-    by : (b : Bool) → nat_eq m n ≡ b → b ≡ false
-    by true e = absurd (ne (eqb-true m n e))
-    by false e = refl

@@ -1,13 +1,13 @@
 -- An instruction is reached just where its place has a size.
-use Rattle.std.proofs.Common.{◌≡◌, ◌⊎◌, inl, inr, ℕ, ◌+◌, ◌<◌, ◌≤◌, Bool, true, false, not, List, length, Option, Some, None, refl, sym, ap, ◌∙◌, subst, arith, true≢false}
+use Rattle.std.proofs.Common.{◌≡◌, ◌⊎◌, inl, inr, ℕ, ◌+◌, ◌<◌, ◌≤◌, true, false, not, List, length, Option, Some, None, refl, sym, ap, ◌∙◌, subst, arith, true≢false}
 use Rattle.std.specs.Bool.{Decides}
-use Rattle.std.proofs.lemmas.Bool.{cases_order}
+use Rattle.std.proofs.lemmas.Bool.{not-true}
 use Rattle.pt_code.specs.View.{Ins}
 use Rattle.pt_code.specs.declared.BlockKind.{BlockKind}
 use Rattle.pt_places.specs.declared.places.Place as P
 use Rattle.pt_places.specs.PlaceTable.{place_at, HasPlaces}
 use Rattle.pt_sizes.specs.Flow.{entry}
-use Rattle.pt_sizes.proofs.Tables.{entry_in}
+use Rattle.pt_sizes.proofs.Tables.{below_or, entry_in}
 use Rattle.pt_fits.specs.Block.{Block, Links}
 use Rattle.pt_fits.specs.Standing.{may_stand}
 use Rattle.pt_verify.specs.PlaceTable.{AreSizesUpTo}
@@ -22,12 +22,8 @@ record Parts (kind : BlockKind) (links : Links) (at : Option Ins) (size : Option
   sized : size ≡ Some n
   fails : may_stand kind links ins.instr ≡ false
 
-is_false : (t : Bool) → not t ≡ true → t ≡ false
-is_false true e = absurd (true≢false (sym e))
-is_false false e = refl
-
 parts : (kind : BlockKind) (links : Links) (at : Option Ins) (size : Option ℕ) → is_misplaced kind links (place_at at) size ≡ true → Parts kind links at size
-parts kind links (Some i) (Some n) e = record { ins = i; n = n; stands = refl; sized = refl; fails = is_false (may_stand kind links i.instr) e }
+parts kind links (Some i) (Some n) e = record { ins = i; n = n; stands = refl; sized = refl; fails = not-true (may_stand kind links i.instr) e }
 parts kind links (Some i) None e = absurd (true≢false (sym e))
 parts kind links None size e = absurd (true≢false (sym e))
 
@@ -37,12 +33,10 @@ NoneBelow kind links places sizes k = (pc : ℕ) → pc < k → is_misplaced kin
 
 pub none_more : (kind : BlockKind) (links : Links) (places : List (Option P.Place)) (sizes : List (Option ℕ)) (k : ℕ) → NoneBelow kind links places sizes k
     → is_misplaced kind links (entry places k) (entry sizes k) ≡ false → NoneBelow kind links places sizes (k + 1)
-none_more kind links places sizes k none here pc lt = by (cases_order pc k)
-  where
-    by : (pc ≡ k) ⊎ ((pc < k) ⊎ (k < pc)) → is_misplaced kind links (entry places pc) (entry sizes pc) ≡ false
-    by (inl e) = subst (λ q. is_misplaced kind links (entry places q) (entry sizes q) ≡ false) (sym e) here
-    by (inr (inl l)) = none pc l
-    by (inr (inr g)) = absurd (omega (arith, lt, g))
+none_more kind links places sizes k none here pc lt = elim (below_or pc k lt) [
+  | inl l ↦ none pc l
+  | inr e ↦ subst (λ q. is_misplaced kind links (entry places q) (entry sizes q) ≡ false) (sym e) here
+]
 
 module _ (b : Block) (places : List (Option P.Place)) (shown : HasPlaces b.at places) (p : ℕ) (sizes : List (Option ℕ)) (are : AreSizesUpTo b p sizes) where
   pub one_is : (pc : ℕ) → pc ≤ p → is_misplaced b.kind b.links (entry places pc) (entry sizes pc) ≡ true → Misplaced b p

@@ -1,8 +1,9 @@
-use Rattle.std.proofs.Common.{◌≡◌, ◌∙◌, map, refl, sym, true, subst}
-use Rattle.std.proofs.lemmas.List.{take_all}
+use Rattle.std.proofs.Common.{◌≡◌, ◌∙◌, eq-eqb, map, refl, sym, true, subst}
+use Rattle.std.proofs.lemmas.Bool.{ne_eqb}
+use Rattle.std.proofs.lemmas.List.{map_more, take_all}
 use Rattle.pt_fits.specs.Standing.{are_distinct}
 use Rattle.pt_standing.specs.Texts.{text_at}
-use Rattle.pt_standing.proofs.MarkLemmas.{distinct_more, equal_marks, listed_more, marked_more, none_marked, not_distinct, other_marks, told_by_mark}
+use Rattle.pt_standing.proofs.MarkLemmas.{distinct_more, marked_more, none_marked, not_distinct, told_by_mark}
 use Rattle.pt_standing.proofs.marks.are_distinct.Goals as goal
 
 pub loop-text-init : goal.loop-text-init
@@ -12,7 +13,7 @@ pub returns-then-branch-by : goal.returns-then-branch-by
 returns-then-branch-by c = λ all f.
     let d = c.loop-text.invariant all f in (
       not_distinct all c.args.list.now c.loop-text.text-index _ c.loop-text-test.true
-          (sym (told_by_mark all c.args.ids.now c.loop-text.marks c.args.by _ _ _ d.marked.has c.in_ok-mark_on.ensures) ∙ equal_marks _ _ c.if-branch-by.true),
+          (sym (told_by_mark all c.args.ids.now c.loop-text.marks c.args.by _ _ _ d.marked.has c.in_ok-mark_on.ensures) ∙ eq-eqb _ _ c.if-branch-by.true),
       d.marked.fresh,
     )
 
@@ -21,9 +22,9 @@ loop-text-preserved c = λ all f.
     let d = c.loop-text.invariant all f in
     record {
       marked = marked_more all c.args.ids.now _ _ c.args.by _ _ _ d.marked c.in_ok-mark.ensures
-          (listed_more all c.args.list.now c.loop-text.text-index _ c.loop-text-test.true);
+          (map_more (text_at all) c.args.list.now c.loop-text.text-index _ c.loop-text-test.true);
       distinct = distinct_more all c.args.list.now c.loop-text.text-index _ c.loop-text-test.true d.distinct
-          (sym (told_by_mark all c.args.ids.now c.loop-text.marks c.args.by _ _ _ d.marked.has c.in_ok-mark_on.ensures) ∙ other_marks _ _ c.if-branch-by.false);
+          (sym (told_by_mark all c.args.ids.now c.loop-text.marks c.args.by _ _ _ d.marked.has c.in_ok-mark_on.ensures) ∙ ne_eqb _ _ c.if-branch-by.false);
     }
 
 pub returns : goal.returns
