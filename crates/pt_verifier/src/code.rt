@@ -75,8 +75,8 @@ fn check(alloc: Global, code: &Code) -> Result<(), VerifyErr>
 /// # Errors
 ///
 /// Why the first block is refused that doesn't fit, and where. `Memory` for want of it, where more
-/// than 2^25 ways on of held Leaves of a block are looked at, as a code file may have (FITS.md), and
-/// where a number passes 2^32, as in none.
+/// than 2^25 ways on of held Leaves of a block are looked at, or more than 2^25 names for pairs of a
+/// block and a list, as a code file may have (FITS.md), and where a number passes 2^32, as in none.
 pub fn verify(alloc: Global, code: Code) -> Result<Verified, VerifyErr>
     ensures fits { IfOk result (λ v. (v ≡ code) × AllFit code) }
     ensures refused { IfErr result (λ e. IsRefused code e) }
