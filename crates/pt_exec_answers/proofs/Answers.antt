@@ -13,7 +13,8 @@ use Rattle.pt_front.proofs.Once.{never_both, one_script}
 use Rattle.pt_code.specs.declared.Code.{Code}
 use Rattle.pt_code.specs.declared.refusing.CodeErr.{CodeErr}
 use Rattle.pt_code.specs.File.{HasFile, file}
-use Rattle.pt_code.specs.Refusals.{answer}
+use Rattle.pt_code.specs.Refusals.{answer, told}
+use Rattle.pt_code.proofs.BlockLaws.{code_again}
 use Rattle.pt_code.proofs.Whole.{one_file}
 use Rattle.pt_compile.specs.ScriptCode.{code_of}
 use Rattle.pt_built_code.specs.Built.{BuiltCode}
@@ -24,7 +25,7 @@ use Rattle.pt_run_code.specs.CodeRun.{CodeRunsTo}
 use Rattle.pt_run_script.specs.ScriptRun.{CodeRunsBy}
 use Rattle.pt_code_ends.proofs.Ends.{runs_to_one_outcome}
 use Rattle.pt_script_files.specs.Laws.{HasCodeFile}
-use Rattle.pt_script_files.proofs.Supported.{code_is_supported, file_is_read, shallow_code_is_runnable}
+use Rattle.pt_script_files.proofs.Supported.{code_is_supported, shallow_code_is_runnable}
 use Rattle.pt_script_files.proofs.Runs.{code_runs_as_script, script_runs_as_code}
 use Rattle.pt_words.specs.Words.{Asked}
 use Rattle.pt_words.specs.declared.line.Command.{Command}
@@ -125,8 +126,9 @@ module _ (text : Text) (ss : Stms) (bytes : Text) (made : IsBuiltAs text ss byte
     -- where its code is run
     module _ (runnable : IsRunnable c) where
       is_read : {A : Type 0} (error : CodeErr) → IsNoFile bytes error → A
+      unfolding answer
       is_read error x =
-          let no : Ok c ≡ Err error = sym (file_is_read text ss has) ∙ (ap answer (sym written.1) ∙ x.is_answer) in absurd cc
+          let no : Ok c ≡ Err error = sym (ap (told (file c)) (code_again c written.0)) ∙ (ap answer (sym written.1) ∙ x.is_answer) in absurd cc
 
       fits : {A : Type 0} (error : CodeRefusal) → IsBadFile bytes error → A
       fits _ (no_file error x) = is_read error x

@@ -21,10 +21,8 @@ use Rattle.pt_code.specs.declared.BlockKind.{BlockKind}
 use Rattle.pt_code.specs.declared.BlockKind.TheVariants as kind
 use Rattle.pt_code.specs.declared.Code.{Code}
 use Rattle.pt_code.specs.declared.CodeBlock.{CodeBlock}
-use Rattle.pt_code.specs.File.{AreBlocks, IsBlock, file, inside, is_module}
-use Rattle.pt_code.specs.Refusals.{answer, told}
+use Rattle.pt_code.specs.File.{AreBlocks, IsBlock, inside, is_module}
 use Rattle.pt_code.specs.View.{Ins, IsView, laid_from}
-use Rattle.pt_code.proofs.BlockLaws.{code_again}
 use Rattle.pt_code.proofs.OneView.{one_view}
 use Rattle.pt_slots.specs.BlockObject.{text_in}
 use Rattle.pt_assembler.specs.Layout.{instrs_of}
@@ -41,7 +39,7 @@ use Rattle.pt_script_program.proofs.Facts.{locals_are_different}
 use Rattle.pt_code_names.proofs.Instructions.{TakesAsNamed, all-take, laid-is}
 use Rattle.pt_code_names.proofs.Module.{module_has_no_cells, module_has_no_locals}
 use Rattle.pt_fitting_scripts.proofs.Fitting.{code_of_texts_fits}
-use Rattle.pt_script_files.specs.Laws.{CodeIsSupported, FileIsRead, HasCodeFile, ShallowCodeIsRunnable}
+use Rattle.pt_script_files.specs.Laws.{CodeIsSupported, HasCodeFile, ShallowCodeIsRunnable}
 use Rattle.pt_script_files.proofs.Named.{cells_fit, different_cells, in_script, names, numbered_blocks, numbers}
 
 -- kinds of blocks
@@ -142,10 +140,6 @@ module _ (text : List ℕ) (ss : Stms) (h : HasCodeFile text ss) where
 
 pub code_is_supported : CodeIsSupported
 code_is_supported text ss h = built_block text ss h
-
-pub file_is_read : FileIsRead
-unfolding answer
-file_is_read text ss h = ap (told (file (code_of ss))) (code_again (code_of ss) h.has_file)
 
 pub shallow_code_is_runnable : ShallowCodeIsRunnable
 shallow_code_is_runnable text ss h shallow = record {

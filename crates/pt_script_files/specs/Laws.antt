@@ -1,5 +1,5 @@
--- What the laws say of the code file of a supported script: it is read as the code of the script, which is run as the script is.
-use Rattle.std.specs.Prelude.{◌≡◌, ℕ, List, slice_get, Option, Some, Ok}
+-- What the laws say of the code of a supported script that has a file: it is supported, and run as the script is.
+use Rattle.std.specs.Prelude.{◌≡◌, ℕ, List, slice_get, Option, Some}
 use Rattle.pt_tree.specs.Syntax.{Stms}
 use Rattle.pt_run.specs.Run.{Write}
 use Rattle.pt_bare_runs.specs.Strides.{Outcome}
@@ -10,8 +10,7 @@ use Rattle.pt_built.specs.Built.{Built}
 use Rattle.pt_front.specs.Text.{IsScript}
 use Rattle.pt_code.specs.declared.CodeBlock.{CodeBlock}
 use Rattle.pt_code.specs.declared.Code.{Code}
-use Rattle.pt_code.specs.File.{HasFile, file}
-use Rattle.pt_code.specs.Refusals.{answer}
+use Rattle.pt_code.specs.File.{HasFile}
 use Rattle.pt_code.specs.View.{Ins, IsView}
 use Rattle.pt_compile.specs.ScriptCode.{code_of}
 use Rattle.pt_fits.specs.Block.{block_of}
@@ -34,10 +33,7 @@ pub record HasCodeFile (text : List ℕ) (ss : Stms) : Type 0 where
 abbrev pub IsShallowCode : Code → Type 0
 IsShallowCode c = (n : ℕ) (b : CodeBlock) → slice_get c.blocks n ≡ Some b → (view : ℕ → Option Ins) → IsView b view → IsShallow (block_of c b view)
 
--- from its file no other code is read, and none of its blocks is unsupported
-abbrev pub FileIsRead : Type 0
-FileIsRead = (text : List ℕ) (ss : Stms) → HasCodeFile text ss → answer (file (code_of ss)) ≡ Ok (code_of ss)
-
+-- none of its blocks is unsupported
 abbrev pub CodeIsSupported : Type 0
 CodeIsSupported = (text : List ℕ) (ss : Stms) → HasCodeFile text ss → BuiltCode (code_of ss)
 

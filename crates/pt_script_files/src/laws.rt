@@ -4,16 +4,10 @@ ghost use Rattle.pt_script_files.specs.Laws.{
   CodeHasOneProgram,
   CodeIsSupported,
   CodeRunsAsScript,
-  FileIsRead,
   ScriptRunsAsCode,
   ScriptWritesAsCode,
   ShallowCodeIsRunnable,
 };
-
-/// From the file that is written of a script's code this code is read, and no other.
-pub fn a_file_of_a_script_is_read()
-    ensures { FileIsRead }
-{}
 
 /// The code of a supported script that has a file is supported. It fits, and so it is run, unless a
 /// place of it gets more than 16,777,216 slots.
