@@ -31,6 +31,7 @@ use Rattle.pt_bare_runs.specs.Strides.{Outcome, take_turn}
 use Rattle.pt_bare_writes.proofs.FrontLemmas.{outcomes_begin_so}
 use Rattle.pt_code_machine.specs.CodeBlocks.{machine, start_of}
 use Rattle.pt_code_loader.specs.Loaded.{iterates}
+use Rattle.pt_fitting_runs.proofs.Runs.{starts_sound}
 use Rattle.pt_runner.specs.Work.{Work, RunDoes}
 use Rattle.pt_runner.proofs.GoesTo.{does_one_work, runs_so}
 use Rattle.pt_code_program.specs.CodeProgram.{AreObjectsOf, code_blocks, iterates_by, number_in, program_of_code, the_module}
@@ -40,7 +41,7 @@ use Rattle.pt_code_ends.specs.Laws.{CodeRunsToOneOutcome, OutcomeBeginsWithFirst
 use Rattle.pt_code_ends.proofs.Strides.{TurnIn}
 use Rattle.pt_code_ends.proofs.Turns as turns
 use Rattle.pt_code_ends.proofs.Turns.{turns_alike}
-use Rattle.pt_code_ends.proofs.Fitting.{sound_alike, turn_in, starts_sound}
+use Rattle.pt_code_ends.proofs.Fitting.{sound_alike, turn_in}
 use Rattle.pt_code_ends.proofs.Outside.{alike_strides, extras_leave}
 use Rattle.pt_code_ends.proofs.Runs.{run_does_too}
 

@@ -1,5 +1,5 @@
 -- In a block that fits jumps go on to places that get kinds alone, and a turn leads soundly on.
-use Rattle.std.proofs.Common.{◌≡◌, ℕ, ◌∷◌, length, refl, sym, ap, ◌∙◌, subst, reverse}
+use Rattle.std.proofs.Common.{◌≡◌, ℕ, ◌∷◌, length, refl, sym, ◌∙◌, subst, reverse}
 use Rattle.pt_instr.specs.declared.Instr.{Instr}
 use Rattle.pt_instr.specs.declared.Instr.TheVariants as instr
 use Rattle.pt_instr.specs.Effects.{Kinds}
@@ -8,12 +8,10 @@ use Rattle.pt_control.specs.Turn.{Turn, act, note, move, over, stuck}
 use Rattle.pt_slots.specs.Slots.{jump_to, Completion, by, pending, Slots, State, on, thrown_to, reraises, off}
 use Rattle.pt_slots.specs.CodeObject.{CodeObject, Extras}
 use Rattle.pt_slots.specs.Machine.{turn}
-use Rattle.pt_fits.specs.Block.{Block, kinds_at_start}
+use Rattle.pt_fits.specs.Block.{Block}
 use Rattle.pt_fits.specs.Places.{Gets, Reached}
-use Rattle.pt_fits.specs.Places as places
 use Rattle.pt_fits.specs.Fits.{Fits, Arrives}
-use Rattle.pt_fits.specs.Laws as laws
-use Rattle.pt_fits.specs.Laws.{Runs, MayHold, Stack, At, Sound, GoesOn, Starts}
+use Rattle.pt_fits.specs.Laws.{Runs, MayHold, Stack, At, Sound, GoesOn}
 use Rattle.pt_fits.proofs.Ways.{place_of, holds_arrive}
 use Rattle.pt_fits.proofs.SlotLaw.{slots_fit}
 use Rattle.pt_code_ends.proofs.Strides.{TurnIn}
@@ -55,9 +53,3 @@ module _ {V : Type 0} (code : CodeObject V) (b : Block) (runs : Runs code b) (fi
 
 pub turn_in : {V : Type 0} (code : CodeObject V) (b : Block) → Runs code b → Fits b → (s : State V) → Sound b s → TurnIn (λ s. Sound b s) (turn code s)
 turn_in code b runs fits s sound = goes_in b (turn code s) (slots_fit code b runs fits s sound)
-
-pub starts_sound : {V : Type 0} (b : Block) {s : State V} → Starts b s → Sound b s
-starts_sound b (laws.empty i e k) =
-    record { kinds = kinds_at_start b.kind; gets = places.start i e; stack = record { kinds = ap reverse (sym k); holds = tt } }
-starts_sound b (laws.iterating i e k v) =
-    record { kinds = kinds_at_start b.kind; gets = places.start i e; stack = record { kinds = ap reverse (sym k); holds = (tt, tt) } }

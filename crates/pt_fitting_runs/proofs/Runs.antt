@@ -24,7 +24,7 @@ use Rattle.pt_code_machine.specs.CodeBlocks.{CodeBlocks, machine}
 use Rattle.pt_fitting_runs.specs.Laws.{AreFitting, CodeThatFitsRunsOn}
 use Rattle.pt_fitting_runs.proofs.PlainAsks.{IsPlain, plain}
 
-starts_sound : {V : Type 0} (b : Block) {s : State V} → Starts b s → Sound b s
+pub starts_sound : {V : Type 0} (b : Block) {s : State V} → Starts b s → Sound b s
 starts_sound b (laws.empty i e k) = record { kinds = kinds_at_start b.kind; gets = places.start i e; stack = record { kinds = ap reverse (sym k); holds = tt } }
 starts_sound b (laws.iterating i e k v) =
     record { kinds = kinds_at_start b.kind; gets = places.start i e; stack = record { kinds = ap reverse (sym k); holds = (tt, tt) } }
