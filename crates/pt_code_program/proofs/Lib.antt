@@ -1,4 +1,3 @@
-mod Lists
 pub mod Objects
 pub mod Tables
 pub mod Operands

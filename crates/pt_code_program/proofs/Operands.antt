@@ -27,9 +27,9 @@ use Rattle.pt_run_names.specs.Operands.{CodeNamesItsBlocks, OperandsName, Operan
 use Rattle.pt_run_names.proofs.Start.{begins_with_names}
 use Rattle.pt_built_code.specs.Built.{TakesAsListed, has_slots_by_kind, is_plain_kind}
 use Rattle.pt_built_code.proofs.BlockLemmas.{fields_of}
+use Rattle.pt_loaded_scripts.proofs.Lists.{same_some}
 use Rattle.pt_code_program.specs.CodeProgram.{AreObjectsOf, code_blocks, facts_by, number_in, number_or_module, program_of_code, the_module}
 use Rattle.pt_code_program.specs.Laws.{IsRunnable, BuiltCodeNamesItsBlocks, RunOfCodeBeginsWithNames}
-use Rattle.pt_code_program.proofs.Lists.{same_some}
 use Rattle.pt_code_program.proofs.Objects.{at_number, the_first}
 
 -- what holds of each instruction holds of that at a place

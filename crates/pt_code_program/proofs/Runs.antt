@@ -26,9 +26,9 @@ use Rattle.pt_code_loader.specs.Loaded.{iterates}
 use Rattle.pt_fitting_runs.specs.Laws.{AreFitting}
 use Rattle.pt_fitting_runs.proofs.Runs.{runs_on}
 use Rattle.pt_built_code.specs.Built.{is_plain_kind}
+use Rattle.pt_loaded_scripts.proofs.Lists.{same_some}
 use Rattle.pt_code_program.specs.CodeProgram.{AreObjectsOf, code_blocks, iterates_by, number_in, program_of_code, the_module}
 use Rattle.pt_code_program.specs.Laws.{IsRunnable, BuiltCodeIsNeverStuck}
-use Rattle.pt_code_program.proofs.Lists.{same_some}
 use Rattle.pt_code_program.proofs.Objects.{at_number, begins}
 
 -- neither a function nor a module gives a value on or begins with an iterator

@@ -1,3 +1,4 @@
-mod Lists
+pub mod Lists
+pub mod Tables
 pub mod Loading
 pub mod Texts

@@ -15,17 +15,25 @@ index_map f [] n d = refl
 index_map f (x ∷ xs) zero d = refl
 index_map f (x ∷ xs) (suc n) d = index_map f xs n d
 
+-- with any default where something stands, and the default past the end
 pub index_is : {A : Type 0} (xs : List A) (n : ℕ) (d x : A) → slice_get xs n ≡ Some x → slice_index_or xs n d ≡ x
 index_is [] n d x e = absurd (let no : None ≡ Some x = e in cc)
 index_is (y ∷ xs) zero d x e = same_some y x e
 index_is (y ∷ xs) (suc n) d x e = index_is xs n d x e
 
--- past the end of a list as long as another
 pub index_none : {A B : Type 0} (xs : List A) (ys : List B) (n : ℕ) (d : A) → length xs ≡ length ys → slice_get ys n ≡ None → slice_index_or xs n d ≡ d
 index_none [] ys n d l e = refl
 index_none (x ∷ xs) [] n d l e = absurd (omega (arith, l))
 index_none (x ∷ xs) (y ∷ ys) zero d l e = absurd (let no : Some y ≡ None = e in cc)
 index_none (x ∷ xs) (y ∷ ys) (suc n) d l e = index_none xs ys n d (omega (arith, l)) e
+
+-- lists that are as long have something at the same places
+
+pub none_there : {A B : Type 0} (xs : List A) (ys : List B) (n : ℕ) → length xs ≡ length ys → slice_get ys n ≡ None → slice_get xs n ≡ None
+none_there [] ys n l e = refl
+none_there (x ∷ xs) [] n l e = absurd (omega (arith, l))
+none_there (x ∷ xs) (y ∷ ys) zero l e = absurd (let no : Some y ≡ None = e in cc)
+none_there (x ∷ xs) (y ∷ ys) (suc n) l e = none_there xs ys n (omega (arith, l)) e
 
 pub there : {A B : Type 0} (xs : List A) (ys : List B) (i : ℕ) (x : A) → length ys ≡ length xs → slice_get xs i ≡ Some x → (y : B) × (slice_get ys i ≡ Some y)
 there [] ys i x e at = absurd (let none : None ≡ Some x = at in cc)
