@@ -50,7 +50,7 @@ use Rattle.pt_loaded_scripts.specs.Laws.{IsLoadable, HasTables, LoadedScriptHasT
 use Rattle.pt_loaded_scripts.proofs.Lists.{same_some, none_there, there, mapped_at}
 use Rattle.pt_loaded_scripts.proofs.Tables.{Fields, are_tables_of, block_fields, class_there, is_its_object, known, object_with, past_end, told}
 
-kind_iterates : (c : BlockCodeTree) → iterates (kind_of c) ≡ follows.iterates c
+pub kind_iterates : (c : BlockCodeTree) → iterates (kind_of c) ≡ follows.iterates c
 kind_iterates (B.of_module ss) = refl
 kind_iterates (B.of_function ss) = by (yields (B.of_function ss))
   where

@@ -29,6 +29,7 @@ use Rattle.pt_script_numbers.proofs.Scripts.{numbered}
 use Rattle.pt_slot_names.proofs.Different.{cells_are_different}
 use Rattle.pt_slot_names.proofs.Written.{blocks_have_names}
 use Rattle.pt_script_program.specs.Laws.{HasItsNames}
+use Rattle.pt_loaded_scripts.proofs.Lists.{same_some}
 use Rattle.pt_script_files.specs.Laws.{HasCodeFile}
 use Rattle.pt_script_files.proofs.Numbers.{numbers_fit}
 
@@ -40,9 +41,6 @@ pub record InScript (ss : Stms) (n : ℕ) (b : CodeBlock) : Type 0 where
   pub is_layout : slice_get (script_layouts ss) n ≡ Some layout
   pub is : code_block layout ≡ b
   pub kind : (code_block layout).kind ≡ kind_of block.code
-
-pub same_some : {A : Type 0} (a b : A) → Some a ≡ Some b → a ≡ b
-same_some a b e = ap (λ o. elim o [ None ↦ a | Some x ↦ x ]) e
 
 unmapped_at : {A B : Type 0} (f : A → B) (xs : List A) (n : ℕ) (y : B) → slice_get (map f xs) n ≡ Some y → (x : A) × (slice_get xs n ≡ Some x) × (f x ≡ y)
 unmapped_at f [] n y e = absurd (let no : None ≡ Some y = e in cc)

@@ -1,5 +1,5 @@
 -- A host knows the same of a supported script's code as of the script.
-use Rattle.std.proofs.Common.{◌≡◌, ℕ, zero, suc, List, [], ◌∷◌, length, Option, Some, None, refl, sym, ap, ◌∙◌, arith}
+use Rattle.std.proofs.Common.{◌≡◌, ℕ, List, length, Option, Some, None, refl, sym, ap, ◌∙◌}
 use Rattle.std.specs.Prelude.{slice_get}
 use Rattle.std.proofs.Math.Path.{fun_ext}
 use Rattle.std.proofs.lemmas.List.{length-map}
@@ -15,24 +15,10 @@ use Rattle.pt_script_runs.specs.Blocks as script
 use Rattle.pt_script_program.specs.ScriptProgram.{block_or_module, facts_at, facts_with, the_module_block}
 use Rattle.pt_script_program.proofs.Facts.{code_tells}
 use Rattle.pt_code_loader.specs.Texts.{constant_texts}
-use Rattle.pt_code_names.proofs.Instructions.{mapped-at}
+use Rattle.pt_loaded_scripts.proofs.Lists.{mapped_at, none_there, there}
 use Rattle.pt_code_program.specs.CodeProgram.{facts_by, number_in, number_or_module, program_of_code}
 use Rattle.pt_script_files.specs.Laws.{CodeHasOneProgram, HasCodeFile}
 use Rattle.pt_script_files.proofs.Named.{names}
-
--- lists that are as long have something at the same places
-
-none_there : {A B : Type 0} (xs : List A) (ys : List B) (n : ℕ) → length xs ≡ length ys → slice_get ys n ≡ None → slice_get xs n ≡ None
-none_there [] ys n l e = refl
-none_there (x ∷ xs) [] n l e = absurd (omega (arith, l))
-none_there (x ∷ xs) (y ∷ ys) zero l e = absurd (let no : Some y ≡ None = e in cc)
-none_there (x ∷ xs) (y ∷ ys) (suc n) l e = none_there xs ys n (omega (arith, l)) e
-
-some_there : {A B : Type 0} (xs : List A) (ys : List B) (n : ℕ) (y : B) → length xs ≡ length ys → slice_get ys n ≡ Some y → (x : A) × (slice_get xs n ≡ Some x)
-some_there xs [] n y l e = absurd (let no : None ≡ Some y = e in cc)
-some_there [] (z ∷ ys) n y l e = absurd (omega (arith, l))
-some_there (x ∷ xs) (z ∷ ys) zero y l e = (x, refl)
-some_there (x ∷ xs) (z ∷ ys) (suc n) y l e = some_there xs ys n y (omega (arith, l)) e
 
 module _ (ss : Stms) where
   abbrev c : Code
@@ -43,8 +29,8 @@ module _ (ss : Stms) where
       → (b : BlockLayout) × (slice_get (script_layouts ss) n ≡ Some b) × (slice_get c.blocks n ≡ Some (code_block b))
   laid_out n k e =
       let long : length (script_layouts ss) ≡ length (blocks_script ss) = sym (length-map (script_layouts ss) code_block) ∙ as_many_blocks ss in
-      let b = some_there (script_layouts ss) (blocks_script ss) n k long e in
-      (b.0, b.1, mapped-at code_block (script_layouts ss) n b.0 b.1)
+      let b = there (blocks_script ss) (script_layouts ss) n k long e in
+      (b.0, b.1, mapped_at code_block (script_layouts ss) n b.0 b.1)
 
   -- code and script have one number for it
   pub number_by : (o : Option Block) (n : ℕ) → slice_get (blocks_script ss) n ≡ o → number_in c n ≡ script.number_or_module o n

@@ -1,23 +1,21 @@
 -- A run of a supported script's code is one of the code that is read from its file, and the other way round.
-use Rattle.std.proofs.Common.{◌≡◌, ℕ, Bool, true, false, if◌then◌else◌, List, [], Option, Some, None, refl, sym, ap, ◌∙◌, subst}
+use Rattle.std.proofs.Common.{◌≡◌, ℕ, false, List, [], Option, Some, None, refl, sym, ap, ◌∙◌, subst}
 use Rattle.std.specs.Prelude.{slice_get}
 use Rattle.std.proofs.Math.Path.{fun_ext}
 use Rattle.pt_tree.specs.Syntax.{Stms}
-use Rattle.pt_tree.specs.Blocks as B
-use Rattle.pt_tree.specs.Blocks.{Block, Code as BlockCode, blocks_script, yields}
+use Rattle.pt_tree.specs.Blocks.{Block, blocks_script}
 use Rattle.pt_run.specs.Machine.{BlockId}
 use Rattle.pt_run.specs.Run.{Write}
 use Rattle.pt_bare_runs.specs.Strides.{Outcome}
 use Rattle.pt_bare_writes.specs.Fronts.{RunWritesFirst, within}
 use Rattle.pt_heap.specs.declared.value.Value.{Value}
 use Rattle.pt_heap.specs.declared.value.Value.TheVariants as value
-use Rattle.pt_code.specs.declared.BlockKind.TheVariants as kind
 use Rattle.pt_code.specs.declared.Code.{Code}
 use Rattle.pt_code.specs.declared.CodeBlock.{CodeBlock}
 use Rattle.pt_slots.specs.CodeObject.{CodeObject}
 use Rattle.pt_slots.specs.BlockObject.{IsBlockObject}
 use Rattle.pt_fits.specs.Fits.{AllFit}
-use Rattle.pt_compile.specs.ScriptCode.{code_block, code_of, kind_of}
+use Rattle.pt_compile.specs.ScriptCode.{code_block, code_of}
 use Rattle.pt_operands_fit.proofs.Operands.{operands_fit}
 use Rattle.pt_code_machine.specs.CodeBlocks.{CodeBlocks, machine}
 use Rattle.pt_code_follows.specs.Laws as follows
@@ -37,26 +35,15 @@ use Rattle.pt_script_runs.specs.Blocks.{script_code, the_module}
 use Rattle.pt_script_runs.specs.Laws.{AreItsObjects, code_machine}
 use Rattle.pt_script_runs.proofs.Objects.{code_of_script_writes_nothing_else, script_has_its_bare_runs}
 use Rattle.pt_script_program.specs.ScriptProgram.{program_of, the_module_block}
+use Rattle.pt_loaded_scripts.proofs.Lists.{same_some}
+use Rattle.pt_loaded_scripts.proofs.Loading.{kind_iterates}
 use Rattle.pt_code_program.specs.CodeProgram.{AreObjectsOf, code_blocks, iterates_by, number_in, number_or_module, program_of_code}
 use Rattle.pt_run_code.specs.CodeRun.{CodeRunsTo, CodeWritesFirst, nothing, of_run}
 use Rattle.pt_run_script.specs.ScriptRun.{AreCodeOf, CodeRunsBy, RunsTo, ScriptWritesFirst}
 use Rattle.pt_script_files.specs.Laws.{CodeRunsAsScript, HasCodeFile, ScriptRunsAsCode, ScriptWritesAsCode}
-use Rattle.pt_script_files.proofs.Named.{cells_fit, in_script, numbered_blocks, numbers, same_some, unused}
+use Rattle.pt_script_files.proofs.Named.{cells_fit, in_script, numbered_blocks, numbers, unused}
 use Rattle.pt_script_files.proofs.Programs.{code_has_one_program, laid_out, number_by, one_number}
 use Rattle.pt_script_files.proofs.Supported.{code_is_supported}
-
--- generator expressions alone start with an iterator
-
-function_starts : (t : Bool) → iterates (if t then kind.Generator else kind.Function) ≡ false
-function_starts true = refl
-function_starts false = refl
-
-kind_starts : (c : BlockCode) → iterates (kind_of c) ≡ follows.iterates c
-kind_starts (B.of_module ss) = refl
-kind_starts (B.of_function ss) = function_starts (yields (B.of_function ss))
-kind_starts (B.of_class ss) = refl
-kind_starts (B.of_lambda l e) = function_starts (yields (B.of_lambda l e))
-kind_starts (B.of_generator l e k t cs) = refl
 
 number_again : (c : Code) (o : Option CodeBlock) (n : ℕ) → slice_get c.blocks n ≡ o → number_in c (number_or_module o n) ≡ number_or_module o n
 number_again c (Some b) n e = ap (λ o. number_or_module o n) e
@@ -80,7 +67,7 @@ module _ (ss : Stms) where
       let i = in_script ss n (code_block b.0) b.2 in
       ap iterates_by b.2
       ∙ (ap (λ (d : CodeBlock). iterates d.kind) (sym i.is)
-      ∙ (ap iterates i.kind ∙ (kind_starts i.block.code ∙ ap (λ (j : Block). follows.iterates j.code) (same_some i.block k (sym i.is_block ∙ e)))))
+      ∙ (ap iterates i.kind ∙ (kind_iterates i.block.code ∙ ap (λ (j : Block). follows.iterates j.code) (same_some i.block k (sym i.is_block ∙ e)))))
 
   starts_by : (o : Option Block) (n : ℕ) → slice_get (blocks_script ss) n ≡ o
       → iterates_by (slice_get c.blocks (number_in c n)) ≡ follows.iterates (script.code_or_module ss o)
