@@ -1,5 +1,5 @@
 -- What a host knows of a code: of each block what its code object tells, and the texts of constants (Language Reference 3.2.13.1, 4.2; Library
--- Reference, "inspect": code objects). The module has number 0, and stands for a number that the code doesn't have.
+-- Reference, "inspect": code objects). The run of a code begins in its module, which has number 0 and stands for a number that the code doesn't have.
 use Rattle.std.specs.Prelude.{◌≡◌, ℕ, [], Bool, false, List, slice_get, Option, Some, None}
 use Rattle.pt_tree.specs.Syntax.{Name}
 use Rattle.pt_heap.specs.declared.value.Value.{Value}
@@ -7,13 +7,13 @@ use Rattle.pt_code.specs.declared.CodeBlock.{CodeBlock}
 use Rattle.pt_code.specs.declared.Code.{Code}
 use Rattle.pt_slots.specs.CodeObject.{CodeObject}
 use Rattle.pt_slots.specs.BlockObject.{IsBlockObject}
-use Rattle.pt_run.specs.Machine.{BlockId}
 use Rattle.pt_code_machine.specs.CodeBlocks.{CodeBlocks}
 use Rattle.pt_host.specs.World.{CodeFacts, Program}
 use Rattle.pt_heap_rows.specs.Leads.{HasHeapTruths, HasHeapExtras}
 use Rattle.pt_code_facts.specs.Facts.{facts_of, facts_view}
 use Rattle.pt_code_loader.specs.Texts.{constant_texts}
 use Rattle.pt_code_loader.specs.Loaded.{iterates}
+pub use Rattle.pt_script_runs.specs.Blocks.{the_module}
 
 abbrev pub number_or_module : Option CodeBlock → ℕ → ℕ
 number_or_module (Some b) n = n
@@ -55,7 +55,3 @@ module _ (c : Code) where
     pub of_blocks : (n : ℕ) (b : CodeBlock) → slice_get c.blocks n ≡ Some b → IsBlockObject c b (object n)
     pub truths : (n : ℕ) → HasHeapTruths (object n)
     pub extras : (n : ℕ) → HasHeapExtras (object n)
-
--- the run of a code begins in its module
-abbrev pub the_module : BlockId
-the_module = record { hidden = false; number = 0 }
