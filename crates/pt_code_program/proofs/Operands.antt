@@ -94,7 +94,7 @@ module_slots kind.Class n e f = absurd (false≢true e)
 module_slots kind.GeneratorExpression n e f = absurd (false≢true e)
 
 -- in either case the module's number is 0
-module_number : (o : Option CodeBlock) → number_or_module o 0 ≡ 0
+pub module_number : (o : Option CodeBlock) → number_or_module o 0 ≡ 0
 module_number (Some b) = refl
 module_number None = refl
 

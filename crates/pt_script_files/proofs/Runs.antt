@@ -38,6 +38,7 @@ use Rattle.pt_script_program.specs.ScriptProgram.{program_of, the_module_block}
 use Rattle.pt_loaded_scripts.proofs.Lists.{same_some}
 use Rattle.pt_loaded_scripts.proofs.Loading.{kind_iterates}
 use Rattle.pt_code_program.specs.CodeProgram.{AreObjectsOf, code_blocks, iterates_by, number_in, number_or_module, program_of_code}
+use Rattle.pt_code_program.proofs.Operands.{module_number}
 use Rattle.pt_run_code.specs.CodeRun.{CodeRunsTo, CodeWritesFirst, nothing, of_run}
 use Rattle.pt_run_script.specs.ScriptRun.{AreCodeOf, CodeRunsBy, RunsTo, ScriptWritesFirst}
 use Rattle.pt_script_files.specs.Laws.{CodeRunsAsScript, HasCodeFile, ScriptRunsAsCode, ScriptWritesAsCode}
@@ -47,11 +48,7 @@ use Rattle.pt_script_files.proofs.Supported.{code_is_supported}
 
 number_again : (c : Code) (o : Option CodeBlock) (n : ℕ) → slice_get c.blocks n ≡ o → number_in c (number_or_module o n) ≡ number_or_module o n
 number_again c (Some b) n e = ap (λ o. number_or_module o n) e
-number_again c None n e = by (slice_get c.blocks 0)
-  where
-    by : (o : Option CodeBlock) → number_or_module o 0 ≡ 0
-    by (Some b) = refl
-    by None = refl
+number_again c None n e = module_number (slice_get c.blocks 0)
 
 -- numbers that the code doesn't have stand for its module
 abbrev by_numbers : Code → (object : ℕ → CodeObject Value) → ℕ → CodeObject Value
