@@ -13,11 +13,7 @@ use Rattle.pt_heap_rows.specs.Leads.{HasHeapTruths, HasHeapExtras}
 use Rattle.pt_code_facts.specs.Facts.{facts_of, facts_view}
 use Rattle.pt_code_loader.specs.Texts.{constant_texts}
 use Rattle.pt_code_loader.specs.Loaded.{iterates}
-pub use Rattle.pt_script_runs.specs.Blocks.{the_module}
-
-abbrev pub number_or_module : Option CodeBlock → ℕ → ℕ
-number_or_module (Some b) n = n
-number_or_module None n = 0
+pub use Rattle.pt_script_runs.specs.Blocks.{number_or_module, the_module}
 
 abbrev pub number_in : Code → (number : ℕ) → ℕ
 number_in c n = number_or_module (slice_get c.blocks n) n

@@ -9,6 +9,7 @@ use Rattle.pt_run.specs.Machine.{BlockId}
 use Rattle.pt_naming.specs.Around.{names_of}
 use Rattle.pt_naming.specs.Script.{naming_script, spelled_in}
 use Rattle.pt_code.specs.declared.Code.{Code}
+use Rattle.pt_code.specs.declared.CodeBlock.{CodeBlock}
 use Rattle.pt_compile.specs.ScriptCode.{BlockLayout, code_block, code_of, script_layouts}
 use Rattle.pt_compile.proofs.Blocks.{as_many_blocks}
 use Rattle.pt_script_runs.specs.Blocks as script
@@ -34,8 +35,8 @@ module _ (ss : Stms) where
 
   -- code and script have one number for it
   pub number_by : (o : Option Block) (n : ℕ) → slice_get (blocks_script ss) n ≡ o → number_in c n ≡ script.number_or_module o n
-  number_by (Some k) n e = let b = laid_out n k e in ap (λ o. number_or_module o n) b.2
-  number_by None n e = ap (λ o. number_or_module o n) (none_there c.blocks (blocks_script ss) n (as_many_blocks ss) e)
+  number_by (Some k) n e = let b = laid_out n k e in ap (λ (o : Option CodeBlock). number_or_module o n) b.2
+  number_by None n e = ap (λ (o : Option CodeBlock). number_or_module o n) (none_there c.blocks (blocks_script ss) n (as_many_blocks ss) e)
 
   pub one_number : (b : BlockId) → number_in c b.number ≡ script.number_of ss b
   one_number b = number_by (script.block_of ss b) b.number refl

@@ -47,7 +47,7 @@ use Rattle.pt_script_files.proofs.Programs.{code_has_one_program, laid_out, numb
 use Rattle.pt_script_files.proofs.Supported.{code_is_supported}
 
 number_again : (c : Code) (o : Option CodeBlock) (n : ℕ) → slice_get c.blocks n ≡ o → number_in c (number_or_module o n) ≡ number_or_module o n
-number_again c (Some b) n e = ap (λ o. number_or_module o n) e
+number_again c (Some b) n e = ap (λ (o : Option CodeBlock). number_or_module o n) e
 number_again c None n e = module_number (slice_get c.blocks 0)
 
 -- numbers that the code doesn't have stand for its module
@@ -97,7 +97,7 @@ module _ (text : List ℕ) (ss : Stms) (h : HasCodeFile text ss) where
           let i = in_script ss k b e in
           let has : HasCode value.None ss k i.block (object k) = are.of_blocks k i.block i.is_block in
           let same : code_block has.layout ≡ b = ap code_block (same_some has.layout i.layout (sym has.is_layout ∙ i.is_layout)) ∙ i.is in
-          subst (λ m. IsBlockObject code b (object m)) (sym (ap (λ o. number_or_module o k) e))
+          subst (λ m. IsBlockObject code b (object m)) (sym (ap (λ (o : Option CodeBlock). number_or_module o k) e))
           (subst (λ d. IsBlockObject code d (object k)) same has.is_object);
       truths = λ k. let b : BlockId = record { hidden = false; number = k } in subst (λ m. HasHeapTruths (object m)) (sym (one_number ss b)) (are.truths b);
       extras = λ k. let b : BlockId = record { hidden = false; number = k } in subst (λ m. HasHeapExtras (object m)) (sym (one_number ss b)) (are.extras b);

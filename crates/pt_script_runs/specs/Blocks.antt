@@ -9,7 +9,8 @@ use Rattle.pt_run.specs.Source.{Source}
 use Rattle.pt_code_machine.specs.CodeBlocks.{CodeBlocks}
 use Rattle.pt_code_follows.specs.Laws.{iterates}
 
-abbrev pub number_or_module : Option Block → ℕ → ℕ
+-- by what stands at the number, if anything does
+abbrev pub number_or_module : {A : Type 0} → Option A → ℕ → ℕ
 number_or_module (Some k) n = n
 number_or_module None n = 0
 
