@@ -222,7 +222,7 @@ pub fn first_run(kind: BlockKind) -> Run
 }
 
 /// A graph without edges.
-fn bare(alloc: Global, kind: BlockKind, size: usize) -> Result<Flow, Memory>
+pub fn without_edges(alloc: Global, kind: BlockKind, size: usize) -> Result<Flow, Memory>
     ensures { IfOk result (λ flow. (leads : ℕ → List Lead)
         → DrawnFrom (kinds_at_start kind) size leads size flow) }
 {
@@ -251,7 +251,7 @@ pub fn kinds_up_to(
 {
     let rows = block.handlers.as_slice();
     let plan = lay_rows(alloc, rows, sizes.len())?;
-    let mut flow = bare(alloc, block.kind, plan.size)?;
+    let mut flow = without_edges(alloc, block.kind, plan.size)?;
     let mut vertex = plan.size;
     while vertex > 0 {
         vertex -= 1;

@@ -2,18 +2,19 @@
 ghost use Rattle.std.specs.Prelude.{◌≡◌, ◌+◌, ◌≤◌, ℕ, Option, List, length, option_map, Some, IfOk};
 ghost use Rattle.pt_code.specs.View.{Ins};
 ghost use Rattle.pt_places.specs.PlaceTable.{HasPlaces, entry};
-ghost use Rattle.pt_fits.specs.Block.{block_of, kinds_at_start, links_of};
+ghost use Rattle.pt_fits.specs.Block.{block_of, links_of};
 ghost use Rattle.pt_kind_flow.specs.Search.{IsFlow};
-ghost use Rattle.pt_block_kinds.specs.Leads.{Lead, leads_of};
-ghost use Rattle.pt_block_kinds.specs.Drawing.{DrawnFrom};
+ghost use Rattle.pt_block_kinds.specs.Leads.{leads_of};
 ghost use Rattle.pt_cut_failures.specs.Chains.{AreChains};
 ghost use Rattle.pt_cut_failures.specs.Leads.{leads_from, link_leads, vertex_leads};
 ghost use Rattle.pt_cut_failures.specs.Graph.{Draws};
 
 use crate::chains::{Chains, Link};
 use pt_base::Memory;
-use pt_block_kinds::{add_own, edges_of_row, first_run, left, no_runs, number_of, place_at, sum};
-use pt_code::{BlockKind, Code, CodeBlock};
+use pt_block_kinds::{
+    add_own, edges_of_row, left, no_runs, number_of, place_at, sum, without_edges,
+};
+use pt_code::{Code, CodeBlock};
 use pt_instr::effect;
 use pt_kind_flow::{Edge, Flow};
 use pt_places::{Place, Places};
@@ -116,14 +117,6 @@ fn edges_of_vertex(
     edges_of_link(alloc, count, links_from, number, chains.links[number])
 }
 
-/// A graph without edges.
-fn bare(alloc: Global, kind: BlockKind, size: usize) -> Result<Flow, Memory>
-    ensures { IfOk result (λ flow. (leads : ℕ → List Lead)
-        → DrawnFrom (kinds_at_start kind) size leads size flow) }
-{
-    Flow::new(alloc, size, &[first_run(kind)])
-}
-
 /// The flow of kinds through the instructions of a block at a limit and below, for the sizes of
 /// their places. The vertices are the places, the handler rows and the links of their chains. The
 /// first gets its edges last, so that those of all others are there when lists go along them.
@@ -147,7 +140,7 @@ pub fn cut_flow(
     let rows = block.handlers.as_slice();
     let chains = Chains::build(alloc, rows, sizes.len())?;
     let size = sum(sum(sizes.len(), rows.len())?, chains.links.len())?;
-    let mut flow = bare(alloc, block.kind, size)?;
+    let mut flow = without_edges(alloc, block.kind, size)?;
     let mut vertex = size;
     while vertex > 0 {
         vertex -= 1;
