@@ -3,11 +3,11 @@ use Rattle.std.specs.Prelude.{◌≡◌, ℕ, ◌-◌, ◌<◌, List, [], ◌∷
 use Rattle.pt_ranges.specs.declared.handlers.Handler.{Handler}
 
 -- the first rows are the deepest: the greatest number is 2^32 - 1
-abbrev pub MOST : ℕ
-MOST = 4294967295
+abbrev pub GREATEST_NUMBER : ℕ
+GREATEST_NUMBER = 4294967295
 
 abbrev pub numbered : (number : ℕ) → Handler → Handler
-numbered n row = record row { target = record { 0 = n }; depth = MOST - n }
+numbered n row = record row { target = record { 0 = n }; depth = GREATEST_NUMBER - n }
 
 abbrev pub add_numbered : List Handler → (number : ℕ) → Handler → List Handler
 add_numbered found n row = if row.always then found ++ numbered n row ∷ [] else found
