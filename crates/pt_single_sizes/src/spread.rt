@@ -9,9 +9,9 @@ ghost use Rattle.pt_verify.specs.Sizes.{SizesMeet};
 ghost use Rattle.pt_single_sizes.specs.Single.{AreSingle};
 ghost use Rattle.pt_single_sizes.specs.Search.{GoesOn, Went};
 
-use crate::ways::{add_own, start_size};
+use crate::ways::add_own;
 use pt_base::Memory;
-use pt_block_kinds::{left, number_of, place_at};
+use pt_block_kinds::{first_run, left, number_of, place_at};
 use pt_code::{Code, CodeBlock};
 use pt_instr::effect;
 use pt_places::{Place, Places};
@@ -65,7 +65,7 @@ impl Spread {
             return Ok(());
         };
         match self.table[step.to] {
-            Some(known) => Ok(()),
+            Some(_) => Ok(()),
             None => {
                 self.table[step.to] = Some(step.size);
                 if step.to <= limit {
@@ -135,7 +135,7 @@ pub fn single_sizes(
     };
     spread.work.push(SizeStep {
         to: 0,
-        size: start_size(block.kind),
+        size: first_run(block.kind).count as u64,
     })?;
     spread.settle(code, places, limit)?;
     Ok(spread.table)

@@ -1,12 +1,10 @@
 //! The ways on of an instruction, by numbers of slots.
-ghost use Rattle.std.specs.Prelude.{◌≡◌, ◌+◌, ◌++◌, length, IfOk};
-ghost use Rattle.pt_fits.specs.Block.{kinds_at_start};
+ghost use Rattle.std.specs.Prelude.{◌≡◌, ◌+◌, ◌++◌, IfOk};
 ghost use Rattle.pt_verify.specs.Sizes.{gives_again, gives_aside, gives_onward};
 ghost use Rattle.pt_single_sizes.specs.Single.{own_steps};
 
 use pt_base::Memory;
 use pt_block_kinds::{is_enough, left};
-use pt_code::BlockKind;
 use pt_instr::{Effect, Kinds};
 use pt_sizes::SizeStep;
 use pt_verify::count;
@@ -82,14 +80,4 @@ pub fn add_own(
     add_aside(work, effect, size, target)?;
     add_again(work, effect, size, at)?;
     Ok(())
-}
-
-/// How many slots the first place of a block gets.
-pub fn start_size(kind: BlockKind) -> u64
-    ensures { result ≡ length (kinds_at_start kind) }
-{
-    match kind {
-        BlockKind::GeneratorExpression => 1,
-        _ => 0,
-    }
 }

@@ -1,4 +1,5 @@
 use Rattle.std.proofs.Common.{◌≡◌, ◌∷◌, ◌++◌, [], length, None, replicate, refl, sym, ap, ◌∙◌, subst, arith}
+use Rattle.std.proofs.lemmas.List.{length-replicate}
 use Rattle.pt_sizes.specs.Waiting.{AllWait, levels_of}
 use Rattle.pt_fits.specs.Block.{block_of, kinds_at_start}
 use Rattle.pt_verify.specs.Sizes.{sized}
@@ -16,7 +17,9 @@ returns-clause-exact c = λ view v has apart.
     let seen = is_seen c.args.code.now block view v count (omega (arith, c.in-Some.ensures, c.len.ensures)) in
     let all = subst (λ rs. AllWait rs count levels) c.as_slice.ensures c.in_ok-build_if_any.ensures in
     let start = sized 0 (length (kinds_at_start block.kind)) in
-    let first : c.push.new.self.items ≡ start ∷ [] = c.in_ok-push.ensures.items ∙ (ap (λ w. w ++ sized 0 c.start_size.result ∷ []) c.new.ensures.items ∙ ap (λ n. sized 0 n ∷ []) c.start_size.ensures) in
+    let run = c.first_run.result in
+    let size : run.count ≡ length (kinds_at_start block.kind) = sym (length-replicate run.count run.kind) ∙ ap length c.first_run.ensures in
+    let first : c.push.new.self.items ≡ start ∷ [] = c.in_ok-push.ensures.items ∙ (ap (λ w. w ++ sized 0 run.count ∷ []) c.new.ensures.items ∙ ap (λ n. sized 0 n ∷ []) size) in
     let opens = subst (λ w. Spreads b c.args.limit count (replicate count None) w levels) (sym first) (opening b c.args.limit count seen levels all) in
     let opened = subst (λ t. Spreads b c.args.limit count t c.push.new.self.items levels) (sym c.in_ok-no_sizes.ensures) opens in
     are_single b c.args.limit count seen c.settle.new.self.table.items (levels_of c.settle.new.self.waiting.levels)

@@ -19,7 +19,7 @@ returns-in_default c = let s = c.args.self.now in
 pub returns-in-Some-index : goal.returns-in-Some-index
 returns-in-Some-index c = let s = c.args.self.now in
     has_size (links_of c.args.code.now) c.args.places.now c.args.limit s.table.items s.work.items (levels_of s.waiting.levels) c.args.step c.requires
-    c.in-Some-index.known (entry_is s.table.items c.args.step.to c.index.result.now (Some c.in-Some-index.known) (omega (arith, c.if-step-len.false, c.len.ensures)) c.index.ensures c.in-Some-index.is)
+    c.in-Some-index.field-0 (entry_is s.table.items c.args.step.to c.index.result.now (Some c.in-Some-index.field-0) (omega (arith, c.if-step-len.false, c.len.ensures)) c.index.ensures c.in-Some-index.is)
 
 pub returns-in_ok-expand-in-None : goal.returns-in_ok-expand-in-None
 returns-in_ok-expand-in-None c = let s = c.args.self.now in
