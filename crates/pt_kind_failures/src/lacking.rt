@@ -6,7 +6,8 @@ ghost use Rattle.pt_kind_flow.specs.Search.{Grows};
 ghost use Rattle.pt_kind_failures.specs.Lacking.{AnyLacks, AreInside, lacks_in};
 
 use crate::finding::finds;
-use pt_base::{Memory, Pc};
+use pt_base::Memory;
+use pt_block_kinds::place_at;
 use pt_code::Code;
 use pt_instr::effect;
 use pt_kinds::Forest;
@@ -52,10 +53,8 @@ pub fn any_lacks(
         if at > limit {
             return Ok(false);
         }
-        let Ok(pc) = u32::try_from(at) else {
-            return Err(Memory);
-        };
-        if lacks_in(code, forest, lists[at], places.at(Pc(pc)))? {
+        let place = place_at(places, at)?;
+        if lacks_in(code, forest, lists[at], place)? {
             return Ok(true);
         }
     }

@@ -5,8 +5,8 @@ ghost use Rattle.pt_kinds.specs.Forest.{IsForest};
 ghost use Rattle.pt_kind_flow.specs.Search.{IsFlow};
 ghost use Rattle.pt_place_slots.specs.Lists.{AreHeld, AreListed, IsListed, Lists, TellsListed, held_up_to};
 
-use pt_base::{Memory, Pc};
-use pt_block_kinds::BlockKinds;
+use pt_base::Memory;
+use pt_block_kinds::{BlockKinds, place_at};
 use pt_instr::Kind;
 use pt_kinds::Forest;
 use pt_places::Places;
@@ -84,10 +84,8 @@ fn listed_at(
     ensures exact { IfOk result (λ l. TellsListed kinds.now (entry places.now at) at l) }
     ensures listed { IfOk result (λ l. Lists kinds.now.flow.forest l) }
 {
-    let Ok(pc) = u32::try_from(at) else {
-        return Err(Memory);
-    };
-    if places.at(Pc(pc)).is_none() {
+    let place = place_at(places, at)?;
+    if place.is_none() {
         return Ok(None);
     }
     match kinds.kinds_at(at) {

@@ -23,7 +23,7 @@ returns-then-branch c =
     let links = links_of c.args.code.now in
     let list = entry c.args.lists.now c.loop-at.at in
     looked_found c.args.forest.now links c.args.lists.now c.args.places.now c.loop-at.forest c.loop-at.at c.args.limit c.loop-at.invariant c.requires.inside c.if-at-limit.false
-    c.in_ok-lacks_in.field-0 (c.in_ok-lacks_in.ensures.exact ∙ ap (λ o. lacks_in c.loop-at.forest links list o) (c.at.ensures ∙ ap (λ n. entry c.args.places.now n) c.in-Ok.ensures.1))
+    c.in_ok-lacks_in.field-0 (c.in_ok-lacks_in.ensures.exact ∙ ap (λ o. lacks_in c.loop-at.forest links list o) c.in_ok-place.ensures)
     c.if-branch.true
 
 pub loop-at-preserved : goal.loop-at-preserved
@@ -31,7 +31,7 @@ loop-at-preserved c =
     let links = links_of c.args.code.now in
     let list = entry c.args.lists.now c.loop-at.at in
     look c.args.forest.now links c.args.lists.now c.args.places.now c.loop-at.forest c.lacks_in.new.forest c.loop-at.at c.loop-at.invariant c.requires.inside c.in_ok-lacks_in.ensures.grows
-    c.in_ok-lacks_in.field-0 (c.in_ok-lacks_in.ensures.exact ∙ ap (λ o. lacks_in c.loop-at.forest links list o) (c.at.ensures ∙ ap (λ n. entry c.args.places.now n) c.in-Ok.ensures.1))
+    c.in_ok-lacks_in.field-0 (c.in_ok-lacks_in.ensures.exact ∙ ap (λ o. lacks_in c.loop-at.forest links list o) c.in_ok-place.ensures)
     c.if-branch.false
 
 pub returns : goal.returns
