@@ -22,7 +22,8 @@ pub struct Listed {
     pub held: u32,
 }
 
-/// The same of a run upon a list of which it is known.
+/// How many slots there are up to the topmost that holds a completion, of a run upon a list of
+/// which it is known.
 fn held_up_to(kind: Kind, length: u64, below: u64) -> u64
     ensures { result ≡ held_up_to kind length below }
 {
