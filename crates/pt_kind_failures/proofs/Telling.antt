@@ -21,7 +21,7 @@ use Rattle.pt_block_kinds.proofs.Failing.{kinds_told}
 use Rattle.pt_refusals.specs.Told as R
 use Rattle.pt_refusals.specs.Told.{Clashes, TellsLeast}
 use Rattle.pt_standing.specs.Misplaced.{Misplaced}
-use Rattle.pt_kind_failures.specs.Lacking.{Lacks, AnyLacks, lacks_in}
+use Rattle.pt_kind_failures.specs.Lacking.{FindsAnother, AnyLacks, lacks_in}
 
 -- rows are counted through the marks before them
 pub tells_row : (b : Block) (p : ℕ) (o : Option ℕ) → TellsCut b p o → TellsLeast (CutsOf b p) (option_map (λ k. length b.marks + k) o)
@@ -49,7 +49,7 @@ module _ (c : Code) (block : CodeBlock) (view : ℕ → Option Ins) (places : Li
       → TellsListAt b p q (option_map (list_at kinds.flow.forest) o)
   told_at none q i at o e = subst (λ x. TellsListAt b p q (option_map (list_at kinds.flow.forest) x)) e (kinds_told b p sizes kinds d seen fits none q i at)
 
-  lacks_found : (TwoMeet b p → ⊥) → Lacks b p → AnyLacks kinds.flow.forest b.links lists places p
+  lacks_found : (TwoMeet b p → ⊥) → FindsAnother b p → AnyLacks kinds.flow.forest b.links lists places p
   lacks_found none x = by (entry lists x.pc) refl
     where
       place : entry places x.pc ≡ Some (place_of x.ins.instr x.ins.mark x.ins.next)
@@ -66,14 +66,14 @@ module _ (c : Code) (block : CodeBlock) (view : ℕ → Option Ins) (places : Li
                 ∙ ap not (sym (ap (finds (effect b.links x.ins.instr)) same) ∙ x.fails));
           }
 
-  found_lacks : (TwoMeet b p → ⊥) → AnyLacks kinds.flow.forest b.links lists places p → Lacks b p
+  found_lacks : (TwoMeet b p → ⊥) → AnyLacks kinds.flow.forest b.links lists places p → FindsAnother b p
   found_lacks none x = by (view x.pc) refl (entry lists x.pc) refl
     where
-      by : (i : Option Ins) → view x.pc ≡ i → (o : Option ℕ) → entry lists x.pc ≡ o → Lacks b p
+      by : (i : Option Ins) → view x.pc ≡ i → (o : Option ℕ) → entry lists x.pc ≡ o → FindsAnother b p
       by i at o e = here i at o e (ap (λ y. lacks_in kinds.flow.forest b.links o y) (sym (has x.pc ∙ ap place_at at))
           ∙ (ap (λ y. lacks_in kinds.flow.forest b.links y (entry places x.pc)) (sym e) ∙ x.here))
         where
-          here : (i : Option Ins) → view x.pc ≡ i → (o : Option ℕ) → entry lists x.pc ≡ o → lacks_in kinds.flow.forest b.links o (place_at i) ≡ true → Lacks b p
+          here : (i : Option Ins) → view x.pc ≡ i → (o : Option ℕ) → entry lists x.pc ≡ o → lacks_in kinds.flow.forest b.links o (place_at i) ≡ true → FindsAnother b p
           here (Some i) at (Some l) e h = record {
             pc = x.pc;
             ins = i;

@@ -12,7 +12,7 @@ use Rattle.pt_kinds.specs.declared.forest.Forest.{Forest}
 use Rattle.pt_kinds.specs.Forest.{IsInside, list_at}
 
 -- an instruction that is reached finds another kind
-pub record Lacks (b : Block) (p : ℕ) : Type 0 where
+pub record FindsAnother (b : Block) (p : ℕ) : Type 0 where
   pub pc : ℕ
   pub ins : Ins
   pub kinds : Kinds
