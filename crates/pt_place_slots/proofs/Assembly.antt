@@ -22,7 +22,7 @@ use Rattle.pt_joins.specs.Joins as J
 use Rattle.pt_joins.specs.declared.joins.Joins.{Joins}
 use Rattle.pt_joins.specs.declared.joins.Node.{Node}
 use Rattle.pt_common_slots.specs.Common.{TellsCommon}
-use Rattle.pt_place_slots.specs.declared.lists.Listed.{Listed}
+use Rattle.pt_place_slots.specs.declared.lists.KindList.{KindList}
 use Rattle.pt_place_slots.specs.declared.tables.BlockSlots.{BlockSlots}
 use Rattle.pt_place_slots.specs.Lists.{AreListed, Lists}
 use Rattle.pt_place_slots.specs.Tables.{HasLists, HasSlot, IsSound, TellsBlock, TellsSlotAt}
@@ -35,7 +35,7 @@ apart : (b : Block) → Fits b → TwoMeet b b.size → ⊥
 apart b fits (D.two g h e) = fits.agrees.kinds (A.two g h e)
 
 module _ (b : Block) (fits : Fits b) (places : List (Option Place)) (has : HasPlaces b.at places) (sizes : List (Option ℕ)) (are : AreSizes b sizes)
-    (seen : IsSeen b (length sizes)) (kinds : BlockKinds) (draws : Draws b b.size sizes kinds) (table : List (Option Listed))
+    (seen : IsSeen b (length sizes)) (kinds : BlockKinds) (draws : Draws b b.size sizes kinds) (table : List (Option KindList))
     (listed : AreListed kinds places (length sizes) table) where
   -- where an instruction starts its list is told
   told_there : (pc : ℕ) (i : Ins) → b.at pc ≡ Some i → TellsListAt b b.size pc (option_map (λ l. list_at kinds.flow.forest l.list) (entry table pc))
@@ -82,7 +82,7 @@ module _ (b : Block) (s : BlockSlots) (is : IsSound s) (t : TellsBlock b s) (pc 
   pub no_list : entry s.places.items pc ≡ None → TellsSlotAt b s pc slot None
   no_list e ks g = absurd (subst (λ o. TellsListAt b b.size pc (option_map (λ l. list_at s.forest l.list) o)) e (t.lists pc) ks g)
 
-  module _ (l : Listed) (e : entry s.places.items pc ≡ Some l) where
+  module _ (l : KindList) (e : entry s.places.items pc ≡ Some l) where
     told : TellsListAt b b.size pc (Some (list_at s.forest l.list))
     told = subst (λ o. TellsListAt b b.size pc (option_map (λ l. list_at s.forest l.list) o)) e (t.lists pc)
 

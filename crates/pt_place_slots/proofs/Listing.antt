@@ -12,18 +12,18 @@ use Rattle.pt_block_kinds.specs.declared.graph.BlockKinds.{BlockKinds}
 use Rattle.pt_block_kinds.specs.Graph.{HasSizes, IsSeen}
 use Rattle.pt_block_kinds.specs.Drawing.{Draws}
 use Rattle.pt_block_kinds.specs.Told.{TellsListAt, TwoMeet}
-use Rattle.pt_place_slots.specs.declared.lists.Listed.{Listed}
+use Rattle.pt_place_slots.specs.declared.lists.KindList.{KindList}
 use Rattle.pt_place_slots.specs.Lists.{AreListed, IsListed, Lists, TellsListed}
 use Rattle.pt_place_slots.proofs.Elements.{none_some, some_none, entry_last, entry_left, entry_cases, below_or}
 
-pub no_lists : (kinds : BlockKinds) (places : List (Option Place)) (table : List (Option Listed)) → table ≡ [] → AreListed kinds places 0 table
+pub no_lists : (kinds : BlockKinds) (places : List (Option Place)) (table : List (Option KindList)) → table ≡ [] → AreListed kinds places 0 table
 no_lists kinds places table e = record {
   long = ap length e;
   listed = λ pc l h. absurd (none_some l (sym (ap (λ t. entry t pc) e) ∙ h));
   tells = λ pc lt. absurd (omega (arith, lt));
 }
 
-pub lists_more : (kinds : BlockKinds) (places : List (Option Place)) (at : ℕ) (table table' : List (Option Listed)) (o : Option Listed)
+pub lists_more : (kinds : BlockKinds) (places : List (Option Place)) (at : ℕ) (table table' : List (Option KindList)) (o : Option KindList)
     → AreListed kinds places at table → table' ≡ table ++ o ∷ [] → TellsListed kinds (entry places at) at o → Lists kinds.flow.forest o
     → AreListed kinds places (at + 1) table'
 lists_more kinds places at table table' o are e told listed = subst (AreListed kinds places (at + 1)) (sym e) (record {
@@ -50,7 +50,7 @@ module _ (kinds : BlockKinds) (place : Option Place) (pc : ℕ) where
   pub none_listed : ToldAt None → TellsListed kinds place pc None
   none_listed t = record { nowhere = λ f. refl; told = λ b p sizes d s h m i stands some. t b p sizes d s h m i stands }
 
-  pub one_listed : (list : ℕ) (l : Listed) → (place ≡ None → ⊥) → l.list ≡ list → ToldAt (Some list) → TellsListed kinds place pc (Some l)
+  pub one_listed : (list : ℕ) (l : KindList) → (place ≡ None → ⊥) → l.list ≡ list → ToldAt (Some list) → TellsListed kinds place pc (Some l)
   one_listed list l some e t = record {
     nowhere = λ f. absurd (some f);
     told = λ b p sizes d s h m i stands f. subst (λ k. TellsListAt b p pc (Some (list_at kinds.flow.forest k))) (sym e) (t b p sizes d s h m i stands);
@@ -61,7 +61,7 @@ pub place_stands : (r : Option (Bor Place)) (place : Option Place) → option_ma
 place_stands (Some p) place e t none = some_none p.now (e ∙ none)
 place_stands None place e t none = false≢true t
 
-pub one_is_listed : (kinds : BlockKinds) (l : Listed) → IsListed kinds.flow.forest l → Lists kinds.flow.forest (Some l)
+pub one_is_listed : (kinds : BlockKinds) (l : KindList) → IsListed kinds.flow.forest l → Lists kinds.flow.forest (Some l)
 one_is_listed kinds l is m e = subst (IsListed kinds.flow.forest) (same_Some l m e) is
 
 pub none_is_listed : (kinds : BlockKinds) → Lists kinds.flow.forest None

@@ -13,7 +13,7 @@ use Rattle.pt_block_kinds.specs.declared.graph.BlockKinds.{BlockKinds}
 use Rattle.pt_block_kinds.specs.Graph.{HasSizes, IsSeen}
 use Rattle.pt_block_kinds.specs.Drawing.{Draws}
 use Rattle.pt_block_kinds.specs.Told.{TellsListAt, TwoMeet}
-use Rattle.pt_place_slots.specs.declared.lists.Listed.{Listed}
+use Rattle.pt_place_slots.specs.declared.lists.KindList.{KindList}
 
 abbrev pub held_up_to : Kind → (length below : ℕ) → ℕ
 held_up_to Pending n below = n
@@ -24,17 +24,17 @@ abbrev pub AreHeld : Forest → List ℕ → Type 0
 AreHeld f held = (list : ℕ) → IsInside f list
     → IsHeld (list_at f list) (slice_index_or held list 0)
 
-pub record IsListed (f : Forest) (l : Listed) : Type 0 where
+pub record IsListed (f : Forest) (l : KindList) : Type 0 where
   pub inside : IsInside f l.list
   pub count : l.count ≡ length (list_at f l.list)
   pub held : IsHeld (list_at f l.list) l.held
 
-abbrev pub Lists : Forest → Option Listed → Type 0
-Lists f o = (l : Listed) → o ≡ Some l → IsListed f l
+abbrev pub Lists : Forest → Option KindList → Type 0
+Lists f o = (l : KindList) → o ≡ Some l → IsListed f l
 
 -- the list that a place gets, where the flow is that of a block in which no place gets two; none
 -- where no instruction starts
-pub record TellsListed (kinds : BlockKinds) (place : Option Place) (pc : ℕ) (o : Option Listed)
+pub record TellsListed (kinds : BlockKinds) (place : Option Place) (pc : ℕ) (o : Option KindList)
     : Type 0 where
   pub nowhere : place ≡ None → o ≡ None
   pub told : (b : Block) (p : ℕ) (sizes : List (Option ℕ)) → Draws b p sizes kinds
@@ -43,7 +43,7 @@ pub record TellsListed (kinds : BlockKinds) (place : Option Place) (pc : ℕ) (o
       → TellsListAt b p pc (option_map (λ l. list_at kinds.flow.forest l.list) o)
 
 pub record AreListed (kinds : BlockKinds) (places : List (Option Place)) (count : ℕ)
-    (table : List (Option Listed)) : Type 0 where
+    (table : List (Option KindList)) : Type 0 where
   pub long : length table ≡ count
   pub listed : (pc : ℕ) → Lists kinds.flow.forest (entry table pc)
   pub tells : (pc : ℕ) → pc < count → TellsListed kinds (entry places pc) pc (entry table pc)

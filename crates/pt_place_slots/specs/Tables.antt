@@ -13,7 +13,7 @@ use Rattle.pt_block_kinds.specs.declared.graph.BlockKinds.{BlockKinds}
 use Rattle.pt_block_kinds.specs.Told.{TellsListAt}
 use Rattle.pt_joins.specs.Joins.{IsForest, Root}
 use Rattle.pt_common_slots.specs.Common.{TellsCommon}
-use Rattle.pt_place_slots.specs.declared.lists.Listed.{Listed}
+use Rattle.pt_place_slots.specs.declared.lists.KindList.{KindList}
 use Rattle.pt_place_slots.specs.declared.tables.BlockSlots.{BlockSlots}
 use Rattle.pt_place_slots.specs.Lists.{AreListed, Lists}
 
@@ -51,7 +51,7 @@ abbrev pub TellsSlotAt : Block → BlockSlots → (pc slot : ℕ) → Option (Ki
 TellsSlotAt b s pc slot (Some (kind, number)) = HasSlot b s pc slot kind number
 TellsSlotAt b s pc slot None = (ks : Kinds) → Gets b b.size pc ks → slice_get ks slot ≡ None
 
-abbrev pub held_of : Option Listed → ℕ
+abbrev pub held_of : Option KindList → ℕ
 held_of (Some l) = l.held
 held_of None = 0
 

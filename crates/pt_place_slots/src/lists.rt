@@ -14,7 +14,7 @@ use std::alloc::Global;
 
 /// The list of kinds at a place.
 #[derive(Clone, Copy, Debug)]
-pub struct Listed {
+pub struct KindList {
     pub list: usize,
     /// How many slots it has.
     pub count: u32,
@@ -55,7 +55,7 @@ fn held_of_lists(alloc: Global, forest: &Forest) -> Result<Vec<u64>, Memory>
     Ok(held)
 }
 
-fn listing(forest: &Forest, held: &[u64], list: usize) -> Result<Listed, Memory>
+fn kind_list(forest: &Forest, held: &[u64], list: usize) -> Result<KindList, Memory>
     requires forest { IsForest forest.now }
     requires held { AreHeld forest.now held.now }
     ensures same { IfOk result (λ l. l.list ≡ list) }
@@ -70,7 +70,7 @@ fn listing(forest: &Forest, held: &[u64], list: usize) -> Result<Listed, Memory>
     ) else {
         return Err(Memory);
     };
-    Ok(Listed { list, count, held })
+    Ok(KindList { list, count, held })
 }
 
 /// The list of a place, if an instruction starts there.
@@ -79,7 +79,7 @@ fn listed_at(
     places: &Places,
     held: &[u64],
     at: usize,
-) -> Result<Option<Listed>, Memory>
+) -> Result<Option<KindList>, Memory>
     requires flow { IsFlow kinds.now.flow }
     requires held { AreHeld kinds.now.flow.forest held.now }
     ensures exact { IfOk result (λ l. TellsListed kinds.now (entry places.now at) at l) }
@@ -91,7 +91,7 @@ fn listed_at(
     }
     match kinds.kinds_at(at) {
         None => Ok(None),
-        Some(list) => Ok(Some(listing(&kinds.flow.forest, held, list)?)),
+        Some(list) => Ok(Some(kind_list(&kinds.flow.forest, held, list)?)),
     }
 }
 
@@ -101,7 +101,7 @@ pub fn lists_at(
     kinds: &BlockKinds,
     places: &Places,
     count: usize,
-) -> Result<Vec<Option<Listed>>, Memory>
+) -> Result<Vec<Option<KindList>>, Memory>
     requires { IsFlow kinds.now.flow }
     ensures { IfOk result (λ table. AreListed kinds.now places.now count table.items) }
 {

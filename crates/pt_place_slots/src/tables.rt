@@ -17,7 +17,7 @@ ghost use Rattle.pt_place_slots.specs.Kinds.{IsKinds, kinds_of};
 ghost use Rattle.pt_place_slots.specs.Tables.{HasLists, IsNumber, IsSound, TellsBlock, TellsSlotAt};
 
 use crate::kinds::KindsAt;
-use crate::lists::{Listed, lists_at};
+use crate::lists::{KindList, lists_at};
 use pt_base::{Line, Memory, Pc};
 use pt_block_kinds::{BlockKinds, kinds_up_to};
 use pt_code::{Code, CodeBlock, Start};
@@ -32,7 +32,7 @@ use std::alloc::Global;
 /// What is asked of the slots at the places of a block that fits.
 #[derive(Debug, Drop)]
 pub struct BlockSlots {
-    places: Vec<Option<Listed>>,
+    places: Vec<Option<KindList>>,
     forest: Forest,
     joins: Joins,
 }
@@ -99,7 +99,7 @@ pub fn block_slots(
 }
 
 impl BlockSlots {
-    fn at(&self, pc: Pc) -> Option<Listed>
+    fn at(&self, pc: Pc) -> Option<KindList>
         ensures { result ≡ entry self.now.places.items pc.0 }
     {
         match self.places.get(pc.0 as usize) {
@@ -132,7 +132,7 @@ impl BlockSlots {
     }
 
     /// A slot of a list, and its number.
-    fn slot_in(&self, listed: Listed, pc: Pc, slot: u32) -> Option<(Kind, u32)>
+    fn slot_in(&self, listed: KindList, pc: Pc, slot: u32) -> Option<(Kind, u32)>
         requires sound { IsSound self.now }
         requires here { entry self.now.places.items pc.0 ≡ Some listed }
         ensures { (b : Block) → TellsBlock b self.now
