@@ -9,7 +9,7 @@ use Rattle.pt_code.specs.View.{Ins, IsView}
 use Rattle.pt_fits.specs.Block.{block_of}
 use Rattle.pt_fits.specs.Fits.{AllFit, Fits}
 use Rattle.pt_place_slots.specs.declared.tables.BlockSlots.{BlockSlots}
-use Rattle.pt_place_slots.specs.Tables.{IsSound, TellsBlock}
+use Rattle.pt_place_slots.specs.Tables.{IsSound, TellsSlotsOf}
 use Rattle.pt_code_slots.specs.declared.blocks.CodeSlots.{CodeSlots}
 use Rattle.pt_code_slots.specs.Blocks.{HasTablesBelow, TellsCode}
 
@@ -52,7 +52,7 @@ no_tables c all e = record {
 
 pub tables_more : (c : Code) (all all' : List BlockSlots) (at : ℕ) (b : CodeBlock) (s : BlockSlots) → HasTablesBelow c all at
     → at < length c.blocks → b ≡ get_or c.blocks at b → all' ≡ all ++ s ∷ [] → IsSound s
-    → ((view : ℕ → Option Ins) → IsView b view → Fits (block_of c b view) → TellsBlock (block_of c b view) s) → HasTablesBelow c all' (at + 1)
+    → ((view : ℕ → Option Ins) → IsView b view → Fits (block_of c b view) → TellsSlotsOf (block_of c b view) s) → HasTablesBelow c all' (at + 1)
 tables_more c all all' at b s so lt is e sound tells = subst (λ xs. HasTablesBelow c xs (at + 1)) (sym e) (record {
   long = length-append all (s ∷ []) ∙ (let l = so.long in let x : length all + length (s ∷ []) ≡ at + 1 = omega (arith, l) in x);
   sound = λ n t h. elim (got_cases all s n t h) [ inl x ↦ so.sound n t x | inr x ↦ subst IsSound x sound ];
@@ -62,7 +62,7 @@ tables_more c all all' at b s so lt is e sound tells = subst (λ xs. HasTablesBe
         record {
           slots = s;
           is = ap (slice_get (all ++ s ∷ [])) (same ∙ sym so.long) ∙ got_last all s;
-          tells = subst (λ x. (view : ℕ → Option Ins) → IsView x view → Fits (block_of c x view) → TellsBlock (block_of c x view) s) block tells;
+          tells = subst (λ x. (view : ℕ → Option Ins) → IsView x view → Fits (block_of c x view) → TellsSlotsOf (block_of c x view) s) block tells;
         })
   ];
 })
@@ -89,8 +89,8 @@ not_lent xs i s t e = let lt = got_below xs i s e in let le = not_less i (length
 -- the tables of a block are one
 module _ (c : Code) (slots : CodeSlots) (told : TellsCode c slots) (n : ℕ) (b : CodeBlock) (is : slice_get c.blocks n ≡ Some b)
     (view : ℕ → Option Ins) (v : IsView b view) where
-  pub these_tell : (s : BlockSlots) → slice_get slots.blocks.items n ≡ Some s → TellsBlock (block_of c b view) s
-  these_tell s e = let t = told n b is view v in subst (TellsBlock (block_of c b view)) (same_Some t.tables s (sym t.is ∙ e)) t.tells
+  pub these_tell : (s : BlockSlots) → slice_get slots.blocks.items n ≡ Some s → TellsSlotsOf (block_of c b view) s
+  these_tell s e = let t = told n b is view v in subst (TellsSlotsOf (block_of c b view)) (same_Some t.tables s (sym t.is ∙ e)) t.tells
 
   pub some_there : false ≡ nat_lt n (length slots.blocks.items) → ⊥
   some_there t = let h = told n b is view v in not_lent slots.blocks.items n h.tables t h.is

@@ -7,7 +7,7 @@ use Rattle.pt_code.specs.View.{Ins, IsView}
 use Rattle.pt_fits.specs.Block.{Block, block_of}
 use Rattle.pt_fits.specs.Fits.{Fits}
 use Rattle.pt_place_slots.specs.declared.tables.BlockSlots.{BlockSlots}
-use Rattle.pt_place_slots.specs.Tables.{IsSound, TellsBlock, TellsSlotAt}
+use Rattle.pt_place_slots.specs.Tables.{IsSound, TellsSlotsOf, TellsSlotAt}
 use Rattle.pt_code_slots.specs.declared.blocks.CodeSlots.{CodeSlots}
 
 abbrev pub AllSound : List BlockSlots → Type 0
@@ -21,7 +21,7 @@ pub record HasTables (c : Code) (all : List BlockSlots) (n : ℕ) (b : CodeBlock
   pub slots : BlockSlots
   pub is : slice_get all n ≡ Some slots
   pub tells : (view : ℕ → Option Ins) → IsView b view → Fits (block_of c b view)
-      → TellsBlock (block_of c b view) slots
+      → TellsSlotsOf (block_of c b view) slots
 
 -- so it is of the blocks below a number
 pub record HasTablesBelow (c : Code) (all : List BlockSlots) (count : ℕ) : Type 0 where
@@ -34,7 +34,7 @@ pub record Tells (c : Code) (slots : CodeSlots) (n : ℕ) (b : CodeBlock) (view 
     : Type 0 where
   pub tables : BlockSlots
   pub is : slice_get slots.blocks.items n ≡ Some tables
-  pub tells : TellsBlock (block_of c b view) tables
+  pub tells : TellsSlotsOf (block_of c b view) tables
 
 abbrev pub TellsCode : Code → CodeSlots → Type 0
 TellsCode c slots = (n : ℕ) (b : CodeBlock) → slice_get c.blocks n ≡ Some b

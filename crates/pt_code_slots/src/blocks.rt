@@ -11,7 +11,7 @@ ghost use Rattle.pt_fits.specs.Places.{Gets};
 ghost use Rattle.pt_jump.specs.Targets.{answer_of};
 ghost use Rattle.pt_block_kinds.specs.Told.{TellsListAt};
 ghost use Rattle.pt_place_slots.specs.Kinds.{IsKinds, kinds_of};
-ghost use Rattle.pt_place_slots.specs.Tables.{IsSound, TellsBlock};
+ghost use Rattle.pt_place_slots.specs.Tables.{IsSound, TellsSlotsOf};
 ghost use Rattle.pt_code_slots.specs.Blocks.{AreSound, TellsCode, TellsSlot};
 
 use pt_base::{BlockId, Line, Memory, Pc};
@@ -34,7 +34,7 @@ fn slots_of(alloc: Global, code: &Code, block: &CodeBlock) -> Result<BlockSlots,
     ensures sound { IfOk result IsSound }
     ensures exact { IfOk result (λ slots. (view : ℕ → Option Ins) → IsView block.now view
         → Fits (block_of code.now block.now view)
-        → TellsBlock (block_of code.now block.now view) slots) }
+        → TellsSlotsOf (block_of code.now block.now view) slots) }
 {
     let places = Places::make(alloc, block)?;
     match sizes(alloc, code, block)? {

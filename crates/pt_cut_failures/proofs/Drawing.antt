@@ -21,9 +21,9 @@ use Rattle.pt_block_kinds.proofs.Lists.{below_or}
 use Rattle.pt_block_kinds.proofs.Opening.{past_end}
 use Rattle.pt_block_kinds.proofs.Falling.{Falls, falls_descends}
 use Rattle.pt_cut_failures.specs.declared.chains.Chains.{Chains}
-use Rattle.pt_cut_failures.specs.Chains.{AreChains}
+use Rattle.pt_cut_failures.specs.Chains.{AreRowChains}
 use Rattle.pt_cut_failures.specs.Leads.{leads_from, link_leads, vertex_leads}
-use Rattle.pt_cut_failures.specs.Graph.{Draws}
+use Rattle.pt_cut_failures.specs.Graph.{DrawsCuts}
 use Rattle.pt_cut_failures.proofs.Falling.{vertex_falls}
 
 module _ (links : Links) (rows : List Handler) (place : Option Place) (p : ℕ) (T : List (Option ℕ)) (c : Chains) (v : ℕ) where
@@ -57,9 +57,9 @@ module _ (links : Links) (rows : List Handler) (place : Option Place) (p : ℕ) 
   none_behind h = sym (at_link (omega (arith, h))) ∙ ap (link_leads count base (v - base)) (slice_get_past c.links.items (v - base) (omega (arith, h)))
 
 pub draws : (c : Code) (b : CodeBlock) (view : ℕ → Option Ins) (places : List (Option Place)) → Places.HasPlaces view places → (p : ℕ) (T : List (Option ℕ)) (chains : Chains)
-    → AreChains b.handlers (length T) chains → (f : Flow) (size from : ℕ) → size ≡ (length T + length b.handlers) + length chains.links.items → from ≡ 0
+    → AreRowChains b.handlers (length T) chains → (f : Flow) (size from : ℕ) → size ≡ (length T + length b.handlers) + length chains.links.items → from ≡ 0
     → DrawnFrom (kinds_at_start b.kind) size (λ v. vertex_leads (links_of c) b.handlers (Places.entry places v) p T chains v) from f
-    → Draws (block_of c b view) p T f
+    → DrawsCuts (block_of c b view) p T f
 draws c b view places has p T chains are f size from e none d = record {
   chains = chains;
   is = record {

@@ -23,7 +23,7 @@ use Rattle.pt_block_kinds.specs.Graph.{IsSeen}
 use Rattle.pt_block_kinds.specs.Told.{IsShort, CutsUnder}
 use Rattle.pt_block_kinds.proofs.Lists.{take_long}
 use Rattle.pt_block_kinds.proofs.Failing.{differ, longest, same_list, take_short}
-use Rattle.pt_cut_failures.specs.Graph.{Draws, IsLanding}
+use Rattle.pt_cut_failures.specs.Graph.{DrawsCuts, IsLanding}
 use Rattle.pt_cut_failures.specs.Cuts.{ShortRow, TellsCutBelow, TellsShortBelow}
 use Rattle.pt_cut_failures.proofs.Coming.{landings_come, are_landings}
 
@@ -32,7 +32,7 @@ pub row_short : (f : Flow) (count : ℕ) (rows : List Handler) (n at v : ℕ) (d
 row_short f count rows n at v d e g s = subst (λ w. IsShort f w (get_or rows at d).depth) (ap (λ m. count + m) e ∙ sym g)
     (subst (λ r. IsShort f (count + n) r.depth) (sym (get_or_from_slice_get rows at s.row d (subst (λ m. slice_get rows m ≡ Some s.row) e s.is))) s.short)
 
-module _ (b : Block) (p : ℕ) (T : List (Option ℕ)) (f : Flow) (d : Draws b p T f) (seen : IsSeen b (length T)) (whole : (q m : ℕ) → Sized b p q m → entry T q ≡ Some m)
+module _ (b : Block) (p : ℕ) (T : List (Option ℕ)) (f : Flow) (d : DrawsCuts b p T f) (seen : IsSeen b (length T)) (whole : (q m : ℕ) → Sized b p q m → entry T q ≡ Some m)
     (some : 0 < length T) (asked : ℕ) (shallow : (n : ℕ) → n < asked → NumberTooDeep b p n → ⊥) where
   abbrev g : Graph
   g = graph f

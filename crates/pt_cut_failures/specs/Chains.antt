@@ -37,7 +37,7 @@ pub record LaidLevels (old new : List Link) (levels : List Level) (starts : List
   pub stands : (k v : ℕ) → StandsFrom new (start_at starts k v) (stretch levels k v)
 
 -- the rows of a block in chains, each by its number
-pub record AreChains (rows : List Handler) (count : ℕ) (c : Chains) : Type 0 where
+pub record AreRowChains (rows : List Handler) (count : ℕ) (c : Chains) : Type 0 where
   pub index : Index (numbered 0 rows) count (levels_of c.waiting.levels)
   pub stands : (k v : ℕ) → StandsFrom c.links.items (start_at (starts_of c.starts) k v)
       (stretch (levels_of c.waiting.levels) k v)

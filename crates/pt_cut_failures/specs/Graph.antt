@@ -11,18 +11,18 @@ use Rattle.pt_kind_flow.specs.Flow.{Graph, edges_at, graph}
 use Rattle.pt_kind_flow.specs.Search.{IsFlow}
 use Rattle.pt_block_kinds.specs.Leads.{leads_of}
 use Rattle.pt_cut_failures.specs.declared.chains.Chains.{Chains}
-use Rattle.pt_cut_failures.specs.Chains.{AreChains}
+use Rattle.pt_cut_failures.specs.Chains.{AreRowChains}
 use Rattle.pt_cut_failures.specs.Leads.{leads_at}
 
 pub record IsGraph (b : Block) (p : ℕ) (T : List (Option ℕ)) (c : Chains) (g : Graph)
     : Type 0 where
-  pub chains : AreChains b.handlers (length T) c
+  pub chains : AreRowChains b.handlers (length T) c
   pub first : g.first ≡ kinds_at_start b.kind
   pub long : length g.edges ≡ (length T + length b.handlers) + length c.links.items
   pub leads : (v : ℕ) → leads_of (edges_at g.edges v) ≡ leads_at b p T c v
 
 -- the flow of such a graph
-pub record Draws (b : Block) (p : ℕ) (T : List (Option ℕ)) (f : Flow) : Type 0 where
+pub record DrawsCuts (b : Block) (p : ℕ) (T : List (Option ℕ)) (f : Flow) : Type 0 where
   pub chains : Chains
   pub is : IsGraph b p T chains (graph f)
   pub flow : IsFlow f

@@ -3,7 +3,7 @@
 ghost use Rattle.std.specs.Prelude.{◌≡◌, ◌+◌, ◌++◌, ◌≤◌, length, map, IfOk};
 ghost use Rattle.pt_sizes.specs.Waiting.{AllDescend, Descends, level_of, levels_of, stretch_of};
 ghost use Rattle.pt_block_kinds.specs.Leads.{leads_of};
-ghost use Rattle.pt_cut_failures.specs.Chains.{AreChains, Chained, LaidLevel, LaidLevels, first_within, start_at, starts_of};
+ghost use Rattle.pt_cut_failures.specs.Chains.{AreRowChains, Chained, LaidLevel, LaidLevels, first_within, start_at, starts_of};
 ghost use Rattle.pt_cut_failures.specs.Leads.{enter_leads, entering};
 
 use pt_base::Memory;
@@ -143,7 +143,7 @@ fn add_entry_at(
 impl Chains {
     /// The rows of a block by the places below a count that they cover.
     pub fn build(alloc: Global, rows: &[Handler], count: usize) -> Result<Chains, Memory>
-        ensures { IfOk result (λ chains. AreChains rows.now count chains) }
+        ensures { IfOk result (λ chains. AreRowChains rows.now count chains) }
     {
         let waiting = Waiting::build(alloc, &numbered(alloc, rows)?, count)?;
         let mut links = Vec::new(alloc);

@@ -5,9 +5,9 @@ ghost use Rattle.pt_places.specs.PlaceTable.{HasPlaces, entry};
 ghost use Rattle.pt_fits.specs.Block.{block_of, links_of};
 ghost use Rattle.pt_kind_flow.specs.Search.{IsFlow};
 ghost use Rattle.pt_block_kinds.specs.Leads.{leads_of};
-ghost use Rattle.pt_cut_failures.specs.Chains.{AreChains};
+ghost use Rattle.pt_cut_failures.specs.Chains.{AreRowChains};
 ghost use Rattle.pt_cut_failures.specs.Leads.{leads_from, link_leads, vertex_leads};
-ghost use Rattle.pt_cut_failures.specs.Graph.{Draws};
+ghost use Rattle.pt_cut_failures.specs.Graph.{DrawsCuts};
 
 use crate::chains::{Chains, Link};
 use pt_base::Memory;
@@ -34,7 +34,7 @@ fn edges_from(
     place: Option<&Place>,
     size: Option<u64>,
 ) -> Result<Vec<Edge>, Memory>
-    requires { (rows : List Handler) × AreChains rows count chains.now }
+    requires { (rows : List Handler) × AreRowChains rows count chains.now }
     ensures { IfOk result (λ edges. leads_of edges.items ≡ leads_from count links_from chains.now
         (links_of code.now) limit at (option_map (λ p. p.now) place.entry) size) }
 {
@@ -94,7 +94,7 @@ fn edges_of_vertex(
     chains: &Chains,
     vertex: usize,
 ) -> Result<Vec<Edge>, Memory>
-    requires { AreChains rows.now (length sizes.now) chains.now }
+    requires { AreRowChains rows.now (length sizes.now) chains.now }
     ensures { IfOk result (λ edges. leads_of edges.items ≡ vertex_leads (links_of code.now)
         rows.now (entry places.now vertex) limit sizes.now chains.now vertex) }
 {
@@ -135,7 +135,7 @@ pub fn cut_flow(
 ) -> Result<Flow, Memory>
     ensures flow { IfOk result (λ flow. IsFlow flow) }
     ensures draws { IfOk result (λ flow. (view : ℕ → Option Ins) → HasPlaces view places.now
-        → Draws (block_of code.now block.now view) limit sizes.now flow) }
+        → DrawsCuts (block_of code.now block.now view) limit sizes.now flow) }
 {
     let rows = block.handlers.as_slice();
     let chains = Chains::build(alloc, rows, sizes.len())?;

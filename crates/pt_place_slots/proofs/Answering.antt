@@ -11,11 +11,11 @@ use Rattle.pt_kinds.specs.Forest.{list_at}
 use Rattle.pt_block_kinds.specs.Told.{TellsListAt}
 use Rattle.pt_place_slots.specs.declared.lists.KindList.{KindList}
 use Rattle.pt_place_slots.specs.declared.tables.BlockSlots.{BlockSlots}
-use Rattle.pt_place_slots.specs.Tables.{IsSound, TellsBlock, held_of}
+use Rattle.pt_place_slots.specs.Tables.{IsSound, TellsSlotsOf, held_of}
 use Rattle.pt_place_slots.specs.Laws.{AnswerJumps}
 use Rattle.pt_place_slots.proofs.Elements.{none_some}
 
-module _ (b : Block) (s : BlockSlots) (is : IsSound s) (t : TellsBlock b s) (pc : ℕ) where
+module _ (b : Block) (s : BlockSlots) (is : IsSound s) (t : TellsSlotsOf b s) (pc : ℕ) where
   many : (n : ℕ) (o : Option KindList) → entry s.places.items pc ≡ o → option_map (λ l. l.count) o ≡ Some n
       → TellsListAt b b.size pc (option_map (λ l. list_at s.forest l.list) o) → GetsMany b pc n
   many n (Some l) e f (g, only) = record {

@@ -25,7 +25,7 @@ use Rattle.pt_common_slots.specs.Common.{TellsCommon}
 use Rattle.pt_place_slots.specs.declared.lists.KindList.{KindList}
 use Rattle.pt_place_slots.specs.declared.tables.BlockSlots.{BlockSlots}
 use Rattle.pt_place_slots.specs.Lists.{AreListed, Lists}
-use Rattle.pt_place_slots.specs.Tables.{HasLists, HasSlot, IsSound, TellsBlock, TellsSlotAt}
+use Rattle.pt_place_slots.specs.Tables.{HasLists, HasSlot, IsSound, TellsSlotsOf, TellsSlotAt}
 use Rattle.pt_place_slots.proofs.Elements.{none_some, some_none, entry_behind, low_or}
 use Rattle.pt_kind_failures.proofs.Seen.{has_sizes}
 use Rattle.pt_place_slots.proofs.Seen.{gotten_stands, all_sizes}
@@ -56,7 +56,7 @@ module _ (b : Block) (fits : Fits b) (places : List (Option Place)) (has : HasPl
       by_place None e = subst (λ o. TellsListAt b b.size pc (option_map (λ l. list_at kinds.flow.forest l.list) o)) (sym (nothing_there pc e))
           (λ ks g. let (i, s) = gotten_stands b g in none_some i (sym e ∙ s))
 
-  pub tells_block : (s : BlockSlots) → s.places.items ≡ table → s.forest ≡ kinds.flow.forest → TellsCommon b b.size s.joins.nodes.items → TellsBlock b s
+  pub tells_block : (s : BlockSlots) → s.places.items ≡ table → s.forest ≡ kinds.flow.forest → TellsCommon b b.size s.joins.nodes.items → TellsSlotsOf b s
   tells_block s t f common = record {
     lists = λ pc. subst (λ xs. TellsListAt b b.size pc (option_map (λ l. list_at s.forest l.list) (entry xs pc))) (sym t)
         (subst (λ g. TellsListAt b b.size pc (option_map (λ l. list_at g l.list) (entry table pc))) (sym f) (lists_tell pc));
@@ -78,7 +78,7 @@ sound kinds places count s joins flow forest same has wide few = record {
   few = (let n = ap (λ (j : Joins). length j.nodes.items) same in omega (arith, n, few));
 }
 
-module _ (b : Block) (s : BlockSlots) (is : IsSound s) (t : TellsBlock b s) (pc slot : ℕ) where
+module _ (b : Block) (s : BlockSlots) (is : IsSound s) (t : TellsSlotsOf b s) (pc slot : ℕ) where
   pub no_list : entry s.places.items pc ≡ None → TellsSlotAt b s pc slot None
   no_list e ks g = absurd (subst (λ o. TellsListAt b b.size pc (option_map (λ l. list_at s.forest l.list) o)) e (t.lists pc) ks g)
 

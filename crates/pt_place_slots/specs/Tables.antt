@@ -25,7 +25,7 @@ pub record IsSound (s : BlockSlots) : Type 0 where
   pub wide : length s.places.items ≤ length s.joins.nodes.items
   pub few : length s.joins.nodes.items < 4294967296
 
-pub record TellsBlock (b : Block) (s : BlockSlots) : Type 0 where
+pub record TellsSlotsOf (b : Block) (s : BlockSlots) : Type 0 where
   pub lists : (pc : ℕ) → TellsListAt b b.size pc
       (option_map (λ l. list_at s.forest l.list) (entry s.places.items pc))
   pub common : TellsCommon b b.size s.joins.nodes.items

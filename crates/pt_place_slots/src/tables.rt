@@ -14,7 +14,7 @@ ghost use Rattle.pt_block_kinds.specs.Drawing.{Draws};
 ghost use Rattle.pt_block_kinds.specs.Told.{TellsListAt};
 ghost use Rattle.pt_joins.specs.Joins.{IsForest};
 ghost use Rattle.pt_place_slots.specs.Kinds.{IsKinds, kinds_of};
-ghost use Rattle.pt_place_slots.specs.Tables.{HasLists, IsNumber, IsSound, TellsBlock, TellsSlotAt};
+ghost use Rattle.pt_place_slots.specs.Tables.{HasLists, IsNumber, IsSound, TellsSlotsOf, TellsSlotAt};
 
 use crate::kinds::KindsAt;
 use crate::lists::{KindList, lists_at};
@@ -83,7 +83,7 @@ pub fn block_slots(
     ensures exact { IfOk result (λ slots. (view : ℕ → Option Ins) → IsView block.now view
         → HasPlaces view places.now → AreSizes (block_of code.now block.now view) sizes.now
         → Fits (block_of code.now block.now view)
-        → TellsBlock (block_of code.now block.now view) slots) }
+        → TellsSlotsOf (block_of code.now block.now view) slots) }
 {
     let end = block.instructions.len();
     let Ok(limit) = u32::try_from(end) else {
@@ -111,7 +111,7 @@ impl BlockSlots {
     /// The kinds of the slots at a place; None where no way comes to it. It takes no memory.
     pub fn kinds_at(&self, pc: Pc) -> Option<KindsAt<'_>>
         requires { IsSound self.now }
-        ensures kinds { (b : Block) → TellsBlock b self.now
+        ensures kinds { (b : Block) → TellsSlotsOf b self.now
             → TellsListAt b b.size pc.0 (option_map kinds_of result) }
         ensures sound { IfSome result IsKinds }
     {
@@ -135,7 +135,7 @@ impl BlockSlots {
     fn slot_in(&self, listed: KindList, pc: Pc, slot: u32) -> Option<(Kind, u32)>
         requires sound { IsSound self.now }
         requires here { entry self.now.places.items pc.0 ≡ Some listed }
-        ensures { (b : Block) → TellsBlock b self.now
+        ensures { (b : Block) → TellsSlotsOf b self.now
             → TellsSlotAt b self.now pc.0 slot result }
     {
         match self.forest.slot(listed.list, slot as u64) {
@@ -149,7 +149,7 @@ impl BlockSlots {
     /// the place, or it has no such slot. It takes O(log n) steps and no memory.
     pub fn slot_at(&self, pc: Pc, slot: u32) -> Option<(Kind, u32)>
         requires { IsSound self.now }
-        ensures { (b : Block) → TellsBlock b self.now
+        ensures { (b : Block) → TellsSlotsOf b self.now
             → TellsSlotAt b self.now pc.0 slot result }
     {
         match self.at(pc) {
@@ -165,7 +165,7 @@ impl BlockSlots {
     /// Those of `pt_jump::target`.
     pub fn target(&self, starts: &[Start], from: Pc, line: Line) -> Result<Land, JumpErr>
         requires { IsSound self.now }
-        ensures { (b : Block) → TellsBlock b self.now → b.starts ≡ starts.now → (ks : Kinds)
+        ensures { (b : Block) → TellsSlotsOf b self.now → b.starts ≡ starts.now → (ks : Kinds)
             → Gets b b.size from.0 ks → Jumps b from.0 ks line.0 (answer_of result) }
     {
         pt_jump::target(self, starts, from, line)

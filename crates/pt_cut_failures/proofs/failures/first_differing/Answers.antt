@@ -3,7 +3,7 @@ use Rattle.std.proofs.lemmas.Result.{IfOk-weaker}
 use Rattle.pt_fits.specs.Block.{block_of}
 use Rattle.pt_single_sizes.proofs.Seeing.{is_seen}
 use Rattle.pt_cut_failures.specs.Cuts.{TellsShortBelow}
-use Rattle.pt_cut_failures.specs.Graph.{Draws}
+use Rattle.pt_cut_failures.specs.Graph.{DrawsCuts}
 use Rattle.pt_cut_failures.proofs.Short.{tells_below}
 use Rattle.pt_cut_failures.proofs.failures.first_differing.Goals as goal
 
@@ -17,7 +17,7 @@ returns c = IfOk-weaker c.short_row.result _ _ (λ row t view v has apart shallo
     let b = block_of code block view in
     let T = c.in_ok-sizes.sizes.items in
     let flow = c.in_ok-flow.flow in
-    let draws = subst (λ xs. Draws b c.args.limit xs flow) c.deref.ensures.value (c.in_ok-flow.ensures.draws view has) in
+    let draws = subst (λ xs. DrawsCuts b c.args.limit xs flow) c.deref.ensures.value (c.in_ok-flow.ensures.draws view has) in
     let long = c.in_ok-sizes.ensures.long in
     let seen = is_seen code block view v (length T) (omega (arith, long)) in
     tells_below b c.args.limit T flow draws seen (c.in_ok-sizes.ensures.exact view v has apart).whole (omega (arith, long)) c.args.rows shallow row

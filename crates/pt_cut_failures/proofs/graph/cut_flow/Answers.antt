@@ -4,7 +4,7 @@ use Rattle.pt_fits.specs.Block.{kinds_at_start, links_of}
 use Rattle.pt_block_kinds.specs.Leads.{leads_of}
 use Rattle.pt_block_kinds.specs.Drawing.{DrawnFrom}
 use Rattle.pt_block_kinds.proofs.Opening.{drawn_more, room, none_yet}
-use Rattle.pt_cut_failures.specs.Chains.{AreChains}
+use Rattle.pt_cut_failures.specs.Chains.{AreRowChains}
 use Rattle.pt_cut_failures.specs.Leads.{vertex_leads}
 use Rattle.pt_cut_failures.proofs.Drawing.{edges_descend, draws}
 use Rattle.pt_cut_failures.proofs.graph.cut_flow.Goals as goal
@@ -53,6 +53,6 @@ loop-vertex-preserved c =
 pub returns-clause-draws : goal.returns-clause-draws
 returns-clause-draws c = λ view has. let chains = c.in_ok-chains.chains in
     draws c.args.code.now c.args.block.now view c.args.places.now has c.args.limit c.args.sizes.now chains
-    (subst (λ rs. AreChains rs (length c.args.sizes.now) chains) c.as_slice-rows.ensures c.in_ok-chains.ensures) c.loop-vertex.flow c.in_ok-size.size c.loop-vertex.vertex
+    (subst (λ rs. AreRowChains rs (length c.args.sizes.now) chains) c.as_slice-rows.ensures c.in_ok-chains.ensures) c.loop-vertex.flow c.in_ok-size.size c.loop-vertex.vertex
     (let rows = ap length c.as_slice-rows.ensures in omega (arith, c.in_ok-size.ensures, c.in_ok-sum.ensures, c.len.ensures, rows))
     (omega (arith, c.loop-vertex-test.false)) c.loop-vertex.invariant
