@@ -86,12 +86,16 @@ fn bad_handler(places: &Places, size: usize, handlers: &[Handler]) -> Option<usi
 }
 
 /// The number of a row, counted through so many before.
-fn behind(count: usize, row: Option<usize>) -> Result<Option<usize>, Memory>
-    ensures { IfOk result (λ n. n ≡ option_map (λ k. count + k) row) }
+///
+/// # Errors
+///
+/// `Memory` where it passes 2^64, as in no table.
+pub fn row_number(before: usize, row: Option<usize>) -> Result<Option<usize>, Memory>
+    ensures { IfOk result (λ number. number ≡ option_map (λ k. before + k) row) }
 {
     match row {
         None => Ok(None),
-        Some(row) => match count.checked_add(row) {
+        Some(row) => match before.checked_add(row) {
             None => Err(Memory),
             Some(number) => Ok(Some(number)),
         },
@@ -111,7 +115,7 @@ fn bad_behind_marks(
 {
     match bad_handler(places, size, handlers) {
         Some(row) => Ok(Some(row)),
-        None => behind(handlers.len(), bad_start(places, starts)),
+        None => row_number(handlers.len(), bad_start(places, starts)),
     }
 }
 
@@ -134,7 +138,7 @@ pub fn first_bad_row(places: &Places, block: &CodeBlock) -> Result<Option<usize>
             let size = block.instructions.len();
             let handlers = block.handlers.as_slice();
             let row = bad_behind_marks(places, size, handlers, block.starts.as_slice())?;
-            behind(marks.len(), row)
+            row_number(marks.len(), row)
         }
     }
 }

@@ -16,10 +16,11 @@ ghost use Rattle.pt_standing.specs.Names.{TellsDefaults};
 use crate::lacking::any_lacks;
 use pt_base::Memory;
 use pt_block_kinds::BlockKinds;
+use pt_block_tables::row_number;
 use pt_code::{Code, CodeBlock};
 use pt_kind_flow::Flow;
 use pt_places::Places;
-use pt_refusals::{KindFailures, counted};
+use pt_refusals::KindFailures;
 use pt_standing::{Defaults, misplaced};
 
 /// Whether a place gets two lists, or an instruction finds another kind or may not stand there.
@@ -75,7 +76,7 @@ pub fn least_cut(
         → TellsLeast (CutsOf (block_of code block.now view) limit) row) }
 {
     let cut = kinds.first_cut(block.handlers.as_slice(), sizes)?;
-    counted(block.marks.len(), cut)
+    row_number(block.marks.len(), cut)
 }
 
 /// How a block fails by the kinds of its slots up to a limit, aside from Leaves and handler rows: for

@@ -1,7 +1,4 @@
 //! How a block fails, and why it is refused.
-ghost use Rattle.std.specs.Prelude.{◌≡◌, ◌+◌, option_map, IfOk};
-
-use pt_base::Memory;
 
 /// How a block fails up to a place by the kinds of its slots, aside from Leaves and handler rows.
 #[derive(Clone, Copy, Debug)]
@@ -55,21 +52,4 @@ pub enum Refusal {
     Table(usize),
     SilentLoop(usize),
     Depth,
-}
-
-/// The number of a row, counted through so many before.
-///
-/// # Errors
-///
-/// `Memory` where it passes 2^64, as in no table.
-pub fn counted(before: usize, row: Option<usize>) -> Result<Option<usize>, Memory>
-    ensures { IfOk result (λ number. number ≡ option_map (λ k. before + k) row) }
-{
-    match row {
-        None => Ok(None),
-        Some(row) => match before.checked_add(row) {
-            None => Err(Memory),
-            Some(number) => Ok(Some(number)),
-        },
-    }
 }

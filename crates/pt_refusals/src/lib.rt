@@ -8,7 +8,7 @@ mod laws;
 mod place;
 
 pub use behind::refusal_behind;
-pub use failures::{Failures, KindFailures, LeaveFailures, Refusal, counted};
+pub use failures::{Failures, KindFailures, LeaveFailures, Refusal};
 pub use halving::{Probe, first_refusal, refusal_up_to};
 pub use laws::{
     a_block_that_agrees_is_told, a_place_is_told, agreement_falls_short_for_good,

@@ -9,10 +9,10 @@ ghost use Rattle.pt_verify.specs.Sizes.{SizesMeet};
 ghost use Rattle.pt_refusals.specs.Told.{TellsLeastBelow};
 
 use pt_base::Memory;
+use pt_block_tables::row_number;
 use pt_code::{Code, CodeBlock};
 use pt_cut_failures::first_differing;
 use pt_places::Places;
-use pt_refusals::counted;
 use std::alloc::Global;
 
 /// The least table row under which cuts differ, of so many first handler rows, none of which is too
@@ -34,5 +34,5 @@ pub fn first_cut(
         (length block.now.marks + rows) row) }
 {
     let row = first_differing(alloc, code, block, places, limit, rows)?;
-    counted(block.marks.len(), row)
+    row_number(block.marks.len(), row)
 }

@@ -7,7 +7,7 @@ use Rattle.pt_block_tables.proofs.FirstLemmas.{counted, marks_length, tells}
 use Rattle.pt_block_tables.proofs.rows.first_bad_row.Goals as goal
 
 pub returns-in_ok-row-in-None : goal.returns-in_ok-row-in-None
-returns-in_ok-row-in-None c = IfOk-weaker c.behind.result _ _
+returns-in_ok-row-in-None c = IfOk-weaker c.row_number.result _ _
     (λ row e code view has.
     let b : Block = block_of code c.args.block.now view in
     let xs = c.as_slice-marks.result.now in
@@ -18,4 +18,4 @@ returns-in_ok-row-in-None c = IfOk-weaker c.behind.result _ _
     (c.in_ok-row-in-None.ensures b has (sym c.len-size.ensures))) in
     tells b row (subst (λ ms. IsFirstFalse (in_order b None (map (λ m. m.pc.0) ms) ++ ys) row) c.as_slice-marks.ensures
     (counted (in_order b None (map (λ m. m.pc.0) xs)) ys _ c.in_ok-row-in-None.row row (marks_length b xs) none rest e)))
-    c.behind.ensures
+    c.row_number.ensures

@@ -9,11 +9,11 @@ use Rattle.pt_kind_failures.proofs.Telling.{tells_row}
 use Rattle.pt_kind_failures.proofs.failures.least_cut.Goals as goal
 
 pub returns : goal.returns
-returns c = IfOk-weaker c.counted.result _ _ (λ row told code view v limit are d.
+returns c = IfOk-weaker c.row_number.result _ _ (λ row told code view v limit are d.
     let block = c.args.block.now in
     let sizes = c.args.sizes.now in
     let b = block_of code block view in
     let seen = is_seen code block view v _ c.requires.long in
     subst (TellsLeast (CutsOf b limit)) (sym (told ∙ ap (λ n. option_map (λ k. n + k) c.in_ok-cut.cut) c.len.ensures))
     (tells_row b limit c.in_ok-cut.cut (c.in_ok-cut.ensures b limit (sym c.as_slice.ensures) d seen (has_sizes b limit sizes are))))
-    c.counted.ensures
+    c.row_number.ensures

@@ -6,7 +6,7 @@ use Rattle.pt_verifier.proofs.ProbeLemmas.{counted_cut}
 use Rattle.pt_verifier.proofs.cuts.first_cut.Goals as goal
 
 pub returns : goal.returns
-returns c = IfOk-weaker c.counted.result _ _
+returns c = IfOk-weaker c.row_number.result _ _
     (λ told e view v has apart shallow. counted_cut (block_of c.args.code.now c.args.block.now view) c.args.limit c.args.rows c.in_ok-row.row told
     (c.in_ok-row.ensures view v has apart shallow) (e ∙ ap (λ n. option_map (λ k. n + k) c.in_ok-row.row) c.len.ensures))
-    c.counted.ensures
+    c.row_number.ensures
