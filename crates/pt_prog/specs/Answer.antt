@@ -1,5 +1,5 @@
 -- What the program answers to its words and files, and what it writes: to out and to the log, to each in its order.
-use Rattle.std.specs.Prelude.{◌≡◌, ◌≤◌, ◌-◌, ◌^◌, ℕ, List, [], ◌∷◌, ◌++◌, Option, Some, None, Bool, true, false, ◌||◌, ◌⊎◌, length, map, min, option_map, string_bytes, Err}
+use Rattle.std.specs.Prelude.{◌≡◌, ◌≤◌, ◌-◌, ◌^◌, ℕ, List, [], ◌∷◌, ◌++◌, Option, Some, None, Bool, true, false, ◌||◌, ◌⊎◌, length, map, min, string_bytes, Err}
 use Rattle.std.specs.declared.string.String.{String}
 use Rattle.std.specs.declared.alloc.Global.{Global}
 use Rattle.pt_base.specs.declared.numbers.Line.{Line}
@@ -55,18 +55,9 @@ OfSome (Some x) P = P x
 abbrev pub asked_for : List (String Global) → Option Asked
 asked_for words = command_line (map string_bytes words)
 
--- the name of the file in it
-abbrev pub script_named : List (String Global) → Option Text
-script_named words = option_map (λ a. a.script) (asked_for words)
-
 -- P holds of what the words ask for
 abbrev pub OfAsked : List (String Global) → (Asked → Type 0) → Type 0
 OfAsked words P = OfSome (asked_for words) P
-
--- the shelf tells P of the named text
-abbrev pub OfNamed : Option Text → (told : Text → Told) → (Told → Type 0) → Type 0
-OfNamed None told P = ⊥
-OfNamed (Some name) told P = P (told name)
 
 -- a script is run, or its code is written
 abbrev pub is_run : Command → Bool

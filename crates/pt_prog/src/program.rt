@@ -2,9 +2,8 @@ ghost use Rattle.std.specs.Prelude.{◌≡◌, ◌≢◌, ◌≤◌, ◌⊎◌, 
 ghost use Rattle.std.specs.Prelude.{false, length};
 ghost use Rattle.pt_base.specs.Faults.{Rose};
 ghost use Rattle.pt_base.specs.Told.{IsLacked, IsLonger};
-ghost use Rattle.pt_prog.specs.Answer.{BrokeOffFor, IsComplete, OfAsked, OfNamed, WroteAllFor};
-ghost use Rattle.pt_prog.specs.Answer.{Wrote};
-ghost use Rattle.pt_prog.specs.Answer.{asked_for, script_named};
+ghost use Rattle.pt_prog.specs.Answer.{BrokeOffFor, IsComplete, OfAsked, Wrote, WroteAllFor};
+ghost use Rattle.pt_prog.specs.Answer.{asked_for};
 ghost use Rattle.pt_prog.specs.Limits.{limit_of, reads_code, script_limit};
 ghost use Rattle.pt_prog.specs.RunEnds.{ended};
 ghost use Rattle.pt_sinks.specs.declared.writing.Out.TheVariants as stream;
@@ -155,7 +154,7 @@ pub fn top<F: Shelf, O: Sink, L: Sink>(
 
     // Each fault has its cause, and objects that cannot fail give none.
     ensures read_fault { result ≡ End.ReadFault → Rose (F.faults shelf.old) (F.faults shelf.new)
-        ⊎ OfNamed (script_named words.now) (F.told shelf.old) IsLacked }
+        ⊎ OfAsked words.now (λ a. IsLacked (F.told shelf.old a.script)) }
     ensures too_long { result ≡ End.TooLong File.First
         → OfAsked words.now (λ a. IsLonger (F.told shelf.old a.script) (limit_of a.command)) }
     ensures out_fault { result ≡ End.WriteFault stream.Out
@@ -163,7 +162,7 @@ pub fn top<F: Shelf, O: Sink, L: Sink>(
     ensures log_fault { result ≡ End.WriteFault stream.Log
         → Rose (L.faults log.old) (L.faults log.new) }
     ensures no_read_fault { F.most shelf.old ≡ 0 → result ≡ End.ReadFault
-        → OfNamed (script_named words.now) (F.told shelf.old) IsLacked }
+        → OfAsked words.now (λ a. IsLacked (F.told shelf.old a.script)) }
     ensures no_out_fault { O.most out.old ≡ 0 → result ≢ End.WriteFault stream.Out }
     ensures no_log_fault { L.most log.old ≡ 0 → result ≢ End.WriteFault stream.Log }
 
