@@ -8,8 +8,8 @@ ghost use Rattle.pt_run.specs.Run.{Write};
 ghost use Rattle.pt_sinks.specs.Writing.{outs};
 ghost use Rattle.pt_words.specs.Words.{Asked};
 
-/// The text of a script says one end at most, for each command line. Of a code file it isn't said
-/// yet: that all code objects of its blocks have one outcome.
+/// The text of a script says one end at most, for each command line. Of a code file pt_code_ends
+/// says that the run of its code has one outcome.
 pub fn a_text_says_one_end()
     ensures { (a : Asked) (text : List ℕ) (e f : HowItEnds)
         → reads_code a.command ≡ false → IsEndFor a text e → IsEndFor a text f → e ≡ f }
