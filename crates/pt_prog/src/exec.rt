@@ -114,7 +114,8 @@ fn verified_code(alloc: Global, bytes: &[u8]) -> Result<Code, Failure<CodeRefusa
 ///
 /// # Errors
 ///
-/// Failed where a sink's count of faults rose, and Memory.
+/// Failed where a sink's count of faults rose, and Memory: for want of it, and where the code that
+/// is to run names more text than `run_code` takes.
 #[tactic(none)]
 pub fn exec_file<O: Sink, L: Sink>(
     alloc: Global,
