@@ -7,7 +7,7 @@ use pt_base::Memory;
 use pt_budget::Budget;
 use std::alloc::Global;
 
-/// Sees to a pair that is due: one step, and where it is new one for each way on that is looked at.
+/// Sees to a pair that is due, in one step, and one for each way on where it is new.
 fn step<F: Follows>(
     rule: &F,
     found: &mut Found,
@@ -31,10 +31,9 @@ fn step<F: Follows>(
 }
 
 /// The least set of pairs that has the given ones and what follows from each of it, each pair once.
-/// Each pair takes a step as often as it is given or follows, and once as many as ways on are looked
-/// at for what follows from it (`Follows::looks`). So where w of these are looked at, and none gives
-/// more than one pair, s given pairs take s + 2w steps at most: time O((s + w) log (s + w)), and
-/// memory O(s + w).
+/// A pair takes a step each time that it is given or follows, and once as many as ways on are
+/// looked at for what follows from it. So for s given pairs and w ways on, each of which gives one
+/// pair at most, it takes up to s + 2w steps, time O((s + w) log (s + w)) and memory O(s + w).
 ///
 /// # Errors
 ///

@@ -19,6 +19,7 @@ use crate::gathering::gathered;
 use crate::holding::Holding;
 use crate::listing::{ended, members, seeds};
 use pt_base::{Memory, Pc};
+use pt_budget::Budget;
 use pt_closure::closure;
 use pt_joins::Joins;
 use pt_places::Places;
@@ -43,6 +44,7 @@ fn search(
     count: usize,
     sizes: &[Option<u64>],
     end: usize,
+    budget: &mut Budget,
 ) -> Result<HeldLeaves, Memory>
     requires { end < length sizes.now + 1 }
     ensures { IfOk result (λ told. (rows : List Handler) → Knows places.now rows takers.now
@@ -57,7 +59,7 @@ fn search(
         classes,
         members: gathered(alloc, count, &listed)?,
     };
-    let found = closure(alloc, &holding, seeds)?;
+    let found = closure(alloc, &holding, seeds, budget)?;
     Ok(HeldLeaves {
         bundles: gathered(alloc, count, &found)?,
         held: ended(alloc, places, classes, end)?,
@@ -72,12 +74,12 @@ fn search(
 /// For n places it takes time O((n + w) log^2 n) and memory O(n + w), where w is the sum, over all
 /// pairs of a target and a class that may hold a Leave for it, of the EndFinally and Exit places of
 /// the class. So w may be n^2: where finally parts stand around one another and each Leave in the
-/// innermost leaves another loop.
+/// innermost leaves another loop. For m Leaves it takes m + 2w steps at most.
 ///
 /// # Errors
 ///
-/// `Memory` for want of it, where w passes 2^25, and where the block has 2^32 bytes or more, as
-/// none of a code file has.
+/// `Memory` for want of it, where fewer steps are left, and where the block has 2^32 bytes or more,
+/// as none of a code file has.
 pub fn held_leaves(
     alloc: Global,
     places: &Places,
@@ -85,6 +87,7 @@ pub fn held_leaves(
     joins: &Joins,
     sizes: &[Option<u64>],
     limit: Pc,
+    budget: &mut Budget,
 ) -> Result<HeldLeaves, Memory>
     requires { IsForest joins.now.nodes.items }
     ensures { IfOk result (λ told. (code : Code) (block : CodeBlock) (view : ℕ → Option Ins)
@@ -99,5 +102,14 @@ pub fn held_leaves(
 {
     let tops = top_slots(alloc, joins, sizes)?;
     let end = sizes.len().min(limit.0 as usize + 1);
-    search(alloc, places, takers, &tops.classes, tops.count, sizes, end)
+    search(
+        alloc,
+        places,
+        takers,
+        &tops.classes,
+        tops.count,
+        sizes,
+        end,
+        budget,
+    )
 }

@@ -47,6 +47,14 @@ impl<'a> Follows for Holding<'a> {
 
     ghost tells = { TellsNext };
 
+    fn looks(&self, pair: (usize, usize)) -> usize {
+        let (class, _) = pair;
+        match self.members.get(class) {
+            None => 0,
+            Some(members) => members.len(),
+        }
+    }
+
     fn add_next(&self, pair: (usize, usize), work: &mut Vec<(usize, usize)>) -> Result<(), Memory> {
         let (class, target) = pair;
         if class >= self.members.len() {

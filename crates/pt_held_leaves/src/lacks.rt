@@ -133,7 +133,8 @@ fn lacks_at(
 }
 
 /// Whether a Leave has fewer slots than its target, by the instructions at a limit and below: where
-/// it goes on, or under a row that takes it. It takes no memory, and the time of `held_leaves`.
+/// it goes on, or under a row that takes it. It takes no memory, and the time of `held_leaves`: from
+/// each EndFinally of a class it looks at each target of the class, as that did.
 ///
 /// # Errors
 ///

@@ -17,6 +17,7 @@ use crate::probe::{Answer, BlockProbe, last_of};
 use pt_base::{Memory, Pc};
 use pt_block_limits::{Cycles, is_too_deep, lost_leave, silent_loops};
 use pt_block_tables::first_bad_row;
+use pt_budget::Budget;
 use pt_code::{Code, CodeBlock};
 use pt_held_leaves::HeldLeaves;
 use pt_places::Places;
@@ -62,10 +63,11 @@ fn refusal_of_agreeing(
 }
 
 /// What refuses a block whose sizes agree, for these: it is asked of its end, and where it doesn't
-/// agree there, of the places before.
+/// agree there, of the places before. The steps that are left where it agrees are told.
 fn refusal_of_sized(
     probe: &BlockProbe<'_>,
     sizes: &[Option<u64>],
+    left: &mut Budget,
 ) -> Result<Option<Refusal>, Memory>
     requires { length probe.now.block.now.instructions
         ≤ last_of probe.now.sizes.now (length probe.now.block.now.instructions) }
@@ -77,9 +79,16 @@ fn refusal_of_sized(
         return Err(Memory);
     };
     let answer = probe.by_sizes(Pc(end), sizes)?;
-    let Answer { failures, held } = answer;
+    let Answer {
+        failures,
+        held,
+        budget,
+    } = answer;
     match refusal_at(last, &failures) {
-        None => refusal_of_agreeing(probe, sizes, held),
+        None => {
+            *left = budget;
+            refusal_of_agreeing(probe, sizes, held)
+        }
         Some(refusal) => {
             drop(held);
             Ok(Some(refusal_up_to(probe, last, refusal)?))
@@ -100,12 +109,12 @@ fn refusal_of_unsized(probe: &BlockProbe<'_>) -> Result<Option<Refusal>, Memory>
 }
 
 /// What refuses a block whose tables hold.
-fn refusal_by_probe(probe: &BlockProbe<'_>) -> Result<Option<Refusal>, Memory>
+fn refusal_by_probe(probe: &BlockProbe<'_>, left: &mut Budget) -> Result<Option<Refusal>, Memory>
     ensures { IfOk result (λ refusal. (b : Block) → TellsOf probe.now b
         → TellsBlock b (option_map misfit_of refusal)) }
 {
     match probe.sizes {
-        Sizes::Agree(sizes) => refusal_of_sized(probe, sizes),
+        Sizes::Agree(sizes) => refusal_of_sized(probe, sizes, left),
         _ => refusal_of_unsized(probe),
     }
 }
@@ -117,6 +126,7 @@ fn refusal_of_laid(
     defaults: &Defaults,
     block: &CodeBlock,
     places: &Places,
+    budget: &mut Budget,
 ) -> Result<Option<Refusal>, Memory>
     ensures { IfOk result (λ refusal. TellsDefaults code.now defaults.now
         → (view : ℕ → Option Ins) → IsView block.now view → HasPlaces view places.now
@@ -128,7 +138,7 @@ fn refusal_of_laid(
     };
     let takers = Takers::build(alloc, block.handlers.as_slice(), count)?;
     let sizes = sizes(alloc, code, block)?;
-    refusal_by_probe(&BlockProbe {
+    let probe = BlockProbe {
         alloc,
         code,
         defaults,
@@ -136,22 +146,26 @@ fn refusal_of_laid(
         places,
         takers: &takers,
         sizes: &sizes,
-    })
+        budget: *budget,
+    };
+    refusal_by_probe(&probe, budget)
 }
 
 /// What refuses a block of a code, or that it fits, where it is told of its blocks and lists. Most of
 /// the time goes to the flow of kinds, slots in common and held Leaves, which are asked once where
-/// the block agrees, and else once more for each halving of its bytes.
+/// the block agrees, and else once more for each halving of its bytes. A block that agrees takes the
+/// steps of its held Leaves from those that are left; of another each asking may take all of them.
 ///
 /// # Errors
 ///
-/// `Memory` for want of it, where more than 2^25 ways on of held Leaves are looked at, as a code file
-/// may have, and where the block has 2^32 bytes, handler rows or free names, as none has.
+/// `Memory` for want of it, where held Leaves take more steps than are left, as those of a code file
+/// may, and where the block has 2^32 bytes, handler rows or free names, as none has.
 pub fn block_refusal(
     alloc: Global,
     code: &Code,
     defaults: &Defaults,
     block: &CodeBlock,
+    budget: &mut Budget,
 ) -> Result<Option<Refusal>, Memory>
     ensures { IfOk result (λ refusal. TellsDefaults code.now defaults.now
         → (view : ℕ → Option Ins) → IsView block.now view
@@ -160,6 +174,6 @@ pub fn block_refusal(
     let places = Places::make(alloc, block)?;
     match first_bad_row(&places, block)? {
         Some(row) => Ok(Some(Refusal::Table(row))),
-        None => refusal_of_laid(alloc, code, defaults, block, &places),
+        None => refusal_of_laid(alloc, code, defaults, block, &places, budget),
     }
 }

@@ -12,6 +12,7 @@ ghost use Rattle.pt_held_leaves.specs.Held.{HasHeldUpTo};
 ghost use Rattle.pt_verifier.specs.Leaves.{HasLeave, is_leave};
 
 use pt_base::{Memory, Pc};
+use pt_budget::Budget;
 use pt_code::CodeBlock;
 use pt_common_slots::common_slots;
 use pt_held_leaves::{HeldLeaves, held_leaves};
@@ -61,8 +62,8 @@ pub fn no_leaves(alloc: Global) -> HeldLeaves
 ///
 /// # Errors
 ///
-/// `Memory` for want of it, where more than 2^25 ways on of held Leaves are looked at, as a code file
-/// may have, and where the block has 2^32 bytes or more, as none has.
+/// `Memory` for want of it, where held Leaves take more steps than are left, as those of a code file
+/// may, and where the block has 2^32 bytes or more, as none has.
 pub fn held_up_to(
     alloc: Global,
     block: &CodeBlock,
@@ -70,6 +71,7 @@ pub fn held_up_to(
     takers: &Takers,
     sizes: &[Option<u64>],
     limit: Pc,
+    budget: &mut Budget,
 ) -> Result<HeldLeaves, Memory>
     ensures { IfOk result (λ told. (code : Code) (view : ℕ → Option Ins) → IsView block.now view
         → HasPlaces view places.now
@@ -82,7 +84,7 @@ pub fn held_up_to(
 {
     if has_leave(places, block.instructions.len(), limit) {
         let joins = common_slots(alloc, block, places, sizes, limit)?;
-        return held_leaves(alloc, places, takers, &joins, sizes, limit);
+        return held_leaves(alloc, places, takers, &joins, sizes, limit, budget);
     }
     Ok(no_leaves(alloc))
 }

@@ -6,6 +6,7 @@ use crate::cuts::first_cut;
 use crate::leaves::{held_up_to, no_leaves};
 use pt_base::{Memory, Pc};
 use pt_block_kinds::{BlockKinds, kinds_up_to};
+use pt_budget::Budget;
 use pt_code::{Code, CodeBlock};
 use pt_held_leaves::{HeldLeaves, leaves_lack};
 use pt_kind_failures::{kind_failures, least_cut};
@@ -27,14 +28,17 @@ pub struct BlockProbe<'a> {
     pub places: &'a Places,
     pub takers: &'a Takers,
     pub sizes: &'a Sizes,
+    /// The steps that held Leaves may take each time that it is asked.
+    pub budget: Budget,
 }
 
 /// What is told of a block up to a place up to which numbers of slots agree: how it fails, and if it
-/// doesn't, the Leaves that each EndFinally lets go on.
+/// doesn't, the Leaves that each EndFinally lets go on; and the steps that these left.
 #[derive(Drop)]
 pub struct Answer {
     pub failures: Failures,
     pub held: HeldLeaves,
+    pub budget: Budget,
 }
 
 /// How numbers of slots disagree at a place.
@@ -122,7 +126,8 @@ impl<'a> BlockProbe<'a> {
         let clash = leaves_clash(places, sizes, &kinds, place);
         let (code, defaults) = (self.code, self.defaults);
         let told = kind_failures(code, defaults, block, places, sizes, limit, kinds)?;
-        let held = held_up_to(self.alloc, block, places, takers, sizes, place)?;
+        let mut budget = self.budget;
+        let held = held_up_to(self.alloc, block, places, takers, sizes, place, &mut budget)?;
         let lacks = leaves_lack(places, takers, sizes, &held, place)?;
         Ok(Answer {
             failures: Failures::Agree {
@@ -130,6 +135,7 @@ impl<'a> BlockProbe<'a> {
                 leaves: LeaveFailures { lacks, clash },
             },
             held,
+            budget,
         })
     }
 
@@ -150,6 +156,7 @@ impl<'a> BlockProbe<'a> {
             Some(row) => Ok(Answer {
                 failures: Failures::Cut(row),
                 held: no_leaves(self.alloc),
+                budget: self.budget,
             }),
         }
     }

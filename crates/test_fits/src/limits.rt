@@ -5,6 +5,7 @@ use crate::blocks::NoRow;
 use pt_base::Pc;
 use pt_block_limits::{Cycles, is_too_deep, lost_leave, silent_loops};
 use pt_block_tables::first_bad_row;
+use pt_budget::Budget;
 use pt_code::{Code, CodeBlock};
 use pt_common_slots::common_slots;
 use pt_held_leaves::{HeldLeaves, held_leaves, leaves_lack};
@@ -13,6 +14,9 @@ use pt_takers::Takers;
 use pt_verify::{Sizes, sizes};
 use std::alloc::Global;
 use std::fmt::Write;
+
+/// The steps that held Leaves of a block may take.
+const MOST_WAYS: u64 = 0x0040_0000;
 
 /// What places of a block let go on of Leaves that they hold.
 fn held_in(
@@ -24,7 +28,8 @@ fn held_in(
     limit: Pc,
 ) -> Result<HeldLeaves, NoRow> {
     let joins = common_slots(alloc, block, places, table, limit)?;
-    Ok(held_leaves(alloc, places, takers, &joins, table, limit)?)
+    let mut budget = Budget::new(MOST_WAYS);
+    Ok(held_leaves(alloc, places, takers, &joins, table, limit, &mut budget)?)
 }
 
 /// Writes a word with a number, if it is told.

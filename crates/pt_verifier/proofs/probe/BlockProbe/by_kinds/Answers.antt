@@ -25,6 +25,7 @@ returns c = λ b t are d uncut.
     told_of_its probe b t p (record {
       failures = failures.Agree c.in_ok-told.told (record { lacks = c.in_ok-lacks.lacks; clash = c.leaves_clash-clash.result });
       held = c.in_ok-held.held;
+      budget = c.held_up_to.new.budget;
     })
     (record {
       failures = record {

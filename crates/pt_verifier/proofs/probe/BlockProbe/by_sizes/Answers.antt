@@ -42,7 +42,7 @@ returns-in-Some c = λ b t are.
     let its_are = subst (λ x. AreSizesUpTo x p sizes) t.same are in
     let cut = subst (TellsLeast (CutsOf i p)) c.in-Some.is
     (c.in_ok-least_cut.ensures probe.code.now t.view t.seen p its_are (c.in_ok-kinds.ensures t.view t.places)) in
-    told_of_its probe b t p (record { failures = failures.Cut c.in-Some.row; held = c.no_leaves.result }) (record {
+    told_of_its probe b t p (record { failures = failures.Cut c.in-Some.row; held = c.no_leaves.result; budget = probe.budget }) (record {
       failures = record { agree = its_are.agree; cut = cut };
       held = λ agrees. absurd (cuts_disagree i p c.in-Some.row cut.holds agrees);
     })
