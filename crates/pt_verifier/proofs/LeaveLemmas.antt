@@ -1,17 +1,12 @@
 -- Where no Leave stands, no slot holds one.
 use Rattle.std.proofs.Common.{◌≡◌, ℕ, ◌<◌, ◌≤◌, List, [], length, Option, Some, None, ap, ◌∙◌, arith}
-use Rattle.pt_instr.specs.declared.Instr.TheVariants.{Leave}
-use Rattle.pt_instr.specs.Effects.{Kinds}
-use Rattle.pt_ranges.specs.declared.handlers.Handler.{Handler}
 use Rattle.pt_code.specs.View.{Ins, IsView}
 use Rattle.pt_code.specs.declared.Code.{Code}
 use Rattle.pt_code.specs.declared.CodeBlock.{CodeBlock}
 use Rattle.pt_places.specs.declared.places.Place.{Place}
 use Rattle.pt_places.specs.PlaceTable.{HasPlaces, place_at, place_of}
-use Rattle.pt_fits.specs.Block.{Block, block_of}
-use Rattle.pt_fits.specs.Places.{Reached}
-use Rattle.pt_fits.specs.Leaves as L
-use Rattle.pt_fits.specs.Leaves.{Departs, Holds}
+use Rattle.pt_fits.specs.Block.{block_of}
+use Rattle.pt_fits.proofs.Certificates.{Stands, holds_stands}
 use Rattle.pt_held_leaves.specs.Held.{HasHeldUpTo}
 use Rattle.pt_kind_failures.proofs.Seen.{is_seen}
 use Rattle.pt_verifier.specs.Leaves.{HasLeave, is_leave}

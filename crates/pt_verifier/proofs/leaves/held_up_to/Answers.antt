@@ -1,8 +1,7 @@
-use Rattle.std.proofs.Common.{◌≡◌, ◌+◌, ◌<◌, ◌≤◌, [], ℕ, min, length, sym, subst, arith}
+use Rattle.std.proofs.Common.{◌+◌, [], min, sym, subst, arith}
 use Rattle.std.specs.Prelude.{MatchBool}
 use Rattle.std.proofs.lemmas.Result.{IfOk-weaker}
 use Rattle.pt_fits.specs.Block.{block_of}
-use Rattle.pt_step_graph.specs.Graph.{bundles_of}
 use Rattle.pt_held_leaves.specs.Held.{HasHeldUpTo}
 use Rattle.pt_verifier.specs.Leaves.{HasLeave}
 use Rattle.pt_verifier.proofs.LeaveLemmas.{none_held}

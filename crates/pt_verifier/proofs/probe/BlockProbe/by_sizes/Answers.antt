@@ -1,4 +1,4 @@
-use Rattle.std.proofs.Common.{◌≤◌, ℕ, length, sym, subst, arith}
+use Rattle.std.proofs.Common.{ℕ, sym, subst}
 use Rattle.std.proofs.lemmas.Result.{IfOk-weaker}
 use Rattle.pt_verify.specs.PlaceTable.{AreSizesUpTo}
 use Rattle.pt_verify.specs.Refusals.{CutsOf}
