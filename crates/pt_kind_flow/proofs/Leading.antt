@@ -1,7 +1,7 @@
 -- Arrivals along the edges of a vertex.
 use Rattle.std.proofs.lemmas.Bool.Decides.{nat_tests}
 use Rattle.std.proofs.lemmas.Bool.{false≢true, leb-true}
-use Rattle.std.proofs.Common.{◌≡◌, ℕ, zero, suc, ◌+◌, ◌<◌, ◌≤◌, List, [], ◌∷◌, ◌++◌, length, false, Some, refl, sym, ap, ◌∙◌, subst, arith, ◌⊎◌, inl, inr, get_or, true, Option, None}
+use Rattle.std.proofs.Common.{◌≡◌, ℕ, zero, suc, ◌+◌, ◌<◌, ◌≤◌, List, [], ◌∷◌, ◌++◌, length, Some, refl, sym, ap, ◌∙◌, subst, arith, ◌⊎◌, inl, inr, get_or, true, Option, None}
 use Rattle.std.specs.Prelude.{Contains, slice_get, nat_le}
 use Rattle.std.proofs.lemmas.List.Elements.{Contains-push, Contains-push_cases, Contains-append_left}
 use Rattle.std.proofs.lemmas.Option.{same_Some, slice_get-get_or, slice_get_within, get_or_from_slice_get}
@@ -14,11 +14,8 @@ use Rattle.pt_kind_flow.specs.Search.{Grows, IsLed, Leads, is_told}
 use Rattle.pt_kind_flow.proofs.Forests.{grown, grows_itself, grows_then, still_inside}
 
 -- the edge with this number
-abbrev pub no_edge : Edge
-no_edge = record { to = 0; keeps = 0; given = []; raises = false }
-
-abbrev pub edge_in : List Edge → ℕ → Edge
-edge_in edges i = get_or edges i no_edge
+pub edge_at : (edges : List Edge) (i : ℕ) (item e : Edge) → i < length edges → item ≡ get_or edges i item → e ≡ item → slice_get edges i ≡ Some e
+edge_at edges i item e lt is same = slice_get-get_or edges i item lt ∙ ap (λ d. Some d) (sym (same ∙ is))
 
 pub lt_or : (n m : ℕ) → (n < m) ⊎ (m ≤ n)
 lt_or n zero = inr (omega arith)

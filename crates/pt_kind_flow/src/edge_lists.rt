@@ -3,6 +3,7 @@ ghost use Rattle.std.specs.Prelude.{◌≡◌, ◌<◌, [], length, replicate, s
 ghost use Rattle.pt_kind_flow.specs.EdgeLists.{AreWithin, edges_in};
 
 use crate::edges::Edge;
+use crate::packed::{PackedEdge, add_packed};
 use pt_base::Memory;
 use std::alloc::Global;
 use std::marker::Model;
@@ -30,7 +31,7 @@ impl Span {
 /// The edges of each vertex. They lie one behind the other, so that none has memory of its own.
 #[derive(Debug, Drop)]
 pub struct EdgeLists {
-    edges: Vec<Edge>,
+    edges: Vec<PackedEdge>,
     /// Of each vertex, where its edges lie.
     spans: Vec<Span>,
 }
@@ -64,19 +65,19 @@ impl EdgeLists {
     /// # Errors
     ///
     /// `Memory` for want of it, and where 2^32 edges have been given.
-    pub fn set(&mut self, vertex: usize, mut edges: Vec<Edge>) -> Result<(), Memory>
+    pub fn set(&mut self, vertex: usize, edges: Vec<Edge>) -> Result<(), Memory>
         requires { vertex < length self.old }
         ensures { IfOk result (λ _. self.new ≡ slice_set self.old vertex edges.items) }
     {
         let from = self.edges.len();
-        self.edges.append(&mut edges)?;
+        add_packed(&mut self.edges, &edges)?;
         let span = Span::between(from, self.edges.len())?;
         self.spans[vertex] = span;
         Ok(())
     }
 
     /// The edges of a vertex.
-    pub fn at(&self, vertex: usize) -> &[Edge]
+    pub fn at(&self, vertex: usize) -> &[PackedEdge]
         requires { vertex < length self.now }
         ensures { result.now ≡ slice_index_or self.now vertex [] }
     {

@@ -9,6 +9,7 @@ ghost use Rattle.pt_kind_flow.specs.Search.{AllDescend, GoesOn, GoneOn, IsFirstT
 
 use crate::edge_lists::EdgeLists;
 use crate::edges::{Edge, led, push_runs};
+use crate::packed::PackedEdge;
 use pt_base::Memory;
 use pt_instr::Run;
 use pt_kinds::Forest;
@@ -46,7 +47,7 @@ pub struct Flow {
 fn add_led(
     forest: &mut Forest,
     work: &mut BinaryHeap<Arrival>,
-    edges: &[Edge],
+    edges: &[PackedEdge],
     list: usize,
     told: Option<u64>,
 ) -> Result<(), Memory>
@@ -56,11 +57,12 @@ fn add_led(
     ensures { IfOk result (λ _. Leads forest.old forest.new edges.now list told
         (heap_items work.old) (heap_items work.new)) }
 {
-    for edge in edges.iter() {
+    for packed in edges.iter() {
+        let edge = packed.edge();
         if edge.is_told(told) {
             return Ok(());
         }
-        let there = led(forest, edge, list)?;
+        let there = led(forest, &edge, list)?;
         work.push(Arrival {
             urgency: u64::MAX,
             to: edge.to,

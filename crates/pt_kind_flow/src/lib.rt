@@ -5,7 +5,9 @@
 mod edge_lists;
 mod edges;
 mod flow;
+mod packed;
 
 pub use edge_lists::EdgeLists;
 pub use edges::Edge;
 pub use flow::Flow;
+pub use packed::PackedEdge;
