@@ -27,7 +27,7 @@ use Rattle.pt_code_loader.specs.Loaded.{IsLoadedCode, is_class, iterates}
 use Rattle.pt_script_depths.specs.Laws.{HasItsSizes}
 use Rattle.pt_script_depths.proofs.Coming.{has_its_sizes}
 use Rattle.pt_loaded_scripts.proofs.Lists.{same_some}
-use Rattle.pt_loaded_scripts.proofs.Tables.{Fields, are_tables_of, block_fields, class_there, heap_truths, is_its_object, known, no_extras, object_with, past_end, told}
+use Rattle.pt_loaded_scripts.proofs.Tables.{FieldsAt, are_tables_of, block_fields, class_there, heap_truths, is_its_object, known, no_extras, object_with, past_end}
 use Rattle.pt_code_program.specs.CodeProgram.{AreObjectsOf, code_blocks, facts_by, iterates_by, number_in, number_or_module, program_of_code}
 use Rattle.pt_code_program.specs.Laws.{IsRunnable, LoadedCodeHasTables}
 use Rattle.pt_code_program.proofs.Objects.{the_first, view_of, begins}
@@ -66,14 +66,14 @@ module _ (c : Code) (l : Loaded) (ready : IsRunnable c) (loaded : IsLoadedCode c
         has_its_sizes c b own refl (begins c ready.has_file n b is own.at view) (view_is_laid c b own.at view) a.enough a.inside a.lengths a.handlers in
         is_its_object c l loaded n b is own.at view sizes
 
-    fields : Fields (program_of_code c) l own (known l n) (told l n) (facts_view (facts_of c.texts b)) (iterates b.kind) (is_class_in l.tables n)
+    fields : FieldsAt (program_of_code c) l n own (facts_view (facts_of c.texts b)) (iterates b.kind)
     fields = block_fields c l loaded n b is own.at view (program_of_code c) (sym loaded.constant_texts)
 
   none_there : {A : Type 0} (b : CodeBlock) → None ≡ Some b → A
   none_there b e = absurd (let no : None ≡ Some b = e in cc)
 
   fields_at : (n : ℕ) (o : Option CodeBlock) (p : slice_get c.blocks n ≡ o) (b : CodeBlock) → o ≡ Some b
-      → Fields (program_of_code c) l (object_by n o p) (known l n) (told l n) (facts_by c.texts o) (iterates_by o) (is_class_in l.tables n)
+      → FieldsAt (program_of_code c) l n (object_by n o p) (facts_by c.texts o) (iterates_by o)
   fields_at n (Some a) p b e = fields n a p
   fields_at n None p b e = none_there b e
 
@@ -102,16 +102,16 @@ module _ (c : Code) (l : Loaded) (ready : IsRunnable c) (loaded : IsLoadedCode c
       class_there c l loaded 0 f.0 f.1 ∙ no_class f.0.kind f.2.0.1.0.1
 
   fields_by : (o : Option CodeBlock) (n : ℕ) → slice_get c.blocks n ≡ o
-      → Fields (program_of_code c) l (object (number_or_module o n)) (known l n) (told l n) (facts_by c.texts (slice_get c.blocks (number_or_module o n)))
-      (iterates_by (slice_get c.blocks (number_or_module o n))) (is_class_in l.tables n)
+      → FieldsAt (program_of_code c) l n (object (number_or_module o n)) (facts_by c.texts (slice_get c.blocks (number_or_module o n)))
+      (iterates_by (slice_get c.blocks (number_or_module o n)))
   fields_by (Some b) n e = fields_at n (slice_get c.blocks n) refl b e
   fields_by None n e =
       let first = the_first c ready.has_file in
       past_end c l loaded n e (program_of_code c) (object 0) (facts_by c.texts (slice_get c.blocks 0)) (iterates_by (slice_get c.blocks 0)) module_class
       (fields_at 0 (slice_get c.blocks 0) refl first.0 first.1)
 
-  at_block : (b : BlockId) → Fields (program_of_code c) l (object (number_in c b.number)) (known l b.number) (told l b.number)
-      (facts_by c.texts (slice_get c.blocks (number_in c b.number))) (iterates_by (slice_get c.blocks (number_in c b.number))) (is_class_in l.tables b.number)
+  at_block : (b : BlockId) → FieldsAt (program_of_code c) l b.number (object (number_in c b.number))
+      (facts_by c.texts (slice_get c.blocks (number_in c b.number))) (iterates_by (slice_get c.blocks (number_in c b.number)))
   at_block b = fields_by (slice_get c.blocks b.number) b.number refl
 
   different : (n : ℕ) (o : Option CodeBlock) → slice_get c.blocks n ≡ o → HasDifferentNames (facts_by c.texts o)

@@ -48,7 +48,7 @@ use Rattle.pt_script_program.specs.ScriptProgram.{block_or_module, facts_with, p
 use Rattle.pt_script_program.proofs.Facts.{code_tells, locals_are_different}
 use Rattle.pt_loaded_scripts.specs.Laws.{IsLoadable, HasTables, LoadedScriptHasTables, LoadedScriptIsRead, CodeHasItsModule}
 use Rattle.pt_loaded_scripts.proofs.Lists.{same_some, none_there, there, mapped_at}
-use Rattle.pt_loaded_scripts.proofs.Tables.{Fields, are_tables_of, block_fields, class_there, is_its_object, known, object_with, past_end, told}
+use Rattle.pt_loaded_scripts.proofs.Tables.{FieldsAt, are_tables_of, block_fields, class_there, is_its_object, known, object_with, past_end}
 
 pub kind_iterates : (c : BlockCodeTree) → iterates (kind_of c) ≡ follows.iterates c
 kind_iterates (B.of_module ss) = refl
@@ -145,11 +145,11 @@ module _ (script : wide.Stms) (ss : Stms) (l : Loaded) (ready : IsLoadable scrip
         let laid : IsLayoutIn ss n b = blocks_are_laid_out ss n b is_layout in
         ap (λ (c : BlockLayout). c.heading.kind) laid.is ∙ ap (λ (j : Block). kind_of j.code) (same_some laid.block k (sym laid.is_block ∙ is_block))
 
-    fields : Fields (program_of ss) l own (known l n) (told l n) facts (follows.iterates k.code) (is_class_in l.tables n)
+    fields : FieldsAt (program_of ss) l n own facts (follows.iterates k.code)
     fields =
         let f = block_fields (code_of ss) l loaded n (code_block b) code_there own.at view (program_of ss) (sym loaded.constant_texts) in
-        subst (λ z. Fields (program_of ss) l own (known l n) (told l n) z (follows.iterates k.code) (is_class_in l.tables n)) code_facts
-        (subst (λ z. Fields (program_of ss) l own (known l n) (told l n) (facts_view (facts_of (code_of ss).texts (code_block b))) z (is_class_in l.tables n))
+        subst (λ z. FieldsAt (program_of ss) l n own z (follows.iterates k.code)) code_facts
+        (subst (λ z. FieldsAt (program_of ss) l n own (facts_view (facts_of (code_of ss).texts (code_block b))) z)
         (ap iterates kind_there ∙ kind_iterates k.code) f)
 
   -- of a block
@@ -159,10 +159,10 @@ module _ (script : wide.Stms) (ss : Stms) (l : Loaded) (ready : IsLoadable scrip
       subst (HasCode value.None ss n k) (ap (λ o. object_by ss o (known l n)) (sym is_layout)) (has_code n k b is_block is_layout)
 
   fields_of : (n : ℕ) (k : Block) → slice_get (blocks_script ss) n ≡ Some k
-      → Fields (program_of ss) l (object n) (known l n) (told l n) (facts_with (spelled_in (naming_script ss) n) (names_of ss n) k) (follows.iterates k.code) (is_class_in l.tables n)
+      → FieldsAt (program_of ss) l n (object n) (facts_with (spelled_in (naming_script ss) n) (names_of ss n) k) (follows.iterates k.code)
   fields_of n k is_block =
       let (b, is_layout) = there (blocks_script ss) (script_layouts ss) n k layouts_long is_block in
-      subst (λ x. Fields (program_of ss) l x (known l n) (told l n) (facts_with (spelled_in (naming_script ss) n) (names_of ss n) k) (follows.iterates k.code) (is_class_in l.tables n))
+      subst (λ x. FieldsAt (program_of ss) l n x (facts_with (spelled_in (naming_script ss) n) (names_of ss n) k) (follows.iterates k.code))
       (ap (λ o. object_by ss o (known l n)) (sym is_layout)) (fields n k b is_block is_layout)
 
   module_class : is_class_in l.tables 0 ≡ false
@@ -172,15 +172,14 @@ module _ (script : wide.Stms) (ss : Stms) (l : Loaded) (ready : IsLoadable scrip
       ∙ ap is_class (kind_there 0 (the_module_block ss) b refl is_layout)
 
   fields_by : (o : Option Block) (n : ℕ) → slice_get (blocks_script ss) n ≡ o
-      → Fields (program_of ss) l (object (number_or_module o n)) (known l n) (told l n) (facts_by o n) (follows.iterates (code_or_module ss o)) (is_class_in l.tables n)
+      → FieldsAt (program_of ss) l n (object (number_or_module o n)) (facts_by o n) (follows.iterates (code_or_module ss o))
   fields_by (Some k) n e = fields_of n k e
   fields_by None n e =
-      past_end (code_of ss) l loaded n (none_there (code_of ss).blocks (blocks_script ss) n (as_many_blocks ss) e) (program_of ss) (object 0) (facts_by None n) false
-      module_class (fields_of 0 (the_module_block ss) refl)
+      past_end (code_of ss) l loaded n (none_there (code_of ss).blocks (blocks_script ss) n (as_many_blocks ss) e) (program_of ss) (object 0)
+      (facts_by None n) false module_class (fields_of 0 (the_module_block ss) refl)
 
-  at_block : (b : BlockId) → Fields (program_of ss) l (object (number_or_module (slice_get (blocks_script ss) b.number) b.number)) (known l b.number) (told l b.number)
-      (facts_by (slice_get (blocks_script ss) b.number) b.number) (follows.iterates (code_or_module ss (slice_get (blocks_script ss) b.number)))
-      (is_class_in l.tables b.number)
+  at_block : (b : BlockId) → let o = slice_get (blocks_script ss) b.number in
+      FieldsAt (program_of ss) l b.number (object (number_or_module o b.number)) (facts_by o b.number) (follows.iterates (code_or_module ss o))
   at_block b = fields_by (slice_get (blocks_script ss) b.number) b.number refl
 
   different : (b : BlockId) → HasDifferentNames ((program_of ss).facts b)

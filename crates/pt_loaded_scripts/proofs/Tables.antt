@@ -110,6 +110,9 @@ known l n = by_number l.tables.blocks.of_module l.tables.blocks.others n
 abbrev pub told : Loaded → ℕ → BlockFacts
 told l n = by_number l.tables.facts.of_module l.tables.facts.others n
 
+abbrev pub FieldsAt : Program → Loaded → (n : ℕ) → CodeObject Value → CodeFacts → (iterated : Bool) → Type 0
+FieldsAt p l n x facts iterated = Fields p l x (known l n) (told l n) facts iterated (is_class_in l.tables n)
+
 module _ (c : Code) (l : Loaded) (loaded : IsLoadedCode c l) where
   -- of a block that is there
   module _ (n : ℕ) (b : CodeBlock) (is : slice_get c.blocks n ≡ Some b) where
@@ -124,7 +127,8 @@ module _ (c : Code) (l : Loaded) (loaded : IsLoadedCode c l) where
     pub class_there : is_class_in l.tables n ≡ is_class b.kind
     class_there =
         ap (λ cs. slice_index_or cs n false) loaded.classes
-        ∙ index_is (map (λ (a : CodeBlock). is_class a.kind) c.blocks) n false (is_class b.kind) (mapped_at (λ (a : CodeBlock). is_class a.kind) c.blocks n b is)
+        ∙ index_is (map (λ (a : CodeBlock). is_class a.kind) c.blocks) n false (is_class b.kind)
+        (mapped_at (λ (a : CodeBlock). is_class a.kind) c.blocks n b is)
 
     -- with the object that shows a view of it
     module _ (view : ℕ → Option Ins) (seen : IsView b view) where
@@ -145,7 +149,7 @@ module _ (c : Code) (l : Loaded) (loaded : IsLoadedCode c l) where
           captures = λ j. captured c.blocks j ∙ ap (λ ns. slice_index_or ns j 0) (sym loaded.captures);
         }
 
-        pub block_fields : Fields p l own (known l n) (told l n) (facts_view (facts_of c.texts b)) (iterates b.kind) (is_class_in l.tables n)
+        pub block_fields : FieldsAt p l n own (facts_view (facts_of c.texts b)) (iterates b.kind)
         block_fields = record {
           name = is_loaded.name;
           first_line = ap (λ x. x.0) is_loaded.first_line;
@@ -178,8 +182,7 @@ module _ (c : Code) (l : Loaded) (loaded : IsLoadedCode c l) where
         index_none l.tables.classes c.blocks n false (ap length loaded.classes ∙ length-map c.blocks (λ (a : CodeBlock). is_class a.kind)) none
 
     pub past_end : (p : Program) (x : CodeObject Value) (facts : CodeFacts) (iterated : Bool) → is_class_in l.tables 0 ≡ false
-        → Fields p l x (known l 0) (told l 0) facts iterated (is_class_in l.tables 0)
-        → Fields p l x (known l n) (told l n) facts iterated (is_class_in l.tables n)
+        → FieldsAt p l 0 x facts iterated → FieldsAt p l n x facts iterated
     past_end p x facts iterated no_class f =
         subst (λ z. Fields p l x z (told l n) facts iterated (is_class_in l.tables n)) (sym known_none)
         (subst (λ z. Fields p l x (known l 0) z facts iterated (is_class_in l.tables n)) (sym told_none)
@@ -196,7 +199,7 @@ module _ (c : Code) (l : Loaded) (loaded : IsLoadedCode c l) where
       ∙ (index_map builtin c.texts t [] ∙ ap (λ ts. builtin (slice_index_or ts t [])) (sym loaded.texts))))
 
   pub are_tables_of : (p : Program) (code : CodeBlocks Value)
-      → ((b : BlockId) → Fields p l (code.object b) (known l b.number) (told l b.number) (p.facts b) (code.iterates b) (is_class_in l.tables b.number))
+      → ((b : BlockId) → FieldsAt p l b.number (code.object b) (p.facts b) (code.iterates b))
       → ((b : BlockId) → HasDifferentNames (p.facts b)) → AreTablesOf p code l.tables
   are_tables_of p code of_block different = record {
     blocks = λ b. let f = of_block b in record {
