@@ -13,8 +13,8 @@ use Rattle.std.proofs.lemmas.Map.Views.{btree_set_len-from_list}
 use Rattle.pt_tree.specs.Syntax.{Name}
 use Rattle.pt_instr.specs.declared.TextNo.{TextNo}
 use Rattle.pt_slots.specs.BlockObject.{text_in}
+use Rattle.pt_standing.specs.Texts.{AreIds, id_at}
 use Rattle.pt_built_code.specs.Built.{named_by}
-use Rattle.pt_built_code.specs.Numbers.{TellsTexts, number_of}
 
 -- what two tests tell alike
 module _ {A B X : Type 0} (e : A → A → Bool) (d : B → B → Bool) (f : X → A) (g : X → B) (P : X → Type 0)
@@ -59,13 +59,13 @@ set_tells xs set made =
     )
 
 -- names by the numbers of their texts
-module _ (texts : List Name) (numbers : List ℕ) (tells : TellsTexts texts numbers) (xs : List TextNo)
+module _ (texts : List Name) (ids : List ℕ) (are : AreIds texts ids) (xs : List TextNo)
     (there : AllByRecursion (λ (x : TextNo). x.0 < length texts) xs) where
-  pub names_tell : (different : Bool) → Decides different (IsDistinct nat_eq (map (λ (x : TextNo). number_of numbers x.0) xs))
+  pub names_tell : (different : Bool) → Decides different (IsDistinct nat_eq (map (λ (x : TextNo). id_at ids x.0) xs))
       → Decides different (IsDistinct bytes_eq (named_by texts xs))
   names_tell different d = (
-    (λ e. distinct_alike nat_eq bytes_eq (λ (x : TextNo). number_of numbers x.0) (λ (x : TextNo). text_in texts x.0) (λ (x : TextNo). x.0 < length texts)
-        (λ x y p q. tells.same x.0 y.0 p q) xs there (d.0 e)),
-    (λ h. d.1 (distinct_alike bytes_eq nat_eq (λ (x : TextNo). text_in texts x.0) (λ (x : TextNo). number_of numbers x.0) (λ (x : TextNo). x.0 < length texts)
-        (λ x y p q. sym (tells.same x.0 y.0 p q)) xs there h)),
+    (λ e. distinct_alike nat_eq bytes_eq (λ (x : TextNo). id_at ids x.0) (λ (x : TextNo). text_in texts x.0) (λ (x : TextNo). x.0 < length texts)
+        (λ x y p q. are.same x.0 y.0 p q) xs there (d.0 e)),
+    (λ h. d.1 (distinct_alike bytes_eq nat_eq (λ (x : TextNo). text_in texts x.0) (λ (x : TextNo). id_at ids x.0) (λ (x : TextNo). x.0 < length texts)
+        (λ x y p q. sym (are.same x.0 y.0 p q)) xs there h)),
   )

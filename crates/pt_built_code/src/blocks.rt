@@ -5,10 +5,11 @@ ghost use Rattle.std.specs.Prelude.{length, nat_eq, not};
 ghost use Rattle.std.specs.List.{IsDistinct};
 ghost use Rattle.std.specs.Str.{bytes_eq};
 ghost use Rattle.pt_built_code.specs.Built.{IsBuiltBlock, has_slots_by_kind, is_plain_kind, named_by};
-ghost use Rattle.pt_built_code.specs.Numbers.{IsReadBlock, TellsTexts};
+ghost use Rattle.pt_built_code.specs.Numbers.{IsReadBlock};
+ghost use Rattle.pt_standing.specs.Texts.{AreIds};
 
 use crate::defaults::all_take;
-use crate::names::{add_numbers, are_different};
+use crate::names::{add_ids, are_different};
 use pt_base::{Memory, Seq};
 use pt_code::{BlockKind, Code, CodeBlock};
 use std::alloc::Global;
@@ -49,26 +50,26 @@ fn is_of_built_kind(block: &CodeBlock) -> bool
 }
 
 /// Whether no two local names are the same text.
-fn has_different_locals(alloc: Global, numbers: &[usize], block: &CodeBlock) -> Result<bool, Memory>
+fn has_different_locals(alloc: Global, ids: &[usize], block: &CodeBlock) -> Result<bool, Memory>
     ensures { IfOk result (λ different. (c : Code) → IsReadBlock c block.now
-        → TellsTexts c.texts numbers.now
+        → AreIds c.texts ids.now
         → Decides different (IsDistinct bytes_eq (named_by c.texts block.now.locals))) }
 {
     let mut locals = Seq::new(alloc);
-    add_numbers(numbers, block.locals.as_slice(), &mut locals)?;
+    add_ids(ids, block.locals.as_slice(), &mut locals)?;
     let different = are_different(alloc, locals.as_slice())?;
     Ok(different)
 }
 
 /// Whether no two names of cells or free names are.
-fn has_different_cells(alloc: Global, numbers: &[usize], block: &CodeBlock) -> Result<bool, Memory>
+fn has_different_cells(alloc: Global, ids: &[usize], block: &CodeBlock) -> Result<bool, Memory>
     ensures { IfOk result (λ different. (c : Code) → IsReadBlock c block.now
-        → TellsTexts c.texts numbers.now → Decides different
+        → AreIds c.texts ids.now → Decides different
         (IsDistinct bytes_eq (named_by c.texts (block.now.cells ++ block.now.free)))) }
 {
     let mut cells = Seq::new(alloc);
-    add_numbers(numbers, block.cells.as_slice(), &mut cells)?;
-    add_numbers(numbers, block.free.as_slice(), &mut cells)?;
+    add_ids(ids, block.cells.as_slice(), &mut cells)?;
+    add_ids(ids, block.free.as_slice(), &mut cells)?;
     let different = are_different(alloc, cells.as_slice())?;
     Ok(different)
 }
@@ -83,16 +84,16 @@ fn all_hold(kind: bool, locals: bool, cells: bool, takes: bool) -> bool
 pub fn is_built(
     alloc: Global,
     code: &Code,
-    numbers: &[usize],
+    ids: &[usize],
     block: &CodeBlock,
 ) -> Result<bool, Memory>
-    requires texts { TellsTexts code.now.texts numbers.now }
+    requires texts { AreIds code.now.texts ids.now }
     requires read { IsReadBlock code.now block.now }
     ensures { IfOk result (λ built. Decides built (IsBuiltBlock code.now block.now)) }
 {
     let kind = is_of_built_kind(block);
-    let locals = has_different_locals(alloc, numbers, block)?;
-    let cells = has_different_cells(alloc, numbers, block)?;
+    let locals = has_different_locals(alloc, ids, block)?;
+    let cells = has_different_cells(alloc, ids, block)?;
     let takes = all_take(alloc, code.lists.as_slice(), block)?;
     Ok(all_hold(kind, locals, cells, takes))
 }

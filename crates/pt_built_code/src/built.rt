@@ -5,27 +5,25 @@ ghost use Rattle.pt_built_code.specs.Built.{BuiltCode, IsUnbuiltCode};
 ghost use Rattle.pt_code.specs.File.{HasFile};
 
 use crate::blocks::is_built;
-use crate::texts::numbers_of_texts;
 use pt_base::{Line, Memory};
 use pt_code::Code;
-use pt_heap::Seed;
+use pt_standing::ids_of;
 use std::alloc::Global;
 
-/// The first line of the first block of a code that isn't supported yet, `None` where each is. The
-/// seed is that of the hashes of texts. For a code file of n bytes it takes expected time
-/// O(n log n), and O(n) memory.
+/// The first line of the first block of a code that isn't supported yet, `None` where each is. For
+/// a code file of n bytes it takes time O(n log n), and O(n) memory.
 ///
 /// # Errors
 ///
 /// `Memory` for want of it.
-pub fn unbuilt(alloc: Global, seed: Seed, code: &Code) -> Result<Option<Line>, Memory>
+pub fn unbuilt(alloc: Global, code: &Code) -> Result<Option<Line>, Memory>
     requires { HasFile code.now }
     ensures { IfOk result (λ found.
         MatchOption found (BuiltCode code.now) (IsUnbuiltCode code.now)) }
 {
-    let numbers = numbers_of_texts(alloc, seed, code.texts.as_slice())?;
+    let ids = ids_of(alloc, code.texts.as_slice())?;
     for block in code.blocks.as_slice() {
-        if !is_built(alloc, code, numbers.as_slice(), block)? {
+        if !is_built(alloc, code, &ids, block)? {
             return Ok(Some(block.first_line));
         }
     }

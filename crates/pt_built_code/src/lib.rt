@@ -5,6 +5,5 @@ mod blocks;
 mod built;
 mod defaults;
 mod names;
-mod texts;
 
 pub use built::unbuilt;

@@ -2,29 +2,28 @@
 
 ghost use Rattle.std.specs.Prelude.{◌≡◌, ◌++◌, IfOk, OnOk, Decides, map, nat_eq};
 ghost use Rattle.std.specs.List.{IsDistinct};
-ghost use Rattle.pt_built_code.specs.Numbers.{number_of};
+ghost use Rattle.pt_standing.specs.Texts.{id_at};
 
 use pt_base::{Memory, Seq};
 use pt_instr::TextNo;
 use std::alloc::Global;
 use std::collections::BTreeSet;
 
-fn number_of(numbers: &[usize], name: TextNo) -> usize
-    ensures { result ≡ number_of numbers.now name.0 }
+fn id_of(ids: &[usize], name: TextNo) -> usize
+    ensures { result ≡ id_at ids.now name.0 }
 {
-    match numbers.get(name.0 as usize) {
-        Some(number) => *number,
+    match ids.get(name.0 as usize) {
+        Some(id) => *id,
         None => 0,
     }
 }
 
 /// Puts the numbers of names behind others.
-pub fn add_numbers(numbers: &[usize], names: &[TextNo], to: &mut Seq<usize>) -> Result<(), Memory>
-    ensures { OnOk result
-        (to.new ≡ to.old ++ map (λ name. number_of numbers.now name.0) names.now) }
+pub fn add_ids(ids: &[usize], names: &[TextNo], to: &mut Seq<usize>) -> Result<(), Memory>
+    ensures { OnOk result (to.new ≡ to.old ++ map (λ name. id_at ids.now name.0) names.now) }
 {
     for name in names {
-        to.push(number_of(numbers, *name))?;
+        to.push(id_of(ids, *name))?;
     }
     Ok(())
 }

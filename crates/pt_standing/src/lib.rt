@@ -9,4 +9,5 @@ mod reached;
 mod stand;
 
 pub use defaults::Defaults;
+pub use ids::ids_of;
 pub use reached::misplaced;
