@@ -51,11 +51,11 @@ fn run_verified<O: Sink, L: Sink>(
     ensures later { (O.faults out.old ≤ O.faults out.new)
         × (L.faults log.old ≤ L.faults log.new) }
 {
-    let seed = Seed::of(bytes);
-    let found = unbuilt(alloc, seed, code)?;
+    let found = unbuilt(alloc, code)?;
     if let Some(first) = found {
         return write_final(alloc, End::Unbuilt { line: first }, out, log);
     }
+    let seed = Seed::of(bytes);
     let events = tells_events(line);
     let ended = run_code(alloc, seed, code, line.steps, events, out, log)?;
     write_totals(alloc, line.stats, &ended.totals, out, log)?;
