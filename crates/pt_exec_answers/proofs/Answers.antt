@@ -1,6 +1,5 @@
 -- `exec` of the file that `build` writes of a supported script answers as `run` of the script.
-use Rattle.std.proofs.Common.{◌≡◌, ◌++◌, ◌-◌, ◌^◌, ℕ, min, List, Bool, true, false, Some, None, Ok, Err, sym, ap, ◌∙◌, subst}
-use Rattle.std.proofs.lemmas.Bool.{true≢false}
+use Rattle.std.proofs.Common.{◌≡◌, ◌++◌, ◌-◌, ◌^◌, ℕ, min, List, Bool, Some, None, sym, ap, ◌∙◌, subst}
 use Rattle.pt_base.specs.declared.numbers.Line.{Line}
 use Rattle.pt_tree.specs.Syntax.{Stms}
 use Rattle.pt_run.specs.Run.{Write}
@@ -11,51 +10,23 @@ use Rattle.pt_machine_state.specs.Writing.{kept}
 use Rattle.pt_built.specs.Built.{unbuilt_of}
 use Rattle.pt_front.proofs.Once.{never_both, one_script}
 use Rattle.pt_code.specs.declared.Code.{Code}
-use Rattle.pt_code.specs.declared.refusing.CodeErr.{CodeErr}
 use Rattle.pt_code.specs.File.{HasFile, file}
-use Rattle.pt_code.specs.Refusals.{answer, told}
-use Rattle.pt_code.proofs.BlockLaws.{code_again}
-use Rattle.pt_code.proofs.Whole.{one_file}
 use Rattle.pt_compile.specs.ScriptCode.{code_of}
-use Rattle.pt_built_code.specs.Built.{BuiltCode}
-use Rattle.pt_verifier.proofs.LawLemmas.{fitting_is_unrefused}
 use Rattle.pt_runner.specs.Work.{Work}
 use Rattle.pt_code_program.specs.Laws.{IsRunnable}
 use Rattle.pt_run_code.specs.CodeRun.{CodeRunsTo}
 use Rattle.pt_run_script.specs.ScriptRun.{CodeRunsBy}
-use Rattle.pt_code_ends.proofs.Ends.{runs_to_one_outcome}
 use Rattle.pt_script_files.specs.Laws.{HasCodeFile}
-use Rattle.pt_script_files.proofs.Supported.{code_is_supported, shallow_code_is_runnable}
+use Rattle.pt_script_files.proofs.Supported.{shallow_code_is_runnable}
 use Rattle.pt_script_files.proofs.Runs.{code_runs_as_script, script_runs_as_code}
 use Rattle.pt_words.specs.Words.{Asked}
-use Rattle.pt_words.specs.declared.line.Command.{Command}
-use Rattle.pt_words.specs.declared.line.Command.TheVariants as command
-use Rattle.pt_prog.specs.declared.end.CodeRefusal.{CodeRefusal}
 use Rattle.pt_prog.specs.declared.end.End.{End}
-use Rattle.pt_prog.specs.Limits.{reads_code}
 use Rattle.pt_prog.specs.LogText.{Text, line_of, totals}
-use Rattle.pt_prog.specs.Answer.{IsAnswerFor, IsBadFile, IsCodeAnswer, IsCodeBy, IsNoFile, IsUnbuilt}
-use Rattle.pt_prog.specs.Answer.{bad_code, end_of, is_run, last_text, misfits, no_file, of_code, ran, ran_code, refused, run_writes, tells_events, unbuilt, unbuilt_code, wrote_code}
+use Rattle.pt_prog.specs.Answer.{IsAnswerFor, IsCodeAnswer, IsFileOf, IsUnbuilt}
+use Rattle.pt_prog.specs.Answer.{bad_code, end_of, is_run, last_text, of_code, ran, ran_code, refused, run_writes, tells_events, unbuilt, unbuilt_code, wrote_code}
 use Rattle.pt_exec_answers.specs.Laws.{AskAlike, ExecAnswersAsRun, ExecHasOneAnswer, IsBuiltAs, RunAnswersAsExec}
-
--- what runs a script reads no code, and what reads code writes none
-
-no_code : {A : Type 0} (c : Command) → is_run c ≡ true → reads_code c ≡ true → A
-no_code command.Run e f = absurd (true≢false (sym f))
-no_code command.Trace e f = absurd (true≢false (sym f))
-no_code command.Dis e f = absurd (true≢false (sym f))
-no_code command.Build e f = absurd (true≢false (sym f))
-no_code command.Exec e f = absurd (true≢false (sym e))
-
-no_bytes : {A : Type 0} (c : Command) (text bytes : Text) → reads_code c ≡ true → IsCodeBy c text bytes → A
-no_bytes command.Run text bytes e w = absurd (true≢false (sym e))
-no_bytes command.Trace text bytes e w = absurd (true≢false (sym e))
-no_bytes command.Dis text bytes e w = absurd (true≢false (sym e))
-no_bytes command.Build text bytes e w = absurd (true≢false (sym e))
-no_bytes command.Exec text bytes e w = absurd w.is_written
-
-both_ways : {A : Type 0} (b : Bool) → b ≡ true → b ≡ false → A
-both_ways b t f = absurd (true≢false (sym t ∙ f))
+use Rattle.pt_exec_answers.proofs.CodeFiles.{built_or_unbuilt, code_file_has_one_answer, fits_or_bad, its_file, one_code}
+use Rattle.pt_exec_answers.proofs.Ends.{both_ways, code_answer, no_code}
 
 -- what a run writes depends on no more than what is asked alike
 module _ (a b : Asked) (alike : AskAlike a b) (o : Outcome Value World) (w : Work) where
@@ -81,9 +52,8 @@ module _ (text : Text) (ss : Stms) (bytes : Text) (made : IsBuiltAs text ss byte
   has : HasCodeFile text ss
   has = record { is_script = made.is_built.is_script; is_built = made.is_built.is_built; has_file = written.0 }
 
-  -- no other code has these bytes
-  one_code : (d : Code) → HasFile d → bytes ≡ file d → d ≡ c
-  one_code d has_d is = one_file d c has_d written.0 (sym is ∙ written.1)
+  is_file : IsFileOf bytes c
+  is_file = record { is_file = written.1; has_file = written.0 }
 
   supported : {A : Type 0} (line : Line) → IsUnbuilt text line → A
   supported line u =
@@ -125,38 +95,16 @@ module _ (text : Text) (ss : Stms) (bytes : Text) (made : IsBuiltAs text ss byte
 
     -- where its code is run
     module _ (runnable : IsRunnable c) where
-      is_read : {A : Type 0} (error : CodeErr) → IsNoFile bytes error → A
-      unfolding answer
-      is_read error x =
-          let no : Ok c ≡ Err error = sym (ap (told (file c)) (code_again c written.0)) ∙ (ap answer (sym written.1) ∙ x.is_answer) in absurd cc
-
-      fits : {A : Type 0} (error : CodeRefusal) → IsBadFile bytes error → A
-      fits _ (no_file error x) = is_read error x
-      fits _ (misfits error x) =
-          let same : x.code ≡ c = one_code x.code x.is_file.has_file x.is_file.is_file in
-          let fit : IsRunnable x.code = subst IsRunnable (sym same) runnable in
-          absurd (x.misfits.in_memory (fitting_is_unrefused x.code fit.has_file fit.fit error x.misfits.is_refused))
-
       by_code : (e : End) (ws : List Write) → IsCodeAnswer b bytes e ws → Ran b e ws
-      by_code e ws (bad_code error x i u) = fits error x
-      by_code e ws (unbuilt_code line x i u) =
-          let same : x.code ≡ c = one_code x.code x.is_file.has_file x.is_file.is_file in
-          let built : BuiltCode x.code = subst BuiltCode (sym same) (code_is_supported text ss has) in
-          absurd (x.is_first.unbuilt (built x.is_first.number x.is_first.block x.is_first.is))
+      by_code e ws (bad_code error x i u) = absurd (fits_or_bad bytes c is_file runnable.fit error x)
+      by_code e ws (unbuilt_code line x i u) = absurd (built_or_unbuilt bytes c is_file runnable.built line x)
       by_code e ws (ran_code d o w x to i u) =
-          let same : d ≡ c = one_code d x.is_runnable.has_file x.is_file in
+          let same : d ≡ c = one_code bytes d c (its_file bytes d x) is_file in
           record { outcome = o; work = w; runs = subst (λ z. CodeRunsTo z b.steps o w) same to; ends = i; writes = u }
-
-      exec_ran : (e : End) (ws : List Write) → IsAnswerFor b bytes e ws → Ran b e ws
-      exec_ran e ws (of_code r x) = by_code e ws x
-      exec_ran e ws (refused error n x i u) = both_ways (reads_code b.command) alike.executes n
-      exec_ran e ws (unbuilt line r x i u) = no_code b.command r alike.executes
-      exec_ran e ws (ran zz o w r x to by i u) = no_code b.command r alike.executes
-      exec_ran e ws (wrote_code ls n x i u) = no_bytes b.command bytes ls alike.executes x
 
       ran_as : (e : End) (ws : List Write) → IsAnswerFor b bytes e ws → IsAnswerFor a text e ws
       ran_as e ws x =
-          let r = exec_ran e ws x in
+          let r = by_code e ws (code_answer b bytes alike.executes e ws x) in
           let o = r.outcome in
           let w = r.work in
           let run = script_runs_as_code text ss has runnable.fit a.steps o w (subst (λ n. CodeRunsTo c n o w) (sym alike.steps) r.runs) in
@@ -164,14 +112,7 @@ module _ (text : Text) (ss : Stms) (bytes : Text) (made : IsBuiltAs text ss byte
 
     one_answer : (e f : End) (ws vs : List Write) → IsAnswerFor a text e ws → IsAnswerFor b bytes f vs → (e ≡ f) × (ws ≡ vs)
     one_answer e f ws vs x y =
-        let run = run_ran e ws x in
-        let r = run.1 in
-        let q = exec_ran run.0 f vs y in
-        let same : (r.outcome ≡ q.outcome) × (r.work ≡ q.work) =
-        runs_to_one_outcome c run.0.has_file run.0.fit b.steps r.outcome q.outcome r.work q.work r.runs q.runs in (
-          r.ends ∙ (ap (λ z. end_of b.steps z.ending) same.0 ∙ sym q.ends),
-          r.writes ∙ (ap (λ z. run_writes b z r.work) same.0 ∙ (ap (λ z. run_writes b q.outcome z) same.1 ∙ sym q.writes)),
-        )
+        code_file_has_one_answer b bytes e f ws vs (code_answer b bytes alike.executes e ws (executed e ws x)) (code_answer b bytes alike.executes f vs y)
 
 pub exec_answers_as_run : ExecAnswersAsRun
 exec_answers_as_run a b text ss bytes alike made e ws x = executed text ss bytes made a b alike e ws x

@@ -1,1 +1,4 @@
+mod CodeRefusals
+pub mod CodeFiles
+pub mod Ends
 pub mod Answers

@@ -1,4 +1,5 @@
--- What the laws say of `exec` of the file that `build` writes of a supported script, beside `run` and `trace` of the script.
+-- What the laws say of answers: that a text says one end and a code file has one answer; and of `exec` of the file that `build` writes of a supported
+-- script, beside `run` and `trace` of the script.
 use Rattle.std.specs.Prelude.{◌≡◌, List, true}
 use Rattle.pt_tree.specs.Syntax.{Stms}
 use Rattle.pt_run.specs.Run.{Write}
@@ -9,7 +10,16 @@ use Rattle.pt_words.specs.declared.line.Command.TheVariants as command
 use Rattle.pt_prog.specs.declared.end.End.{End}
 use Rattle.pt_prog.specs.Limits.{reads_code}
 use Rattle.pt_prog.specs.LogText.{Text}
-use Rattle.pt_prog.specs.Answer.{IsAnswerFor, IsBuilt, IsCodeBy, is_run, tells_events}
+use Rattle.pt_prog.specs.Answer.{IsAnswerFor, IsBuilt, IsCodeAnswer, IsCodeBy, IsEndFor, is_run, tells_events}
+
+-- for a command line a text says one end at most: that of a script, and the bytes of a code file
+abbrev pub TextSaysOneEnd : Type 0
+TextSaysOneEnd = (a : Asked) (text : Text) (e f : End) → IsEndFor a text e → IsEndFor a text f → e ≡ f
+
+-- for the bytes of a code file there is one answer at most: the end, and all that is written
+abbrev pub CodeFileHasOneAnswer : Type 0
+CodeFileHasOneAnswer = (a : Asked) (bytes : Text) (e f : End) (ws vs : List Write) → IsCodeAnswer a bytes e ws → IsCodeAnswer a bytes f vs
+    → (e ≡ f) × (ws ≡ vs)
 
 -- a run of a script and one of a code file, for as many acts and with the same lines of the log
 pub record AskAlike (a b : Asked) : Type 0 where

@@ -1,6 +1,20 @@
-//! Laws of code files beside scripts, the contract of a function that does nothing.
+//! Laws of what the program answers, each the contract of a function that does nothing.
 
-ghost use Rattle.pt_exec_answers.specs.Laws.{ExecAnswersAsRun, ExecHasOneAnswer, RunAnswersAsExec};
+ghost use Rattle.pt_exec_answers.specs.Laws.{CodeFileHasOneAnswer, ExecAnswersAsRun};
+ghost use Rattle.pt_exec_answers.specs.Laws.{ExecHasOneAnswer, RunAnswersAsExec, TextSaysOneEnd};
+
+/// A text says one end at most, for each command line: the text of a script, and the bytes that
+/// `exec` reads.
+pub fn a_text_says_one_end()
+    ensures { TextSaysOneEnd }
+{}
+
+/// Of bytes that `exec` reads it has one answer at most: one end, and the same writes in their
+/// order, the totals among them. They are the file of one code, a code is refused for one reason,
+/// and no run tells the code objects of its blocks apart.
+pub fn a_code_file_has_one_answer()
+    ensures { CodeFileHasOneAnswer }
+{}
 
 /// What `run` answers for a supported script, `exec` answers for the file that `build` writes of
 /// it, where as many acts are asked for and the same lines of the log: the same end, and the same

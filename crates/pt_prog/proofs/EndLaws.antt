@@ -1,4 +1,4 @@
--- A text says one end at most.
+-- The text of a script says one end at most, and its run prints one output.
 use Rattle.std.proofs.Common.{◌≡◌, ◌++◌, ◌-◌, ◌^◌, ℕ, min, List, [], Bool, true, false, Some, None, refl, sym, ap, ◌∙◌, subst}
 use Rattle.std.proofs.lemmas.Bool.{true≢false}
 use Rattle.pt_base.specs.declared.numbers.Line.{Line}
@@ -85,8 +85,8 @@ module _ (a : Asked) (text : Text) where
   answers_once plain e f ws vs (wrote_code ls a x i u) (ran zz p m b y q d j v) = absurd (run_or_code b a)
   answers_once plain e f ws vs (wrote_code ls a x i u) (wrote_code ms b y j v) = i ∙ sym j
 
-  pub once : (e f : End) → reads_code a.command ≡ false → IsEndFor a text e → IsEndFor a text f → e ≡ f
-  once e f plain i j = answers_once plain e f i.0 j.0 i.1 j.1
+  pub script_says_one_end : (e f : End) → reads_code a.command ≡ false → IsEndFor a text e → IsEndFor a text f → e ≡ f
+  script_says_one_end e f plain i j = answers_once plain e f i.0 j.0 i.1 j.1
 
   -- and its run prints one output, whatever the log has
   no_prints : (b : Bool) (acts instructions depth : ℕ) → outs (totals b acts instructions depth) ≡ []

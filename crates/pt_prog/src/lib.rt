@@ -13,6 +13,6 @@ mod program;
 mod running;
 
 pub use end::{CodeRefusal, End, File, status};
-pub use laws::{a_text_prints_one_output, a_text_says_one_end};
+pub use laws::a_text_prints_one_output;
 pub use program::{CODE_LIMIT, SCRIPT_LIMIT, top};
 pub use pt_sinks::Out;
