@@ -290,8 +290,8 @@ def leaves_within_rows(size):
     return code_file([block(code + bytes([END_FINALLY]) + END, rows=[row(0, len(code), len(code), 0, 1)] * count)])
 
 
-# as many pairs of a Leave and of what holds it as are still followed in a block
-GRID = 5700
+# with so many Leaves, and as many parts that hold them, a code file has nearly as many pairs as are followed in all its blocks together
+GRID = 1400
 
 
 def grid_code(count, start, behind):
@@ -304,7 +304,7 @@ def grid_code(count, start, behind):
 
 
 def many_grids(size):
-    """Blocks, in each of which nearly as many pairs are followed as in one may be."""
+    """Blocks, in each of which nearly as many pairs are to be followed as in all of them are."""
     count = min(GRID, size // 100)
     code, rows = grid_code(count, 0, END)
     grid = block(code, rows=rows, kind=1)
@@ -312,7 +312,7 @@ def many_grids(size):
 
 
 def refused_grid(size):
-    """The same in one block which is refused at its end, so that it is asked again and again."""
+    """So many in one block which is refused at its end, so that they are followed again and again."""
     count = min(GRID, size // 60)
     bad = op(CONST, 0) + bytes([ITER, RETURN])
     code, rows = grid_code(count, 0, bytes([NOP]) * (size - 39 * count) + bad)
