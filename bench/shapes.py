@@ -212,14 +212,19 @@ def nested_parts(size):
     return code_file([block(code, rows=[row(0, 5 + 6 * i, 5 + 6 * i, 0, 1) for i in range(count)])])
 
 
-def grid_of_leaves(size):
-    """Leaves for as many targets, out of as many `finally` parts one around the other."""
-    count = size // 39
+def grid_code(count, behind):
+    """Leaves for so many targets, out of as many `finally` parts one around the other, with what comes behind, and the rows."""
     parts = 15 * count + 5
     targets = parts + 6 * count
     code = (exits_to(range(targets, targets + count), 0) + op(JUMP, targets) + (bytes([END_FINALLY]) + op(JUMP, targets)) * count
-            + bytes([NOP]) * count + END)
-    return code_file([block(code, rows=[row(0, parts + 6 * i, parts + 6 * i, 0, 1) for i in range(count)])])
+            + bytes([NOP]) * count + behind)
+    return code, [row(0, parts + 6 * i, parts + 6 * i, 0, 1) for i in range(count)]
+
+
+def grid_of_leaves(size):
+    """Leaves for as many targets, out of as many `finally` parts one around the other."""
+    code, rows = grid_code(size // 39, END)
+    return code_file([block(code, rows=rows)])
 
 
 def nested_withs(size):
@@ -258,29 +263,29 @@ def pairs_of_defaults(size):
     return code_file([block(code)] + [block(END, kind=1, parameters=each)] * many, names(count), [each] * many)
 
 
-def leaves_by_ends(size):
-    """Leaves for as many targets, which one row takes, and as many EndFinallys on its slot, each of which lets all of them go on."""
-    count = size // 32
+def ends_code(count):
+    """Leaves for so many targets and as many EndFinallys on one slot, and the row that takes the Leaves to it."""
     part = 15 * count + 5
     ends = part + 10 * count
     targets = ends + 6 * count
     code = (exits_to(range(targets, targets + count), 0) + op(JUMP, targets)
             + b"".join(op(CONST, 0) + op(JUMP_IF, ends + 6 * i) for i in range(count)) + (bytes([END_FINALLY]) + op(JUMP, targets)) * count
             + bytes([NOP]) * count + END)
-    return code_file([block(code, rows=[row(0, 15 * count, part, 0, 1)])])
+    return code, row(0, 15 * count, part, 0, 1)
+
+
+def leaves_by_ends(size):
+    """Leaves for as many targets, which one row takes, and as many EndFinallys on its slot, each of which lets all of them go on."""
+    code, taker = ends_code(size // 32)
+    return code_file([block(code, rows=[taker])])
 
 
 def ends_under_row(size):
     """The same, where an always row lies over all of them and their targets, and so takes none."""
     count = size // 33
-    part = 15 * count + 5
-    ends = part + 10 * count
-    targets = ends + 6 * count
-    code = (exits_to(range(targets, targets + count), 0) + op(JUMP, targets)
-            + b"".join(op(CONST, 0) + op(JUMP_IF, ends + 6 * i) for i in range(count)) + (bytes([END_FINALLY]) + op(JUMP, targets)) * count
-            + bytes([NOP]) * count + END)
+    code, taker = ends_code(count)
     outer = len(code)
-    return code_file([block(code + bytes([END_FINALLY]) + END, rows=[row(0, 15 * count, part, 0, 1), row(part, outer, outer, 0, 1)])])
+    return code_file([block(code + bytes([END_FINALLY]) + END, rows=[taker, row(15 * count + 5, outer, outer, 0, 1)])])
 
 
 def leaves_within_rows(size):
@@ -294,19 +299,10 @@ def leaves_within_rows(size):
 GRID = 1400
 
 
-def grid_code(count, start, behind):
-    """Instructions from a place on: so many Leaves out of as many `finally` parts one around the other, as `grid_of_leaves` has them, and the rows."""
-    parts = start + 15 * count + 5
-    targets = parts + 6 * count
-    code = (exits_to(range(targets, targets + count), start) + op(JUMP, targets) + (bytes([END_FINALLY]) + op(JUMP, targets)) * count
-            + bytes([NOP]) * count + behind)
-    return code, [row(start, parts + 6 * i, parts + 6 * i, 0, 1) for i in range(count)]
-
-
 def many_grids(size):
     """Blocks, in each of which nearly as many pairs are to be followed as in all of them are."""
     count = min(GRID, size // 100)
-    code, rows = grid_code(count, 0, END)
+    code, rows = grid_code(count, END)
     grid = block(code, rows=rows, kind=1)
     return code_file([block(END)] + [grid] * (size // len(grid)))
 
@@ -315,7 +311,7 @@ def refused_grid(size):
     """So many in one block which is refused at its end, so that they are followed again and again."""
     count = min(GRID, size // 60)
     bad = op(CONST, 0) + bytes([ITER, RETURN])
-    code, rows = grid_code(count, 0, bytes([NOP]) * (size - 39 * count) + bad)
+    code, rows = grid_code(count, bytes([NOP]) * (size - 39 * count) + bad)
     return code_file([block(code, rows=rows)])
 
 
