@@ -9,12 +9,12 @@ import sys
 from pathlib import Path
 
 CRATES = Path(__file__).resolve().parent.parent / "crates"
-USED = re.compile(r"^\s*(?:pub )?(?:ghost )?use Rattle\.(\w+)\.(specs|proofs)\.(\w+)", re.M)
+USED = re.compile(r"^\s*(?:pub )?(?:ghost )?use Rattle\.(\w+)\.(specs|proofs)\.((?:\w+\.)*\w+)", re.M)
 
 
 def used(file):
     """The files of definitions that this one names, in its order."""
-    found = [CRATES / crate / folder / f"{name}.antt" for crate, folder, name in USED.findall(file.read_text())]
+    found = [CRATES / crate / folder / f"{name.replace('.', '/')}.antt" for crate, folder, name in USED.findall(file.read_text())]
     return [it for it in dict.fromkeys(found) if it.exists()]
 
 

@@ -54,8 +54,8 @@ def heights(needs):
     """How much code each crate and the longest way up from it to the program have, in bytes: what is proved first."""
 
     def size(name):
-        files = os.scandir(f"{TOP}/crates/{name}/src")
-        return sum(it.stat().st_size for it in files)
+        walked = os.walk(f"{TOP}/crates/{name}/src")
+        return sum(os.path.getsize(f"{at}/{file}") for at, _, files in walked for file in files)
 
     above = {name: [it for it in needs if name in needs[it]] for name in needs}
     found = {}

@@ -1,4 +1,4 @@
-"""Compares the first node of a script that isn't supported, by the definition of pt_built, with that of expected.py.
+"""Compares the first node of a script that isn't supported, by the definition of pt_supported, with that of expected.py.
 
   check.py [--crates FOLDER] [--from N] [--many N] [--show SEED] [--program]
 
@@ -36,7 +36,7 @@ def answers_so(program, text, line):
 class Check:
     def __init__(self, crates):
         definitions = load(crates)
-        self.unbuilt_of = definitions.get("Rattle.pt_built.specs.Built", "unbuilt_of")
+        self.unbuilt_of = definitions.get("Rattle.pt_supported.specs.Built", "unbuilt_of")
         self.listed = {text_of(x) for x in items(definitions.get("Rattle.pt_tables.specs.Names", "builtin_names")())} | {"__name__"}
 
     def differs(self, text, row=...):

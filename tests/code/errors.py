@@ -55,14 +55,15 @@ ERRORS = [
 
 
 @contextlib.contextmanager
-def put_in(crates, error, crate="pt_stm_pieces"):
+def put_in(crates, error, crate="sem_compile.stm_pieces"):
     """A copy of the definitions with the error."""
     with tempfile.TemporaryDirectory() as folder:
         for c in os.listdir(crates):
             for part in ("specs", "src"):
                 if os.path.isdir(os.path.join(crates, c, part)):
                     shutil.copytree(os.path.join(crates, c, part), os.path.join(folder, c, part))
-        name = os.path.join(folder, crate, "specs", error.module + ".antt")
+        crate, *part = crate.split(".")
+        name = os.path.join(folder, crate, "specs", *part, error.module + ".antt")
         with open(name, encoding="utf-8") as f:
             text = f.read()
         if text.count(error.old) != 1:

@@ -1,4 +1,4 @@
-"""The walk of `pt_piece_kinds` over the pieces of random scripts, beside the plain checker of code and runs on slots: the same kinds at each
+"""The walk of `law_pieces.piece_kinds` over the pieces of random scripts, beside the plain checker of code and runs on slots: the same kinds at each
 place, one origin for each slot that two places have in common, and what `finally` parts and exits may hold.
 
   kinds.py [--crates FOLDER] [--from N] [--many N] [--runs N] [--errors]
@@ -28,18 +28,18 @@ class Walk:
         d = specs.pieces
         specs.flows.clear()
         checked = b.checked
-        links = d.get("pt_fits", "Block", "links_of")(script.code)
+        links = d.get("sem_fits", "fits.Block", "links_of")(script.code)
         after = {pc: i[2] for pc, i in checked.at.items()}
         def next_of(pc):
             return after[pc]
         start = ("Some", listed([{"kind": ("Iter",), "origin": NONE, "loop": NONE}] if b.kind == 4 else []))
         base, outermost = listed([]), {"labels": (), "loop": NONE}
-        slots_at = d.get("pt_piece_kinds", "Walk", "slots_at")
+        slots_at = d.get("law_pieces", "piece_kinds.Walk", "slots_at")
         self.slots = {}
         for pc in checked.at:
             found = slots_at(links, next_of, b.piece, outermost, base, 0, start, pc)
             self.slots[pc] = None if found == NONE else [self.known(k) for k in reversed(items(found[1]))]
-        end = d.get("pt_piece_kinds", "Walk", "behind")(links, next_of, b.piece, outermost, base, 0, start)
+        end = d.get("law_pieces", "piece_kinds.Walk", "behind")(links, next_of, b.piece, outermost, base, 0, start)
         if end != NONE:
             raise Differs("a block that goes on behind its end")
 
@@ -146,4 +146,4 @@ WRONG = [
 
 if __name__ == "__main__":
     counted = "blocks", "places", "slots of parts", "runs", "acts"
-    sys.exit(deep.call(lambda: over_scripts.main(script_checked, counted, WRONG, 300, "pt_piece_kinds")))
+    sys.exit(deep.call(lambda: over_scripts.main(script_checked, counted, WRONG, 300, "law_pieces.piece_kinds")))

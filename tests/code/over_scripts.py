@@ -19,7 +19,7 @@ def read_options(many):
 
 def remember_flows(d):
     """The walk over a piece at a place from the same slots is made once for each block."""
-    flow = d.module("Rattle.pt_piece_kinds.specs.Walk").definitions["flow"]
+    flow = d.module("Rattle.law_pieces.specs.piece_kinds.Walk").definitions["flow"]
     code, plain, known = d.function(flow), d.compiled(flow), {}
 
     def remembered(links, next_of, piece, setting, base, place, slots):

@@ -1,4 +1,4 @@
-"""The slots of closed parts, as `pt_part_slots` has them, beside the walk over pieces and runs of control and code: each has one place where it is
+"""The slots of closed parts, as `law_parts.part_slots` has them, beside the walk over pieces and runs of control and code: each has one place where it is
 made; statements start where the slots are those of their parts, the first on a line at the least place; and where an act begins the place lies in
 the parts of control's nest.
 
@@ -26,10 +26,10 @@ class Parts:
         d, after = specs.pieces, {pc: i[2] for pc, i in b.checked.at.items()}
         self.walk = Walk(specs, script, b)
         self.next_of = after.__getitem__
-        found = items(d.get("pt_part_slots", "Slots", "slots_of_code")(b.around, self.next_of, b.tree))
+        found = items(d.get("law_parts", "part_slots.Slots", "slots_of_code")(b.around, self.next_of, b.tree))
         self.slots = [(s["part"], s["slot"], s["origin"]) for s in found]
         self.of = {o: (q, n) for q, n, o in self.slots}
-        have = items(d.get("pt_control", "ClosedParts", "parts_of")(specs.statements_of(b.tree), 0))
+        have = items(d.get("sem_control", "control.ClosedParts", "parts_of")(specs.statements_of(b.tree), 0))
         if [q for q, _, _ in self.slots] != have or len(self.of) != len(have) or len(set(have)) != len(have):
             raise Differs(f"parts {have} and slots {self.slots}")
 
@@ -51,7 +51,7 @@ class Parts:
 
 
 def parts_of(specs, nest):
-    return items(specs.pieces.get("pt_control", "Jump", "parts")(nest))
+    return items(specs.pieces.get("sem_control", "control.Jump", "parts")(nest))
 
 
 def check(specs, script, b):
@@ -63,7 +63,7 @@ def check(specs, script, b):
         if t["line"] in seen:
             continue
         seen.add(t["line"])
-        place = d.get("pt_first_starts", "First", "first_start")(b.parts.next_of, t["line"], b.piece, 0)
+        place = d.get("law_pieces", "first_starts.First", "first_start")(b.parts.next_of, t["line"], b.piece, 0)
         least = min(pc for pc, line in b.checked.b["starts"] if line == t["line"])
         if place != ("Some", least):
             raise Differs(f"line {t['line']} starts at {place}, the table has {least}")
@@ -119,4 +119,4 @@ WRONG = [
 
 if __name__ == "__main__":
     counted = "blocks", "parts", "lines", "acts"
-    sys.exit(deep.call(lambda: over_scripts.main(script_checked, counted, WRONG, 100, "pt_part_slots")))
+    sys.exit(deep.call(lambda: over_scripts.main(script_checked, counted, WRONG, 100, "law_parts.part_slots")))

@@ -1,4 +1,4 @@
-"""Listings of scripts by the definitions: a script's code by those of `pt_compile`, and its listing by those of `pt_listing`."""
+"""Listings of scripts by the definitions: a script's code by those of `sem_compile.compile`, and its listing by those of `pt_listing`."""
 import os
 import sys
 
@@ -27,9 +27,9 @@ class Listings:
         machines.WORDS.update({"codes": coded, "decimal": lambda n: coded(str(n))})
         self.definitions = d = Pieces(CRATES)
         d.remember("pt_assembler", "Layout", "width")
-        self.layouts = d.get("pt_compile", "ScriptCode", "script_layouts")
-        self.code_of = d.get("pt_compile", "ScriptCode", "code_of")
-        self.names_of = d.get("pt_naming", "Around", "names_of")
+        self.layouts = d.get("sem_compile", "compile.ScriptCode", "script_layouts")
+        self.code_of = d.get("sem_compile", "compile.ScriptCode", "code_of")
+        self.names_of = d.get("sem_names", "Around", "names_of")
         self.instrs_of = d.get("pt_assembler", "Layout", "instrs_of")
         self.block_lines = d.get("pt_listing", "Listing", "block_lines")
 

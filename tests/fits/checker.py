@@ -1,5 +1,5 @@
 #!/usr/bin/env python3
-"""Which code files fit: a plain checker, written from the definitions of crates/pt_fits and as slow as they are.
+"""Which code files fit: a plain checker, written from the definitions of crates/sem_fits and as slow as they are.
 
     checker.py FILE ..     writes for each file its answer: `fits`, or a refusal with its number and place
 

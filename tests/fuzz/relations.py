@@ -1,4 +1,4 @@
-"""What refuses the blocks of small code files, by the definitions of crates/pt_fits: what they compute is evaluated as it stands in specs/, and their
+"""What refuses the blocks of small code files, by the definitions of crates/sem_fits: what they compute is evaluated as it stands in specs/, and their
 relations are closed clause by clause. Beside it `pt_code/specs/Refusals` says what isn't a code file.
 
   relations.py [--from N] [--many N]     compares it with the plain reader and checker on random files
@@ -50,7 +50,7 @@ class Fitting(Pieces):
         self.primitives = MORE
 
     def of(self, module, *names):
-        return [self.get("pt_fits", module, name) for name in names]
+        return [self.get("sem_fits", f"fits.{module}", name) for name in names]
 
 
 DEFINED = Fitting(CRATES)

@@ -1,4 +1,4 @@
-"""Compares how the definitions of pt_naming name the variables of random scripts with what CPython 3.11 and 3.12.1 tell.
+"""Compares how the definitions of sem_names name the variables of random scripts with what CPython 3.11 and 3.12.1 tell.
 
   check.py [--crates FOLDER] [--older PYTHON] [--from N] [--many N] [--show N]
 """
@@ -178,7 +178,7 @@ class Check:
         return self.definitions.get(f"Rattle.{crate}.specs.{module}", name)
 
     def of(self, *arguments):
-        return self.get("pt_naming", *arguments)
+        return self.get("sem_names", *arguments)
 
     def one(self, text, older):
         trees = CodedTrees(text)

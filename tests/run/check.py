@@ -125,7 +125,7 @@ class Hooks:
         self.script_hook, self.called_back = Function(of["hook"], {}, {}), Function(of["called_back"], {}, {})
         world.globals["act"] = act = lambda *xs: None
         host.special[act] = lambda xs, ks: self.now()
-        call = self.runner.get("pt_run", "Tools", "tool_call")
+        call = self.runner.get("sem_run", "run.Tools", "tool_call")
         tools = state["tools"]
         for c in [("use_id", ("pos", TOOL), ()), ("give_set", ("pos", TOOL), ("pos", sum(1 << BITS[k] for k in KINDS)))] + [
                 ("register", ("pos", TOOL), ("pos", 1 << BITS[k]), ("Some", self.callback)) for k in KINDS]:

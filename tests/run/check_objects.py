@@ -1,9 +1,9 @@
-"""Compares runs by the definitions of `pt_run` and `pt_host` with those of CPython 3.12.1: what is printed, the events in order, and the
+"""Compares runs by the definitions of `sem_run.run` and `pt_host` with those of CPython 3.12.1: what is printed, the events in order, and the
 ending, over the written scripts below and over random ones.
 
   check_objects.py [--crates FOLDER] [--from N] [--many N] [--show SEED] [--bare] [--coded]
 
-With --bare it compares runs that nothing hooks into, by `pt_bare_runs`, with runs by `pt_run` that nobody is asked in; with --coded
+With --bare it compares runs that nothing hooks into, by `pt_bare_runs`, with runs by `sem_run.run` that nobody is asked in; with --coded
 those with the same of the script's code, of at most 2,000 acts.
 """
 import argparse

@@ -1,5 +1,5 @@
-"""What a host knows of each block of a script, by the definitions of `pt_script_program`, beside CPython 3.12's code objects, and beside what the
-code of the block tells by those of `pt_compile` and `pt_code_facts`; and the texts of constants, beside those that stand in the tree.
+"""What a host knows of each block of a script, by the definitions of `law_loading.script_program`, beside CPython 3.12's code objects, and beside what the
+code of the block tells by those of `sem_compile.compile` and `pt_code_facts`; and the texts of constants, beside those that stand in the tree.
 
   check_programs.py [--from N] [--many N]
 
@@ -87,7 +87,7 @@ class Check(Listings):
     def __init__(self):
         super().__init__()
         get = self.definitions.get
-        self.program_of = get("pt_script_program", "ScriptProgram", "program_of")
+        self.program_of = get("law_loading", "script_program.ScriptProgram", "program_of")
         self.facts_of = get("pt_code_facts", "Facts", "facts_of")
         self.facts_view = get("pt_code_facts", "Facts", "facts_view")
         self.texts_of = get("pt_host", "Constants", "texts_of")

@@ -1,4 +1,4 @@
-"""Runs scripts by their code, instruction by instruction as the rows of `pt_rows` have it, beside the runs of `pt_run` over the tree: the
+"""Runs scripts by their code, instruction by instruction as the rows of `sem_code_machine.rows` have it, beside the runs of `sem_run.run` over the tree: the
 same acts with their marks, the same text, the same ending. The names of each activation are those that one of `pt_frames` has, whose locals and
 cells are changed by the numbers in operands.
 
@@ -38,16 +38,16 @@ class Rows:
     def __init__(self, crates, runner):
         self.runner, self.specs = runner, Specs(crates)
         get = BytePieces(crates).get
-        self.row = get("pt_rows", "Rows", "row")
-        self.transition = get("pt_transitions", "Transitions", "transition")
-        self.successor = get("pt_transitions", "Successors", "successor")
-        self.turn = get("pt_slots", "Machine", "turn")
-        self.active = get("pt_slots", "Slots", "active")
-        self.pool_of = get("pt_slots", "BlockObject", "pool_of")
+        self.row = get("sem_code_machine", "rows.Rows", "row")
+        self.transition = get("sem_run", "transitions.Transitions", "transition")
+        self.successor = get("sem_run", "transitions.Successors", "successor")
+        self.turn = get("sem_code", "slots.Machine", "turn")
+        self.active = get("sem_code", "slots.Slots", "active")
+        self.pool_of = get("sem_code", "slots.BlockObject", "pool_of")
         self.heap_host = get("pt_host", "HeapHost", "heap_host")
         self.start_world = get("pt_host", "World", "start_world")
         self.no_names = get("pt_host", "World", "no_names")
-        self.names_view = get("pt_heap_rows", "Views", "names_view")
+        self.names_view = get("sem_rows", "heap_rows.Views", "names_view")
 
     def objects(self, script):
         """The code objects of the blocks."""
@@ -64,7 +64,8 @@ class Rows:
         """The acts, what is printed, and how the run ends."""
         script = Script(self.specs, text)
         self.facts = [self.facts_of(b, script, laid.block) for b, laid in zip(self.runner.blocks(text), script.blocks)]
-        self.program = {"facts": lambda b: self.facts[b["number"]], "texts": self.runner.texts_of(self.runner.trees(text).tree)}
+        self.program = {"facts": lambda b: self.facts[b["number"]], "texts": self.runner.texts_of(self.runner.trees(text).tree),
+                        "file": word("script.py"), "source": ("Some", word(text))}
         self.host, self.codes = self.heap_host(self.program), list(self.objects(script))
         self.world, self.most, self.acts, self.out, self.line = self.start_world(self.program), most, [], "", 1
         self.open, self.frames = [], 0

@@ -1,4 +1,4 @@
-"""Bare runs of a script's code, as the definitions of `pt_compile` and `pt_script_runs` have it, beside those of the script."""
+"""Bare runs of a script's code, as the definitions of `sem_compile.compile` and `law_compile.script_runs` have it, beside those of the script."""
 import os
 import sys
 
@@ -21,13 +21,13 @@ class CodedRunner(ObjectRunner):
         machines.WORDS.update({"codes": coded, "decimal": lambda n: coded(str(n))})
         d = Pieces(crates)
         d.remember("pt_assembler", "Layout", "width")
-        self.code_of = d.get("pt_compile", "ScriptCode", "code_of")
-        self.layouts = d.get("pt_compile", "ScriptCode", "script_layouts")
+        self.code_of = d.get("sem_compile", "compile.ScriptCode", "code_of")
+        self.layouts = d.get("sem_compile", "compile.ScriptCode", "script_layouts")
         self.instrs_of = d.get("pt_assembler", "Layout", "instrs_of")
         self.label_at = d.get("pt_assembler", "Layout", "label_at")
         self.ins_at = d.get("pt_code", "View", "ins_at")
-        self.pool_of = d.get("pt_slots", "BlockObject", "pool_of")
-        self.code_machine = d.get("pt_script_runs", "Laws", "code_machine")
+        self.pool_of = d.get("sem_code", "slots.BlockObject", "pool_of")
+        self.code_machine = d.get("law_compile", "script_runs.Laws", "code_machine")
 
     def code_object(self, code, block, written):
         """The code object of a block; where a loop is left to has as many slots as its label says."""

@@ -386,10 +386,11 @@ def constants(folder):
     """The constants of a crate's code, as the definitions see them: a name alone is a constructor, and so is one with arguments, but for
     a struct's, whose fields are numbered; a text is a reference to its bytes."""
     out = {}
-    for file in sorted(os.listdir(folder)):
-        with open(os.path.join(folder, file), encoding="utf-8") as f:
-            for name, value in CONSTANT.findall(f.read()):
-                out[name] = code_value(CODE_WORD.findall(value))
+    for at, _, files in sorted(os.walk(folder)):
+        for file in sorted(files):
+            with open(os.path.join(at, file), encoding="utf-8") as f:
+                for name, value in CONSTANT.findall(f.read()):
+                    out[name] = code_value(CODE_WORD.findall(value))
     return out
 
 

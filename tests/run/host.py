@@ -1,4 +1,4 @@
-"""A host on Python values for the definitions of `pt_run`: what depends on values is done by Python itself, and what runs a block, or
+"""A host on Python values for the definitions of `sem_run.run`: what depends on values is done by Python itself, and what runs a block, or
 a generator of the script, is asked of the run. A rule of the host is a generator that yields requests."""
 import builtins
 import operator
@@ -23,10 +23,10 @@ MISSING = sys.monitoring.MISSING
 
 
 class Raised(Exception):
-    """A rule ends with this exception of the script."""
+    """A rule ends with this exception of the script, which arises there or arrives."""
 
-    def __init__(self, exception):
-        self.exception = exception
+    def __init__(self, exception, arises=True):
+        self.exception, self.arises = exception, arises
 
 
 class Cell:
@@ -38,6 +38,12 @@ class Names:
 
     def __init__(self, cells):
         self.values, self.cells = {}, cells
+
+    def left(self):
+        """The same as the activation is left: what is bound later in its cells doesn't change them."""
+        kept = Names({})
+        kept.values = {**self.values, **{x: c.value for x, c in self.cells.items() if hasattr(c, "value")}}
+        return kept
 
 
 class Function:
@@ -67,16 +73,30 @@ class OfGenerator:
 
 
 class World:
+    """The names of the module, and the entries of each exception's traceback, the newest last."""
+
     def __init__(self):
-        self.globals, self.out = {"__name__": "script"}, []
+        self.globals, self.entries = {"__name__": "script"}, {}
 
 
 def native(f, *xs, **ks):
     try:
         return f(*xs, **ks)
     except BaseException as e:
-        e.__traceback__ = None
+        e.__traceback__ = e.__context__ = None
         raise Raised(e) from None
+
+
+def with_context(e, active):
+    """An exception that arises while another one is active has that as its context, and no exception comes twice in a chain."""
+    if active in (NONE, ("Some", e)):
+        return e
+    x = active[1]
+    while x.__context__ not in (None, e):
+        x = x.__context__
+    x.__context__ = None
+    e.__context__ = active[1]
+    return e
 
 
 def row(values):
@@ -86,7 +106,7 @@ def row(values):
     return out
 
 
-def answering(rule, store):
+def answering(rule, here, store):
     """The answer that a rule makes."""
     def resume(value, now):
         try:
@@ -94,7 +114,7 @@ def answering(rule, store):
         except StopIteration as end:
             return ("answer", end.value, now)
         except Raised as r:
-            return ("raise", r.exception, now)
+            return ("raise", with_context(r.exception, here["active"]) if r.arises else r.exception, now)
         if request[0] == "print":
             return ("print", request[1], resume(None, now))
         return ("request", request, now, lambda response: lambda later: resume(response, later))
@@ -111,28 +131,32 @@ class Host:
         return {
             "null": None,
             "first_line": lambda b: self.blocks[b["number"]].first_line,
-            "answers": lambda ask: lambda here: lambda store: answering(getattr(self, "ask_" + ask[0])(ask, here, store), store),
-            "hears": lambda hook: lambda f: lambda event: lambda here: lambda store: answering(f(hook, event, here, store), store),
+            "answers": lambda ask: lambda here: lambda store: answering(getattr(self, "ask_" + ask[0])(ask, here, store), here, store),
+            "hears": lambda hook: lambda f: lambda event: lambda here: lambda store: answering(f(hook, event, here, store), here, store),
             "unless_null": lambda v: NONE if v is None else ("Some", v),
             "is_disable": lambda v: v is DISABLE,
             "is_stop": lambda v: lambda w: isinstance(v, StopIteration),
             "callee": lambda f: lambda roles: lambda xs: lambda w: self.callee(f, items(roles), items(xs)),
-            "makes": lambda failure: lambda here: lambda w: ("made", self.failure(failure), w),
-            "enters": lambda v: lambda entry: lambda w: w,
-            "leaving": lambda v: lambda w: ("fails", ()),
+            "makes": lambda failure: lambda here: lambda w: ("made", self.failure(failure, here["active"]), w),
+            "arises": lambda v: lambda here: lambda w: (with_context(v, here["active"]), w)[1],
+            "enters": lambda v: lambda entry: lambda w: (w.entries.setdefault(id(v), (v, []))[1].append(entry), w)[1],
+            "leaving": lambda v: lambda w: ("fails", listed(reversed(w.entries[id(v)][1]))),
+            "names_left": lambda names: lambda w: names.left(),
             "log_line": lambda event: lambda w: (),
         }
 
     @staticmethod
-    def failure(failure):
+    def failure(failure, active):
         match failure[0]:
             case "too_deep":
-                return RecursionError("maximum recursion depth exceeded")
+                return with_context(RecursionError("maximum recursion depth exceeded"), active)
             case "generator_exit":
                 return GeneratorExit()
             case "stop_iteration":
-                return RuntimeError("generator raised StopIteration")
-        return ValueError("this event can't be disabled")
+                e = RuntimeError("generator raised StopIteration")
+                e.__cause__ = e.__context__ = failure[1]
+                return e
+        return with_context(ValueError("this event can't be disabled"), active)
 
     @staticmethod
     def callee(f, roles, xs):
@@ -222,7 +246,7 @@ class Host:
     @staticmethod
     def result(end):
         if end[0] == "left_by":
-            raise Raised(end[1])
+            raise Raised(end[1], arises=False)
         return end[1]
 
     def print(self, xs, ks):
@@ -238,6 +262,8 @@ class Host:
             case ("ends_by", ("gave", v)):
                 raise Raised(StopIteration() if v is None else StopIteration(v))
             case ("ends_by", ("left_by", e)):
+                raise Raised(e, arises=False)
+            case ("throws_back", e):
                 raise Raised(e)
             case ("cannot", ("is_running",)):
                 raise Raised(ValueError("generator already executing"))
@@ -262,7 +288,7 @@ class Host:
             case ("gives_on", _):
                 raise Raised(RuntimeError("generator ignored GeneratorExit"))
             case ("ends_by", ("left_by", e)) if not isinstance(e, (GeneratorExit, StopIteration)):
-                raise Raised(e)
+                raise Raised(e, arises=False)
             case ("cannot", ("is_running",)):
                 raise Raised(ValueError("generator already executing"))
 
@@ -439,6 +465,8 @@ class Host:
                     e = yield from self.call(e, [], {})
                 if not isinstance(e, BaseException):
                     raise Raised(TypeError("exceptions must derive from BaseException"))
+                if cause != NONE:
+                    e.__cause__ = (yield from self.call(cause[1], [], {})) if isinstance(cause[1], type) else cause[1]
                 raise Raised(e)
             case ("raising_again",):
                 raise Raised(here["active"][1] if here["active"] != NONE else RuntimeError("No active exception to reraise"))

@@ -1,4 +1,4 @@
-"""A script run by the definitions of `pt_run` with the host of `pt_host`: names are bytes, and values are those of the definitions."""
+"""A script run by the definitions of `sem_run.run` with the host of `pt_host`: names are bytes, and values are those of the definitions."""
 import ast
 
 from definitions import integer, items, listed, number
@@ -44,7 +44,7 @@ class ObjectRunner(Runner):
         self.no_names = self.get("pt_host", "World", "no_names")
         self.texts_of = self.get("pt_host", "Constants", "texts_of")
         self.class_name = self.get("pt_prims", "Classes", "class_name")
-        self.writes = self.get("pt_run", "Run", "writes")
+        self.writes = self.get("sem_run", "run.Run", "writes")
         self.bare_start = self.get("pt_bare_runs", "Strides", "start")
         self.first_logged = self.get("pt_bare_runs", "Strides", "logged")
         self.stride = self.get("pt_bare_runs", "Strides", "stride")
@@ -67,7 +67,8 @@ class ObjectRunner(Runner):
         blocks = self.blocks(text)
         around = [self.around(blocks, b) for b in blocks]
         facts = [facts_of(b) for b in blocks]
-        program = {"facts": lambda b: facts[b["number"]], "texts": self.texts_of(self.trees(text).tree)}
+        program = {"facts": lambda b: facts[b["number"]], "texts": self.texts_of(self.trees(text).tree),
+                   "file": word("script.py"), "source": ("Some", word(text))}
         machine = self.machine({
             "code": lambda b: blocks[b["number"]].record["code"],
             "around": lambda b: around[b["number"]],

@@ -1,4 +1,4 @@
-"""A script run by the definitions of `pt_run`, over the tree of `pt_control` and a host on Python values."""
+"""A script run by the definitions of `sem_run.run`, over the tree of `sem_control.control` and a host on Python values."""
 import ast
 import types
 
@@ -51,10 +51,10 @@ class Runner:
         self.definitions = load(crates)
         self.blocks_script = self.get("pt_tree", "Blocks", "blocks_script")
         self.yields = self.get("pt_tree", "Blocks", "yields")
-        self.machine = self.get("pt_run", "Source", "machine")
-        self.start = self.get("pt_run", "State", "start")
-        self.step = self.get("pt_run", "Step", "step")
-        self.take_advice = self.get("pt_run", "Hooks", "take_advice")
+        self.machine = self.get("sem_run", "run.Source", "machine")
+        self.start = self.get("sem_run", "run.State", "start")
+        self.step = self.get("sem_run", "run.Step", "step")
+        self.take_advice = self.get("sem_run", "run.Hooks", "take_advice")
 
     def get(self, crate, module, name):
         return self.definitions.get(SPECS.format(crate, module), name)

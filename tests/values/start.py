@@ -1,4 +1,4 @@
-"""The table of the objects that a run starts with (pt_start) beside CPython: each class has the base that it has there, each
+"""The table of the objects that a run starts with (pt_builtin_objects) beside CPython: each class has the base that it has there, each
 function and mark is where CPython has it, and no name of a sort stands twice. Run with CPython 3.12.
 """
 
@@ -8,7 +8,7 @@ import sys
 import types
 from pathlib import Path
 
-TABLE = Path(__file__).resolve().parent.parent.parent / "crates" / "pt_start" / "src" / "lib.rt"
+TABLE = Path(__file__).resolve().parent.parent.parent / "crates" / "pt_builtin_objects" / "src" / "lib.rt"
 ROW = re.compile(r'^    \("(\w+)", Kind::(\w+)(?:\((.*)\))?\),$', re.M)
 # what has no name in `builtins`; all iterators of a run are of one class
 CLASSES = {

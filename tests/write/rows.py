@@ -129,7 +129,7 @@ class Names:
         self.definitions = load(CRATES)
 
     def of(self, module, name):
-        return self.definitions.get(f"Rattle.pt_naming.specs.{module}", name)
+        return self.definitions.get(f"Rattle.sem_names.specs.{module}", name)
 
     def around(self, text, block):
         """What code asks of a block, with names as texts."""
@@ -149,9 +149,9 @@ class Table:
         self.layout = d.get("pt_assembler", "Layout", "layout")
         self.begun = d.get("pt_assembler", "Layout", "begun")
         self.block_of = d.get("pt_assembler", "Layout", "block_of")
-        self.exp = d.get("pt_emitter", "ExpPiece", "exp_piece")
-        self.target = d.get("pt_emitter", "ExpPiece", "target_piece")
-        self.place = d.get("pt_emitter", "ExpPiece", "place_piece")
+        self.exp = d.get("sem_compile", "emitter.ExpPiece", "exp_piece")
+        self.target = d.get("sem_compile", "emitter.ExpPiece", "target_piece")
+        self.place = d.get("sem_compile", "emitter.ExpPiece", "place_piece")
 
     def pieces(self, around, statement):
         """The pieces of a statement, each from the act behind those before it."""

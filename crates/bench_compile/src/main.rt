@@ -2,8 +2,8 @@
 #![tactic(auto)]
 
 use pt_base::{Failure, Memory};
+use pt_compile::compile;
 use pt_front::front;
-use pt_write_script::compile;
 use std::alloc::Global;
 use std::process::ExitCode;
 use std::{env, fs};

@@ -10,7 +10,7 @@ use pt_code::{Code, CodeBlock, read};
 use pt_kind_failures::{kind_failures, least_cut};
 use pt_places::Places;
 use pt_standing::Defaults;
-use pt_verify::{Sizes, sizes};
+use pt_verify_depths::{Sizes, sizes};
 use std::alloc::Global;
 use std::process::ExitCode;
 use std::{env, fs};

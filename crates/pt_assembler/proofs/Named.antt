@@ -9,9 +9,9 @@ use Rattle.pt_code.specs.declared.Const.{Const}
 use Rattle.pt_code.specs.declared.Const.TheVariants as const
 use Rattle.pt_code.specs.declared.CodeBlock.{CodeBlock}
 use Rattle.pt_code.specs.declared.Code.{Code}
-use Rattle.pt_control.specs.Turn as T
-use Rattle.pt_slots.specs.CodeObject.{named}
-use Rattle.pt_slots.specs.BlockObject.{pool_of, text_in, name_in, variable_in, constant_of}
+use Rattle.sem_control.specs.control.Turn as T
+use Rattle.sem_code.specs.slots.CodeObject.{named}
+use Rattle.sem_code.specs.slots.BlockObject.{pool_of, text_in, name_in, variable_in, constant_of}
 use Rattle.pt_assembler.specs.declared.operation.Label.{Label}
 use Rattle.pt_assembler.specs.declared.operation.Target.{Target}
 use Rattle.pt_assembler.specs.Tables.{is_text, number_in, is_const}

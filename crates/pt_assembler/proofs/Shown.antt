@@ -7,7 +7,7 @@ use Rattle.pt_instr.specs.declared.Instr.{Instr}
 use Rattle.pt_instr.specs.Encoding.{encoding, code_of}
 use Rattle.pt_code.specs.declared.CodeBlock.{CodeBlock}
 use Rattle.pt_code.specs.View.{ins_at, laid_from}
-use Rattle.pt_slots.specs.Stretches.{ins}
+use Rattle.sem_code.specs.slots.Stretches.{ins}
 use Rattle.pt_assembler.specs.declared.operation.Jump.{Jump}
 use Rattle.pt_assembler.specs.declared.operation.Jump.TheVariants as jump
 use Rattle.pt_assembler.specs.declared.operation.FreeUse.{FreeUse}

@@ -7,10 +7,10 @@ use Rattle.pt_instr.specs.declared.Instr.TheVariants as instr
 use Rattle.pt_code.specs.declared.CodeBlock.{CodeBlock}
 use Rattle.pt_code.specs.declared.Code.{Code}
 use Rattle.pt_code.specs.declared.Start.{Start}
-use Rattle.pt_slots.specs.Slots.{jump_to}
-use Rattle.pt_slots.specs.CodeObject.{CodeObject, Pool}
-use Rattle.pt_slots.specs.Landing.{takes}
-use Rattle.pt_slots.specs.Stretches.{Stands, ins, act_mark}
+use Rattle.sem_code.specs.slots.Slots.{jump_to}
+use Rattle.sem_code.specs.slots.CodeObject.{CodeObject, Pool}
+use Rattle.sem_code.specs.slots.Landing.{takes}
+use Rattle.sem_code.specs.slots.Stretches.{Stands, ins, act_mark}
 use Rattle.pt_assembler.specs.declared.operation.Label.{Label}
 use Rattle.pt_assembler.specs.declared.operation.Jump.TheVariants.{Leave}
 use Rattle.pt_assembler.specs.declared.operation.Operation.TheVariants.{Plain, To}

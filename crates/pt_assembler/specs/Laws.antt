@@ -6,8 +6,8 @@ use Rattle.pt_code.specs.declared.Const.{Const}
 use Rattle.pt_code.specs.declared.CodeBlock.{CodeBlock}
 use Rattle.pt_code.specs.declared.Code.{Code}
 use Rattle.pt_code.specs.View.{laid_from}
-use Rattle.pt_slots.specs.CodeObject.{CodeObject}
-use Rattle.pt_slots.specs.BlockObject.{pool_of}
+use Rattle.sem_code.specs.slots.CodeObject.{CodeObject}
+use Rattle.sem_code.specs.slots.BlockObject.{pool_of}
 use Rattle.pt_assembler.specs.declared.operation.Label.{Label}
 use Rattle.pt_assembler.specs.declared.operation.Jump.TheVariants.{Leave}
 use Rattle.pt_assembler.specs.declared.operation.Act.{Act}

@@ -15,7 +15,7 @@ use Rattle.pt_code.specs.declared.Const.{Const}
 use Rattle.pt_code.specs.declared.Const.TheVariants as const
 use Rattle.pt_code.specs.declared.Start.{Start}
 use Rattle.pt_code.specs.declared.CodeBlock.{CodeBlock}
-use Rattle.pt_slots.specs.Stretches.{act_mark}
+use Rattle.sem_code.specs.slots.Stretches.{act_mark}
 use Rattle.pt_assembler.specs.declared.operation.Label.{Label}
 use Rattle.pt_assembler.specs.declared.operation.Jump.TheVariants.{Leave}
 use Rattle.pt_assembler.specs.declared.operation.Operation.{Operation}

@@ -10,11 +10,11 @@ use Rattle.pt_instr.specs.declared.SlotNo.{SlotNo}
 use Rattle.pt_instr.specs.declared.Instr.{Instr}
 use Rattle.pt_instr.specs.declared.Instr.TheVariants as instr
 use Rattle.pt_code.specs.declared.Start.{Start}
-use Rattle.pt_control.specs.Turn as T
-use Rattle.pt_slots.specs.Slots.{jump_to}
-use Rattle.pt_slots.specs.CodeObject.{Pool, CodeObject, named}
-use Rattle.pt_slots.specs.Landing.{takes}
-use Rattle.pt_slots.specs.Stretches.{◌⨾◌, act_mark, Stands}
+use Rattle.sem_control.specs.control.Turn as T
+use Rattle.sem_code.specs.slots.Slots.{jump_to}
+use Rattle.sem_code.specs.slots.CodeObject.{Pool, CodeObject, named}
+use Rattle.sem_code.specs.slots.Landing.{takes}
+use Rattle.sem_code.specs.slots.Stretches.{◌⨾◌, act_mark, Stands}
 use Rattle.pt_assembler.specs.declared.operation.Jump.{Jump}
 use Rattle.pt_assembler.specs.declared.operation.Jump.TheVariants.{AtEnd, Always, IfTrue, IfFalse, IfTrueKeep, IfFalseKeep, Leave}
 use Rattle.pt_assembler.specs.declared.operation.FreeUse.{FreeUse}

@@ -13,7 +13,7 @@ use Rattle.pt_heap.specs.declared.object.Class.{Class as ClassObject}
 use Rattle.pt_heap.specs.Entries.{Entry, found, put, without}
 use Rattle.pt_heap.specs.Sound.{place_of, place_in, places_in, entry_places, places_of, IsClassAt, HasClasses, Fits, IsSound, IsWithin}
 use Rattle.pt_heap.proofs.SoundLemmas.{sound-set}
-use Rattle.pt_start.specs.Start.{start_objects}
+use Rattle.pt_builtin_objects.specs.Start.{start_objects}
 use Rattle.pt_dicts.specs.Chain.{class_in}
 use Rattle.pt_attrs.specs.Store.{held, is_scripted, names_in, with_names, stored, stored_at, stored_in, deleted, deleted_at, deleted_in, without_name, StaysSound, TakesAt}
 use Rattle.pt_attrs.proofs.StoreLemmas.{held-names}

@@ -10,7 +10,7 @@ use Rattle.pt_heap.specs.declared.object.Object.TheVariants as object
 use Rattle.pt_heap.specs.declared.object.Class.{Class as ClassObject}
 use Rattle.pt_heap.specs.Entries.{Entry, found, put, without}
 use Rattle.pt_heap.specs.Sound.{IsSound}
-use Rattle.pt_start.specs.Start.{start_objects}
+use Rattle.pt_builtin_objects.specs.Start.{start_objects}
 use Rattle.pt_dicts.specs.Chain.{class_in}
 use Rattle.pt_dicts.specs.Keys.{name_codes}
 use Rattle.pt_attrs.specs.declared.look.NoAttr.{NoAttr}

@@ -5,5 +5,5 @@ mod look;
 mod names;
 mod unbuilt;
 
-pub use look::{Found, NoAttr, lookup, super_of};
+pub use look::{Found, NoAttr, lookup, object_of, super_of};
 pub use names::{delete, store};

@@ -1,19 +1,19 @@
 -- The code of a script's blocks follows the turns of their control.
 use Rattle.std.proofs.Common.{◌≡◌, ℕ, sym}
-use Rattle.pt_control.specs.Turn.{Turn}
-use Rattle.pt_control.specs.Frames.{Control}
-use Rattle.pt_slots.specs.Slots.{State}
-use Rattle.pt_comp.specs.Law as comp
-use Rattle.pt_comp.specs.Law.{Match}
-use Rattle.pt_comp.proofs.Steps as steps
-use Rattle.pt_run.specs.Machine.{BlockId, Machine, turn_in}
-use Rattle.pt_run.specs.Host.{Host}
-use Rattle.pt_run.specs.Source as source_of
-use Rattle.pt_run.specs.Source.{Source}
-use Rattle.pt_run.specs.Follows.{Nears, there, moves}
-use Rattle.pt_code_run.proofs.Following.{begin_by}
-use Rattle.pt_code_machine.specs.CodeBlocks as code_of
-use Rattle.pt_code_machine.specs.CodeBlocks.{CodeBlocks}
+use Rattle.sem_control.specs.control.Turn.{Turn}
+use Rattle.sem_control.specs.control.Frames.{Control}
+use Rattle.sem_code.specs.slots.Slots.{State}
+use Rattle.sem_code.specs.comp.Law as comp
+use Rattle.sem_code.specs.comp.Law.{Match}
+use Rattle.sem_code.proofs.comp.Steps as steps
+use Rattle.sem_run.specs.run.Machine.{BlockId, Machine, turn_in}
+use Rattle.sem_run.specs.run.Host.{Host}
+use Rattle.sem_run.specs.run.Source as source_of
+use Rattle.sem_run.specs.run.Source.{Source}
+use Rattle.sem_run.specs.run.Follows.{Nears, there, moves}
+use Rattle.law_code_runs.proofs.code_run.Following.{begin_by}
+use Rattle.sem_code_machine.specs.code_machine.CodeBlocks as code_of
+use Rattle.sem_code_machine.specs.code_machine.CodeBlocks.{CodeBlocks}
 use Rattle.pt_bare_code.specs.Turns.{AlikeTurns, alike_acts, alike_notes, alike_ends, FollowsTurns, HaveTheSameBareRuns, IsStuckNowhereElse, WritesNothingElse}
 use Rattle.pt_bare_code.specs.Law.{HaveTheirCode}
 use Rattle.pt_bare_code.proofs.Runs.{have_the_same_bare_runs}

@@ -8,28 +8,28 @@ use Rattle.pt_tree.specs.declared.act.ActRow.{ActRow}
 use Rattle.pt_tree.specs.declared.act.ActKind.{ActKind}
 use Rattle.pt_tree.specs.declared.act.ActKind.TheVariants as K
 use Rattle.pt_tree.specs.Blocks.{acts_of_code}
-use Rattle.pt_control.specs.Turn as T
-use Rattle.pt_control.specs.Turn.{Mark, Around, Turn}
-use Rattle.pt_control.specs.Frames as F
-use Rattle.pt_control.specs.Frames.{Control}
-use Rattle.pt_control.specs.Control as control
-use Rattle.pt_control.specs.Reached.{IsFor, IsRow, Leads, Reaches, here, then, start_code}
-use Rattle.pt_control.proofs.MarksLaw.{marks_are_rows}
+use Rattle.sem_control.specs.control.Turn as T
+use Rattle.sem_control.specs.control.Turn.{Mark, Around, Turn}
+use Rattle.sem_control.specs.control.Frames as F
+use Rattle.sem_control.specs.control.Frames.{Control}
+use Rattle.sem_control.specs.control.Control as control
+use Rattle.sem_control.specs.control.Reached.{IsFor, IsRow, Leads, Reaches, here, then, start_code}
+use Rattle.sem_control.proofs.control.MarksLaw.{marks_are_rows}
 use Rattle.pt_ranges.specs.declared.handlers.Handler.{Handler}
-use Rattle.pt_slots.specs.Slots.{State, Slots}
-use Rattle.pt_slots.specs.CodeObject.{CodeObject}
-use Rattle.pt_comp_expr.specs.Law as expressions
-use Rattle.pt_comp.specs.Law as comp
-use Rattle.pt_comp.proofs.Steps as steps
-use Rattle.pt_run.specs.Machine.{BlockId, Machine, turn_in}
-use Rattle.pt_run.specs.Host.{Host}
-use Rattle.pt_run.specs.Source as source_of
-use Rattle.pt_run.specs.Source.{Source, or_null}
+use Rattle.sem_code.specs.slots.Slots.{State, Slots}
+use Rattle.sem_code.specs.slots.CodeObject.{CodeObject}
+use Rattle.sem_code.specs.comp_expr.Law as expressions
+use Rattle.sem_code.specs.comp.Law as comp
+use Rattle.sem_code.proofs.comp.Steps as steps
+use Rattle.sem_run.specs.run.Machine.{BlockId, Machine, turn_in}
+use Rattle.sem_run.specs.run.Host.{Host}
+use Rattle.sem_run.specs.run.Source as source_of
+use Rattle.sem_run.specs.run.Source.{Source, or_null}
 use Rattle.pt_bare_runs.specs.Laws.{AsksPlainly, TurnStays, GivesNothingOn, OpensOnly, NeverStuck}
 use Rattle.pt_bare_runs.proofs.NeverStuck.{never_stuck}
-use Rattle.pt_code_run.proofs.Following.{begin_by}
-use Rattle.pt_code_machine.specs.CodeBlocks as code_of
-use Rattle.pt_code_machine.specs.CodeBlocks.{CodeBlocks}
+use Rattle.law_code_runs.proofs.code_run.Following.{begin_by}
+use Rattle.sem_code_machine.specs.code_machine.CodeBlocks as code_of
+use Rattle.sem_code_machine.specs.code_machine.CodeBlocks.{CodeBlocks}
 use Rattle.pt_bare_code.specs.Law.{HaveTheirCode, NoneGivesOn}
 use Rattle.pt_bare_code.proofs.Coded.{is_stuck_nowhere_else}
 

@@ -1,14 +1,14 @@
 -- States of two bare runs that stand for each other: all is the same but the machines' states, and these stand for each other, also in the
 -- activations that wait.
 use Rattle.std.proofs.Common.{◌≡◌, ℕ, suc, List, [], ◌∷◌, length, Bool, refl, ap, ◌∙◌}
-use Rattle.pt_control.specs.Bases.{or_else}
-use Rattle.pt_control.specs.Turn.{Ask}
-use Rattle.pt_run.specs.Machine.{BlockId, Machine}
-use Rattle.pt_run.specs.Host.{Host, Store, BlockResult, Frame}
-use Rattle.pt_run.specs.State.{Activation}
-use Rattle.pt_run.specs.Follows.{Nears}
-use Rattle.pt_run.specs.Run.{Write}
-use Rattle.pt_transitions.specs.Successors.{Successor}
+use Rattle.sem_control.specs.control.Bases.{or_else}
+use Rattle.sem_control.specs.control.Turn.{Ask}
+use Rattle.sem_run.specs.run.Machine.{BlockId, Machine}
+use Rattle.sem_run.specs.run.Host.{Host, Store, BlockResult, Frame}
+use Rattle.sem_run.specs.run.State.{Activation}
+use Rattle.sem_run.specs.run.Follows.{Nears}
+use Rattle.sem_run.specs.run.Run.{Write}
+use Rattle.sem_run.specs.transitions.Successors.{Successor}
 use Rattle.pt_bare_runs.specs.Strides.{Waiting, State, Ending, Stride, goes, ends, is_stuck, behind, frames_in, active_in}
 use Rattle.pt_bare_code.specs.Alike.{Alike}
 

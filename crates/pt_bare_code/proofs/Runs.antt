@@ -1,9 +1,9 @@
 -- Bare runs of two machines of which the one follows the turns of the other come to the same outcomes.
 use Rattle.std.proofs.Common.{◌≡◌, ℕ, List, [], true, false, None, refl, sym, ap, ◌∙◌, subst}
-use Rattle.pt_run.specs.Machine.{BlockId, Machine}
-use Rattle.pt_run.specs.Events.{starts}
-use Rattle.pt_run.specs.Host.{Host}
-use Rattle.pt_run.specs.Run.{Write}
+use Rattle.sem_run.specs.run.Machine.{BlockId, Machine}
+use Rattle.sem_run.specs.run.Events.{starts}
+use Rattle.sem_run.specs.run.Host.{Host}
+use Rattle.sem_run.specs.run.Run.{Write}
 use Rattle.pt_bare_runs.specs.Strides.{State, Ending, Stride, goes, ends, stride, logged, start, Outcome, outcome_behind, Comes, ends_so, goes_on}
 use Rattle.pt_bare_code.specs.Turns.{FollowsTurns, HaveTheSameBareRuns}
 use Rattle.pt_bare_code.proofs.Relation.{Pair, SameState, same_state, SameStride, same_goes, same_ends, both_stuck, none_wait}

@@ -3,21 +3,21 @@ use Rattle.std.proofs.Common.{◌≡◌, ℕ, ◌+◌, suc, List, [], ◌∷◌,
 use Rattle.std.specs.Prelude.{nat_le, nat_lt}
 use Rattle.pt_base.specs.declared.what.What.{What}
 use Rattle.pt_base.specs.declared.what.What.TheVariants.{Exit}
-use Rattle.pt_control.specs.Bases.{or_else}
-use Rattle.pt_control.specs.Turn as T
-use Rattle.pt_control.specs.Turn.{Ask, got, End, gave, left_by, Turn}
-use Rattle.pt_control.specs.Events as E
-use Rattle.pt_run.specs.Machine.{BlockId, Machine}
-use Rattle.pt_run.specs.Host as H
-use Rattle.pt_run.specs.Host.{Host, Store, Opening, BlockResult, Frame, Made, Leaving, too_deep}
-use Rattle.pt_run.specs.State.{most_activations}
-use Rattle.pt_run.specs.Views.{visible, line_of_first}
-use Rattle.pt_run.specs.Hooks.{world_with_entry}
-use Rattle.pt_run.specs.Step.{line_before}
-use Rattle.pt_run.specs.Run.{write, to_out}
-use Rattle.pt_run.specs.Follows.{Nears, there, moves}
-use Rattle.pt_transitions.specs.Transitions.{transition}
-use Rattle.pt_transitions.specs.Successors.{Successor, successor}
+use Rattle.sem_control.specs.control.Bases.{or_else}
+use Rattle.sem_control.specs.control.Turn as T
+use Rattle.sem_control.specs.control.Turn.{Ask, got, End, gave, left_by, Turn}
+use Rattle.sem_control.specs.control.Events as E
+use Rattle.sem_run.specs.run.Machine.{BlockId, Machine}
+use Rattle.sem_run.specs.run.Host as H
+use Rattle.sem_run.specs.run.Host.{Host, Store, Opening, BlockResult, Frame, Made, Leaving, too_deep}
+use Rattle.sem_run.specs.run.State.{most_activations}
+use Rattle.sem_run.specs.run.Views.{visible, line_of_first}
+use Rattle.sem_run.specs.run.Hooks.{world_with_entry}
+use Rattle.sem_run.specs.run.Step.{line_before}
+use Rattle.sem_run.specs.run.Run.{write, to_out}
+use Rattle.sem_run.specs.run.Follows.{Nears, there, moves}
+use Rattle.sem_run.specs.transitions.Transitions.{transition}
+use Rattle.sem_run.specs.transitions.Successors.{Successor, successor}
 use Rattle.pt_bare_runs.specs.Strides.{Waiting, State, outside_at, Stride, goes, ends, is_full, visible_line, here_of, active_in, line_logged, behind, arise, end_by_exception, end_of_module, end_logged, lead, open_or_fail, fail_opening, close, take_turn, stride, store}
 use Rattle.pt_bare_code.specs.Alike.{Alike, alike_to, alike_arises, alike_yield, alike_print, alike_request, alike_note, both_outside, both_end, neither}
 use Rattle.pt_bare_code.specs.Turns.{AlikeTurns, alike_acts, alike_notes, alike_ends, FollowsTurns}

@@ -1,9 +1,9 @@
 -- Where one machine follows the turns of another, its bare runs are stuck nowhere but where the other's are.
 use Rattle.std.proofs.Common.{◌≡◌, ℕ, List, [], refl, sym, ap, ◌∙◌, subst}
-use Rattle.pt_run.specs.Machine.{BlockId, Machine}
-use Rattle.pt_run.specs.Host.{Host}
-use Rattle.pt_run.specs.Run.{Write}
-use Rattle.pt_run.specs.Follows.{Nears, there, moves}
+use Rattle.sem_run.specs.run.Machine.{BlockId, Machine}
+use Rattle.sem_run.specs.run.Host.{Host}
+use Rattle.sem_run.specs.run.Run.{Write}
+use Rattle.sem_run.specs.run.Follows.{Nears, there, moves}
 use Rattle.pt_bare_runs.specs.Strides.{State, Stride, goes, is_stuck, take_turn, stride, start}
 use Rattle.pt_bare_runs.specs.Laws.{Reaches, here, further, NeverStuck}
 use Rattle.pt_bare_code.specs.Turns.{FollowsTurns, IsStuckNowhereElse}

@@ -1,14 +1,14 @@
 -- Alike turns lead to successors that are alike, over any host.
 use Rattle.std.proofs.Common.{Bool, Option, Some, None}
-use Rattle.pt_control.specs.Turn as T
-use Rattle.pt_control.specs.Turn.{Ask, Answer, Reply, got, raised, Turn}
-use Rattle.pt_run.specs.Machine.{BlockId, Machine}
-use Rattle.pt_run.specs.Host as H
-use Rattle.pt_run.specs.Host.{Host, Here, Store, Answering, Finding, Callee}
-use Rattle.pt_run.specs.State.{OpenAsk}
-use Rattle.pt_run.specs.Follows.{Nears}
-use Rattle.pt_transitions.specs.Transitions.{by_answer, by_finding, of_ask, transition}
-use Rattle.pt_transitions.specs.Successors.{by_reply, successor}
+use Rattle.sem_control.specs.control.Turn as T
+use Rattle.sem_control.specs.control.Turn.{Ask, Answer, Reply, got, raised, Turn}
+use Rattle.sem_run.specs.run.Machine.{BlockId, Machine}
+use Rattle.sem_run.specs.run.Host as H
+use Rattle.sem_run.specs.run.Host.{Host, Here, Store, Answering, Finding, Callee}
+use Rattle.sem_run.specs.run.State.{OpenAsk}
+use Rattle.sem_run.specs.run.Follows.{Nears}
+use Rattle.sem_run.specs.transitions.Transitions.{by_answer, by_finding, of_ask, transition}
+use Rattle.sem_run.specs.transitions.Successors.{by_reply, successor}
 use Rattle.pt_bare_code.specs.Alike.{Alike, alike_to, alike_arises, alike_yield, alike_print, alike_request, alike_note, both_outside, both_end}
 use Rattle.pt_bare_code.specs.Turns.{AlikeTurns, alike_acts, alike_notes, alike_ends}
 

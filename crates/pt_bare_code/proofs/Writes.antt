@@ -1,8 +1,8 @@
 -- Where one machine follows the turns of another, its bare runs write nothing first but what the other's write.
 use Rattle.std.proofs.Common.{◌≡◌, ℕ, List, [], ◌∷◌, ◌++◌, refl, sym, ap, ◌∙◌, subst}
-use Rattle.pt_run.specs.Machine.{BlockId, Machine}
-use Rattle.pt_run.specs.Host.{Host}
-use Rattle.pt_run.specs.Run.{Write}
+use Rattle.sem_run.specs.run.Machine.{BlockId, Machine}
+use Rattle.sem_run.specs.run.Host.{Host}
+use Rattle.sem_run.specs.run.Run.{Write}
 use Rattle.pt_bare_runs.specs.Strides.{State, Stride, goes, stride, start}
 use Rattle.pt_bare_writes.specs.Fronts.{written_by, WritesFirst, within, beyond, RunWritesFirst}
 use Rattle.pt_bare_code.specs.Turns.{FollowsTurns, WritesNothingElse}

@@ -1,9 +1,9 @@
 -- Successors that are alike up to their states: over the same answers they print, request and store the same, and lead to related states.
 use Rattle.std.specs.Prelude.{ℕ, List}
 use Rattle.pt_base.specs.declared.what.What.{What}
-use Rattle.pt_control.specs.Turn.{Reply, Note, End}
-use Rattle.pt_run.specs.Host.{Store, Request, Response}
-use Rattle.pt_transitions.specs.Successors.{Successor, to, arises, behind_yield, behind_print, behind_request, behind_note, outside, end, none}
+use Rattle.sem_control.specs.control.Turn.{Reply, Note, End}
+use Rattle.sem_run.specs.run.Host.{Store, Request, Response}
+use Rattle.sem_run.specs.transitions.Successors.{Successor, to, arises, behind_yield, behind_print, behind_request, behind_note, outside, end, none}
 
 pub data Alike {S R N V W : Type 0} (Q : S → R → Type 0) : Successor S N V W → Successor R N V W → Type 0 where
   alike_to : (c : S) (t : R) (st : Store N W) → Q c t → Alike Q (to c st) (to t st)

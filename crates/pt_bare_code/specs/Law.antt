@@ -1,10 +1,10 @@
 -- When the code object of each block stands for its block of a script.
 use Rattle.std.specs.Prelude.{◌≡◌, false}
 use Rattle.pt_tree.specs.Blocks.{yields}
-use Rattle.pt_run.specs.Machine.{BlockId}
-use Rattle.pt_run.specs.Source.{Source}
-use Rattle.pt_code_run.specs.Law.{Of}
-use Rattle.pt_code_machine.specs.CodeBlocks.{CodeBlocks}
+use Rattle.sem_run.specs.run.Machine.{BlockId}
+use Rattle.sem_run.specs.run.Source.{Source}
+use Rattle.law_code_runs.specs.code_run.Law.{Of}
+use Rattle.sem_code_machine.specs.code_machine.CodeBlocks.{CodeBlocks}
 
 abbrev pub HaveTheirCode : {V : Type 0} → Source V → CodeBlocks V → Type 0
 HaveTheirCode source code = (b : BlockId) → Of (source.around b) (code.object b) (code.iterates b) (source.code b)

@@ -1,12 +1,12 @@
 -- When one machine follows the turns of another, so that it has the same runs where nothing hooks into them: there no jump is asked for, and no event
 -- tells which act comes next.
 use Rattle.std.specs.Prelude.{◌≡◌, ℕ, ◌↔◌, List, Option}
-use Rattle.pt_control.specs.Turn as T
-use Rattle.pt_control.specs.Turn.{Mark, Ask, Answer, Reply, Note, End, Turn}
-use Rattle.pt_run.specs.Machine.{BlockId, Machine}
-use Rattle.pt_run.specs.Host.{Host}
-use Rattle.pt_run.specs.Follows.{Nears}
-use Rattle.pt_run.specs.Run.{Write}
+use Rattle.sem_control.specs.control.Turn as T
+use Rattle.sem_control.specs.control.Turn.{Mark, Ask, Answer, Reply, Note, End, Turn}
+use Rattle.sem_run.specs.run.Machine.{BlockId, Machine}
+use Rattle.sem_run.specs.run.Host.{Host}
+use Rattle.sem_run.specs.run.Follows.{Nears}
+use Rattle.sem_run.specs.run.Run.{Write}
 use Rattle.pt_bare_runs.specs.Strides.{Outcome, Runs}
 use Rattle.pt_bare_runs.specs.Laws.{NeverStuck}
 use Rattle.pt_bare_writes.specs.Fronts.{RunWritesFirst}

@@ -1,13 +1,13 @@
 //! Laws of bare runs of code, each the contract of a function that does nothing.
 
 ghost use Rattle.std.specs.Prelude.{ℕ};
-ghost use Rattle.pt_run.specs.Follows.{By, Related};
-ghost use Rattle.pt_run.specs.Host.{Host};
-ghost use Rattle.pt_run.specs.Machine.{BlockId, Machine};
-ghost use Rattle.pt_run.specs.Source.{Source};
-ghost use Rattle.pt_run.specs.Source as script;
-ghost use Rattle.pt_code_machine.specs.CodeBlocks.{CodeBlocks};
-ghost use Rattle.pt_code_machine.specs.CodeBlocks as coded;
+ghost use Rattle.sem_run.specs.run.Follows.{By, Related};
+ghost use Rattle.sem_run.specs.run.Host.{Host};
+ghost use Rattle.sem_run.specs.run.Machine.{BlockId, Machine};
+ghost use Rattle.sem_run.specs.run.Source.{Source};
+ghost use Rattle.sem_run.specs.run.Source as script;
+ghost use Rattle.sem_code_machine.specs.code_machine.CodeBlocks.{CodeBlocks};
+ghost use Rattle.sem_code_machine.specs.code_machine.CodeBlocks as coded;
 ghost use Rattle.pt_bare_runs.specs.Laws.{NeverStuck, OpensOnly};
 ghost use Rattle.pt_bare_code.specs.Law.{HaveTheirCode, NoneGivesOn};
 ghost use Rattle.pt_bare_code.specs.Turns.{FollowsTurns, HaveTheSameBareRuns, IsStuckNowhereElse, WritesNothingElse};

@@ -3,8 +3,8 @@ use Rattle.std.proofs.Common.{ℕ, Bool, true, false, List, [], ◌∷◌, Optio
 use Rattle.std.specs.Prelude.{Result, Ok, Err, slice_get}
 use Rattle.pt_base.specs.declared.numbers.ObjId.{ObjId}
 use Rattle.pt_base.specs.declared.what.What.TheVariants.{Feature}
-use Rattle.pt_control.specs.Turn as T
-use Rattle.pt_control.specs.Turn.{Ask, Seek, Deed, Operation, Role, Scope, Variable, End, gave, left_by}
+use Rattle.sem_control.specs.control.Turn as T
+use Rattle.sem_control.specs.control.Turn.{Ask, Seek, Deed, Operation, Role, Scope, Variable, End, gave, left_by}
 use Rattle.pt_tree.specs.Syntax.{Name}
 use Rattle.pt_heap.specs.declared.value.Value.{Value}
 use Rattle.pt_heap.specs.declared.value.Value.TheVariants as value
@@ -26,7 +26,7 @@ use Rattle.pt_prims.specs.declared.operand.Operand.{Operand}
 use Rattle.pt_prims.specs.declared.operand.Operand.TheVariants as operand
 use Rattle.pt_prims.specs.declared.answer.PrimAns.{PrimAns}
 use Rattle.pt_prims.specs.declared.answer.PrimAns.TheVariants as prim
-use Rattle.pt_run.specs.Host.{Here, answer, raise, print, leave, request, opens, made, beyond}
+use Rattle.sem_run.specs.run.Host.{Here, answer, raise, print, leave, request, opens, made, beyond}
 use Rattle.pt_bare_runs.specs.Laws.{RunsOnlyBlocks, OpensOnly}
 use Rattle.pt_host.specs.World.{Stores, CodeFacts, Program, Allotted, with_objects, allot}
 use Rattle.pt_host.specs.Trees.{Tree, and_then, answer_with, raise_with}

@@ -2,36 +2,37 @@
 use Rattle.std.proofs.Common.{◌≡◌, ℕ, List, [], ◌∷◌, ◌++◌, Bool, true, false, Option, Some, None, refl, sym, ap, ◌∙◌, subst, append-nil, append_assoc, suc, ◌+◌, if◌then◌else◌}
 use Rattle.std.specs.Prelude.{nat_lt, map}
 use Rattle.pt_base.specs.declared.what.What.{What}
-use Rattle.pt_control.specs.Turn as T
-use Rattle.pt_control.specs.Turn.{Mark, Ask, Answer, Reply, got, raised, End, gave, left_by, Turn}
-use Rattle.pt_control.specs.Events as E
-use Rattle.pt_control.specs.LineEvents.{is_told}
-use Rattle.pt_run.specs.Machine.{BlockId, Machine}
-use Rattle.pt_run.specs.Events as Told
-use Rattle.pt_run.specs.Events.{Happening, trace_kind, starts}
-use Rattle.pt_run.specs.Host as H
-use Rattle.pt_run.specs.Host.{Host, Store, Opening, BlockResult, Frame, Answering, Finding, Callee, Made, made, beyond, Leaving, too_deep}
-use Rattle.pt_run.specs.State as run
-use Rattle.pt_run.specs.State.{OpenAsk, Phase, turning, telling, answering, closing, starting, doing, going, ending, at, store}
-use Rattle.pt_run.specs.Views as Views
-use Rattle.pt_run.specs.Outcome as O
-use Rattle.pt_run.specs.Hooks.{world_with_entry}
-use Rattle.pt_run.specs.Requests as Q
-use Rattle.pt_run.specs.Step as P
-use Rattle.pt_run.specs.Step.{step, by_phase, begin_turn, happening, of_builtin, of_call, only_raises, stop_event, line_before, callee_of, world_behind, do_ask}
-use Rattle.pt_run.specs.Step.{reply_to, reply_and_tell}
-use Rattle.pt_run.specs.Run as R
-use Rattle.pt_run.specs.Run.{Write, writes, write, to_out, ends_so, nobody}
-use Rattle.pt_run.specs.Laws.{session}
-use Rattle.pt_run.proofs.RunLemmas.{has_parts, runs_once}
-use Rattle.pt_transitions.specs.Transitions as transitions
-use Rattle.pt_transitions.specs.Transitions.{by_answer, by_finding}
-use Rattle.pt_transitions.specs.Successors.{Successor, successor}
+use Rattle.sem_control.specs.control.Turn as T
+use Rattle.sem_control.specs.control.Turn.{Mark, Ask, Answer, Reply, got, raised, End, gave, left_by, Turn}
+use Rattle.sem_control.specs.control.Events as E
+use Rattle.sem_control.specs.control.LineEvents.{is_told}
+use Rattle.sem_run.specs.run.Machine.{BlockId, Machine}
+use Rattle.sem_run.specs.run.Events as Told
+use Rattle.sem_run.specs.run.Events.{Happening, trace_kind, starts}
+use Rattle.sem_run.specs.run.Host as H
+use Rattle.sem_run.specs.run.Host.{Host, Store, Opening, BlockResult, Frame, Answering, Finding, Callee, Made, made, beyond, Leaving, too_deep}
+use Rattle.sem_run.specs.run.State as run
+use Rattle.sem_run.specs.run.State.{OpenAsk, Phase, turning, telling, answering, closing, starting, doing, going, ending, at, store}
+use Rattle.sem_run.specs.run.Views as Views
+use Rattle.sem_run.specs.run.Outcome as O
+use Rattle.sem_run.specs.run.Hooks.{world_with_entry, world_behind}
+use Rattle.sem_run.specs.run.Requests as Q
+use Rattle.sem_run.specs.run.Step as P
+use Rattle.sem_run.specs.run.Step.{step, by_phase, begin_turn, happening, of_builtin, of_call, only_raises, stop_event, line_before, callee_of, do_ask}
+use Rattle.sem_run.specs.run.Step.{reply_to, reply_and_tell}
+use Rattle.sem_run.specs.run.Run as R
+use Rattle.sem_run.specs.run.Run.{Write, writes, write, to_out, ends_so, nobody}
+use Rattle.sem_run.specs.run.Laws.{session}
+use Rattle.sem_run.proofs.run.RunLemmas.{has_parts, runs_once}
+use Rattle.sem_run.proofs.run.Showing.{writes_append}
+use Rattle.sem_run.specs.transitions.Transitions as transitions
+use Rattle.sem_run.specs.transitions.Transitions.{by_answer, by_finding}
+use Rattle.sem_run.specs.transitions.Successors.{Successor, successor}
 use Rattle.pt_bare_runs.specs.Strides as B
 use Rattle.pt_bare_runs.specs.Strides.{Stride, behind, logged}
 use Rattle.pt_bare_runs.specs.Laws.{ending_with, IsAlike, BareRunsAreRuns, RunsAreAlike, HasOneOutcome}
-use Rattle.pt_bare_runs.proofs.Steps.{Waiter, Point, writes_append, if_true, if_false, waitings_of, stand, bare, ArePlain, IsPlain, at_store, at_world, same_full, same_active}
-use Rattle.pt_bare_runs.proofs.Steps.{same_here, same_line, solo, Leads, to_turn, to_ending, is_stuck, arrives, stopped, stepped, quiet, all_logged, all_told, told, block_begins}
+use Rattle.pt_bare_runs.proofs.Steps.{Waiter, Point, if_true, if_false, waitings_of, stand, bare, ArePlain, IsPlain, at_store, at_world, same_full, same_active}
+use Rattle.pt_bare_runs.proofs.Steps.{same_here, same_line, solo, Leads, to_turn, to_ending, is_stuck, arrives, stopped, stepped, quiet, turned, all_turned, all_logged, all_told, told, block_begins}
 
 either : {A : Type 0} (b : Bool) (x : A) → (if b then x else x) ≡ x
 either true x = refl
@@ -115,49 +116,55 @@ module _ {S N V W : Type 0} (machine : Machine S V) (host : Host N V W) (n : ℕ
   abbrev Led : RunState → Stride S N V W → Type 0
   Led s x = Leads machine host n s x
 
-  world_stays : (hs : List (Happening V)) (f : Frame N V) (w : W) → AreQuiet hs → world_behind host hs f w ≡ w
-  world_stays [] f w q = refl
-  world_stays (Told.raises v ∷ hs) f w q = let e = q.0 in absurd cc
-  world_stays (h ∷ hs) f w q = world_stays hs f w q.1
+  world_stays : (h : Happening V) (f : Frame N V) (w : W) → trace_kind h ≡ None → world_behind host h f w ≡ w
+  world_stays (Told.raises v) f w e = absurd cc
+  world_stays h f w e = refl
 
-  world_enters : (v : V) (hs : List (Happening V)) (f : Frame N V) (w : W) → HasRaise v hs → world_behind host hs f w ≡ world_with_entry host v f w
-  world_enters v _ f w (at_head hs q) = refl
-  world_enters v _ f w (further h hs e r) = enters_behind h e (world_enters v hs f w r)
-    where
-      enters_behind : (h : Happening V) → trace_kind h ≡ None → world_behind host hs f w ≡ world_with_entry host v f w
-          → world_behind host (h ∷ hs) f w ≡ world_with_entry host v f w
-      enters_behind (Told.raises u) e k = absurd cc
-      enters_behind h e k = k
+  stays_turned : (h : Happening V) (x : Point S N V W) → trace_kind h ≡ None → turned machine host n h x ≡ x
+  stays_turned h x e = ap (λ w. at_world w x) (world_stays h x.here.frame x.world e)
+
+  all_stay : (hs : List (Happening V)) (x : Point S N V W) → AreQuiet hs → all_turned machine host n hs x ≡ x
+  all_stay [] x q = refl
+  all_stay (h ∷ hs) x q = ap (all_turned machine host n hs) (stays_turned h x q.0) ∙ all_stay hs x q.1
+
+  entering : V → Point S N V W → Point S N V W
+  entering v x = at_world (world_with_entry host v x.here.frame x.world) x
+
+  enters : (v : V) (hs : List (Happening V)) (x : Point S N V W) → HasRaise v hs → all_turned machine host n hs x ≡ entering v x
+  unfolding entering
+  enters v _ x (at_head hs q) = all_stay hs (turned machine host n (Told.raises v) x) q
+  enters v _ x (further h hs e r) = ap (all_turned machine host n hs) (stays_turned h x e) ∙ enters v hs x r
 
   unlogged : (h : Happening V) (s : B.State S N V W) → trace_kind h ≡ None → logged machine host h s ≡ []
   unlogged h s e = ap (λ k. if s.here.frame.block.hidden then [] else B.line_of_kind machine host k h s) e ∙ either s.here.frame.block.hidden []
 
-  quiet_unlogged : (hs : List (Happening V)) (s : B.State S N V W) → AreQuiet hs → all_logged machine host n hs s ≡ []
-  quiet_unlogged [] s q = refl
-  quiet_unlogged (h ∷ hs) s q = ap (λ x. x ++ all_logged machine host n hs s) (unlogged h s q.0) ∙ quiet_unlogged hs s q.1
+  quiet_unlogged : (hs : List (Happening V)) (x : Point S N V W) → AreQuiet hs → all_logged machine host n hs x ≡ []
+  quiet_unlogged [] x q = refl
+  quiet_unlogged (h ∷ hs) x q =
+      ap (λ ws. ws ++ all_logged machine host n hs (turned machine host n h x)) (unlogged h (bare (turned machine host n h x)) q.0) ∙ quiet_unlogged hs (turned machine host n h x) q.1
 
-  raise_logged : (v : V) (hs : List (Happening V)) (s : B.State S N V W) → HasRaise v hs → all_logged machine host n hs s ≡ logged machine host (Told.raises v) s
-  raise_logged v _ s (at_head hs q) = ap (λ x. logged machine host (Told.raises v) s ++ x) (quiet_unlogged hs s q) ∙ append-nil (logged machine host (Told.raises v) s)
-  raise_logged v _ s (further h hs e r) = ap (λ x. x ++ all_logged machine host n hs s) (unlogged h s e) ∙ raise_logged v hs s r
+  raise_logged : (v : V) (hs : List (Happening V)) (x : Point S N V W) → HasRaise v hs → all_logged machine host n hs x ≡ logged machine host (Told.raises v) (bare (entering v x))
+  unfolding entering
+  raise_logged v _ x (at_head hs q) =
+      ap (λ ws. logged machine host (Told.raises v) (bare (turned machine host n (Told.raises v) x)) ++ ws) (quiet_unlogged hs (turned machine host n (Told.raises v) x) q)
+      ∙ append-nil (logged machine host (Told.raises v) (bare (turned machine host n (Told.raises v) x)))
+  raise_logged v _ x (further h hs e r) =
+      ap (λ ws. ws ++ all_logged machine host n hs (turned machine host n h x)) (unlogged h (bare (turned machine host n h x)) e)
+      ∙ ap (all_logged machine host n hs) (stays_turned h x e) ∙ raise_logged v hs x r
 
-  logged_append : (hs ks : List (Happening V)) (s : B.State S N V W) → all_logged machine host n (hs ++ ks) s ≡ all_logged machine host n hs s ++ all_logged machine host n ks s
-  logged_append [] ks s = refl
-  logged_append (h ∷ hs) ks s =
-      ap (λ x. logged machine host h s ++ x) (logged_append hs ks s) ∙ sym (append_assoc (logged machine host h s) (all_logged machine host n hs s) (all_logged machine host n ks s))
-
-  -- a reply that is told leads on, in the world behind it
-  tells : (q : OpenAsk S V) (r : Reply V (Answer V q.ask)) (hs : List (Happening V)) (p : Phase S N V W) (x : Point S N V W) (w : W) (ws : List Write) → IsPlain x
-      → world_behind host hs x.here.frame x.world ≡ w → all_logged machine host n hs (bare (at_world w x)) ≡ ws
-      → Led (reply_and_tell machine host q r hs (stand p x)) (B.goes ws (B.in_state (q.next r) (bare (at_world w x))))
-  tells q r hs p x w ws plain e l =
-      subst (λ u. Led (stand (telling hs (going (q.next r) (λ v. q.next (raised v)))) (at_world u x)) (B.goes ws (B.in_state (q.next r) (bare (at_world w x))))) (sym e)
-      (subst (λ z. Led (stand (telling hs (going (q.next r) (λ v. q.next (raised v)))) (at_world w x)) (B.goes z (B.in_state (q.next r) (bare (at_world w x))))) (append-nil (all_logged machine host n hs (bare (at_world w x))) ∙ l)
-      (all_told machine host n (going (q.next r) (λ v. q.next (raised v))) (at_world w x) (B.goes [] (B.in_state (q.next r) (bare (at_world w x))))
-      (arrives machine host n (record x { here = record x.here { state = q.next r }; world = w }) plain) hs))
+  -- a reply that is told leads on, from where all of that had its turn
+  tells : (q : OpenAsk S V) (r : Reply V (Answer V q.ask)) (hs : List (Happening V)) (p : Phase S N V W) (x y : Point S N V W) (ws : List Write) → IsPlain y
+      → all_turned machine host n hs x ≡ y → all_logged machine host n hs x ≡ ws
+      → Led (reply_and_tell machine host q r hs (stand p x)) (B.goes ws (B.in_state (q.next r) (bare y)))
+  tells q r hs p x y ws plain e l =
+      subst (λ z. Led (stand (telling hs (going (q.next r) (λ v. q.next (raised v)))) x) (B.goes z (B.in_state (q.next r) (bare y)))) (append-nil (all_logged machine host n hs x) ∙ l)
+      (all_told machine host n (going (q.next r) (λ v. q.next (raised v))) (B.goes [] (B.in_state (q.next r) (bare y))) hs x
+      (subst (λ z. Led (stand turning (record z { here = record z.here { state = q.next r } })) (B.goes [] (B.in_state (q.next r) (bare y)))) (sym e)
+      (arrives machine host n (record y { here = record y.here { state = q.next r } }) plain)))
 
   tells_quietly : (q : OpenAsk S V) (r : Reply V (Answer V q.ask)) (hs : List (Happening V)) (p : Phase S N V W) (x : Point S N V W) → IsPlain x → AreQuiet hs
       → Led (reply_and_tell machine host q r hs (stand p x)) (B.goes [] (B.in_state (q.next r) (bare x)))
-  tells_quietly q r hs p x plain h = tells q r hs p x x.world [] plain (world_stays hs x.here.frame x.world h) (quiet_unlogged hs (bare x) h)
+  tells_quietly q r hs p x plain h = tells q r hs p x x [] plain (all_stay hs x h) (quiet_unlogged hs x h)
 
   abbrev told_of : (is_act : Bool) → List (Happening V) → List (Happening V)
   told_of b hs = if b then hs else only_raises hs
@@ -192,9 +199,9 @@ module _ {S N V W : Type 0} (machine : Machine S V) (host : Host N V W) (n : ℕ
     has_raise false = raise_only v _ (raise_last v before (Told.raises v ∷ []) before_is_quiet (at_head [] tt))
 
     arising : (e : E.Event V) → IsRaise v e → Led (reply_and_tell machine host q reply (told_of q.is_act (told_with e)) (stand p x)) (B.arise machine host e (q.next reply) (bare x))
+    unfolding entering
     arising _ first_time =
-        tells q reply _ p x (world_with_entry host v x.here.frame x.world) (logged machine host (Told.raises v) (bare (at_world (world_with_entry host v x.here.frame x.world) x))) plain
-        (world_enters v _ x.here.frame x.world (has_raise q.is_act)) (raise_logged v _ (bare (at_world (world_with_entry host v x.here.frame x.world) x)) (has_raise q.is_act))
+        tells q reply _ p x (entering v x) (logged machine host (Told.raises v) (bare (entering v x))) plain (enters v _ x (has_raise q.is_act)) (raise_logged v _ x (has_raise q.is_act))
     arising _ once_more = tells_quietly q reply _ p x plain (told_quiet q.is_act _ (quiet_append before (Told.raises_again v ∷ []) before_is_quiet (refl, tt)))
 
     raised_leads : Led (reply_to machine host q (raised v) [] (stand p x)) (B.arise machine host (E.arisen (B.here_of machine host (bare x)).active q.ask v) (q.next (raised v)) (bare x))
@@ -296,7 +303,7 @@ module _ {S N V W : Type 0} (machine : Machine S V) (host : Host N V W) (n : ℕ
   closing_leads e (w ∷ ws) x p =
       quiet machine host n _ _ [] _ refl refl
       (answer_leads w.ask (w.rest (record { end = e; names = x.here.frame.names }) (record { names = w.activation.frame.names; world = x.world }))
-      (record x { here = w.activation; waiters = ws; past = x.here.frame ∷ x.past }) (p.0, p.1))
+      (record x { here = w.activation; waiters = ws; past = P.frame_left machine host (stand (closing e) (record x { waiters = w ∷ ws })) ∷ x.past }) (p.0, p.1))
 
   ask_leads : (a : Ask V) (k : Reply V (Answer V a) → S) (b : Bool) (c : Option (Callee V)) (p : Phase S N V W) (x : Point S N V W) → IsPlain x
       → Led (do_ask machine host a k b c (stand p x))
@@ -315,13 +322,26 @@ module _ {S N V W : Type 0} (machine : Machine S V) (host : Host N V W) (n : ℕ
   abbrev begun : Mark → Point S N V W → Point S N V W
   begun m x = record x { here = record x.here { frame = record x.here.frame { line = Some m.line }; act = m.act; behind_jump = false }; units = suc x.units }
 
-  line_logged : (m : Mark) (l : Option ℕ) (j : Bool) (s : B.State S N V W) → j ≡ false
-      → all_logged machine host n (if is_told l m then Told.line j ∷ [] else []) s ≡ B.line_logged machine host m l s
-  line_logged m l j s e = by (is_told l m)
+  -- before an act: its line, if it is told, and then what the log has no line for
+  abbrev line_before_act : (m : Mark) (l : Option ℕ) (j : Bool) → List (Happening V)
+  line_before_act m l j = if is_told l m then Told.line j ∷ [] else []
+
+  line_stays : (m : Mark) (l : Option ℕ) (j : Bool) (hs : List (Happening V)) (x : Point S N V W) → AreQuiet hs → all_turned machine host n (line_before_act m l j ++ hs) x ≡ x
+  line_stays m l j hs x q = by (is_told l m)
     where
-      by : (b : Bool) → all_logged machine host n (if b then Told.line j ∷ [] else []) s ≡ (if b then logged machine host (Told.line false) s else [])
-      by true = append-nil (logged machine host (Told.line j) s) ∙ ap (λ i. logged machine host (Told.line i) s) e
-      by false = refl
+      by : (b : Bool) → all_turned machine host n ((if b then Told.line j ∷ [] else []) ++ hs) x ≡ x
+      by true = all_stay hs x q
+      by false = all_stay hs x q
+
+  line_logged : (m : Mark) (l : Option ℕ) (j : Bool) (hs : List (Happening V)) (x : Point S N V W) → j ≡ false → AreQuiet hs
+      → all_logged machine host n (line_before_act m l j ++ hs) x ≡ B.line_logged machine host m l (bare x)
+  line_logged m l j hs x e q = by (is_told l m)
+    where
+      by : (b : Bool) → all_logged machine host n ((if b then Told.line j ∷ [] else []) ++ hs) x ≡ (if b then logged machine host (Told.line false) (bare x) else [])
+      by true =
+          ap (λ ws. logged machine host (Told.line j) (bare x) ++ ws) (quiet_unlogged hs x q) ∙ append-nil (logged machine host (Told.line j) (bare x))
+          ∙ ap (λ i. logged machine host (Told.line i) (bare x)) e
+      by false = quiet_unlogged hs x q
 
   act_leads : (m : Mark) (a : Ask V) (k : Reply V (Answer V a) → S) (x : Point S N V W) → IsPlain x → machine.turn x.here.frame.block x.here.state ≡ T.act (Some m) a k
       → (b : Bool) → nat_lt x.units n ≡ b
@@ -333,7 +353,9 @@ module _ {S N V W : Type 0} (machine : Machine S V) (host : Host N V W) (n : ℕ
       stopped machine host n (stand turning x) B.spent [] (ap (λ t. begin_turn machine host n t (stand turning x)) turns ∙ if_false (nat_lt x.units n) _ _ e)
   act_leads m a k x plain turns true e =
       quiet machine host n _ _ (O.begins x.here.frame.block m ∷ []) _ (ap (λ t. begin_turn machine host n t (stand turning x)) turns ∙ if_true (nat_lt x.units n) _ _ e) refl
-      (subst (λ ws. Led (stand (telling hs (doing q)) (begun m x)) (behind ws next)) logs (all_told machine host n (doing q) (begun m x) next (done_leads a k true c (telling [] (doing q)) (begun m x) (refl, plain.1)) hs))
+      (subst (λ ws. Led (stand (telling hs (doing q)) (begun m x)) (behind ws next)) logs
+      (all_told machine host n (doing q) next hs (begun m x)
+      (subst (λ y. Led (P.proceed machine host (doing q) (stand (telling [] (doing q)) y)) next) (sym turns_stay) (done_leads a k true c (telling [] (doing q)) (begun m x) (refl, plain.1)))))
     where
       c : Option (Callee V)
       c = callee_of host a x.world
@@ -347,13 +369,16 @@ module _ {S N V W : Type 0} (machine : Machine S V) (host : Host N V W) (n : ℕ
       next : Stride S N V W
       next = B.lead machine host a (successor (transitions.transition host (T.act (Some m) a k) (B.here_of machine host (bare (begun m x))) (B.store (bare (begun m x))))) (bare (begun m x))
 
-      logs : all_logged machine host n hs (bare (begun m x)) ≡ B.line_logged machine host m (line_before x.here) (bare (begun m x))
-      logs = logged_append (P.line_event machine host m (stand turning x)) _ (bare (begun m x))
-          ∙ ap (λ ws. all_logged machine host n (P.line_event machine host m (stand turning x)) (bare (begun m x)) ++ ws) (quiet_unlogged _ (bare (begun m x)) (before_quiet (P.leads_to machine host a k (stand turning x)) host.null (callee_of host a x.world) a))
-          ∙ append-nil (all_logged machine host n (P.line_event machine host m (stand turning x)) (bare (begun m x)))
-          ∙ line_logged m (line_before x.here) x.here.behind_jump (bare (begun m x)) plain.0
+      quietly : AreQuiet (map (happening (P.leads_to machine host a k (stand turning x)) host.null (callee_of host a x.world)) (E.before a))
+      quietly = before_quiet (P.leads_to machine host a k (stand turning x)) host.null (callee_of host a x.world) a
 
-  turn_leads : (t : Turn S V) (x : Point S N V W) → IsPlain x → machine.turn x.here.frame.block x.here.state ≡ t → Led (stand turning x) (B.take_turn machine host n t (bare x))
+      turns_stay : all_turned machine host n hs (begun m x) ≡ begun m x
+      turns_stay = line_stays m (line_before x.here) x.here.behind_jump _ (begun m x) quietly
+
+      logs : all_logged machine host n hs (begun m x) ≡ B.line_logged machine host m (line_before x.here) (bare (begun m x))
+      logs = line_logged m (line_before x.here) x.here.behind_jump _ (begun m x) plain.0 quietly
+
+  pub turn_leads : (t : Turn S V) (x : Point S N V W) → IsPlain x → machine.turn x.here.frame.block x.here.state ≡ t → Led (stand turning x) (B.take_turn machine host n t (bare x))
   turn_leads (T.act (Some m) a k) x plain turns = act_leads m a k x plain turns (nat_lt x.units n) refl
   turn_leads (T.act None a k) x plain turns =
       quiet machine host n _ _ [] _ (ap (λ t. begin_turn machine host n t (stand turning x)) turns) refl
@@ -362,15 +387,15 @@ module _ {S N V W : Type 0} (machine : Machine S V) (host : Host N V W) (n : ℕ
       quiet machine host n _ _ [] _ (ap (λ t. begin_turn machine host n t (stand turning x)) turns) refl
       (subst (λ ws. Led (stand (telling (Told.raises_again v ∷ []) (going (k (got tt)) (λ u. k (raised u)))) x) (B.goes ws (B.in_state (k (got tt)) (bare x))))
       (append-nil (logged machine host (Told.raises_again v) (bare x)) ∙ unlogged (Told.raises_again v) (bare x) refl)
-      (told machine host n (going (k (got tt)) (λ u. k (raised u))) x (B.goes [] (B.in_state (k (got tt)) (bare x))) (arrives machine host n (record x { here = record x.here { state = k (got tt) } }) plain) (Told.raises_again v)))
+      (told machine host n (going (k (got tt)) (λ u. k (raised u))) (B.goes [] (B.in_state (k (got tt)) (bare x))) (Told.raises_again v) x (arrives machine host n (record x { here = record x.here { state = k (got tt) } }) plain)))
   turn_leads (T.move c) x plain turns =
       quiet machine host n _ _ [] _ (ap (λ t. begin_turn machine host n t (stand turning x)) turns) refl (arrives machine host n (record x { here = record x.here { state = c } }) plain)
   turn_leads (T.over (gave v)) x plain turns =
       quiet machine host n _ _ [] _ (ap (λ t. begin_turn machine host n t (stand turning x)) turns) refl
-      (told machine host n (ending (gave v)) x _ (closing_leads (gave v) x.waiters x plain.1) (Told.returns v))
+      (told machine host n (ending (gave v)) _ (Told.returns v) x (closing_leads (gave v) x.waiters x plain.1))
   turn_leads (T.over (left_by v)) x plain turns =
       quiet machine host n _ _ [] _ (ap (λ t. begin_turn machine host n t (stand turning x)) turns) refl
-      (told machine host n (ending (left_by v)) x _ (closing_leads (left_by v) x.waiters x plain.1) (Told.unwinds v))
+      (told machine host n (ending (left_by v)) _ (Told.unwinds v) x (closing_leads (left_by v) x.waiters x plain.1))
   turn_leads T.stuck x plain turns = is_stuck
 
   one_outcome : (m : Stride S N V W) (o p : B.Outcome V W) → B.Comes machine host n m o → B.Comes machine host n m p → o ≡ p
@@ -384,7 +409,7 @@ module _ {S N V W : Type 0} (machine : Machine S V) (host : Host N V W) (n : ℕ
   abbrev HasAlike : RunState → B.Outcome V W → Type 0
   HasAlike s o = (p : R.Outcome (Unit {0}) N V W) × R.Runs machine host nobody n (solo machine host n s) p × IsAlike p o
 
-  comes : (m : Stride S N V W) (s : RunState) (o : B.Outcome V W) → Led s m → B.Comes machine host n m o → HasAlike s o
+  pub comes : (m : Stride S N V W) (s : RunState) (o : B.Outcome V W) → Led s m → B.Comes machine host n m o → HasAlike s o
   comes _ s _ (to_ending _ _ _ h) (B.ends_so ws u e) = (
     R.outcome_behind h.outputs (record { outputs = []; units = h.last.units; ending = ending_with h.frames e; debugger = tt }),
     has_parts machine host nobody n (solo machine host n s) h.outputs (solo machine host n h.last) _ h.goes

@@ -1,17 +1,17 @@
 -- A bare run is never stuck where no value is given on and nothing is requested but that blocks run.
 use Rattle.std.proofs.Common.{ℕ, List, [], ◌∷◌, Bool, true, false, Some, None, subst, if◌then◌else◌}
 use Rattle.std.specs.Prelude.{nat_lt}
-use Rattle.pt_control.specs.Turn as T
-use Rattle.pt_control.specs.Turn.{Ask, Answer, Reply, got, raised, End, gave, left_by, Turn}
-use Rattle.pt_control.specs.Events as E
-use Rattle.pt_run.specs.Machine.{BlockId, Machine}
-use Rattle.pt_run.specs.Host as H
-use Rattle.pt_run.specs.Host.{Host, Here, Store, Opening, BlockResult, Answering, Finding, Made, made, beyond, too_deep}
-use Rattle.pt_run.specs.State.{OpenAsk}
-use Rattle.pt_run.specs.Step.{callee_of, line_before}
-use Rattle.pt_run.specs.Run.{Write, write, to_out}
-use Rattle.pt_transitions.specs.Transitions.{by_answer, by_finding, of_open_ask}
-use Rattle.pt_transitions.specs.Successors.{Successor, to, arises, behind_print, behind_request, outside, successor}
+use Rattle.sem_control.specs.control.Turn as T
+use Rattle.sem_control.specs.control.Turn.{Ask, Answer, Reply, got, raised, End, gave, left_by, Turn}
+use Rattle.sem_control.specs.control.Events as E
+use Rattle.sem_run.specs.run.Machine.{BlockId, Machine}
+use Rattle.sem_run.specs.run.Host as H
+use Rattle.sem_run.specs.run.Host.{Host, Here, Store, Opening, BlockResult, Answering, Finding, Made, made, beyond, too_deep}
+use Rattle.sem_run.specs.run.State.{OpenAsk}
+use Rattle.sem_run.specs.run.Step.{callee_of, line_before}
+use Rattle.sem_run.specs.run.Run.{Write, write, to_out}
+use Rattle.sem_run.specs.transitions.Transitions.{by_answer, by_finding, of_open_ask}
+use Rattle.sem_run.specs.transitions.Successors.{Successor, to, arises, behind_print, behind_request, outside, successor}
 use Rattle.pt_bare_runs.specs.Strides as B
 use Rattle.pt_bare_runs.specs.Strides.{Waiting, State, Stride, behind}
 use Rattle.pt_bare_runs.specs.Laws.{RunsOnlyBlocks, OpensOnly, AsksPlainly, TurnStays, GivesNothingOn, Reaches, here, further, NeverStuck}

@@ -1,22 +1,23 @@
 -- The steps of a run within a stride: what is told is logged and asks nobody, and what is written comes in order.
 use Rattle.std.proofs.Common.{◌≡◌, ℕ, zero, suc, List, [], ◌∷◌, ◌++◌, length, Bool, true, false, Option, Some, None, refl, sym, ap, ◌∙◌, subst, append_assoc, append-nil, if◌then◌else◌}
 use Rattle.std.specs.Prelude.{◌&&◌, ◌||◌, not, nat_le}
-use Rattle.pt_control.specs.Bases.{or_else}
-use Rattle.pt_run.specs.Machine.{Machine}
-use Rattle.pt_run.specs.Events.{Happening, Event, TraceKind, is_for_debugger, trace_kind, starts}
-use Rattle.pt_run.specs.Tools.{Tool, unused, no_tools, tool_at, Location, has_event, is_off, callback, wants}
-use Rattle.pt_run.specs.Host.{Host, Here, Hook, debugger, tool, tracer, Frame, FrameView, Store, BlockResult, Answering, Finding}
-use Rattle.pt_run.specs.State as run
-use Rattle.pt_run.specs.State.{Activation, OpenAsk, Opener, for_block, of_ask, Pending, starting, Telling, Phase, turning, telling, asking, at, hook_runs, is_silent, in_frame}
-use Rattle.pt_run.specs.Views as Views
-use Rattle.pt_run.specs.Views.{frames_of, visible, line_of_first}
-use Rattle.pt_run.specs.Outcome as O
-use Rattle.pt_run.specs.Outcome.{Output, Question, Step, consults}
-use Rattle.pt_run.specs.Hooks.{log_of, trace_due, location, call_hook, all_hooks}
-use Rattle.pt_run.specs.Step.{proceed, step}
-use Rattle.pt_run.specs.Run.{Write, write, to_out, to_log, Session, moves, move, move_by, Goes, stays, goes_further, writes, nobody}
-use Rattle.pt_transitions.specs.Transitions.{by_answer}
-use Rattle.pt_transitions.specs.Successors.{successor}
+use Rattle.sem_control.specs.control.Bases.{or_else}
+use Rattle.sem_run.specs.run.Machine.{Machine}
+use Rattle.sem_run.specs.run.Events.{Happening, Event, TraceKind, is_for_debugger, trace_kind, starts}
+use Rattle.sem_run.specs.run.Tools.{Tool, unused, no_tools, tool_at, Location, has_event, is_off, callback, wants}
+use Rattle.sem_run.specs.run.Host.{Host, Here, Hook, debugger, tool, tracer, Frame, FrameView, Store, BlockResult, Answering, Finding}
+use Rattle.sem_run.specs.run.State as run
+use Rattle.sem_run.specs.run.State.{Activation, OpenAsk, Opener, for_block, of_ask, Pending, starting, Telling, Phase, turning, telling, asking, at, hook_runs, is_silent, in_frame}
+use Rattle.sem_run.specs.run.Views as Views
+use Rattle.sem_run.specs.run.Views.{frames_of, visible, line_of_first}
+use Rattle.sem_run.specs.run.Outcome as O
+use Rattle.sem_run.specs.run.Outcome.{Output, Question, Step, consults}
+use Rattle.sem_run.specs.run.Hooks.{world_behind, log_of, trace_due, location, call_hook, all_hooks}
+use Rattle.sem_run.specs.run.Step.{proceed, step}
+use Rattle.sem_run.specs.run.Run.{Write, write, to_out, to_log, Session, moves, move, move_by, Goes, stays, goes_further, writes, nobody}
+use Rattle.sem_run.proofs.run.Showing.{writes_append}
+use Rattle.sem_run.specs.transitions.Transitions.{by_answer}
+use Rattle.sem_run.specs.transitions.Successors.{successor}
 use Rattle.pt_bare_runs.specs.Strides as B
 use Rattle.pt_bare_runs.specs.Strides.{Waiting, Stride, Ending, behind, logged}
 use Rattle.pt_bare_runs.specs.Laws.{ending_with}
@@ -126,15 +127,6 @@ module _ {S N V W : Type 0} where
 
     pub same_line : (p : Phase S N V W) (x : Point S N V W) → Views.visible_line host.first_line (stand p x) ≡ B.visible_line machine host (bare x)
     same_line p x = ap (λ fs. line_of_first host.first_line x.here.frame (visible (x.here.frame ∷ fs))) (same_frames x.waiters)
-
-pub writes_append : {V : Type 0} (os ps : List (Output V)) → writes true (os ++ ps) ≡ writes true os ++ writes true ps
-writes_append [] ps = refl
-writes_append (O.prints x ∷ os) ps = ap (λ xs. write to_out x ∷ xs) (writes_append os ps)
-writes_append (O.logs x ∷ os) ps = ap (λ xs. write to_log x ∷ xs) (writes_append os ps)
-writes_append (O.replies x ∷ os) ps = ap (λ xs. write to_log x ∷ xs) (writes_append os ps)
-writes_append (O.begins b m ∷ os) ps = writes_append os ps
-writes_append (O.gives e ∷ os) ps = writes_append os ps
-writes_append (O.refuses l r ∷ os) ps = writes_append os ps
 
 no_tracer : {N V : Type 0} (k : Option TraceKind) (f : Frame N V) → trace_due k None f ≡ None
 no_tracer (Some k) f = refl
@@ -262,48 +254,59 @@ module _ {S N V W : Type 0} (machine : Machine S V) (host : Host N V W) (n : ℕ
   same_log (Some k) h s = refl
   same_log None h s = refl
 
-  -- all that is logged of what is told
-  abbrev pub all_logged : List (Happening V) → B.State S N V W → List Write
-  all_logged [] s = []
-  all_logged (h ∷ hs) s = logged machine host h s ++ all_logged hs s
+  -- where its turn has come to be told
+  abbrev pub turned : Happening V → Point S N V W → Point S N V W
+  turned h x = at_world (world_behind host h x.here.frame x.world) x
 
-  none_logged : (hs : List (Happening V)) (x : Point S N V W) → x.here.frame.block.hidden ≡ true → all_logged hs (bare x) ≡ []
+  abbrev pub all_turned : List (Happening V) → Point S N V W → Point S N V W
+  all_turned [] x = x
+  all_turned (h ∷ hs) x = all_turned hs (turned h x)
+
+  -- all that is logged of what is told
+  abbrev pub all_logged : List (Happening V) → Point S N V W → List Write
+  all_logged [] x = []
+  all_logged (h ∷ hs) x = logged machine host h (bare (turned h x)) ++ all_logged hs (turned h x)
+
+  none_logged : (hs : List (Happening V)) (x : Point S N V W) → x.here.frame.block.hidden ≡ true → all_logged hs x ≡ []
   none_logged [] x e = refl
-  none_logged (h ∷ hs) x e = ap (λ q. q ++ all_logged hs (bare x)) (if_true x.here.frame.block.hidden [] _ e) ∙ none_logged hs x e
+  none_logged (h ∷ hs) x e = ap (λ q. q ++ all_logged hs (turned h x)) (if_true x.here.frame.block.hidden [] _ e) ∙ none_logged hs (turned h x) e
 
   loud : (h : Happening V) (x : Point S N V W) → x.here.frame.block.hidden ≡ false
       → writes true (log_of host (trace_kind h) (B.event_of machine host h (bare x)) x.world) ≡ logged machine host h (bare x)
   loud h x e = same_log (trace_kind h) h (bare x) ∙ sym (if_false x.here.frame.block.hidden [] _ e)
 
   -- what is told is logged, and then what waited goes on
-  module _ (p : Pending S V) (x : Point S N V W) (y : Stride S N V W) (h : Leads (proceed machine host p (stand (telling [] p) x)) y) where
-    told_loudly : x.here.frame.block.hidden ≡ false → (hs : List (Happening V)) → Leads (stand (telling hs p) x) (behind (all_logged hs (bare x)) y)
-    told_loudly e [] = stepped _ _ [] [] y refl refl h
-    told_loudly e (k ∷ hs) =
-        subst (λ z. Leads (stand (telling (k ∷ hs) p) x) z) (sym (behind_append (logged machine host k (bare x)) (all_logged hs (bare x)) y))
+  module _ (p : Pending S V) (y : Stride S N V W) where
+    abbrev Proceeds : Point S N V W → Type 0
+    Proceeds x = Leads (proceed machine host p (stand (telling [] p) x)) y
+
+    told_loudly : (hs : List (Happening V)) (x : Point S N V W) → x.here.frame.block.hidden ≡ false → Proceeds (all_turned hs x) → Leads (stand (telling hs p) x) (behind (all_logged hs x) y)
+    told_loudly [] x e h = stepped _ _ [] [] y refl refl h
+    told_loudly (k ∷ hs) x e h =
+        subst (λ z. Leads (stand (telling (k ∷ hs) p) x) z) (sym (behind_append (logged machine host k (bare (turned k x))) (all_logged hs (turned k x)) y))
         (quiet _ _ (O.gives _ ∷ []) _
-        (if_false (is_silent (stand (telling (k ∷ hs) p) x)) _ _ (ap (λ b. b || hook_runs (openers_of x.waiters)) e ∙ no_hook x.waiters)) refl
-        (all_asked (B.event_of machine host k (bare x)) hs p x (behind (all_logged hs (bare x)) y) (logged machine host k (bare x)) (loud k x e) (told_loudly e hs)))
+        (if_false (is_silent (stand (telling (k ∷ hs) p) (turned k x))) _ _ (ap (λ b. b || hook_runs (openers_of x.waiters)) e ∙ no_hook x.waiters)) refl
+        (all_asked (B.event_of machine host k (bare x)) hs p (turned k x) (behind (all_logged hs (turned k x)) y) (logged machine host k (bare (turned k x))) (loud k (turned k x) e) (told_loudly hs (turned k x) e h)))
 
-    told_silently : x.here.frame.block.hidden ≡ true → (hs : List (Happening V)) → Leads (stand (telling hs p) x) y
-    told_silently e [] = quiet _ _ [] y refl refl h
-    told_silently e (k ∷ hs) =
-        quiet _ _ [] y (if_true (is_silent (stand (telling (k ∷ hs) p) x)) _ _ (ap (λ b. b || hook_runs (openers_of x.waiters)) e)) refl (quiet _ _ [] y refl refl h)
+    told_silently : (hs : List (Happening V)) (x : Point S N V W) → x.here.frame.block.hidden ≡ true → Proceeds (all_turned hs x) → Leads (stand (telling hs p) x) y
+    told_silently [] x e h = quiet _ _ [] y refl refl h
+    told_silently (k ∷ hs) x e h =
+        quiet _ _ [] y (if_true (is_silent (stand (telling (k ∷ hs) p) (turned k x))) _ _ (ap (λ b. b || hook_runs (openers_of x.waiters)) e)) refl (told_silently hs (turned k x) e h)
 
-    by_hidden : (b : Bool) → x.here.frame.block.hidden ≡ b → (hs : List (Happening V)) → Leads (stand (telling hs p) x) (behind (all_logged hs (bare x)) y)
-    by_hidden false e hs = told_loudly e hs
-    by_hidden true e hs =
-        subst (λ ws. Leads (stand (telling hs p) x) (behind ws y)) (sym (none_logged hs x e)) (subst (λ z. Leads (stand (telling hs p) x) z) (sym (behind_none y)) (told_silently e hs))
+    by_hidden : (b : Bool) (hs : List (Happening V)) (x : Point S N V W) → x.here.frame.block.hidden ≡ b → Proceeds (all_turned hs x) → Leads (stand (telling hs p) x) (behind (all_logged hs x) y)
+    by_hidden false hs x e h = told_loudly hs x e h
+    by_hidden true hs x e h =
+        subst (λ ws. Leads (stand (telling hs p) x) (behind ws y)) (sym (none_logged hs x e)) (subst (λ z. Leads (stand (telling hs p) x) z) (sym (behind_none y)) (told_silently hs x e h))
 
-    pub all_told : (hs : List (Happening V)) → Leads (stand (telling hs p) x) (behind (all_logged hs (bare x)) y)
-    all_told hs = by_hidden x.here.frame.block.hidden refl hs
+    pub all_told : (hs : List (Happening V)) (x : Point S N V W) → Proceeds (all_turned hs x) → Leads (stand (telling hs p) x) (behind (all_logged hs x) y)
+    all_told hs x h = by_hidden x.here.frame.block.hidden hs x refl h
 
-    pub told : (k : Happening V) → Leads (stand (telling (k ∷ []) p) x) (behind (logged machine host k (bare x)) y)
-    told k = subst (λ ws. Leads (stand (telling (k ∷ []) p) x) (behind ws y)) (append-nil (logged machine host k (bare x))) (all_told (k ∷ []))
+    pub told : (k : Happening V) (x : Point S N V W) → Proceeds (turned k x) → Leads (stand (telling (k ∷ []) p) x) (behind (logged machine host k (bare (turned k x))) y)
+    told k x h = subst (λ ws. Leads (stand (telling (k ∷ []) p) x) (behind ws y)) (append-nil (logged machine host k (bare (turned k x)))) (all_told (k ∷ []) x h)
 
   -- a block begins
   pub block_begins : (x : Point S N V W) → IsPlain x
       → Leads (stand (telling (starts ∷ []) (starting x.here.state)) x) (B.goes (logged machine host starts (bare x)) (bare x))
   block_begins x p =
       subst (λ ws. Leads (stand (telling (starts ∷ []) (starting x.here.state)) x) (B.goes ws (bare x))) (append-nil (logged machine host starts (bare x)))
-      (told (starting x.here.state) x (B.goes [] (bare x)) (arrives x p) starts)
+      (told (starting x.here.state) (B.goes [] (bare x)) starts x (arrives x p))

@@ -1,15 +1,15 @@
 -- What a bare run is among runs: one in which nobody is asked and nothing is traced. Hosts that request nothing but that blocks run.
-use Rattle.std.specs.Prelude.{◌≡◌, ℕ, List, true, Option}
-use Rattle.pt_control.specs.Turn as T
-use Rattle.pt_control.specs.Turn.{Ask, Answer, Reply, Turn}
-use Rattle.pt_run.specs.Machine.{BlockId, Machine}
-use Rattle.pt_run.specs.Host as H
-use Rattle.pt_run.specs.Host.{Host, Here, Store, BlockResult, FrameView, Answering, answer, raise, print, leave, request}
-use Rattle.pt_run.specs.Outcome as O
-use Rattle.pt_run.specs.Run as R
-use Rattle.pt_run.specs.Run.{writes, nobody}
-use Rattle.pt_run.specs.Laws.{session}
-use Rattle.pt_bare_runs.specs.Strides.{State, Ending, done, exited, raised, spent, outside_at, goes, is_stuck, stride, start, Outcome, Runs}
+use Rattle.std.specs.Prelude.{◌≡◌, ℕ, List, Option}
+use Rattle.sem_control.specs.control.Turn as T
+use Rattle.sem_control.specs.control.Turn.{Ask, Answer, Reply, Turn}
+use Rattle.sem_run.specs.run.Machine.{BlockId, Machine}
+use Rattle.sem_run.specs.run.Host as H
+use Rattle.sem_run.specs.run.Host.{Host, Here, Store, BlockResult, Answering, answer, raise, print, leave, request}
+use Rattle.sem_run.specs.run.Run as R
+use Rattle.sem_run.specs.run.Run.{nobody}
+use Rattle.sem_run.specs.run.Laws.{session}
+use Rattle.pt_bare_runs.specs.Strides.{State, goes, is_stuck, stride, start, Outcome, Runs}
+pub use Rattle.sem_run.specs.run.Shown.{ending_with, IsAlike, RunsTo}
 
 module _ {N V W : Type 0} where
   -- an answer in the making requests only that blocks run, also behind what it requests
@@ -24,27 +24,10 @@ module _ {N V W : Type 0} where
   abbrev pub OpensOnly : Host N V W → Type 0
   OpensOnly host = (a : Ask V) (h : Here V) (st : Store N W) → RunsOnlyBlocks (host.answers a h st)
 
-  -- an ending with the frames that a debugger sees at it
-  abbrev pub ending_with : List (FrameView N V) → Ending V W → O.Ending N V W
-  ending_with fs done = O.done
-  ending_with fs (exited n x) = O.exited n x
-  ending_with fs (raised v w) = O.raised v (record { frames = fs; world = w })
-  ending_with fs spent = O.spent
-  ending_with fs (outside_at what l) = O.outside what l
-
-  -- the same is written, to out and to the log, by the same number of acts, and the ending is the same
-  pub record IsAlike {D : Type 0} (p : R.Outcome D N V W) (o : Outcome V W) : Type 0 where
-    pub written : writes true p.outputs ≡ o.written
-    pub units : p.units ≡ o.units
-    pub frames : List (FrameView N V)
-    pub ending : p.ending ≡ ending_with frames o.ending
-
 module _ {S N V W : Type 0} (machine : Machine S V) (host : Host N V W) (n : ℕ) where
   -- where a bare run comes to an outcome, so does the run, and that is alike
   abbrev pub BareRunsAreRuns : BlockId → N → W → Type 0
-  BareRunsAreRuns b x w =
-      (o : Outcome V W) → Runs machine host n b x w o
-      → (p : R.Outcome (Unit {0}) N V W) × R.Runs machine host nobody n (session machine b x w tt) p × IsAlike p o
+  BareRunsAreRuns b x w = (o : Outcome V W) → Runs machine host n b x w o → RunsTo machine host n b x w o
 
   abbrev pub RunsAreAlike : BlockId → N → W → Type 0
   RunsAreAlike b x w =

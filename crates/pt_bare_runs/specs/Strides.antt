@@ -3,24 +3,25 @@
 use Rattle.std.specs.Prelude.{ℕ, suc, ◌+◌, nat_lt, nat_le, List, [], ◌∷◌, ◌++◌, length, Bool, false, Option, Some, None, if◌then◌else◌}
 use Rattle.pt_base.specs.declared.what.What.{What}
 use Rattle.pt_base.specs.declared.what.What.TheVariants.{Exit}
-use Rattle.pt_control.specs.Bases.{or_else}
-use Rattle.pt_control.specs.Turn as T
-use Rattle.pt_control.specs.Turn.{Mark, Ask, got, End, gave, left_by, Turn}
-use Rattle.pt_control.specs.LineEvents.{is_told}
-use Rattle.pt_control.specs.Events as E
-use Rattle.pt_run.specs.Machine.{BlockId, Machine}
-use Rattle.pt_run.specs.Events as Told
-use Rattle.pt_run.specs.Events.{Happening, starts, returns, unwinds, TraceKind, Event, trace_kind}
-use Rattle.pt_run.specs.Host as H
-use Rattle.pt_run.specs.Host.{Host, Here, Store, Opening, BlockResult, Frame, too_deep, Made, made, beyond, Leaving}
-use Rattle.pt_run.specs.State as run
-use Rattle.pt_run.specs.State.{Activation, begin, activation_of, most_activations}
-use Rattle.pt_run.specs.Views.{visible, line_of, line_of_first}
-use Rattle.pt_run.specs.Hooks.{world_with_entry}
-use Rattle.pt_run.specs.Step.{line_before}
-use Rattle.pt_run.specs.Run.{Write, write, to_out, to_log}
-use Rattle.pt_transitions.specs.Transitions.{transition}
-use Rattle.pt_transitions.specs.Successors.{Successor, to, arises, behind_yield, behind_print, behind_request, behind_note, outside, end, none, successor}
+use Rattle.sem_control.specs.control.Bases.{or_else}
+use Rattle.sem_control.specs.control.Turn as T
+use Rattle.sem_control.specs.control.Turn.{Mark, Ask, got, End, gave, left_by, Turn}
+use Rattle.sem_control.specs.control.LineEvents.{is_told}
+use Rattle.sem_control.specs.control.Events as E
+use Rattle.sem_run.specs.run.Machine.{BlockId, Machine}
+use Rattle.sem_run.specs.run.Events as Told
+use Rattle.sem_run.specs.run.Events.{Happening, starts, returns, unwinds, TraceKind, Event, trace_kind}
+use Rattle.sem_run.specs.run.Host as H
+use Rattle.sem_run.specs.run.Host.{Host, Here, Store, Opening, BlockResult, Frame, too_deep, Made, made, beyond, Leaving}
+use Rattle.sem_run.specs.run.State as run
+use Rattle.sem_run.specs.run.State.{Activation, begin, activation_of, most_activations}
+use Rattle.sem_run.specs.run.Views.{visible, line_of, line_of_first}
+use Rattle.sem_run.specs.run.Hooks.{world_with_entry}
+use Rattle.sem_run.specs.run.Step.{line_before}
+use Rattle.sem_run.specs.run.Run.{Write, write, to_out, to_log}
+pub use Rattle.sem_run.specs.run.Shown.{Ending, done, exited, raised, spent, outside_at, Outcome}
+use Rattle.sem_run.specs.transitions.Transitions.{transition}
+use Rattle.sem_run.specs.transitions.Successors.{Successor, to, arises, behind_yield, behind_print, behind_request, behind_note, outside, end, none, successor}
 
 -- an activation that waits for the result of the next newer one: what it asked, and where the result leads
 pub record Waiting (S N V W : Type 0) : Type 0 where
@@ -35,15 +36,6 @@ pub record State (S N V W : Type 0) : Type 0 where
   pub world : W
   pub units : ℕ
   pub frames : ℕ
-
-pub data Ending (V W : Type 0) : Type 0 where
-  done : Ending V W
-  exited : (status : ℕ) → (text : Option (List ℕ)) → Ending V W
-  -- an exception left the module
-  raised : V → W → Ending V W
-  -- all units are taken, and another act would begin
-  spent : Ending V W
-  outside_at : What → (line : ℕ) → Ending V W
 
 -- what is written, to out and to the log in one order, and what comes behind it
 pub data Stride (S N V W : Type 0) : Type 0 where
@@ -211,12 +203,6 @@ module _ {S N V W : Type 0} (machine : Machine S V) (host : Host N V W) where
   -- the module's first activation, and that it is told
   abbrev pub start : BlockId → N → W → State S N V W
   start b n w = record { here = activation_of machine b None n 0 false; waiting = []; world = w; units = 0; frames = 1 }
-
--- what comes of a run: all that it writes, the units that it took, and its ending
-pub record Outcome (V W : Type 0) : Type 0 where
-  pub written : List Write
-  pub units : ℕ
-  pub ending : Ending V W
 
 abbrev pub outcome_behind : {V W : Type 0} → List Write → Outcome V W → Outcome V W
 outcome_behind ws o = record o { written = ws ++ o.written }

@@ -1,8 +1,8 @@
 //! Laws of bare runs, each the contract of a function that does nothing.
 
 ghost use Rattle.std.specs.Prelude.{ℕ};
-ghost use Rattle.pt_run.specs.Host.{Host};
-ghost use Rattle.pt_run.specs.Machine.{BlockId, Machine};
+ghost use Rattle.sem_run.specs.run.Host.{Host};
+ghost use Rattle.sem_run.specs.run.Machine.{BlockId, Machine};
 ghost use Rattle.pt_bare_runs.specs.Laws.{Among, BareRunsAreRuns, GivesNothingOn, HasOneOutcome, NeverStuck, OpensOnly, RunsAreAlike, Standing};
 
 /// Where a bare run comes to an outcome, so does the run in which nobody is asked and nothing is

@@ -1,8 +1,8 @@
 -- What is written first, step by step.
 use Rattle.std.proofs.Common.{◌≡◌, ℕ, List, [], ◌++◌, refl, sym, ap, ◌∙◌, subst, append_assoc}
-use Rattle.pt_run.specs.Machine.{BlockId, Machine}
-use Rattle.pt_run.specs.Host.{Host}
-use Rattle.pt_run.specs.Run.{Write}
+use Rattle.sem_run.specs.run.Machine.{BlockId, Machine}
+use Rattle.sem_run.specs.run.Host.{Host}
+use Rattle.sem_run.specs.run.Run.{Write}
 use Rattle.pt_bare_runs.specs.Strides.{State, Ending, Stride, goes, ends, stride, Outcome, outcome_behind, Comes, ends_so, goes_on}
 use Rattle.pt_bare_writes.specs.Fronts.{written_by, WritesFirst, within, beyond, OutcomesBeginSo}
 

@@ -5,7 +5,7 @@ use Rattle.std.proofs.lemmas.List.{map-append, length-take-le}
 use Rattle.std.proofs.Math.Seq.{take-suc}
 use Rattle.pt_instr.specs.declared.effects.Effect.{Effect}
 use Rattle.pt_ranges.specs.declared.handlers.Handler.{Handler}
-use Rattle.pt_verify.specs.Sizes.{is_enough}
+use Rattle.pt_verify_depths.specs.Sizes.{is_enough}
 use Rattle.pt_kind_flow.specs.declared.edges.Edge.{Edge}
 use Rattle.pt_block_kinds.specs.Leads.{Lead, lead_of, leads_of, inside, leads_again, leads_behind, leads_aside, own_leads, numbered, row_lead}
 use Rattle.pt_block_kinds.proofs.Lists.{with_number}

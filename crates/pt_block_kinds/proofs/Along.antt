@@ -7,10 +7,10 @@ use Rattle.pt_instr.specs.declared.effects.Effect.{Effect}
 use Rattle.pt_instr.specs.declared.kinds.Kind.TheVariants.{Value}
 use Rattle.pt_instr.specs.Effects.{Kinds}
 use Rattle.pt_code.specs.View.{Ins}
-use Rattle.pt_fits.specs.Block.{Block, captured, effect}
-use Rattle.pt_fits.specs.Steps.{Step, step, gives, given_behind, swapped, taken, below, onward, aside, again, has_enough, by_instruction, target_of, reads}
-use Rattle.pt_fits.proofs.Swaps.{given_plain, swap_takes}
-use Rattle.pt_verify.specs.Sizes.{left}
+use Rattle.sem_fits.specs.fits.Block.{Block, captured, effect}
+use Rattle.sem_fits.specs.fits.Steps.{Step, step, gives, given_behind, swapped, taken, below, onward, aside, again, has_enough, by_instruction, target_of, reads}
+use Rattle.sem_fits.proofs.fits.Swaps.{given_plain, swap_takes}
+use Rattle.pt_verify_depths.specs.Sizes.{left}
 use Rattle.pt_kind_flow.specs.Flow.{led_by}
 use Rattle.pt_step_graph.proofs.Numbers.{none_in, only_one, the_one}
 use Rattle.pt_block_kinds.specs.Leads.{Lead, lead, led_along, lead_behind, leads_behind, leads_aside, leads_again, own_leads}

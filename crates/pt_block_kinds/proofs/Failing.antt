@@ -9,14 +9,14 @@ use Rattle.pt_instr.specs.declared.kinds.Kind.TheVariants as kind
 use Rattle.pt_instr.specs.Effects.{Kinds}
 use Rattle.pt_ranges.specs.declared.handlers.Handler.{Handler}
 use Rattle.pt_code.specs.View.{Ins}
-use Rattle.pt_fits.specs.Block.{Block}
-use Rattle.pt_fits.specs.Steps.{is_kind, are_kinds, cut}
-use Rattle.pt_fits.specs.Places.{Gets}
-use Rattle.pt_fits.proofs.KindLemmas.{same_kinds}
-use Rattle.pt_fits.proofs.Ways.{place_of}
-use Rattle.pt_verify.specs.Refusals as R
-use Rattle.pt_verify.specs.Refusals.{CutsDiffer, CutsOf}
-use Rattle.pt_verify.proofs.SizeLemmas.{kinds_have_sizes}
+use Rattle.sem_fits.specs.fits.Block.{Block}
+use Rattle.sem_fits.specs.fits.Steps.{is_kind, are_kinds, cut}
+use Rattle.sem_fits.specs.fits.Places.{Gets}
+use Rattle.sem_fits.proofs.fits.KindLemmas.{same_kinds}
+use Rattle.sem_fits.proofs.fits.Ways.{place_of}
+use Rattle.pt_verify_depths.specs.Refusals as R
+use Rattle.pt_verify_depths.specs.Refusals.{CutsDiffer, CutsOf}
+use Rattle.pt_verify_depths.proofs.SizeLemmas.{kinds_have_sizes}
 use Rattle.pt_kinds.specs.Forest.{Begins}
 use Rattle.pt_kind_flow.specs.declared.flow.Flow.{Flow}
 use Rattle.pt_kind_flow.specs.Flow as F

@@ -14,10 +14,10 @@ use Rattle.pt_sizes.specs.Waiting as W
 use Rattle.pt_sizes.specs.Waiting.{Level, up, stretch_of, stretch, AllWait}
 use Rattle.pt_step_graph.specs.Graph.{width}
 use Rattle.pt_step_graph.proofs.Numbers.{none_in, only_one}
-use Rattle.pt_fits.specs.Block.{Links, captured, effect}
-use Rattle.pt_fits.specs.Steps.{held_by, target_of, reads}
-use Rattle.pt_fits.proofs.Swaps.{swap_takes}
-use Rattle.pt_verify.specs.Sizes.{left, is_enough}
+use Rattle.sem_fits.specs.fits.Block.{Links, captured, effect}
+use Rattle.sem_fits.specs.fits.Steps.{held_by, target_of, reads}
+use Rattle.sem_fits.proofs.fits.Swaps.{swap_takes}
+use Rattle.pt_verify_depths.specs.Sizes.{left, is_enough}
 use Rattle.pt_kind_flow.specs.declared.edges.Edge.{Edge}
 use Rattle.pt_kind_flow.specs.Flow.{reach, Descends}
 use Rattle.pt_block_kinds.specs.Leads.{Lead, lead, lead_of, leads_of, inside, lead_behind, leads_behind, leads_aside, leads_again, own_leads, place_leads, leads_from, numbered, row_lead, above_leads, stretch_leads, landing_leads, vertex_leads}

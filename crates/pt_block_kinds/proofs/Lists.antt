@@ -7,7 +7,7 @@ use Rattle.pt_instr.specs.Effects.{Kinds}
 use Rattle.pt_ranges.specs.declared.handlers.Handler.{Handler}
 use Rattle.pt_kind_flow.specs.Flow.{led_by}
 use Rattle.pt_step_graph.proofs.Numbers.{lt_true, lt_false, none_in}
-use Rattle.pt_fits.specs.Steps.{swapped}
+use Rattle.sem_fits.specs.fits.Steps.{swapped}
 use Rattle.pt_block_kinds.specs.Leads.{Lead, inside, numbered}
 
 pub later : {X : Type 0} (x : X) (xs : List X) (y : X) → Contains xs y → Contains (x ∷ xs) y

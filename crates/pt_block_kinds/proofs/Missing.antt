@@ -17,14 +17,14 @@ use Rattle.pt_code.specs.View.{Ins}
 use Rattle.pt_places.specs.declared.places.Place.{Place}
 use Rattle.pt_places.specs.PlaceTable.{entry, place_of, place_at, HasPlaces}
 use Rattle.pt_sizes.proofs.Tables.{entry_in}
-use Rattle.pt_fits.specs.Block.{Links, Block, block_of, effect}
-use Rattle.pt_fits.specs.Steps.{Step, step, steps, steps_of, gives, given_behind, onward, aside, again, has_enough, is_within, landing, by_instruction, by_handlers, target_of}
-use Rattle.pt_fits.specs.Places.{Gets, Reached}
-use Rattle.pt_fits.specs.Agreement as A
-use Rattle.pt_fits.specs.Agreement.{Strays}
-use Rattle.pt_fits.proofs.KindLemmas.{both}
-use Rattle.pt_verify.specs.Sizes.{is_enough}
-use Rattle.pt_verify.proofs.SizeLemmas.{kinds_have_sizes}
+use Rattle.sem_fits.specs.fits.Block.{Links, Block, block_of, effect}
+use Rattle.sem_fits.specs.fits.Steps.{Step, step, steps, steps_of, gives, given_behind, onward, aside, again, has_enough, is_within, landing, by_instruction, by_handlers, target_of}
+use Rattle.sem_fits.specs.fits.Places.{Gets, Reached}
+use Rattle.sem_fits.specs.fits.Agreement as A
+use Rattle.sem_fits.specs.fits.Agreement.{Strays}
+use Rattle.sem_fits.proofs.fits.KindLemmas.{both}
+use Rattle.pt_verify_depths.specs.Sizes.{is_enough}
+use Rattle.pt_verify_depths.proofs.SizeLemmas.{kinds_have_sizes}
 use Rattle.pt_kind_flow.specs.declared.flow.Flow.{Flow}
 use Rattle.pt_kinds.specs.Forest.{list_at}
 use Rattle.pt_kind_flow.specs.Flow.{graph, AreLongest}

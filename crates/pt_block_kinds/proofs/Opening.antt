@@ -15,7 +15,7 @@ use Rattle.pt_step_graph.specs.Graph.{width}
 use Rattle.pt_step_graph.proofs.Numbers.{lt_true, lt_false, is_lt}
 use Rattle.pt_code.specs.declared.Code.{Code}
 use Rattle.pt_code.specs.declared.CodeBlock.{CodeBlock}
-use Rattle.pt_fits.specs.Block.{Links, block_of, links_of, kinds_at_start}
+use Rattle.sem_fits.specs.fits.Block.{Links, block_of, links_of, kinds_at_start}
 use Rattle.pt_kind_flow.specs.declared.edges.Edge.{Edge}
 use Rattle.pt_kind_flow.specs.declared.flow.Flow.{Flow}
 use Rattle.pt_kind_flow.specs.Flow.{graph, edges_at, Descends}

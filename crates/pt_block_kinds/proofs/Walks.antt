@@ -14,13 +14,13 @@ use Rattle.pt_sizes.specs.Flow.{entry}
 use Rattle.pt_sizes.specs.Waiting.{Level, up, stretch}
 use Rattle.pt_step_graph.specs.Graph.{width}
 use Rattle.pt_step_graph.proofs.Numbers.{lt_true, lt_false, none_in, only_one, the_one, number, level_at, number_first, number_in, up_le}
-use Rattle.pt_fits.specs.Block.{Block, effect}
-use Rattle.pt_fits.specs.Steps.{Step, step, steps, steps_of, spared, is_within, cut, landing, held_by, by_instruction, by_handlers, target_of}
-use Rattle.pt_fits.specs.Places as P
-use Rattle.pt_fits.specs.Places.{Gets, Reached}
-use Rattle.pt_verify.specs.Sizes as S
-use Rattle.pt_verify.specs.Sizes.{left, leaves_enough, RowTooDeep}
-use Rattle.pt_verify.proofs.SizeLemmas.{kinds_have_sizes}
+use Rattle.sem_fits.specs.fits.Block.{Block, effect}
+use Rattle.sem_fits.specs.fits.Steps.{Step, step, steps, steps_of, spared, is_within, cut, landing, held_by, by_instruction, by_handlers, target_of}
+use Rattle.sem_fits.specs.fits.Places as P
+use Rattle.sem_fits.specs.fits.Places.{Gets, Reached}
+use Rattle.pt_verify_depths.specs.Sizes as S
+use Rattle.pt_verify_depths.specs.Sizes.{left, leaves_enough, RowTooDeep}
+use Rattle.pt_verify_depths.proofs.SizeLemmas.{kinds_have_sizes}
 use Rattle.pt_kind_flow.specs.Flow as F
 use Rattle.pt_kind_flow.specs.Flow.{led_by, Graph, edges_at, Comes}
 use Rattle.pt_block_kinds.specs.Leads.{Lead, lead, lead_of, led_along, inside, own_leads, place_leads, leads_from, numbered, row_lead, stretch_leads, landing_leads, leads_at}

@@ -5,9 +5,9 @@ use Rattle.pt_instr.specs.declared.Instr.TheVariants.{Leave}
 use Rattle.pt_ranges.specs.declared.handlers.Handler.{Handler}
 use Rattle.pt_places.specs.declared.places.Place.{Place}
 use Rattle.pt_places.specs.PlaceTable.{entry}
-use Rattle.pt_fits.specs.Block.{Links, Block, effect}
-use Rattle.pt_fits.specs.Steps.{target_of}
-use Rattle.pt_verify.specs.Sizes.{is_enough}
+use Rattle.sem_fits.specs.fits.Block.{Links, Block, effect}
+use Rattle.sem_fits.specs.fits.Steps.{target_of}
+use Rattle.pt_verify_depths.specs.Sizes.{is_enough}
 use Rattle.pt_kind_flow.specs.declared.flow.Flow.{Flow}
 
 -- no instruction stands there

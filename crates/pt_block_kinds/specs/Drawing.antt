@@ -4,7 +4,7 @@ use Rattle.pt_instr.specs.Effects.{Kinds}
 use Rattle.pt_ranges.specs.declared.handlers.Handler.{Handler}
 use Rattle.pt_sizes.specs.Waiting.{Level, levels_of}
 use Rattle.pt_step_graph.specs.Graph.{width}
-use Rattle.pt_fits.specs.Block.{Block}
+use Rattle.sem_fits.specs.fits.Block.{Block}
 use Rattle.pt_kind_flow.specs.declared.flow.Flow.{Flow}
 use Rattle.pt_kind_flow.specs.Flow.{graph, edges_at}
 use Rattle.pt_kind_flow.specs.Search.{IsFlow}

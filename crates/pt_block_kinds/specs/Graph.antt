@@ -6,8 +6,8 @@ use Rattle.pt_code.specs.View.{Ins}
 use Rattle.pt_sizes.specs.Flow.{entry}
 use Rattle.pt_sizes.specs.Waiting.{Level, AllWait, up}
 use Rattle.pt_step_graph.specs.Graph.{width}
-use Rattle.pt_fits.specs.Block.{Block, kinds_at_start}
-use Rattle.pt_verify.specs.Sizes.{Sized, RowTooDeep}
+use Rattle.sem_fits.specs.fits.Block.{Block, kinds_at_start}
+use Rattle.pt_verify_depths.specs.Sizes.{Sized, RowTooDeep}
 use Rattle.pt_kind_flow.specs.Flow.{Graph, edges_at}
 use Rattle.pt_block_kinds.specs.Leads.{leads_of, leads_at, numbered}
 

@@ -4,9 +4,9 @@ use Rattle.pt_instr.specs.Effects.{Kinds}
 use Rattle.pt_ranges.specs.declared.handlers.Handler.{Handler}
 use Rattle.pt_code.specs.View.{Ins}
 use Rattle.pt_sizes.specs.Waiting.{Level}
-use Rattle.pt_fits.specs.Block.{Block}
-use Rattle.pt_fits.specs.Steps.{cut}
-use Rattle.pt_fits.specs.Places.{Gets, Reached}
+use Rattle.sem_fits.specs.fits.Block.{Block}
+use Rattle.sem_fits.specs.fits.Steps.{cut}
+use Rattle.sem_fits.specs.fits.Places.{Gets, Reached}
 use Rattle.pt_kind_flow.specs.Flow.{Graph, Comes}
 use Rattle.pt_block_kinds.specs.Graph.{HasSizes, IsSeen, rows_from, IsGraph}
 

@@ -12,9 +12,9 @@ use Rattle.pt_places.specs.PlaceTable.{place_at}
 use Rattle.pt_sizes.specs.Flow.{entry}
 use Rattle.pt_sizes.specs.Waiting.{Level, stretch_of}
 use Rattle.pt_step_graph.specs.Graph.{width}
-use Rattle.pt_fits.specs.Block.{Links, Block, effect}
-use Rattle.pt_fits.specs.Steps.{held_by, target_of}
-use Rattle.pt_verify.specs.Sizes.{left, is_enough}
+use Rattle.sem_fits.specs.fits.Block.{Links, Block, effect}
+use Rattle.sem_fits.specs.fits.Steps.{held_by, target_of}
+use Rattle.pt_verify_depths.specs.Sizes.{left, is_enough}
 use Rattle.pt_kind_flow.specs.declared.edges.Edge.{Edge}
 use Rattle.pt_kind_flow.specs.Flow.{given, led_by}
 

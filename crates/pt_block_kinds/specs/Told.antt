@@ -3,11 +3,11 @@ use Rattle.std.specs.Prelude.{◌≡◌, ℕ, ◌+◌, ◌<◌, List, length, sl
 use Rattle.pt_instr.specs.Effects.{Kinds}
 use Rattle.pt_ranges.specs.declared.handlers.Handler.{Handler}
 use Rattle.pt_sizes.specs.Flow.{entry}
-use Rattle.pt_fits.specs.Block.{Block}
-use Rattle.pt_fits.specs.Steps.{are_kinds}
-use Rattle.pt_fits.specs.Places.{Gets}
-use Rattle.pt_fits.specs.Fits.{IsLeast}
-use Rattle.pt_verify.specs.Refusals.{CutsOf}
+use Rattle.sem_fits.specs.fits.Block.{Block}
+use Rattle.sem_fits.specs.fits.Steps.{are_kinds}
+use Rattle.sem_fits.specs.fits.Places.{Gets}
+use Rattle.sem_fits.specs.fits.Fits.{IsLeast}
+use Rattle.pt_verify_depths.specs.Refusals.{CutsOf}
 use Rattle.pt_kind_flow.specs.declared.flow.Flow.{Flow}
 use Rattle.pt_kind_flow.specs.Flow.{told}
 use Rattle.pt_block_kinds.specs.declared.graph.BlockKinds.{BlockKinds}

@@ -6,7 +6,7 @@ ghost use Rattle.pt_places.specs.PlaceTable.{HasPlaces, entry};
 ghost use Rattle.pt_code.specs.View.{Ins};
 ghost use Rattle.pt_sizes.specs.Waiting.{level_of, levels_of};
 ghost use Rattle.pt_step_graph.specs.Graph.{width};
-ghost use Rattle.pt_fits.specs.Block.{block_of, kinds_at_start, links_of};
+ghost use Rattle.sem_fits.specs.fits.Block.{block_of, kinds_at_start, links_of};
 ghost use Rattle.pt_block_kinds.specs.Leads.{Lead, leads_from, leads_of, numbered, vertex_leads};
 ghost use Rattle.pt_block_kinds.specs.Graph.{AreLaid};
 ghost use Rattle.pt_block_kinds.specs.Drawing.{DrawnFrom, Draws, IsPlan};
@@ -19,7 +19,7 @@ use pt_kind_flow::{Edge, Flow};
 use pt_places::{Place, Places};
 use pt_ranges::Handler;
 use pt_sizes::Waiting;
-use pt_verify::{captured, target_of};
+use pt_verify_depths::{captured, target_of};
 use std::alloc::Global;
 
 /// The kinds of slots that come to the places of a block.

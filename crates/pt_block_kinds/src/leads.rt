@@ -4,15 +4,15 @@ ghost use Rattle.std.specs.List.{flat_map};
 ghost use Rattle.pt_instr.specs.declared.kinds.Kind.TheVariants.{Value};
 ghost use Rattle.pt_instr.specs.Runs.{kinds_of};
 ghost use Rattle.pt_sizes.specs.Waiting.{level_of};
-ghost use Rattle.pt_fits.specs.Steps.{held_by};
-ghost use Rattle.pt_verify.specs.Sizes.{is_enough, left};
+ghost use Rattle.sem_fits.specs.fits.Steps.{held_by};
+ghost use Rattle.pt_verify_depths.specs.Sizes.{is_enough, left};
 ghost use Rattle.pt_block_kinds.specs.Leads.{above_leads, inside, landing_leads, lead_of, leads_again, leads_aside, leads_behind, leads_of, own_leads, place_leads, row_lead, stretch_leads};
 
 use pt_base::Memory;
 use pt_instr::{Effect, Kind, Kinds, Run};
 use pt_kind_flow::Edge;
 use pt_ranges::Handler;
-use pt_verify::count;
+use pt_verify_depths::count;
 use std::alloc::Global;
 
 const NO_SLOT: Run = Run {

@@ -4,8 +4,8 @@ ghost use Rattle.std.specs.Bool.{Decides};
 ghost use Rattle.pt_code.specs.declared.CodeBlock.{CodeBlock};
 ghost use Rattle.pt_code.specs.View.{Ins};
 ghost use Rattle.pt_places.specs.PlaceTable.{HasPlaces};
-ghost use Rattle.pt_fits.specs.Block.{block_of, links_of};
-ghost use Rattle.pt_fits.specs.Agreement.{Strays};
+ghost use Rattle.sem_fits.specs.fits.Block.{block_of, links_of};
+ghost use Rattle.sem_fits.specs.fits.Agreement.{Strays};
 ghost use Rattle.pt_kind_flow.specs.Search.{IsFlow};
 ghost use Rattle.pt_block_kinds.specs.Graph.{HasSizes, IsSeen};
 ghost use Rattle.pt_block_kinds.specs.Drawing.{Draws};
@@ -17,7 +17,7 @@ use pt_base::{Memory, Pc};
 use pt_code::Code;
 use pt_instr::{Instr, effect};
 use pt_places::{Place, Places};
-use pt_verify::{captured, target_of};
+use pt_verify_depths::{captured, target_of};
 
 fn misses(places: &Places, at: Pc) -> bool
     ensures { result ≡ misses places.now at.0 }

@@ -2,7 +2,7 @@
 ghost use Rattle.std.specs.Prelude.{◌≡◌, ◌<◌, ℕ, List, length, Option, Some, option_map, IfOk, MatchBool};
 ghost use Rattle.std.specs.Bool.{Decides};
 ghost use Rattle.pt_code.specs.View.{Ins};
-ghost use Rattle.pt_fits.specs.Block.{Block};
+ghost use Rattle.sem_fits.specs.fits.Block.{Block};
 ghost use Rattle.pt_kinds.specs.Forest.{list_at};
 ghost use Rattle.pt_kind_flow.specs.Search.{IsFlow};
 ghost use Rattle.pt_block_kinds.specs.Graph.{HasSizes, IsSeen};

@@ -2,10 +2,10 @@
 use Rattle.std.proofs.Common.{◌≡◌, ℕ, ◌+◌, ◌<◌, ◌≤◌, List, length, Option, Some, sym, ap, subst, zero, suc, arith, ◌⊎◌, inl, inr}
 use Rattle.pt_sizes.specs.Flow.{entry}
 use Rattle.pt_sizes.proofs.Tables.{entry_in}
-use Rattle.pt_fits.specs.Block.{Block}
-use Rattle.pt_fits.specs.Fits.{MOST, TooDeep}
-use Rattle.pt_verify.specs.PlaceTable.{AreSizes}
-use Rattle.pt_verify.proofs.SizeLemmas.{kinds_have_sizes, sizes_have_kinds}
+use Rattle.sem_fits.specs.fits.Block.{Block}
+use Rattle.sem_fits.specs.fits.Fits.{MOST, TooDeep}
+use Rattle.pt_verify_depths.specs.PlaceTable.{AreSizes}
+use Rattle.pt_verify_depths.proofs.SizeLemmas.{kinds_have_sizes, sizes_have_kinds}
 
 abbrev pub NoneDeepBelow : List (Option ℕ) → ℕ → Type 0
 NoneDeepBelow table k = (pc n : ℕ) → pc < k → entry table pc ≡ Some n → MOST < n → ⊥

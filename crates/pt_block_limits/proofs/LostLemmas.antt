@@ -11,12 +11,12 @@ use Rattle.pt_places.specs.declared.places.Place as P
 use Rattle.pt_places.specs.PlaceTable.{place_at, HasPlaces}
 use Rattle.pt_sizes.specs.Flow.{entry}
 use Rattle.pt_sizes.proofs.Tables.{entry_in}
-use Rattle.pt_fits.specs.Block.{Block}
-use Rattle.pt_fits.specs.Places.{Gets, Reached}
-use Rattle.pt_fits.specs.Fits.{AllArrive, IsLost}
-use Rattle.pt_fits.specs.Laws.{IsLaid}
-use Rattle.pt_verify.specs.PlaceTable.{AreSizes}
-use Rattle.pt_verify.proofs.SizeLemmas.{kinds_have_sizes, sizes_have_kinds}
+use Rattle.sem_fits.specs.fits.Block.{Block}
+use Rattle.sem_fits.specs.fits.Places.{Gets, Reached}
+use Rattle.sem_fits.specs.fits.Fits.{AllArrive, IsLost}
+use Rattle.sem_fits.specs.fits.Laws.{IsLaid}
+use Rattle.pt_verify_depths.specs.PlaceTable.{AreSizes}
+use Rattle.pt_verify_depths.proofs.SizeLemmas.{kinds_have_sizes, sizes_have_kinds}
 use Rattle.pt_block_limits.specs.Lost.{is_lost, leave_of, left_to}
 
 -- what a place has of an instruction that leaves a loop

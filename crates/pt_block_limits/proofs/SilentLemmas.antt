@@ -16,21 +16,21 @@ use Rattle.pt_places.specs.declared.places.Place as P
 use Rattle.pt_places.specs.PlaceTable.{place_at, HasPlaces}
 use Rattle.pt_sizes.specs.Flow.{entry}
 use Rattle.pt_sizes.proofs.Tables.{entry_in}
-use Rattle.pt_fits.specs.Block.{Block, effect, block_of}
-use Rattle.pt_fits.specs.Steps.{Step, step, steps, steps_of, by_instruction, by_handlers, has_enough, is_within, landing}
-use Rattle.pt_fits.specs.Places as L
-use Rattle.pt_fits.specs.Places.{Gets, Reached}
-use Rattle.pt_fits.specs.Leaves as D
-use Rattle.pt_fits.specs.Leaves.{Departs, Goes, Holds}
-use Rattle.pt_fits.specs.Fits as F
-use Rattle.pt_fits.specs.Fits.{IsLeast, Silent, SilentLoop, Unmarked}
-use Rattle.pt_fits.specs.Laws.{IsLaid}
-use Rattle.pt_fits.proofs.ViewLaid.{view_is_laid}
-use Rattle.pt_verify.specs.Sizes as S
-use Rattle.pt_verify.specs.Sizes.{is_enough, leaves_enough, Sized}
-use Rattle.pt_verify.specs.PlaceTable as T
-use Rattle.pt_verify.specs.PlaceTable.{AreSizes}
-use Rattle.pt_verify.proofs.SizeLemmas.{kinds_have_sizes, sizes_have_kinds}
+use Rattle.sem_fits.specs.fits.Block.{Block, effect, block_of}
+use Rattle.sem_fits.specs.fits.Steps.{Step, step, steps, steps_of, by_instruction, by_handlers, has_enough, is_within, landing}
+use Rattle.sem_fits.specs.fits.Places as L
+use Rattle.sem_fits.specs.fits.Places.{Gets, Reached}
+use Rattle.sem_fits.specs.fits.Leaves as D
+use Rattle.sem_fits.specs.fits.Leaves.{Departs, Goes, Holds}
+use Rattle.sem_fits.specs.fits.Fits as F
+use Rattle.sem_fits.specs.fits.Fits.{IsLeast, Silent, SilentLoop, Unmarked}
+use Rattle.sem_fits.specs.fits.Laws.{IsLaid}
+use Rattle.sem_fits.proofs.fits.ViewLaid.{view_is_laid}
+use Rattle.pt_verify_depths.specs.Sizes as S
+use Rattle.pt_verify_depths.specs.Sizes.{is_enough, leaves_enough, Sized}
+use Rattle.pt_verify_depths.specs.PlaceTable as T
+use Rattle.pt_verify_depths.specs.PlaceTable.{AreSizes}
+use Rattle.pt_verify_depths.proofs.SizeLemmas.{kinds_have_sizes, sizes_have_kinds}
 use Rattle.pt_cycles.specs.declared.cycles.Cycles.{Cycles}
 use Rattle.pt_cycles.specs.declared.cycles.Cycles.TheVariants as cycles
 use Rattle.pt_step_graph.specs.declared.exits.Exits.{Exits}

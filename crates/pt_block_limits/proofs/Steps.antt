@@ -10,8 +10,8 @@ use Rattle.pt_instr.specs.declared.Instr.TheVariants.{Leave}
 use Rattle.pt_instr.specs.declared.effects.Effect.{Effect}
 use Rattle.pt_instr.specs.Effects.{Kinds, effect_of}
 use Rattle.pt_code.specs.View.{Ins}
-use Rattle.pt_fits.specs.Block.{Links, effect, captured}
-use Rattle.pt_fits.specs.Steps.{Step, step, gives, given_behind, onward, aside, again, by_instruction, has_enough, target_of}
+use Rattle.sem_fits.specs.fits.Block.{Links, effect, captured}
+use Rattle.sem_fits.specs.fits.Steps.{Step, step, gives, given_behind, onward, aside, again, by_instruction, has_enough, target_of}
 use Rattle.pt_step_graph.specs.Steps.{own, some_of}
 use Rattle.pt_block_limits.specs.Exits.{if_given, jump_of, exits_of}
 

@@ -5,7 +5,7 @@ use Rattle.pt_instr.specs.declared.Instr.TheVariants.{Leave}
 use Rattle.pt_instr.specs.Effects.{Kinds, effect_of}
 use Rattle.pt_places.specs.declared.places.Place.{Place}
 use Rattle.pt_sizes.specs.Flow.{entry}
-use Rattle.pt_slots.specs.BlockObject.{target_of}
+use Rattle.sem_code.specs.slots.BlockObject.{target_of}
 use Rattle.pt_step_graph.specs.declared.exits.Exits.{Exits}
 
 abbrev pub if_given : (next : ℕ) → Option Kinds → Option ℕ

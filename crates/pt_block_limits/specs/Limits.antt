@@ -4,10 +4,10 @@ use Rattle.pt_instr.specs.declared.Instr.TheVariants.{EndFinally}
 use Rattle.pt_instr.specs.Effects.{Kinds}
 use Rattle.pt_code.specs.View.{Ins}
 use Rattle.pt_sizes.specs.Flow.{entry}
-use Rattle.pt_fits.specs.Block.{Block}
-use Rattle.pt_fits.specs.Places.{Reached}
-use Rattle.pt_fits.specs.Leaves.{Holds}
-use Rattle.pt_fits.specs.Fits.{IsLeast, Silent, SilentLoop, TooDeep}
+use Rattle.sem_fits.specs.fits.Block.{Block}
+use Rattle.sem_fits.specs.fits.Places.{Reached}
+use Rattle.sem_fits.specs.fits.Leaves.{Holds}
+use Rattle.sem_fits.specs.fits.Fits.{IsLeast, Silent, SilentLoop, TooDeep}
 use Rattle.pt_cycles.specs.declared.cycles.Cycles.{Cycles}
 use Rattle.pt_cycles.specs.declared.cycles.Cycles.TheVariants as cycles
 use Rattle.pt_cycles.specs.Graphs.{number_of}

@@ -4,8 +4,8 @@ use Rattle.pt_instr.specs.declared.Instr.{Instr}
 use Rattle.pt_instr.specs.declared.Instr.TheVariants.{Leave}
 use Rattle.pt_places.specs.declared.places.Place.{Place}
 use Rattle.pt_sizes.specs.Flow.{entry}
-use Rattle.pt_fits.specs.Block.{Block}
-use Rattle.pt_fits.specs.Fits.{AllArrive, IsLeast, IsLost}
+use Rattle.sem_fits.specs.fits.Block.{Block}
+use Rattle.sem_fits.specs.fits.Fits.{AllArrive, IsLeast, IsLost}
 
 abbrev pub leave_of : Instr → Option ℕ
 leave_of (Leave t) = Some t.0

@@ -1,6 +1,6 @@
 ghost use Rattle.std.specs.Prelude.{ℕ, ◌≡◌};
-ghost use Rattle.pt_fits.specs.Block.{Block};
-ghost use Rattle.pt_verify.specs.PlaceTable.{AreSizes};
+ghost use Rattle.sem_fits.specs.fits.Block.{Block};
+ghost use Rattle.pt_verify_depths.specs.PlaceTable.{AreSizes};
 ghost use Rattle.pt_block_limits.specs.Limits.{TellsDepth};
 
 /// How many slots an activation holds at most.

@@ -2,9 +2,9 @@
 ghost use Rattle.std.specs.Prelude.{ℕ, ◌≡◌, Option, option_map, IfOk};
 ghost use Rattle.pt_places.specs.PlaceTable.{HasPlaces};
 ghost use Rattle.pt_sizes.specs.Flow.{entry};
-ghost use Rattle.pt_fits.specs.Block.{Block};
-ghost use Rattle.pt_fits.specs.Laws.{IsLaid};
-ghost use Rattle.pt_verify.specs.PlaceTable.{AreSizes};
+ghost use Rattle.sem_fits.specs.fits.Block.{Block};
+ghost use Rattle.sem_fits.specs.fits.Laws.{IsLaid};
+ghost use Rattle.pt_verify_depths.specs.PlaceTable.{AreSizes};
 ghost use Rattle.pt_block_limits.specs.Lost.{TellsLost, is_lost, left_to};
 
 use pt_base::{Memory, Pc};

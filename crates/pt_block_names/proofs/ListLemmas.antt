@@ -2,11 +2,11 @@
 use Rattle.std.proofs.Common.{◌≡◌, ℕ, Bool, true, false, List, [], ◌∷◌, ◌++◌, map, refl, ap, sym, ◌∙◌, if◌then◌else◌}
 use Rattle.std.specs.Prelude.{slice_get}
 use Rattle.std.proofs.lemmas.List.{map-append}
-use Rattle.pt_control.specs.Turn as T
-use Rattle.pt_control.specs.Turn.{Variable}
+use Rattle.sem_control.specs.control.Turn as T
+use Rattle.sem_control.specs.control.Turn.{Variable}
 use Rattle.pt_scopes.specs.declared.region.Mention.{Mention}
-use Rattle.pt_naming.specs.BlockNames.{distinct_behind, names_in, with_name}
-use Rattle.pt_name_tables.specs.Tables.{mention_if, mentions_at}
+use Rattle.sem_names.specs.BlockNames.{distinct_behind, names_in, with_name}
+use Rattle.pt_symbols.specs.Tables.{mention_if, mentions_at}
 use Rattle.pt_tree.specs.Syntax.{Name}
 
 pub distinct_both : (ys xs zs : List Name) → distinct_behind ys (xs ++ zs) ≡ distinct_behind (distinct_behind ys xs) zs

@@ -4,12 +4,12 @@ use Rattle.pt_scopes.specs.NameSets.{is_in}
 use Rattle.pt_scopes.specs.Resolved.{scope_told}
 use Rattle.pt_scopes.specs.Scope.{home_of, scope_of}
 use Rattle.pt_tree.specs.Syntax.{Name}
-use Rattle.pt_naming.specs.BlockNames.{has_class, makes_class, read_free}
-use Rattle.pt_naming.specs.Naming.{is_captured}
-use Rattle.pt_naming.specs.Regions.{numbered}
-use Rattle.pt_naming.specs.Script.{Naming, functions_of}
-use Rattle.pt_name_tables.specs.RegionSets.{has_region}
-use Rattle.pt_name_tables.specs.Tables.{mentions_at, mentions_in, names_in, next_in}
+use Rattle.sem_names.specs.BlockNames.{has_class, makes_class, read_free}
+use Rattle.sem_names.specs.Naming.{is_captured}
+use Rattle.sem_names.specs.Regions.{numbered}
+use Rattle.sem_names.specs.Script.{Naming, functions_of}
+use Rattle.pt_symbols.specs.RegionSets.{has_region}
+use Rattle.pt_symbols.specs.Tables.{mentions_at, mentions_in, names_in, next_in}
 use Rattle.pt_block_names.specs.declared.tables.Tables.{Tables}
 
 pub record Tells (g : Naming) (t : Tables) : Type 0 where

@@ -5,9 +5,9 @@ use Rattle.std.proofs.lemmas.Option.{same_Some}
 use Rattle.std.proofs.lemmas.Bool.{false≢true}
 use Rattle.pt_ranges.specs.declared.handlers.Handler.{Handler}
 use Rattle.pt_ranges.specs.declared.lines.ActMark.{ActMark}
-use Rattle.pt_fits.specs.Block.{Block}
-use Rattle.pt_fits.specs.Tables.{in_order, is_laid, rows_hold}
-use Rattle.pt_fits.specs.Fits.{IsLeast}
+use Rattle.sem_fits.specs.fits.Block.{Block}
+use Rattle.sem_fits.specs.fits.Tables.{in_order, is_laid, rows_hold}
+use Rattle.sem_fits.specs.fits.Fits.{IsLeast}
 use Rattle.pt_block_tables.specs.FirstRow.{IsFalseAt, IsFirstFalse, TellsRows}
 
 abbrev pub NoneBelow : List Bool → ℕ → Type 0

@@ -1,8 +1,8 @@
 -- The first row of a block's tables that is wrong by places alone.
 use Rattle.std.specs.Prelude.{◌≡◌, ℕ, List, Bool, false, slice_get, Option, Some, None}
-use Rattle.pt_fits.specs.Block.{Block}
-use Rattle.pt_fits.specs.Tables.{RowFails}
-use Rattle.pt_fits.specs.Fits.{IsLeast, TablesHold}
+use Rattle.sem_fits.specs.fits.Block.{Block}
+use Rattle.sem_fits.specs.fits.Tables.{RowFails}
+use Rattle.sem_fits.specs.fits.Fits.{IsLeast, TablesHold}
 
 abbrev pub IsFalseAt : List Bool → (n : ℕ) → Type 0
 IsFalseAt xs n = slice_get xs n ≡ Some false

@@ -3,8 +3,8 @@ ghost use Rattle.std.specs.Prelude.{◌≡◌, ◌+◌, ◌++◌, [], ◌∷◌,
 ghost use Rattle.pt_code.specs.declared.Code.{Code};
 ghost use Rattle.pt_code.specs.View.{Ins};
 ghost use Rattle.pt_places.specs.PlaceTable.{HasPlaces};
-ghost use Rattle.pt_fits.specs.Block.{Block, block_of};
-ghost use Rattle.pt_fits.specs.Tables.{in_order, is_laid, is_place};
+ghost use Rattle.sem_fits.specs.fits.Block.{Block, block_of};
+ghost use Rattle.sem_fits.specs.fits.Tables.{in_order, is_laid, is_place};
 ghost use Rattle.pt_block_tables.specs.FirstRow.{IsFirstFalse, TellsRows};
 
 use pt_base::{Memory, Pc};

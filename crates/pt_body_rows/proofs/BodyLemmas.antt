@@ -3,32 +3,32 @@ use Rattle.std.proofs.Common.{◌≡◌, ◌∙◌, ℕ, Bool, true, false, List
 use Rattle.std.specs.Prelude.{drop, if◌then◌else◌}
 use Rattle.std.specs.Option.{option_or}
 use Rattle.pt_tree.specs.Syntax.{Name}
-use Rattle.pt_control.specs.Turn as T
-use Rattle.pt_control.specs.Turn.{Scope}
+use Rattle.sem_control.specs.control.Turn as T
+use Rattle.sem_control.specs.control.Turn.{Scope}
 use Rattle.pt_instr.specs.declared.Instr.TheVariants as instr
 use Rattle.pt_instr.specs.declared.TextNo.{TextNo}
 use Rattle.pt_heap.specs.declared.value.Value.{Value}
 use Rattle.pt_names.specs.Names.{Named, name_value}
 use Rattle.pt_frames.specs.declared.slot.Slot.{Slot}
 use Rattle.pt_frames.specs.declared.slot.Slot.TheVariants as slot
-use Rattle.pt_slots.specs.Slots.{on}
-use Rattle.pt_slots.specs.CodeObject.{named, global}
-use Rattle.pt_slots.specs.Steps.{gives, does}
-use Rattle.pt_slots.specs.Pops.{one}
-use Rattle.pt_run.specs.Host.{Here}
+use Rattle.sem_code.specs.slots.Slots.{on}
+use Rattle.sem_code.specs.slots.CodeObject.{named, global}
+use Rattle.sem_code.specs.slots.Steps.{gives, does}
+use Rattle.sem_code.specs.slots.Pops.{one}
+use Rattle.sem_run.specs.run.Host.{Here}
 use Rattle.pt_host.specs.World.{World, Stores}
 use Rattle.pt_host.specs.Trees.{Tree}
 use Rattle.pt_host.specs.Variables.{load_by, by_builtin, put}
 use Rattle.pt_host.specs.Builtins as builtins
 use Rattle.pt_host.specs.Builtins.{Builtin, builtin}
-use Rattle.pt_heap_rows.specs.declared.progress.Progress.{Progress}
-use Rattle.pt_heap_rows.specs.declared.progress.Progress.TheVariants as progress
-use Rattle.pt_heap_rows.specs.Laws.{reached}
-use Rattle.pt_heap_rows.specs.Leads.{by_tree, giving}
-use Rattle.pt_heap_rows.specs.Told.{told}
-use Rattle.pt_heap_rows.specs.RowsIn.{RowsIn}
-use Rattle.pt_heap_rows.specs.Views.{slots_view, stores_in}
-use Rattle.pt_heap_rows.proofs.RowLemmas.{loads_lead}
+use Rattle.sem_rows.specs.declared.heap_rows.progress.Progress.{Progress}
+use Rattle.sem_rows.specs.declared.heap_rows.progress.Progress.TheVariants as progress
+use Rattle.sem_rows.specs.heap_rows.Laws.{reached}
+use Rattle.sem_rows.specs.heap_rows.Leads.{by_tree, giving}
+use Rattle.sem_rows.specs.heap_rows.Told.{told}
+use Rattle.sem_rows.specs.heap_rows.RowsIn.{RowsIn}
+use Rattle.sem_rows.specs.heap_rows.Views.{slots_view, stores_in}
+use Rattle.sem_rows.proofs.heap_rows.RowLemmas.{loads_lead}
 use Rattle.pt_code_facts.specs.declared.facts.BlockFacts.{BlockFacts}
 use Rattle.pt_code_facts.specs.Facts.{facts_view}
 use Rattle.pt_builtins.specs.declared.BuiltinLookup.{BuiltinLookup}

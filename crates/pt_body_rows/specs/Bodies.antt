@@ -4,16 +4,16 @@ use Rattle.std.specs.Option.{option_flatten, option_map}
 use Rattle.std.specs.Str.{bytes_eq}
 use Rattle.indexmap.specs.IndexMap.{insert_entry}
 use Rattle.pt_tree.specs.Syntax.{Name}
-use Rattle.pt_control.specs.Turn as T
+use Rattle.sem_control.specs.control.Turn as T
 use Rattle.pt_instr.specs.declared.Instr.{Instr}
 use Rattle.pt_heap.specs.declared.value.Value.{Value}
 use Rattle.pt_names.specs.Names.{Named, name_value}
 use Rattle.pt_frames.specs.declared.slot.Slot.{Slot}
 use Rattle.pt_host.specs.World.{World}
 use Rattle.pt_host.specs.Builtins.{builtin}
-use Rattle.pt_heap_rows.specs.declared.progress.Progress.{Progress}
-use Rattle.pt_heap_rows.specs.RowsIn.{Standpoint, RowsIn}
-use Rattle.pt_heap_rows.specs.Views.{stores_in}
+use Rattle.sem_rows.specs.declared.heap_rows.progress.Progress.{Progress}
+use Rattle.sem_rows.specs.heap_rows.RowsIn.{Standpoint, RowsIn}
+use Rattle.sem_rows.specs.heap_rows.Views.{stores_in}
 use Rattle.pt_code_facts.specs.declared.facts.BlockFacts.{BlockFacts}
 use Rattle.pt_code_facts.specs.Facts.{facts_view}
 use Rattle.pt_builtins.specs.declared.BuiltinLookup.{BuiltinLookup}

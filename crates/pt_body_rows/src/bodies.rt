@@ -11,11 +11,11 @@ use pt_builtins::BuiltinLookup;
 use pt_code_facts::BlockFacts;
 use pt_frames::{Slot, Slots};
 use pt_heap::Value;
-use pt_heap_rows::Progress;
 use pt_instr::TextNo;
 use pt_moves::take_one;
 use pt_name_rows::{delete_global, global, set_global, unbound_global};
 use pt_names::Names;
+use sem_rows::heap_rows::Progress;
 use std::alloc::Global;
 
 /// Gives the value of a name of a body, or what the name means by itself.

@@ -8,7 +8,7 @@ use Rattle.std.proofs.lemmas.Iterator.Adapters.{position_from-zero}
 use Rattle.std.proofs.lemmas.Slice.Eq.{bytes_eq-Decides}
 use Rattle.std.specs.Borrow.{Bor}
 use Rattle.pt_bind.specs.NameSets.{is_among}
-use Rattle.pt_start.specs.declared.Kind.{Kind}
+use Rattle.pt_builtin_objects.specs.declared.Kind.{Kind}
 use Rattle.pt_tables.specs.Rows.{numbered, value_of}
 
 abbrev Rows : Type 0

@@ -10,8 +10,8 @@ ghost use Rattle.pt_host.specs.Builtins.{builtin, listed_builtin, start_object};
 ghost use Rattle.pt_tables.specs.Names.{unbuilt_names};
 
 use pt_base::ObjId;
+use pt_builtin_objects::{Kind, START};
 use pt_heap::Value;
-use pt_start::{Kind, START};
 use pt_tables::builtins;
 
 /// What a name means by itself.

@@ -22,18 +22,18 @@ use Rattle.pt_prims.specs.declared.operand.Operand.{Operand}
 use Rattle.pt_prims.specs.declared.operand.Operand.TheVariants as operand
 use Rattle.pt_prims.specs.Operands.{operand_of, object_operand}
 use Rattle.pt_code.specs.View.{Ins}
-use Rattle.pt_slots.specs.CodeObject.{CodeObject}
-use Rattle.pt_run.specs.Host.{Here, BlockResult, leave, opens}
+use Rattle.sem_code.specs.slots.CodeObject.{CodeObject}
+use Rattle.sem_run.specs.run.Host.{Here, BlockResult, leave, opens}
 use Rattle.pt_host.specs.World.{Names, Stores, Program, CodeFacts}
 use Rattle.pt_host.specs.Trees.{Tree}
 use Rattle.pt_host.specs.Calls.{block_of, is_simple, call_bound, call_function, by_operation, call_value, call_object, call_other, not_callable as host_not_callable, names_from, parameters_given, result_of}
-use Rattle.pt_transitions.specs.Successors.{behind_request}
-use Rattle.pt_heap_rows.specs.declared.progress.Progress.{Progress}
-use Rattle.pt_heap_rows.specs.declared.progress.Progress.TheVariants as progress
-use Rattle.pt_heap_rows.specs.Leads.{HeapSuccessor}
-use Rattle.pt_heap_rows.specs.Leads.{by_tree, giving}
-use Rattle.pt_heap_rows.specs.Told.{told, block_id}
-use Rattle.pt_heap_rows.specs.Views.{slots_view, names_in}
+use Rattle.sem_run.specs.transitions.Successors.{behind_request}
+use Rattle.sem_rows.specs.declared.heap_rows.progress.Progress.{Progress}
+use Rattle.sem_rows.specs.declared.heap_rows.progress.Progress.TheVariants as progress
+use Rattle.sem_rows.specs.heap_rows.Leads.{HeapSuccessor}
+use Rattle.sem_rows.specs.heap_rows.Leads.{by_tree, giving}
+use Rattle.sem_rows.specs.heap_rows.Told.{told, block_id}
+use Rattle.sem_rows.specs.heap_rows.Views.{slots_view, names_in}
 use Rattle.pt_code_facts.specs.declared.facts.BlockFacts.{BlockFacts}
 use Rattle.pt_code_facts.specs.declared.facts.Blocks.{Blocks}
 use Rattle.pt_code_facts.specs.Facts.{facts_view, facts_at}

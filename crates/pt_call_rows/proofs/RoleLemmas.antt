@@ -4,12 +4,12 @@ use Rattle.std.proofs.Math.Seq.{drop-cons}
 use Rattle.std.specs.Prelude.{◌||◌, if◌then◌else◌, codes}
 use Rattle.std.specs.Str.{bytes_eq}
 use Rattle.pt_tree.specs.Syntax.{Name}
-use Rattle.pt_control.specs.Turn as T
-use Rattle.pt_control.specs.Turn.{Role}
+use Rattle.sem_control.specs.control.Turn as T
+use Rattle.sem_control.specs.control.Turn.{Role}
 use Rattle.pt_heap.specs.declared.value.Value.{Value}
 use Rattle.pt_heap.specs.declared.view.Binding.{Binding}
 use Rattle.pt_bind.specs.declared.arguments.Args.{Args}
-use Rattle.pt_slots.specs.Instructions.{role_of}
+use Rattle.sem_code.specs.slots.Instructions.{role_of}
 use Rattle.pt_host.specs.Calls.{arguments, has_spread, plain_arguments, named_arguments}
 use Rattle.pt_call_rows.specs.Roles.{is_spread}
 

@@ -3,8 +3,8 @@ use Rattle.std.proofs.Common.{◌≡◌, ◌∙◌, ◌-◌, ℕ, suc, true, fal
 use Rattle.std.specs.Prelude.{drop, if◌then◌else◌}
 use Rattle.pt_base.specs.declared.what.What.TheVariants.{Feature}
 use Rattle.pt_tree.specs.Syntax.{Name}
-use Rattle.pt_control.specs.Turn as T
-use Rattle.pt_control.specs.Turn.{Role, Turn}
+use Rattle.sem_control.specs.control.Turn as T
+use Rattle.sem_control.specs.control.Turn.{Role, Turn}
 use Rattle.pt_instr.specs.declared.Instr.TheVariants as instr
 use Rattle.pt_instr.specs.declared.ListNo.{ListNo}
 use Rattle.pt_heap.specs.declared.value.Value.{Value}
@@ -12,20 +12,20 @@ use Rattle.pt_heap.specs.declared.object.Object.{Object}
 use Rattle.pt_bind.specs.declared.arguments.Args.{Args}
 use Rattle.pt_frames.specs.declared.slot.Slot.{Slot}
 use Rattle.pt_code.specs.View.{Ins}
-use Rattle.pt_slots.specs.CodeObject.{CodeObject}
-use Rattle.pt_slots.specs.Instructions.{all_positional, last_named, role_of}
-use Rattle.pt_slots.specs.Steps.{gives}
-use Rattle.pt_slots.specs.Pops as P
-use Rattle.pt_run.specs.Host.{Here, leave}
+use Rattle.sem_code.specs.slots.CodeObject.{CodeObject}
+use Rattle.sem_code.specs.slots.Instructions.{all_positional, last_named, role_of}
+use Rattle.sem_code.specs.slots.Steps.{gives}
+use Rattle.sem_code.specs.slots.Pops as P
+use Rattle.sem_run.specs.run.Host.{Here, leave}
 use Rattle.pt_host.specs.World.{Stores, Program}
 use Rattle.pt_host.specs.Calls.{arguments, has_spread, call_value}
-use Rattle.pt_heap_rows.specs.declared.progress.Progress.{Progress}
-use Rattle.pt_heap_rows.specs.declared.progress.Progress.TheVariants as progress
-use Rattle.pt_heap_rows.specs.Laws.{reached}
-use Rattle.pt_heap_rows.specs.Leads.{by_tree, giving}
-use Rattle.pt_heap_rows.specs.RowsIn.{RowsIn}
-use Rattle.pt_heap_rows.specs.Views.{slots_view}
-use Rattle.pt_heap_rows.proofs.RowLemmas.{operations_lead}
+use Rattle.sem_rows.specs.declared.heap_rows.progress.Progress.{Progress}
+use Rattle.sem_rows.specs.declared.heap_rows.progress.Progress.TheVariants as progress
+use Rattle.sem_rows.specs.heap_rows.Laws.{reached}
+use Rattle.sem_rows.specs.heap_rows.Leads.{by_tree, giving}
+use Rattle.sem_rows.specs.heap_rows.RowsIn.{RowsIn}
+use Rattle.sem_rows.specs.heap_rows.Views.{slots_view}
+use Rattle.sem_rows.proofs.heap_rows.RowLemmas.{operations_lead}
 use Rattle.pt_code_facts.specs.declared.facts.Blocks.{Blocks}
 use Rattle.pt_moves.specs.Operands.{one_value}
 use Rattle.pt_moves.proofs.MoveLemmas.{stuck_row}

@@ -16,19 +16,19 @@ use Rattle.pt_frames.specs.declared.slot.Slot.{Slot}
 use Rattle.pt_prims.specs.Classes.{class_name}
 use Rattle.pt_prims.specs.Operations.{of_function}
 use Rattle.pt_code.specs.View.{Ins}
-use Rattle.pt_slots.specs.CodeObject.{CodeObject}
-use Rattle.pt_run.specs.Host.{Here}
+use Rattle.sem_code.specs.slots.CodeObject.{CodeObject}
+use Rattle.sem_run.specs.run.Host.{Here}
 use Rattle.pt_host.specs.declared.places.TheConstants.{TYPE_ERROR}
 use Rattle.pt_host.specs.World.{Stores, Program, with_objects, in_world}
 use Rattle.pt_host.specs.Texts.{binding_text, not_callable_text}
 use Rattle.pt_host.specs.Trees.{Tree}
 use Rattle.pt_host.specs.Calls.{block_of, call_function, by_operation, call_value}
-use Rattle.pt_heap_rows.specs.declared.progress.Progress.{Progress}
-use Rattle.pt_heap_rows.specs.declared.progress.Progress.TheVariants as progress
-use Rattle.pt_heap_rows.specs.Leads.{by_tree, giving}
-use Rattle.pt_heap_rows.specs.Told.{told}
-use Rattle.pt_heap_rows.specs.RowsIn.{RowsIn}
-use Rattle.pt_heap_rows.specs.Views.{slots_view}
+use Rattle.sem_rows.specs.declared.heap_rows.progress.Progress.{Progress}
+use Rattle.sem_rows.specs.declared.heap_rows.progress.Progress.TheVariants as progress
+use Rattle.sem_rows.specs.heap_rows.Leads.{by_tree, giving}
+use Rattle.sem_rows.specs.heap_rows.Told.{told}
+use Rattle.sem_rows.specs.heap_rows.RowsIn.{RowsIn}
+use Rattle.sem_rows.specs.heap_rows.Views.{slots_view}
 use Rattle.pt_code_facts.specs.declared.facts.BlockFacts.{BlockFacts}
 use Rattle.pt_code_facts.specs.declared.facts.Blocks.{Blocks}
 use Rattle.pt_code_facts.specs.Facts.{facts_view, KnowsBlocks}

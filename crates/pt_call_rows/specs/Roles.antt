@@ -1,7 +1,7 @@
 -- Which texts of arguments spread them (Language Reference 6.3.4).
 use Rattle.std.specs.Prelude.{[], ◌∷◌, Bool}
 use Rattle.pt_tree.specs.Syntax.{Name}
-use Rattle.pt_slots.specs.Instructions.{role_of}
+use Rattle.sem_code.specs.slots.Instructions.{role_of}
 use Rattle.pt_host.specs.Calls.{has_spread}
 
 abbrev pub is_spread : Name → Bool

@@ -19,12 +19,12 @@ use pt_dicts::{class_at, object_at};
 use pt_frames::Slots;
 use pt_function_rows::{named_last, open, take_values};
 use pt_heap::{Function, Heap, Object, Value};
-use pt_heap_rows::Progress;
 use pt_host::{TYPE_ERROR, binding_text, not_callable_text};
 use pt_instr::ListNo;
 use pt_moves::take_one;
 use pt_operators::operation;
 use pt_prims::{class_name, of_function};
+use sem_rows::heap_rows::Progress;
 use std::alloc::Global;
 
 /// It is no function.

@@ -2,7 +2,7 @@
 ghost use Rattle.std.specs.Prelude.{◌≡◌, ◌++◌, ◌∷◌, [], map, IfOk, OnOk};
 ghost use Rattle.pt_call_rows.specs.Roles.{is_spread};
 ghost use Rattle.pt_host.specs.Calls.{arguments, has_spread, named_arguments, plain_arguments};
-ghost use Rattle.pt_slots.specs.Instructions.{role_of};
+ghost use Rattle.sem_code.specs.slots.Instructions.{role_of};
 
 use pt_base::{Dup, Memory, Seq, Text};
 use pt_bind::Args;

@@ -3,10 +3,10 @@ use Rattle.std.proofs.Common.{◌≡◌, ◌∙◌, ◌+◌, ◌<◌, ◌≤◌,
 use Rattle.std.specs.Prelude.{nat_lt, slice_get, slice_index_or, if◌then◌else◌}
 use Rattle.std.proofs.lemmas.Bool.Decides.{nat_tests}
 use Rattle.pt_tree.specs.Syntax.{Name}
-use Rattle.pt_control.specs.Turn as T
+use Rattle.sem_control.specs.control.Turn as T
 use Rattle.pt_instr.specs.declared.TextNo.{TextNo}
-use Rattle.pt_slots.specs.BlockObject.{text_in, name_in, variable_in}
-use Rattle.pt_slots.specs.CodeObject.{Pool, named}
+use Rattle.sem_code.specs.slots.BlockObject.{text_in, name_in, variable_in}
+use Rattle.sem_code.specs.slots.CodeObject.{Pool, named}
 use Rattle.pt_code_facts.specs.Facts.{named_texts, FactsKnowNames}
 
 -- past the end there is no text

@@ -8,11 +8,11 @@ use Rattle.pt_code.specs.declared.BlockKind.{BlockKind}
 use Rattle.pt_code.specs.declared.BlockKind.TheVariants as kind
 use Rattle.pt_code.specs.declared.CodeBlock.{CodeBlock}
 use Rattle.pt_code.specs.declared.Code.{Code}
-use Rattle.pt_slots.specs.BlockObject.{text_in, pool_of}
-use Rattle.pt_slots.specs.CodeObject.{CodeObject}
-use Rattle.pt_run.specs.Machine as M
+use Rattle.sem_code.specs.slots.BlockObject.{text_in, pool_of}
+use Rattle.sem_code.specs.slots.CodeObject.{CodeObject}
+use Rattle.sem_run.specs.run.Machine as M
 use Rattle.pt_host.specs.World.{CodeFacts, Program}
-use Rattle.pt_variables.specs.Numbers.{KnowsNames}
+use Rattle.sem_rows.specs.variables.Numbers.{KnowsNames}
 use Rattle.pt_code_facts.specs.declared.facts.BlockFacts.{BlockFacts}
 use Rattle.pt_code_facts.specs.declared.facts.Blocks.{Blocks}
 use Rattle.pt_code_facts.specs.Numbered.{by_number}

@@ -1,8 +1,8 @@
 ghost use Rattle.std.specs.Prelude.{◌≡◌, Bool, IfOk};
-ghost use Rattle.pt_slots.specs.BlockObject.{text_in};
+ghost use Rattle.sem_code.specs.slots.BlockObject.{text_in};
 ghost use Rattle.pt_code_facts.specs.Facts.{blocks_of, facts_at, facts_of, is_generator};
 ghost use Rattle.pt_code_facts.specs.Facts.{named_texts, params_of};
-ghost use Rattle.pt_heap_rows.specs.Told.{block_id};
+ghost use Rattle.sem_rows.specs.heap_rows.Told.{block_id};
 
 use pt_base::{BlockId, Dup, Line, Memory, Seq, Text};
 use pt_bind::Params;

@@ -3,8 +3,8 @@ use Rattle.std.proofs.Common.{◌≡◌, ℕ, zero, suc, List, [], ◌∷◌, ma
 use Rattle.std.specs.Prelude.{slice_index_or}
 use Rattle.std.specs.Option.{unwrap_or}
 use Rattle.pt_sizes.specs.Flow.{entry}
-use Rattle.pt_fits.specs.Block as F
-use Rattle.pt_verify.specs.PlaceTable.{AreSizes}
+use Rattle.sem_fits.specs.fits.Block as F
+use Rattle.pt_verify_depths.specs.PlaceTable.{AreSizes}
 use Rattle.pt_code_loader.specs.Loaded.{HasDepths}
 
 abbrev size_or : Option ℕ → ℕ

@@ -5,17 +5,17 @@ use Rattle.pt_tree.specs.Syntax.{Name}
 use Rattle.pt_heap.specs.declared.value.Value.{Value}
 use Rattle.pt_heap.specs.declared.value.Value.TheVariants as value
 use Rattle.pt_heap.specs.declared.object.Object.TheVariants.{Str}
-use Rattle.pt_start.specs.Start.{start_objects}
-use Rattle.pt_slots.specs.Slots.{on}
-use Rattle.pt_slots.specs.Machine as slots
-use Rattle.pt_run.specs.Machine.{BlockId}
+use Rattle.pt_builtin_objects.specs.Start.{start_objects}
+use Rattle.sem_code.specs.slots.Slots.{on}
+use Rattle.sem_code.specs.slots.Machine as slots
+use Rattle.sem_run.specs.run.Machine.{BlockId}
 use Rattle.pt_host.specs.World.{CodeFacts, Program, no_names, start_world}
 use Rattle.pt_host.specs.HeapHost.{heap_host}
 use Rattle.pt_bare_runs.specs.Strides as bare
-use Rattle.pt_code_machine.specs.CodeBlocks.{CodeBlocks, machine, start_of}
+use Rattle.sem_code_machine.specs.code_machine.CodeBlocks.{CodeBlocks, machine, start_of}
 use Rattle.pt_frames.specs.declared.activation.Activation.{Activation}
-use Rattle.pt_heap_rows.specs.Told.{block_id}
-use Rattle.pt_heap_rows.specs.Views.{paired, names_in, slots_view}
+use Rattle.sem_rows.specs.heap_rows.Told.{block_id}
+use Rattle.sem_rows.specs.heap_rows.Views.{paired, names_in, slots_view}
 use Rattle.pt_code_tables.specs.declared.tables.CodeTables.{CodeTables}
 use Rattle.pt_code_tables.specs.Tables.{AreTablesOf}
 use Rattle.pt_machine_state.specs.declared.machine.Machine.{Machine}

@@ -13,14 +13,14 @@ use Rattle.pt_heap.specs.declared.value.Value.{Value}
 use Rattle.pt_heap.specs.declared.value.Value.TheVariants as value
 use Rattle.pt_tree.specs.declared.expression.Constant.TheVariants as constant
 use Rattle.pt_code.specs.declared.Const.{Const}
-use Rattle.pt_start.specs.declared.TheConstants.{START}
-use Rattle.pt_start.specs.Start.{start_rows}
+use Rattle.pt_builtin_objects.specs.declared.TheConstants.{START}
+use Rattle.pt_builtin_objects.specs.Start.{start_rows}
 use Rattle.pt_names.specs.Names.{Named, place_of, unless_placed, with_place}
 use Rattle.pt_assembler.specs.Tables.{kept, number_in}
 use Rattle.pt_assembler.proofs.TableLemmas.{kept_within}
 use Rattle.pt_host.specs.World.{Program}
 use Rattle.pt_host.specs.Answers.{constant_value, text_object}
-use Rattle.pt_slots.specs.BlockObject.{constant_of}
+use Rattle.sem_code.specs.slots.BlockObject.{constant_of}
 use Rattle.pt_code_loader.specs.Texts.{text_of, kept_texts, texts_among, values_in}
 
 number_len : {A : Type 0} (is : A → Bool) (xs : List A) → number_in is xs ≡ position_or_len is xs

@@ -7,11 +7,11 @@ use Rattle.pt_code.specs.declared.CodeBlock.{CodeBlock}
 use Rattle.pt_code.specs.declared.Code.{Code}
 use Rattle.pt_code.specs.View.{Ins, IsView}
 use Rattle.pt_places.specs.PlaceTable.{HasPlaces}
-use Rattle.pt_slots.specs.BlockObject.{text_in}
-use Rattle.pt_fits.specs.Block as F
-use Rattle.pt_fits.specs.Fits.{TooDeep}
-use Rattle.pt_verify.specs.Sizes.{Sized}
-use Rattle.pt_verify.specs.PlaceTable.{SizesDisagree}
+use Rattle.sem_code.specs.slots.BlockObject.{text_in}
+use Rattle.sem_fits.specs.fits.Block as F
+use Rattle.sem_fits.specs.fits.Fits.{TooDeep}
+use Rattle.pt_verify_depths.specs.Sizes.{Sized}
+use Rattle.pt_verify_depths.specs.PlaceTable.{SizesDisagree}
 use Rattle.pt_host.specs.Builtins.{builtin}
 use Rattle.pt_code_facts.specs.Facts.{blocks_of}
 use Rattle.pt_builtins.specs.Lookups.{builtin_view}

@@ -4,8 +4,8 @@ use Rattle.pt_heap.specs.declared.value.Value.{Value}
 use Rattle.pt_host.specs.World.{Program, no_names, start_world}
 use Rattle.pt_host.specs.HeapHost.{heap_host}
 use Rattle.pt_bare_runs.specs.Strides as bare
-use Rattle.pt_heap_rows.specs.Told.{block_id}
-use Rattle.pt_code_machine.specs.CodeBlocks.{CodeBlocks, machine}
+use Rattle.sem_rows.specs.heap_rows.Told.{block_id}
+use Rattle.sem_code_machine.specs.code_machine.CodeBlocks.{CodeBlocks, machine}
 use Rattle.pt_code_tables.specs.Tables.{AreTablesOf}
 use Rattle.pt_machine_state.specs.declared.machine.Machine.{Machine}
 use Rattle.pt_machine_state.specs.Views.{Beside, run_of}

@@ -7,7 +7,7 @@ use Rattle.pt_heap.specs.declared.value.Value.{Value}
 use Rattle.pt_code.specs.declared.Const.{Const}
 use Rattle.pt_code.specs.declared.Const.TheVariants as const
 use Rattle.pt_code.specs.declared.Code.{Code}
-use Rattle.pt_slots.specs.BlockObject.{text_in, constant_of}
+use Rattle.sem_code.specs.slots.BlockObject.{text_in, constant_of}
 use Rattle.pt_assembler.specs.Tables.{kept}
 use Rattle.pt_host.specs.Answers.{constant_value}
 use Rattle.pt_host.specs.World.{Program}

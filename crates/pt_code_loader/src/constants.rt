@@ -6,16 +6,16 @@ ghost use Rattle.std.specs.Str.{bytes_eq};
 ghost use Rattle.pt_assembler.specs.Tables.{kept, number_in};
 ghost use Rattle.pt_host.specs.World.{Program};
 ghost use Rattle.pt_host.specs.Answers.{constant_value};
-ghost use Rattle.pt_slots.specs.BlockObject.{constant_of};
-ghost use Rattle.pt_start.specs.Start.{start_rows};
+ghost use Rattle.sem_code.specs.slots.BlockObject.{constant_of};
+ghost use Rattle.pt_builtin_objects.specs.Start.{start_rows};
 ghost use Rattle.pt_code_loader.specs.Texts.{AreValues, kept_texts, text_of, texts_among};
 
 use crate::names::text_at;
 use pt_base::{Memory, ObjId, Seq, Text};
+use pt_builtin_objects::START;
 use pt_code::Const;
 use pt_heap::{Seed, Value};
 use pt_names::Names;
-use pt_start::START;
 use std::alloc::Global;
 
 /// Texts, each once, with the place of each.

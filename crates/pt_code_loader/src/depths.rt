@@ -2,14 +2,14 @@
 ghost use Rattle.std.specs.Prelude.{◌≡◌, ℕ, Option, IfOk, OnOk, map};
 ghost use Rattle.std.specs.Option.{unwrap_or};
 ghost use Rattle.pt_code.specs.View.{Ins, IsView};
-ghost use Rattle.pt_fits.specs.Block.{Block, block_of};
-ghost use Rattle.pt_verify.specs.PlaceTable.{AreSizes};
+ghost use Rattle.sem_fits.specs.fits.Block.{Block, block_of};
+ghost use Rattle.pt_verify_depths.specs.PlaceTable.{AreSizes};
 ghost use Rattle.pt_code_loader.specs.Loaded.{HasDepths, IsShallow};
 
 use pt_base::{Memory, Seq};
 use pt_block_limits::is_too_deep;
 use pt_code::{Code, CodeBlock};
-use pt_verify::{Sizes, sizes};
+use pt_verify_depths::{Sizes, sizes};
 use std::alloc::Global;
 
 fn depth_of(size: Option<u64>) -> Result<u32, Memory>

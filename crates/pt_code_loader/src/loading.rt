@@ -1,7 +1,7 @@
 ghost use Rattle.std.specs.Prelude.{◌≡◌, ◌∷◌, ◌<◌, IfOk, OnOk, length};
 ghost use Rattle.pt_code_facts.specs.Facts.{blocks_of};
 ghost use Rattle.pt_code_loader.specs.Loaded.{AreLoaded, IsLoadedCode};
-ghost use Rattle.pt_operands_fit.specs.Laws.{CellsFit};
+ghost use Rattle.law_files.specs.operands_fit.Laws.{CellsFit};
 
 use crate::blocks::{block_of, blocks_of, captures_of, classes_of, have_room};
 use crate::constants::constants_of;

@@ -1,7 +1,7 @@
 //! What the numbers of texts and of lists of texts name.
 ghost use Rattle.std.specs.Prelude.{◌≡◌, IfOk, map};
 ghost use Rattle.pt_host.specs.Builtins.{builtin};
-ghost use Rattle.pt_slots.specs.BlockObject.{text_in};
+ghost use Rattle.sem_code.specs.slots.BlockObject.{text_in};
 ghost use Rattle.pt_builtins.specs.Lookups.{builtin_view};
 ghost use Rattle.pt_code_loader.specs.Loaded.{listed_texts};
 

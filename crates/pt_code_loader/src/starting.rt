@@ -1,7 +1,7 @@
 ghost use Rattle.std.specs.Prelude.{◌≡◌, ◌++◌, ◌∷◌, [], IfOk, OnOk, map};
 ghost use Rattle.pt_frames.specs.Activations.{new_activation};
 ghost use Rattle.pt_heap.specs.declared.object.Object.TheVariants.{Str};
-ghost use Rattle.pt_start.specs.Start.{start_objects};
+ghost use Rattle.pt_builtin_objects.specs.Start.{start_objects};
 ghost use Rattle.pt_code_loader.specs.Starting.{Begins};
 ghost use Rattle.pt_machine_state.specs.Changes.{slots_at_start};
 
@@ -27,7 +27,7 @@ fn add_text(alloc: Global, heap: &mut Heap, text: &Text) -> Result<(), Memory>
 fn start_objects(alloc: Global, seed: Seed) -> Result<Heap, Memory>
     ensures { IfOk result (λ heap. heap ≡ start_objects) }
 {
-    pt_start::start(alloc, seed).map_err(|_| Memory)
+    pt_builtin_objects::start(alloc, seed).map_err(|_| Memory)
 }
 
 /// The objects that each run of a code starts with: the builtin ones, and one for each text of a

@@ -6,8 +6,8 @@ use Rattle.std.proofs.lemmas.Option.{same_Some, slice_get-get_or}
 use Rattle.pt_code.specs.declared.CodeBlock.{CodeBlock}
 use Rattle.pt_code.specs.declared.Code.{Code}
 use Rattle.pt_code.specs.View.{Ins, IsView}
-use Rattle.pt_fits.specs.Block.{block_of}
-use Rattle.pt_fits.specs.Fits.{AllFit, Fits}
+use Rattle.sem_fits.specs.fits.Block.{block_of}
+use Rattle.sem_fits.specs.fits.Fits.{AllFit, Fits}
 use Rattle.pt_place_slots.specs.declared.tables.BlockSlots.{BlockSlots}
 use Rattle.pt_place_slots.specs.Tables.{IsSound, TellsSlotsOf}
 use Rattle.pt_code_slots.specs.declared.blocks.CodeSlots.{CodeSlots}

@@ -4,8 +4,8 @@ use Rattle.pt_instr.specs.declared.kinds.Kind.{Kind}
 use Rattle.pt_code.specs.declared.CodeBlock.{CodeBlock}
 use Rattle.pt_code.specs.declared.Code.{Code}
 use Rattle.pt_code.specs.View.{Ins, IsView}
-use Rattle.pt_fits.specs.Block.{Block, block_of}
-use Rattle.pt_fits.specs.Fits.{Fits}
+use Rattle.sem_fits.specs.fits.Block.{Block, block_of}
+use Rattle.sem_fits.specs.fits.Fits.{Fits}
 use Rattle.pt_place_slots.specs.declared.tables.BlockSlots.{BlockSlots}
 use Rattle.pt_place_slots.specs.Tables.{IsSound, TellsSlotsOf, TellsSlotAt}
 use Rattle.pt_code_slots.specs.declared.blocks.CodeSlots.{CodeSlots}

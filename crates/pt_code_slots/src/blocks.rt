@@ -4,10 +4,10 @@ ghost use Rattle.pt_instr.specs.Effects.{Kinds};
 ghost use Rattle.pt_code.specs.declared.Code.{Code};
 ghost use Rattle.pt_code.specs.declared.CodeBlock.{CodeBlock};
 ghost use Rattle.pt_code.specs.View.{Ins, IsView};
-ghost use Rattle.pt_fits.specs.Block.{block_of};
-ghost use Rattle.pt_fits.specs.Fits.{AllFit, Fits};
-ghost use Rattle.pt_fits.specs.Jumps.{Jumps};
-ghost use Rattle.pt_fits.specs.Places.{Gets};
+ghost use Rattle.sem_fits.specs.fits.Block.{block_of};
+ghost use Rattle.sem_fits.specs.fits.Fits.{AllFit, Fits};
+ghost use Rattle.sem_fits.specs.fits.Jumps.{Jumps};
+ghost use Rattle.sem_fits.specs.fits.Places.{Gets};
 ghost use Rattle.pt_jump.specs.Targets.{answer_of};
 ghost use Rattle.pt_block_kinds.specs.Told.{TellsListAt};
 ghost use Rattle.pt_place_slots.specs.Kinds.{IsKinds, kinds_of};
@@ -20,7 +20,7 @@ use pt_instr::Kind;
 use pt_jump::{JumpErr, Land};
 use pt_place_slots::{BlockSlots, KindsAt, block_slots};
 use pt_places::Places;
-use pt_verify::{Sizes, sizes};
+use pt_verify_depths::{Sizes, sizes};
 use std::alloc::Global;
 
 /// What is asked of the slots of code that fits.

@@ -5,16 +5,16 @@ use Rattle.std.specs.Str.{bytes_eq}
 use Rattle.pt_tree.specs.Syntax.{Name}
 use Rattle.pt_heap.specs.declared.value.Value.{Value}
 use Rattle.pt_heap.specs.declared.value.Value.TheVariants as value
-use Rattle.pt_control.specs.Turn as T
-use Rattle.pt_control.specs.Turn.{Scope}
-use Rattle.pt_slots.specs.CodeObject.{Pool}
-use Rattle.pt_run.specs.Machine.{BlockId}
+use Rattle.sem_control.specs.control.Turn as T
+use Rattle.sem_control.specs.control.Turn.{Scope}
+use Rattle.sem_code.specs.slots.CodeObject.{Pool}
+use Rattle.sem_run.specs.run.Machine.{BlockId}
 use Rattle.pt_host.specs.World.{CodeFacts, Program}
 use Rattle.pt_host.specs.Answers.{constant_value}
 use Rattle.pt_host.specs.Builtins.{builtin}
-use Rattle.pt_code_machine.specs.CodeBlocks.{CodeBlocks}
-use Rattle.pt_heap_rows.specs.Leads.{HasHeapExtras}
-use Rattle.pt_variables.specs.Numbers.{KnowsNames}
+use Rattle.sem_code_machine.specs.code_machine.CodeBlocks.{CodeBlocks}
+use Rattle.sem_rows.specs.heap_rows.Leads.{HasHeapExtras}
+use Rattle.sem_rows.specs.variables.Numbers.{KnowsNames}
 use Rattle.pt_code_facts.specs.Facts.{KnowsBlocks}
 use Rattle.pt_builtins.specs.declared.BuiltinLookup.{BuiltinLookup}
 use Rattle.pt_builtins.specs.declared.BuiltinLookup.TheVariants as lookup

@@ -10,15 +10,15 @@ use Rattle.pt_places.specs.PlaceTable as T
 use Rattle.pt_places.specs.PlaceTable.{place_at}
 use Rattle.pt_sizes.specs.Flow.{entry, is_under}
 use Rattle.pt_sizes.proofs.Tables.{entry_in}
-use Rattle.pt_fits.specs.Block.{Block, effect}
-use Rattle.pt_fits.specs.Steps.{step, steps_of, by_instruction, by_handlers, is_within, landing}
-use Rattle.pt_fits.specs.Places.{Gets, Reached}
-use Rattle.pt_fits.specs.Places as P
-use Rattle.pt_fits.specs.Leaves as L
-use Rattle.pt_fits.specs.Leaves.{Common}
-use Rattle.pt_fits.proofs.Ways.{place_of}
-use Rattle.pt_verify.specs.PlaceTable.{AreSizesUpTo}
-use Rattle.pt_verify.proofs.SizeLemmas.{kinds_have_sizes, sizes_have_kinds}
+use Rattle.sem_fits.specs.fits.Block.{Block, effect}
+use Rattle.sem_fits.specs.fits.Steps.{step, steps_of, by_instruction, by_handlers, is_within, landing}
+use Rattle.sem_fits.specs.fits.Places.{Gets, Reached}
+use Rattle.sem_fits.specs.fits.Places as P
+use Rattle.sem_fits.specs.fits.Leaves as L
+use Rattle.sem_fits.specs.fits.Leaves.{Common}
+use Rattle.sem_fits.proofs.fits.Ways.{place_of}
+use Rattle.pt_verify_depths.specs.PlaceTable.{AreSizesUpTo}
+use Rattle.pt_verify_depths.proofs.SizeLemmas.{kinds_have_sizes, sizes_have_kinds}
 use Rattle.pt_joins.specs.declared.joins.Join.{Join}
 use Rattle.pt_joins.specs.declared.joins.Node.{Node}
 use Rattle.pt_joins.specs.Joins.{IsPair, Joined, paired, related, same, back, along, AreWithin, Root}

@@ -1,9 +1,9 @@
 -- What slots hold is found over what is in common by plain steps.
 use Rattle.std.proofs.Common.{ℕ}
-use Rattle.pt_fits.specs.Block.{Block}
-use Rattle.pt_fits.specs.Leaves as L
-use Rattle.pt_fits.specs.Leaves.{Holds}
-use Rattle.pt_verify.specs.PlaceTable.{SizesDisagree}
+use Rattle.sem_fits.specs.fits.Block.{Block}
+use Rattle.sem_fits.specs.fits.Leaves as L
+use Rattle.sem_fits.specs.fits.Leaves.{Holds}
+use Rattle.pt_verify_depths.specs.PlaceTable.{SizesDisagree}
 use Rattle.pt_common_slots.specs.Common.{RowsLead}
 use Rattle.pt_common_slots.specs.Held.{HoldsBySteps, HeldByClasses, taken, passed, exited, shared}
 use Rattle.pt_common_slots.proofs.Law.{common_kept, kept_common}

@@ -11,15 +11,15 @@ use Rattle.pt_instr.specs.declared.kinds.Kind.TheVariants.{Pending}
 use Rattle.pt_instr.specs.Effects.{Kinds, effect_of}
 use Rattle.pt_ranges.specs.declared.handlers.Handler.{Handler}
 use Rattle.pt_code.specs.View.{Ins}
-use Rattle.pt_fits.specs.Block.{Links, Block, effect, captured}
-use Rattle.pt_fits.specs.Steps.{step, steps, steps_of, by_instruction, by_handlers, onward, aside, again, gives, given_behind, spared, below, has_enough, is_within, cut, held_by, landing, target_of}
-use Rattle.pt_fits.specs.Places.{Gets, Reached}
-use Rattle.pt_fits.specs.Places as P
-use Rattle.pt_fits.specs.Leaves as L
-use Rattle.pt_fits.specs.Leaves.{Departs, Goes, Common, Holds, taker, takes_leave}
-use Rattle.pt_fits.proofs.Ways.{first, found_contained, place_of}
-use Rattle.pt_verify.specs.PlaceTable.{SizesDisagree, deep, few}
-use Rattle.pt_verify.proofs.SizeLemmas.{rows_are_as_deep, lack_as_few}
+use Rattle.sem_fits.specs.fits.Block.{Links, Block, effect, captured}
+use Rattle.sem_fits.specs.fits.Steps.{step, steps, steps_of, by_instruction, by_handlers, onward, aside, again, gives, given_behind, spared, below, has_enough, is_within, cut, held_by, landing, target_of}
+use Rattle.sem_fits.specs.fits.Places.{Gets, Reached}
+use Rattle.sem_fits.specs.fits.Places as P
+use Rattle.sem_fits.specs.fits.Leaves as L
+use Rattle.sem_fits.specs.fits.Leaves.{Departs, Goes, Common, Holds, taker, takes_leave}
+use Rattle.sem_fits.proofs.fits.Ways.{first, found_contained, place_of}
+use Rattle.pt_verify_depths.specs.PlaceTable.{SizesDisagree, deep, few}
+use Rattle.pt_verify_depths.proofs.SizeLemmas.{rows_are_as_deep, lack_as_few}
 use Rattle.pt_common_slots.proofs.Lists.{keeps, maps}
 use Rattle.pt_joins.specs.declared.joins.Join.{Join}
 use Rattle.pt_joins.specs.Joins.{Joined, related, same, back, along}

@@ -13,15 +13,15 @@ use Rattle.pt_places.specs.declared.places.Place.{Place}
 use Rattle.pt_places.specs.PlaceTable as T
 use Rattle.pt_places.specs.PlaceTable.{place_at}
 use Rattle.pt_sizes.specs.Flow.{entry}
-use Rattle.pt_fits.specs.Block.{Block, effect, captured}
-use Rattle.pt_fits.specs.Steps.{Step, step, by_instruction, onward, aside, again, given_behind, spared, below, has_enough, target_of}
-use Rattle.pt_fits.specs.Places.{Gets, Reached}
-use Rattle.pt_fits.specs.Leaves.{Common}
-use Rattle.pt_fits.proofs.KindLemmas.{length_below}
-use Rattle.pt_fits.proofs.Swaps.{given_size}
-use Rattle.pt_fits.proofs.Ways.{place_of}
-use Rattle.pt_verify.specs.PlaceTable.{AreSizesUpTo}
-use Rattle.pt_verify.proofs.SizeLemmas.{kinds_have_sizes, sizes_have_kinds}
+use Rattle.sem_fits.specs.fits.Block.{Block, effect, captured}
+use Rattle.sem_fits.specs.fits.Steps.{Step, step, by_instruction, onward, aside, again, given_behind, spared, below, has_enough, target_of}
+use Rattle.sem_fits.specs.fits.Places.{Gets, Reached}
+use Rattle.sem_fits.specs.fits.Leaves.{Common}
+use Rattle.sem_fits.proofs.fits.KindLemmas.{length_below}
+use Rattle.sem_fits.proofs.fits.Swaps.{given_size}
+use Rattle.sem_fits.proofs.fits.Ways.{place_of}
+use Rattle.pt_verify_depths.specs.PlaceTable.{AreSizesUpTo}
+use Rattle.pt_verify_depths.proofs.SizeLemmas.{kinds_have_sizes, sizes_have_kinds}
 use Rattle.pt_joins.specs.declared.joins.Join.{Join}
 use Rattle.pt_joins.specs.Joins.{Joined, paired, related, same}
 use Rattle.pt_row_joins.specs.Rows.{join}

@@ -4,10 +4,10 @@ use Rattle.pt_instr.specs.declared.Instr.TheVariants.{Leave}
 use Rattle.pt_instr.specs.Effects.{Kinds}
 use Rattle.pt_ranges.specs.declared.handlers.Handler.{Handler}
 use Rattle.pt_code.specs.View.{Ins}
-use Rattle.pt_fits.specs.Block.{Block}
-use Rattle.pt_fits.specs.Steps.{step, steps}
-use Rattle.pt_fits.specs.Places.{Gets, Reached}
-use Rattle.pt_fits.specs.Leaves.{Common}
+use Rattle.sem_fits.specs.fits.Block.{Block}
+use Rattle.sem_fits.specs.fits.Steps.{step, steps}
+use Rattle.sem_fits.specs.fits.Places.{Gets, Reached}
+use Rattle.sem_fits.specs.fits.Leaves.{Common}
 use Rattle.pt_joins.specs.declared.joins.Join.{Join}
 use Rattle.pt_joins.specs.declared.joins.Node.{Node}
 use Rattle.pt_joins.specs.Joins.{Joined, Least, TellsJoins}

@@ -4,10 +4,10 @@ use Rattle.pt_instr.specs.declared.Instr.TheVariants.{Leave, EndFinally, Exit}
 use Rattle.pt_instr.specs.Effects.{Kinds}
 use Rattle.pt_ranges.specs.declared.handlers.Handler.{Handler}
 use Rattle.pt_code.specs.View.{Ins}
-use Rattle.pt_fits.specs.Block.{Block}
-use Rattle.pt_fits.specs.Places.{Reached}
-use Rattle.pt_fits.specs.Leaves.{Holds, taker}
-use Rattle.pt_verify.specs.PlaceTable.{SizesDisagree}
+use Rattle.sem_fits.specs.fits.Block.{Block}
+use Rattle.sem_fits.specs.fits.Places.{Reached}
+use Rattle.sem_fits.specs.fits.Leaves.{Holds, taker}
+use Rattle.pt_verify_depths.specs.PlaceTable.{SizesDisagree}
 use Rattle.pt_common_slots.specs.Common.{IsKept, RowsLead}
 
 -- a slot may hold a Leave for this target

@@ -5,7 +5,7 @@ use Rattle.pt_instr.specs.declared.Instr.TheVariants.{Leave}
 use Rattle.pt_instr.specs.Effects.{Kinds, effect_of}
 use Rattle.pt_places.specs.declared.places.Place.{Place}
 use Rattle.pt_places.specs.PlaceTable as P
-use Rattle.pt_slots.specs.BlockObject.{target_of}
+use Rattle.sem_code.specs.slots.BlockObject.{target_of}
 use Rattle.pt_sizes.specs.Flow.{entry}
 use Rattle.pt_joins.specs.declared.joins.Join.{Join}
 use Rattle.pt_row_joins.specs.Rows.{join}

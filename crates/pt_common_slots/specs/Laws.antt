@@ -1,8 +1,8 @@
 -- What is said of slots in common.
 use Rattle.std.specs.Prelude.{◌≡◌, ◌↔◌, ℕ, List}
-use Rattle.pt_fits.specs.Block.{Block}
-use Rattle.pt_fits.specs.Leaves.{Common}
-use Rattle.pt_verify.specs.PlaceTable.{SizesDisagree}
+use Rattle.sem_fits.specs.fits.Block.{Block}
+use Rattle.sem_fits.specs.fits.Leaves.{Common}
+use Rattle.pt_verify_depths.specs.PlaceTable.{SizesDisagree}
 use Rattle.pt_joins.specs.declared.joins.Node.{Node}
 use Rattle.pt_joins.specs.Joins.{Root}
 use Rattle.pt_common_slots.specs.Common.{IsKept, RowsLead, TellsCommon}

@@ -1,5 +1,5 @@
 ghost use Rattle.std.specs.Prelude.{ℕ};
-ghost use Rattle.pt_fits.specs.Block.{Block};
+ghost use Rattle.sem_fits.specs.fits.Block.{Block};
 ghost use Rattle.pt_common_slots.specs.Held.{HeldByClasses};
 ghost use Rattle.pt_common_slots.specs.Laws.{HaveOneNumber, SharedBySteps};
 

@@ -1,7 +1,7 @@
 //! What an instruction's own steps keep.
 ghost use Rattle.std.specs.Prelude.{◌≡◌, ◌++◌, Option, option_map, option_to_list, IfOk};
 ghost use Rattle.pt_instr.specs.Effects.{effect_of};
-ghost use Rattle.pt_slots.specs.BlockObject.{target_of};
+ghost use Rattle.sem_code.specs.slots.BlockObject.{target_of};
 ghost use Rattle.pt_sizes.specs.Flow.{entry};
 ghost use Rattle.pt_row_joins.specs.Rows.{Lists};
 ghost use Rattle.pt_common_slots.specs.Joins.{IsOwn, aside_join, given_join, leave_join, onward_join, own_joins};
@@ -11,7 +11,7 @@ use pt_instr::{Instr, Kinds, effect};
 use pt_joins::Join;
 use pt_places::{Place, Places};
 use pt_row_joins::add;
-use pt_verify::{count, target_of};
+use pt_verify_depths::{count, target_of};
 use std::alloc::Global;
 
 fn size_at(sizes: &[Option<u64>], at: usize) -> Option<u64>

@@ -1,3 +1,3 @@
-pub mod Rows
-pub mod Steps
-pub mod Sample
+pub mod Starts
+pub mod Bodies
+pub mod Rules

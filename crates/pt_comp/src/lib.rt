@@ -1,6 +1,16 @@
-//! The code of statements and of blocks: where it stands, and that it follows control.
+//! Writes the code of statements and of blocks (Language Reference 7, 8): from the tree straight into
+//! the writer of a block.
 #![tactic(auto)]
 
-mod laws;
+mod blocks;
+mod choices;
+mod code;
+mod contexts;
+mod docstrings;
+mod generators;
+mod loops;
+mod places;
+mod statements;
+mod tries;
 
-pub use laws::{every_statement_has_code, the_code_of_a_block_follows_it};
+pub use code::{function_block, generator_block, lambda_block, statement_block};

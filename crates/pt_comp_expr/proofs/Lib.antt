@@ -1,4 +1,1 @@
-pub mod Lists
-pub mod Steps
-pub mod Operations
-pub mod Sample
+pub mod Rules

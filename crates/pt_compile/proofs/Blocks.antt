@@ -1,131 +1,66 @@
--- Blocks that are laid out one after the other, over tables that only grow.
-use Rattle.std.proofs.Common.{◌≡◌, ℕ, zero, suc, ◌+◌, List, [], ◌∷◌, map, length, slice_get, Some, None, refl, sym, ap, ◌∙◌, subst, arith}
-use Rattle.pt_tree.specs.Syntax.{Name, Stms}
+-- Blocks that are visited one after the other make the code of the script.
+use Rattle.std.proofs.Common.{◌≡◌, ℕ, ◌+◌, List, [], ◌∷◌, ◌++◌, map, length, slice_get, Option, Some, None, refl, sym, ap, ◌∙◌, append_assoc, length-append}
+use Rattle.std.proofs.lemmas.List.{append-nil}
+use Rattle.pt_tree.specs.Syntax.{Stms}
 use Rattle.pt_tree.specs.Blocks.{Block, blocks_script}
-use Rattle.pt_naming.specs.Around.{Names, around_of, names_of}
-use Rattle.pt_assembler.specs.Tables.{Begins}
-use Rattle.pt_assembler.specs.Layout.{Written, with_text, with_local, with_cell, with_free, number_of_text, layout}
-use Rattle.pt_assembler.proofs.TableLemmas.{begins_same, begins_then}
-use Rattle.pt_assembler.proofs.Growth.{Tabled, tabled_same, tabled_then, only_then, text_only, local_only, cell_only, free_only, grows}
-use Rattle.pt_stm_pieces.specs.StmPiece.{code_piece}
-use Rattle.pt_compile.specs.ScriptCode.{Tables, no_tables, tables_of, with_all, empty_block, with_names, BlockLayout, layout_of, layouts, tables_behind, code_block}
-use Rattle.pt_compile.specs.Laws.{BlocksAreLaidOut, AsManyBlocks}
+use Rattle.pt_code.specs.declared.CodeBlock.{CodeBlock}
+use Rattle.pt_blocks.specs.Visits.{without_class, behind_blocks}
+use Rattle.sem_names.specs.Around.{around_of, names_at, names_of}
+use Rattle.sem_names.specs.Script.{Naming, naming_script}
+use Rattle.sem_compile.specs.compile.ScriptCode.{Tables, BlockLayout, no_tables, tables_of, layout_of, layouts, tables_behind, code_block, code_of}
+use Rattle.pt_block_names.specs.Named.{names_in_region, names_with}
+use Rattle.pt_compile.specs.PartialCode.{PartialCode, whole, with_block}
 
--- tables of a code that only grow
-record Grown (s t : Tables) : Type 0 where
-  texts : Begins s.texts t.texts
-  constants : Begins s.constants t.constants
-  lists : Begins s.lists t.lists
+names_same : (g : Naming) (b : ℕ) (k : Block) (r : Option ℕ) → names_at g b (Some k) r ≡ names_in_region g b k.params r
+names_same g b k None = refl
+names_same g b k (Some h) = refl
 
-grown_not : (t : Tables) → Grown t t
-grown_not t = record { texts = begins_same t.texts; constants = begins_same t.constants; lists = begins_same t.lists }
+-- the block behind others is the one with their count as its number
+at_length : {A : Type 0} (xs : List A) (x : A) (ys : List A) → slice_get (xs ++ x ∷ ys) (length xs) ≡ Some x
+at_length [] x ys = refl
+at_length (y ∷ xs) x ys = at_length xs x ys
 
-grown_on : (a b c : Tables) → Grown a b → Grown b c → Grown a c
-grown_on a b c g h = record {
-  texts = begins_then a.texts b.texts c.texts g.texts h.texts;
-  constants = begins_then a.constants b.constants c.constants g.constants h.constants;
-  lists = begins_then a.lists b.lists c.lists g.lists h.lists;
-}
+names_known : (ss : Stms) (before : List Block) (k : Block) (ks : List Block) → blocks_script ss ≡ before ++ k ∷ ks
+    → names_of ss (length before) ≡ names_with (naming_script ss) (length before) k.params
+names_known ss before k ks e =
+    ap (λ o. names_at (naming_script ss) (length before) o (slice_get (naming_script ss).places.blocks (length before)))
+    (ap (λ bs. slice_get bs (length before)) e ∙ at_length before k ks)
+    ∙ names_same (naming_script ss) (length before) k (slice_get (naming_script ss).places.blocks (length before))
 
-grown_by : (v w : Written) → Tabled v w → Grown (tables_of v) (tables_of w)
-grown_by v w (t, (k, (l, r))) = record { texts = t; constants = k; lists = l }
+abbrev partial_code : Stms → Tables → List CodeBlock → PartialCode
+partial_code ss t bs = record { naming = naming_script ss; tables = t; blocks = bs }
 
-local_tabled : (x : Name) (w : Written) → Tabled w (with_local x w)
-local_tabled x w = (only_then w (with_text x w) (with_local x w) (text_only x w) (local_only (number_of_text x w) (with_text x w))).tables
+-- the layout of a block behind others
+abbrev layout_behind : Stms → List Block → Tables → Block → BlockLayout
+layout_behind ss before t k = layout_of t (around_of tt ss (length before)) (names_of ss (length before)) k
 
-pub cell_tabled : (x : Name) (w : Written) → Tabled w (with_cell x w)
-cell_tabled x w = (only_then w (with_text x w) (with_cell x w) (text_only x w) (cell_only (number_of_text x w) (with_text x w))).tables
+one_more : (ss : Stms) (before : List Block) (k : Block) (ks : List Block) (t : Tables) (bs : List CodeBlock) → blocks_script ss ≡ before ++ k ∷ ks
+    → length bs ≡ length before
+    → with_block (without_class k) (partial_code ss t bs)
+    ≡ partial_code ss (tables_of (layout_behind ss before t k).written) (bs ++ code_block (layout_behind ss before t k) ∷ [])
+unfolding with_block
+one_more ss before k ks t bs e n = rw (n, names_known ss before k ks e)
 
-pub free_tabled : (x : Name) (w : Written) → Tabled w (with_free x w)
-free_tabled x w = (only_then w (with_text x w) (with_free x w) (text_only x w) (free_only (number_of_text x w) (with_text x w))).tables
+all_blocks : (ss : Stms) (before ks : List Block) (t : Tables) (bs : List CodeBlock) → blocks_script ss ≡ before ++ ks → length bs ≡ length before
+    → behind_blocks with_block ks (partial_code ss t bs)
+    ≡ partial_code ss (tables_behind t (layouts ss (length before) ks t)) (bs ++ map code_block (layouts ss (length before) ks t))
+all_blocks ss before [] t bs e n = ap (λ cs. partial_code ss t cs) (sym (append-nil bs))
+all_blocks ss before (k ∷ ks) t bs e n =
+    let b = layout_behind ss before t k in
+    let more : blocks_script ss ≡ (before ++ k ∷ []) ++ ks = e ∙ sym (append_assoc before (k ∷ []) ks) in
+    let count : length (before ++ k ∷ []) ≡ length before + 1 = length-append before (k ∷ []) in
+    let counts : length (bs ++ code_block b ∷ []) ≡ length (before ++ k ∷ []) =
+    length-append bs (code_block b ∷ []) ∙ ap (λ m. m + 1) n ∙ sym count in
+    ap (λ c. behind_blocks with_block ks c) (one_more ss before k ks t bs e n)
+    ∙ all_blocks ss (before ++ k ∷ []) ks (tables_of b.written) (bs ++ code_block b ∷ []) more counts
+    ∙ ap (λ m. partial_code ss (tables_behind (tables_of b.written) (layouts ss m ks (tables_of b.written)))
+    ((bs ++ code_block b ∷ []) ++ map code_block (layouts ss m ks (tables_of b.written)))) count
+    ∙ ap (λ cs. partial_code ss (tables_behind (tables_of b.written) (layouts ss (length before + 1) ks (tables_of b.written))) cs)
+    (append_assoc bs (code_block b ∷ []) (map code_block (layouts ss (length before + 1) ks (tables_of b.written))))
 
-pub all_tabled : (f : Name → Written → Written) → ((x : Name) (w : Written) → Tabled w (f x w)) → (xs : List Name) (w : Written) → Tabled w (with_all f xs w)
-all_tabled f g [] w = tabled_same w
-all_tabled f g (x ∷ xs) w = tabled_then w (f x w) (with_all f xs (f x w)) (g x w) (all_tabled f g xs (f x w))
+script_code : (ss : Stms) → whole (behind_blocks with_block (blocks_script ss) (partial_code ss no_tables [])) ≡ code_of ss
+script_code ss = ap whole (all_blocks ss [] (blocks_script ss) no_tables [] refl refl)
 
-pub names_tabled : (ns : Names) (w : Written) → Tabled w (with_names ns w)
-names_tabled ns w =
-    let a = with_all with_local ns.locals w in
-    let b = with_all with_cell ns.cells a in
-    let c = with_all with_free ns.frees b in
-    tabled_then w a c (all_tabled with_local local_tabled ns.locals w)
-    (tabled_then a b c (all_tabled with_cell cell_tabled ns.cells a) (all_tabled with_free free_tabled ns.frees b))
-
-layout_grown : (t : Tables) (a : _) (ns : Names) (k : Block) → Grown t (tables_of (layout_of t a ns k).written)
-layout_grown t a ns k =
-    let v = empty_block t k.code in
-    let b = with_text k.name v in
-    let c = with_names ns b in
-    grown_by v (layout (code_piece a k.code) [] c)
-    (tabled_then v b (layout (code_piece a k.code) [] c) (text_only k.name v).tables
-    (tabled_then b c (layout (code_piece a k.code) [] c) (names_tabled ns b) (grows (code_piece a k.code) [] c).tables))
-
-behind_grown : (ss : Stms) (n : ℕ) (ks : List Block) (t : Tables) → Grown t (tables_behind t (layouts ss n ks t))
-behind_grown ss n [] t = grown_not t
-behind_grown ss n (k ∷ ks) t =
-    let b = layout_of t (around_of tt ss n) (names_of ss n) k in
-    grown_on t (tables_of b.written) (tables_behind t (layouts ss n (k ∷ ks) t)) (layout_grown t (around_of tt ss n) (names_of ss n) k) (behind_grown ss (n + 1) ks (tables_of b.written))
-
--- a layout among those of blocks
-record Among (ss : Stms) (n : ℕ) (ks : List Block) (t : Tables) (i : ℕ) (b : BlockLayout) : Type 0 where
-  block : Block
-  is_block : slice_get ks i ≡ Some block
-  tables : Tables
-  is : b ≡ layout_of tables (around_of tt ss (n + i)) (names_of ss (n + i)) block
-  grown : Grown (tables_of b.written) (tables_behind t (layouts ss n ks t))
-
-some_same : {A : Type 0} (a b : A) → Some a ≡ Some b → a ≡ b
-some_same a b e = ap (λ o. elim o [ None ↦ a | Some x ↦ x ]) e
-
-none_not_some : {A B : Type 0} (b : A) → None ≡ Some b → B
-none_not_some b e = absurd cc
-
-among : (ss : Stms) (n : ℕ) (ks : List Block) (t : Tables) (i : ℕ) (b : BlockLayout) → slice_get (layouts ss n ks t) i ≡ Some b → Among ss n ks t i b
-among ss n [] t i b e = none_not_some b e
-among ss n (k ∷ ks) t zero b e = record {
-  block = k;
-  is_block = refl;
-  tables = t;
-  is = sym (some_same _ b e) ∙ ap (λ m. layout_of t (around_of tt ss m) (names_of ss m) k) (omega arith);
-  grown = subst (λ c. Grown (tables_of c.written) (tables_behind t (layouts ss n (k ∷ ks) t))) (some_same _ b e)
-      (behind_grown ss (n + 1) ks (tables_of (layout_of t (around_of tt ss n) (names_of ss n) k).written));
-}
-among ss n (k ∷ ks) t (suc i) b e =
-    let a = among ss (n + 1) ks (tables_of (layout_of t (around_of tt ss n) (names_of ss n) k).written) i b e in
-    record {
-      block = a.block;
-      is_block = a.is_block;
-      tables = a.tables;
-      is = a.is ∙ ap (λ m. layout_of a.tables (around_of tt ss m) (names_of ss m) a.block) (omega arith);
-      grown = a.grown;
-    }
-
-pub blocks_are_laid_out : BlocksAreLaidOut
-blocks_are_laid_out ss n b e =
-    let a = among ss 0 (blocks_script ss) no_tables n b e in
-    let same : 0 + n ≡ n = omega arith in
-    record {
-      block = a.block;
-      is_block = a.is_block;
-      tables = a.tables;
-      is = a.is ∙ ap (λ m. layout_of a.tables (around_of tt ss m) (names_of ss m) a.block) same;
-      whole = record {
-        texts = a.grown.texts;
-        constants = a.grown.constants;
-        lists = a.grown.lists;
-        locals = refl;
-        cells = refl;
-        free = refl;
-        instructions = refl;
-        marks = refl;
-        handlers = refl;
-        starts = refl;
-      };
-    }
-
-as_many : (ss : Stms) (n : ℕ) (ks : List Block) (t : Tables) → length (map code_block (layouts ss n ks t)) ≡ length ks
-as_many ss n [] t = refl
-as_many ss n (k ∷ ks) t = ap suc (as_many ss (n + 1) ks (tables_of (layout_of t (around_of tt ss n) (names_of ss n) k).written))
-
-pub as_many_blocks : AsManyBlocks
-as_many_blocks ss = as_many ss 0 (blocks_script ss) no_tables
+-- the blocks of a script, visited from nothing
+pub code_from_nothing : (ss : Stms) (first last : PartialCode) → first ≡ partial_code ss no_tables [] → last ≡ behind_blocks with_block (blocks_script ss) first → whole last ≡ code_of ss
+code_from_nothing ss first last is_first is_last = ap whole (is_last ∙ ap (λ c. behind_blocks with_block (blocks_script ss) c) is_first) ∙ script_code ss

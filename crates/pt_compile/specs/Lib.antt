@@ -1,2 +1,1 @@
-pub mod ScriptCode
-pub mod Laws
+pub mod PartialCode

@@ -1,6 +1,10 @@
-//! The code of a script.
+//! Writes the code of scripts: their blocks, one after the other.
 #![tactic(auto)]
 
-mod laws;
+mod compiler;
+mod heading;
+mod names;
+mod numbers;
+mod open_block;
 
-pub use laws::{a_code_has_as_many_blocks, the_blocks_of_a_script_are_laid_out};
+pub use compiler::compile;

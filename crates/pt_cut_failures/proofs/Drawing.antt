@@ -11,7 +11,7 @@ use Rattle.pt_places.specs.PlaceTable as Places
 use Rattle.pt_places.specs.PlaceTable.{place_at}
 use Rattle.pt_sizes.specs.Flow.{entry}
 use Rattle.pt_step_graph.proofs.Numbers.{lt_true, lt_false}
-use Rattle.pt_fits.specs.Block.{Links, block_of, links_of, kinds_at_start}
+use Rattle.sem_fits.specs.fits.Block.{Links, block_of, links_of, kinds_at_start}
 use Rattle.pt_kind_flow.specs.declared.edges.Edge.{Edge}
 use Rattle.pt_kind_flow.specs.declared.flow.Flow.{Flow}
 use Rattle.pt_kind_flow.specs.Flow.{Descends, graph}

@@ -6,9 +6,9 @@ use Rattle.pt_places.specs.declared.places.Place.{Place}
 use Rattle.pt_sizes.specs.Flow.{entry}
 use Rattle.pt_sizes.specs.Waiting.{levels_of}
 use Rattle.pt_step_graph.proofs.Numbers.{only_one}
-use Rattle.pt_fits.specs.Block.{Links, captured, effect}
-use Rattle.pt_fits.specs.Steps.{held_by, target_of}
-use Rattle.pt_verify.specs.Sizes.{left}
+use Rattle.sem_fits.specs.fits.Block.{Links, captured, effect}
+use Rattle.sem_fits.specs.fits.Steps.{held_by, target_of}
+use Rattle.pt_verify_depths.specs.Sizes.{left}
 use Rattle.pt_block_kinds.specs.Leads.{Lead, lead, inside, own_leads, landing_leads}
 use Rattle.pt_block_kinds.proofs.Lists.{in_inside}
 use Rattle.pt_block_kinds.proofs.Falling.{depends, Falls, falls_inside, falls_append, alone, own_falls}

@@ -7,15 +7,15 @@ use Rattle.pt_instr.specs.Effects.{Kinds}
 use Rattle.pt_ranges.specs.declared.handlers.Handler.{Handler}
 use Rattle.pt_code.specs.View.{Ins}
 use Rattle.pt_sizes.specs.Flow.{entry}
-use Rattle.pt_fits.specs.Block.{Block, effect}
-use Rattle.pt_fits.specs.Steps.{are_kinds, cut, spared}
-use Rattle.pt_fits.specs.Places.{Reached}
-use Rattle.pt_verify.specs.PlaceTable.{NumberTooDeep}
-use Rattle.pt_verify.specs.Refusals as R
-use Rattle.pt_verify.specs.Refusals.{CutsDiffer, CutsOf}
-use Rattle.pt_verify.specs.Sizes as S
-use Rattle.pt_verify.specs.Sizes.{Sized, leaves_enough}
-use Rattle.pt_verify.proofs.SizeLemmas.{kinds_have_sizes}
+use Rattle.sem_fits.specs.fits.Block.{Block, effect}
+use Rattle.sem_fits.specs.fits.Steps.{are_kinds, cut, spared}
+use Rattle.sem_fits.specs.fits.Places.{Reached}
+use Rattle.pt_verify_depths.specs.PlaceTable.{NumberTooDeep}
+use Rattle.pt_verify_depths.specs.Refusals as R
+use Rattle.pt_verify_depths.specs.Refusals.{CutsDiffer, CutsOf}
+use Rattle.pt_verify_depths.specs.Sizes as S
+use Rattle.pt_verify_depths.specs.Sizes.{Sized, leaves_enough}
+use Rattle.pt_verify_depths.proofs.SizeLemmas.{kinds_have_sizes}
 use Rattle.pt_kind_flow.specs.declared.flow.Flow.{Flow}
 use Rattle.pt_kind_flow.specs.Flow as F
 use Rattle.pt_kind_flow.specs.Flow.{Graph, Comes, graph, IsExact}

@@ -1,8 +1,8 @@
 -- What is told of the rows under which cuts differ.
 use Rattle.std.specs.Prelude.{◌≡◌, ℕ, ◌+◌, ◌<◌, List, slice_get, Option, Some, None}
 use Rattle.pt_ranges.specs.declared.handlers.Handler.{Handler}
-use Rattle.pt_fits.specs.Block.{Block}
-use Rattle.pt_fits.specs.Fits.{IsLeast}
+use Rattle.sem_fits.specs.fits.Block.{Block}
+use Rattle.sem_fits.specs.fits.Fits.{IsLeast}
 use Rattle.pt_kind_flow.specs.declared.flow.Flow.{Flow}
 use Rattle.pt_block_kinds.specs.Told.{CutsUnder, IsShort}
 

@@ -3,9 +3,9 @@ use Rattle.std.specs.Prelude.{◌≡◌, ℕ, ◌+◌, length, List, Contains, O
 use Rattle.pt_instr.specs.Effects.{Kinds}
 use Rattle.pt_ranges.specs.declared.handlers.Handler.{Handler}
 use Rattle.pt_code.specs.View.{Ins}
-use Rattle.pt_fits.specs.Block.{Block, effect, kinds_at_start}
-use Rattle.pt_fits.specs.Steps.{cut, spared}
-use Rattle.pt_fits.specs.Places.{Reached}
+use Rattle.sem_fits.specs.fits.Block.{Block, effect, kinds_at_start}
+use Rattle.sem_fits.specs.fits.Steps.{cut, spared}
+use Rattle.sem_fits.specs.fits.Places.{Reached}
 use Rattle.pt_kind_flow.specs.declared.flow.Flow.{Flow}
 use Rattle.pt_kind_flow.specs.Flow.{Graph, edges_at, graph}
 use Rattle.pt_kind_flow.specs.Search.{IsFlow}

@@ -9,9 +9,9 @@ use Rattle.pt_places.specs.declared.places.Place.{Place}
 use Rattle.pt_places.specs.PlaceTable.{place_at}
 use Rattle.pt_sizes.specs.Flow.{entry}
 use Rattle.pt_sizes.specs.Waiting.{Level, levels_of, stretch, up}
-use Rattle.pt_fits.specs.Block.{Links, Block, effect}
-use Rattle.pt_fits.specs.Steps.{target_of}
-use Rattle.pt_verify.specs.Sizes.{left}
+use Rattle.sem_fits.specs.fits.Block.{Links, Block, effect}
+use Rattle.sem_fits.specs.fits.Steps.{target_of}
+use Rattle.pt_verify_depths.specs.Sizes.{left}
 use Rattle.pt_block_kinds.specs.Leads.{Lead, lead, inside, own_leads, landing_leads}
 use Rattle.pt_cut_failures.specs.declared.chains.Link.{Link}
 use Rattle.pt_cut_failures.specs.declared.chains.Chains.{Chains}

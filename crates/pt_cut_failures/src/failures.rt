@@ -2,9 +2,9 @@
 ghost use Rattle.std.specs.Prelude.{◌<◌, ◌+◌, ℕ, Option, IfOk, MatchBool, length};
 ghost use Rattle.pt_code.specs.View.{Ins, IsView};
 ghost use Rattle.pt_places.specs.PlaceTable.{HasPlaces};
-ghost use Rattle.pt_fits.specs.Block.{block_of};
-ghost use Rattle.pt_verify.specs.PlaceTable.{NumberTooDeep};
-ghost use Rattle.pt_verify.specs.Sizes.{SizesMeet};
+ghost use Rattle.sem_fits.specs.fits.Block.{block_of};
+ghost use Rattle.pt_verify_depths.specs.PlaceTable.{NumberTooDeep};
+ghost use Rattle.pt_verify_depths.specs.Sizes.{SizesMeet};
 ghost use Rattle.pt_kind_flow.specs.Search.{IsFlow};
 ghost use Rattle.pt_block_kinds.specs.Told.{IsShort};
 ghost use Rattle.pt_cut_failures.specs.Cuts.{TellsCutBelow, TellsShortBelow};

@@ -2,7 +2,7 @@
 ghost use Rattle.std.specs.Prelude.{◌≡◌, ◌+◌, ◌≤◌, ℕ, Option, List, length, option_map, Some, IfOk};
 ghost use Rattle.pt_code.specs.View.{Ins};
 ghost use Rattle.pt_places.specs.PlaceTable.{HasPlaces, entry};
-ghost use Rattle.pt_fits.specs.Block.{block_of, links_of};
+ghost use Rattle.sem_fits.specs.fits.Block.{block_of, links_of};
 ghost use Rattle.pt_kind_flow.specs.Search.{IsFlow};
 ghost use Rattle.pt_block_kinds.specs.Leads.{leads_of};
 ghost use Rattle.pt_cut_failures.specs.Chains.{AreRowChains};
@@ -19,7 +19,7 @@ use pt_instr::effect;
 use pt_kind_flow::{Edge, Flow};
 use pt_places::{Place, Places};
 use pt_ranges::Handler;
-use pt_verify::{captured, target_of};
+use pt_verify_depths::{captured, target_of};
 use std::alloc::Global;
 
 /// The edges of an instruction at the limit or below whose place has a size.

@@ -5,7 +5,7 @@ use Rattle.pt_heap.specs.declared.value.Value.{Value}
 use Rattle.pt_heap.specs.declared.value.Value.TheVariants as value
 use Rattle.pt_heap.specs.declared.object.Object.{Object}
 use Rattle.pt_heap.specs.declared.object.Object.TheVariants as object
-use Rattle.pt_start.specs.declared.TheConstants.{LIST_CLASS, SET_CLASS, DICT_CLASS}
+use Rattle.pt_builtin_objects.specs.declared.TheConstants.{LIST_CLASS, SET_CLASS, DICT_CLASS}
 use Rattle.pt_dicts.specs.declared.key.KeyErr.{KeyErr}
 use Rattle.pt_dicts.specs.declared.key.KeyErr.TheVariants.{Unhashable, UserHash, Deep, Memory}
 use Rattle.pt_dicts.specs.Chain.{class_value}

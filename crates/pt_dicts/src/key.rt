@@ -6,8 +6,8 @@ ghost use Rattle.pt_dicts.specs.declared.key.KeyErr.TheVariants.{Memory as out_o
 use crate::chain::{class_value, object_at};
 use crate::codes::{END, name_key, push_bytes, push_number};
 use pt_base::{Memory, ObjId, Seq};
+use pt_builtin_objects::{DICT_CLASS, LIST_CLASS, SET_CLASS};
 use pt_heap::{Heap, Key, Object, Value};
-use pt_start::{DICT_CLASS, LIST_CLASS, SET_CLASS};
 use std::alloc::Global;
 
 /// How many tuples may stand inside one another in a key.

@@ -11,8 +11,8 @@ use Rattle.pt_tree.specs.Syntax.{Place, Tgt, Tgts, Stms}
 use Rattle.pt_tree.specs.Fold.{chained}
 use Rattle.pt_tree.specs.StatementFold.{branch_of, handler_of, items_of, stm_of, stms_of}
 use Rattle.pt_tree.proofs.StatementFolds.{branch_of-parts, handler_of-parts}
-use Rattle.pt_control.specs.Statements.{all_places, places}
-use Rattle.pt_stm_pieces.specs.Needed.{Behind, needed, in_front, at_last, either, goes_on, all_go_on, is_nowhere, is_silent, behind_tried, needed_if, is_needed, some_handler_goes_on, free}
+use Rattle.sem_control.specs.control.Statements.{all_places, places}
+use Rattle.sem_compile.specs.stm_pieces.Needed.{Behind, needed, in_front, at_last, either, goes_on, all_go_on, is_nowhere, is_silent, behind_tried, needed_if, is_needed, some_handler_goes_on, free}
 
 -- statements that are there, and none
 pub in_front-some : (ss : List Stmt) (b : Behind) → 0 < length ss → in_front (stms_of ss) b ≡ needed

@@ -1,5 +1,5 @@
 -- What is asked of the place behind statements, as code has it.
-use Rattle.pt_stm_pieces.specs.Needed as needed
+use Rattle.sem_compile.specs.stm_pieces.Needed as needed
 use Rattle.pt_exits.specs.declared.behind.Behind.{Behind}
 use Rattle.pt_exits.specs.declared.behind.Behind.TheVariants as behind
 

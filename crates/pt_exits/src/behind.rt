@@ -4,7 +4,7 @@ ghost use Rattle.std.specs.Prelude.{◌≡◌, map};
 ghost use Rattle.pt_tree.specs.Syntax.{no_handlers};
 ghost use Rattle.pt_tree.specs.Fold.{chained};
 ghost use Rattle.pt_tree.specs.StatementFold.{handler_of, stms_of};
-ghost use Rattle.pt_stm_pieces.specs.Needed.{behind_branches as behind_branches_of, behind_loop as behind_loop_of, behind_tried as behind_tried_of, in_front as in_front_of, is_needed as is_needed_behind, needed_if as needed_if_so};
+ghost use Rattle.sem_compile.specs.stm_pieces.Needed.{behind_branches as behind_branches_of, behind_loop as behind_loop_of, behind_tried as behind_tried_of, in_front as in_front_of, is_needed as is_needed_behind, needed_if as needed_if_so};
 ghost use Rattle.pt_exits.specs.Asked.{asked};
 
 use crate::fall_through::some_handler_goes_on;

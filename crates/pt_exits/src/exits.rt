@@ -5,7 +5,7 @@ ghost use Rattle.std.specs.Prelude.{◌≡◌, map};
 ghost use Rattle.pt_tree.specs.Syntax.{no_branches, no_handlers};
 ghost use Rattle.pt_tree.specs.Fold.{chained};
 ghost use Rattle.pt_tree.specs.StatementFold.{branch_of, handler_of, stm_of, stms_of};
-ghost use Rattle.pt_stm_pieces.specs.Needed.{exits as exits_of, some_exits as some_exits_of, some_branch_exits as some_branch_exits_of, some_handler_exits as some_handler_exits_of, is_break as is_break_exit};
+ghost use Rattle.sem_compile.specs.stm_pieces.Needed.{exits as exits_of, some_exits as some_exits_of, some_branch_exits as some_branch_exits_of, some_handler_exits as some_handler_exits_of, is_break as is_break_exit};
 
 use pt_assembler::Exit;
 use pt_tree::{Branch, Handler, Stmt, StmtNode};

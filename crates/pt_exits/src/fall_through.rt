@@ -4,7 +4,7 @@ ghost use Rattle.std.specs.Prelude.{◌≡◌, ◌||◌, map};
 ghost use Rattle.pt_tree.specs.Syntax.{no_branches, no_handlers};
 ghost use Rattle.pt_tree.specs.Fold.{chained};
 ghost use Rattle.pt_tree.specs.StatementFold.{branch_of, handler_of, stm_of, stms_of};
-ghost use Rattle.pt_stm_pieces.specs.Needed.{at_last as at_last_of, either as either_of, goes_on as goes_on_of, all_go_on as all_go_on_of, some_branch_goes_on as some_branch_goes_on_of, some_handler_goes_on as some_handler_goes_on_of, is_bound as is_bound_name};
+ghost use Rattle.sem_compile.specs.stm_pieces.Needed.{at_last as at_last_of, either as either_of, goes_on as goes_on_of, all_go_on as all_go_on_of, some_branch_goes_on as some_branch_goes_on_of, some_handler_goes_on as some_handler_goes_on_of, is_bound as is_bound_name};
 
 use crate::exits::some_exits;
 use pt_assembler::Exit;

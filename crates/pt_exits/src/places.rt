@@ -3,8 +3,8 @@
 ghost use Rattle.std.specs.Prelude.{◌≡◌, map};
 ghost use Rattle.pt_tree.specs.Fold.{target_of, targets_of};
 ghost use Rattle.pt_tree.specs.StatementFold.{stm_of};
-ghost use Rattle.pt_control.specs.Statements.{all_places, places};
-ghost use Rattle.pt_stm_pieces.specs.Needed.{is_nowhere as is_nowhere_in, is_silent as is_silent_statement, leaves as leaves_statement};
+ghost use Rattle.sem_control.specs.control.Statements.{all_places, places};
+ghost use Rattle.sem_compile.specs.stm_pieces.Needed.{is_nowhere as is_nowhere_in, is_silent as is_silent_statement, leaves as leaves_statement};
 
 use pt_tree::{Stmt, StmtNode, Target, TargetNode};
 

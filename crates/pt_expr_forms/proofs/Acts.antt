@@ -8,9 +8,9 @@ use Rattle.pt_tree.specs.Syntax as S
 use Rattle.pt_tree.specs.Syntax.{Name, Exp, Exps, Opt, Pieces, Entries, Links, Args, Made, Clauses, Place, Tgt, Tgts, Formals}
 use Rattle.pt_tree.specs.Sizes.{size, all_size, operands_size, opt_size, pieces_size, joins, entries_size, links_size, args_size, made_size, clauses_size, place_size, target_size, targets_size, formals_size}
 use Rattle.pt_instr.specs.declared.TextNo.{TextNo}
-use Rattle.pt_control.specs.Turn as T
-use Rattle.pt_control.specs.Turn.{Around, Variable, Operation}
-use Rattle.pt_control.specs.Expressions.{cells_of, making}
+use Rattle.sem_control.specs.control.Turn as T
+use Rattle.sem_control.specs.control.Turn.{Around, Variable, Operation}
+use Rattle.sem_control.specs.control.Expressions.{cells_of, making}
 use Rattle.pt_code.specs.declared.Const.{Const}
 use Rattle.pt_assembler.specs.declared.operation.Label.{Label}
 use Rattle.pt_assembler.specs.declared.operation.Act.{Act}
@@ -18,7 +18,7 @@ use Rattle.pt_assembler.specs.declared.operation.Operation.{Operation as Written
 use Rattle.pt_assembler.specs.Piece as P
 use Rattle.pt_assembler.specs.Piece.{Op, Piece, empty, act, move, block, headed, closed, ◌▸◌}
 use Rattle.pt_assembler.specs.Layout.{Written, layout, put, put_act, new_label, next_label, bind, with_text, keep_constant, keep_list, keep_local, keep_cell, keep_free, with_texts, with_constant_text, const_for, number_of_text, list_for, with_operand}
-use Rattle.pt_emitter.specs.ExpPiece.{null_piece, made_piece, op_piece, renewed_piece, exp_piece, part_piece, exps_piece, entries_piece, args_piece, pieces_piece, spec_piece, links_piece, ands_piece, ors_piece, formals_piece, first_piece, clauses_piece, item_piece, target_piece, targets_piece, place_piece}
+use Rattle.sem_compile.specs.emitter.ExpPiece.{null_piece, made_piece, op_piece, renewed_piece, exp_piece, part_piece, exps_piece, entries_piece, args_piece, pieces_piece, spec_piece, links_piece, ands_piece, ors_piece, formals_piece, first_piece, clauses_piece, item_piece, target_piece, targets_piece, place_piece}
 
 -- The number of the next act, behind each step of a writer.
 

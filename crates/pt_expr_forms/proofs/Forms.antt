@@ -14,19 +14,19 @@ use Rattle.pt_tree.specs.Fold.{ClauseOf}
 use Rattle.pt_tree.specs.Sizes.{size, pieces_size, joins, target_size}
 use Rattle.pt_instr.specs.declared.Instr.{Instr}
 use Rattle.pt_instr.specs.declared.Instr.TheVariants as instr
-use Rattle.pt_control.specs.Turn as T
-use Rattle.pt_control.specs.Turn.{Variable, Role, Operation}
-use Rattle.pt_control.specs.Expressions.{roles, making, defaulted}
-use Rattle.pt_control.specs.Statements as statements
-use Rattle.pt_control.specs.Statements.{star_of}
+use Rattle.sem_control.specs.control.Turn as T
+use Rattle.sem_control.specs.control.Turn.{Variable, Role, Operation}
+use Rattle.sem_control.specs.control.Expressions.{roles, making, defaulted}
+use Rattle.sem_control.specs.control.Statements as statements
+use Rattle.sem_control.specs.control.Statements.{star_of}
 use Rattle.pt_block_names.specs.declared.block_names.BlockNames.{BlockNames}
 use Rattle.pt_assembler.specs.declared.operation.Label.{Label}
 use Rattle.pt_assembler.specs.declared.operation.Operation.TheVariants.{Plain, To}
 use Rattle.pt_assembler.specs.declared.operation.Jump.TheVariants.{Always, IfFalse, IfTrueKeep, IfFalseKeep}
 use Rattle.pt_assembler.specs.Piece.{Piece, act, const, with_text}
 use Rattle.pt_assembler.specs.Layout.{Written, layout, put, put_act, act_of, new_label, next_label, bind}
-use Rattle.pt_emitter.specs.Ops.{call, formatting_of, operation, load, store, push_cell}
-use Rattle.pt_emitter.specs.ExpPiece.{unpack_op, exp_piece, part_piece, exps_piece, entries_piece, args_piece, pieces_piece, spec_piece, links_piece, ands_piece, ors_piece, formals_piece, first_piece, made_piece, op_piece, target_piece, targets_piece}
+use Rattle.sem_compile.specs.emitter.Ops.{call, formatting_of, operation, load, store, push_cell}
+use Rattle.sem_compile.specs.emitter.ExpPiece.{unpack_op, exp_piece, part_piece, exps_piece, entries_piece, args_piece, pieces_piece, spec_piece, links_piece, ands_piece, ors_piece, formals_piece, first_piece, made_piece, op_piece, target_piece, targets_piece}
 use Rattle.pt_write_ops.specs.Written.{cells_piece}
 use Rattle.pt_expr_forms.specs.declared.display.Display.{Display}
 use Rattle.pt_expr_forms.specs.declared.display.Display.TheVariants as display

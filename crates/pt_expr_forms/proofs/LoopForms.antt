@@ -6,17 +6,17 @@ use Rattle.pt_tree.specs.Syntax.{Name, Exp, Made, Clauses}
 use Rattle.pt_tree.specs.Fold.{ClauseOf, behind, conditions_of, clauses_of}
 use Rattle.pt_tree.specs.Sizes.{size, target_size}
 use Rattle.pt_instr.specs.declared.Instr.TheVariants as instr
-use Rattle.pt_control.specs.Turn as T
-use Rattle.pt_control.specs.Turn.{Variable}
-use Rattle.pt_control.specs.Expressions.{built_as, target_names, clause_names}
+use Rattle.sem_control.specs.control.Turn as T
+use Rattle.sem_control.specs.control.Turn.{Variable}
+use Rattle.sem_control.specs.control.Expressions.{built_as, target_names, clause_names}
 use Rattle.pt_block_names.specs.declared.block_names.BlockNames.{BlockNames}
 use Rattle.pt_assembler.specs.declared.operation.Label.{Label}
 use Rattle.pt_assembler.specs.declared.operation.Jump.TheVariants.{AtEnd, Always, IfFalse}
 use Rattle.pt_assembler.specs.declared.operation.Operation.TheVariants.{Plain, To}
 use Rattle.pt_assembler.specs.Piece.{Piece, act, move, closed, plain, to, ◌▸◌}
 use Rattle.pt_assembler.specs.Layout.{Written, layout, put, put_act, act_of, new_label, next_label, bind, operation_of, with_operand}
-use Rattle.pt_emitter.specs.Ops.{operation, renew}
-use Rattle.pt_emitter.specs.ExpPiece.{exp_piece, target_piece, clauses_piece, item_piece, renewed_piece}
+use Rattle.sem_compile.specs.emitter.Ops.{operation, renew}
+use Rattle.sem_compile.specs.emitter.ExpPiece.{exp_piece, target_piece, clauses_piece, item_piece, renewed_piece}
 use Rattle.pt_expr_forms.specs.declared.comprehension.Built.{Built}
 use Rattle.pt_expr_forms.specs.declared.comprehension.Built.TheVariants as built
 use Rattle.pt_expr_forms.specs.declared.comprehension.Innermost.{Innermost}

@@ -4,7 +4,7 @@ use Rattle.pt_base.specs.declared.numbers.ActNo.{ActNo}
 use Rattle.pt_tree.specs.Fold.{ClauseOf, behind}
 use Rattle.pt_instr.specs.declared.Instr.{Instr}
 use Rattle.pt_instr.specs.declared.Instr.TheVariants as instr
-use Rattle.pt_control.specs.Expressions.{target_names, clause_names}
+use Rattle.sem_control.specs.control.Expressions.{target_names, clause_names}
 use Rattle.pt_block_names.specs.declared.block_names.BlockNames.{BlockNames}
 use Rattle.pt_assembler.specs.declared.operation.Label.{Label}
 use Rattle.pt_assembler.specs.declared.operation.Jump.TheVariants.{AtEnd}

@@ -5,14 +5,14 @@ use Rattle.pt_tree.specs.declared.expression.Conversion.{Conversion}
 use Rattle.pt_tree.specs.Syntax as S
 use Rattle.pt_tree.specs.Syntax.{Exp, Exps, Opt, Pieces, Entries, Links, Args, Made, Clauses, Place, Tgt, Tgts, Formals}
 use Rattle.pt_tree.specs.Sizes.{size, pieces_size, joins, target_size}
-use Rattle.pt_control.specs.Turn as T
-use Rattle.pt_control.specs.Turn.{Variable, Operation}
-use Rattle.pt_control.specs.Expressions.{cells_of, making, roles, target_names, clause_names}
+use Rattle.sem_control.specs.control.Turn as T
+use Rattle.sem_control.specs.control.Turn.{Variable, Operation}
+use Rattle.sem_control.specs.control.Expressions.{cells_of, making, roles, target_names, clause_names}
 use Rattle.pt_block_names.specs.declared.block_names.BlockNames.{BlockNames}
 use Rattle.pt_block_names.specs.Named.{around}
 use Rattle.pt_assembler.specs.Piece.{Piece, move, ◌▸◌}
-use Rattle.pt_emitter.specs.Ops.{push_cell, renew}
-use Rattle.pt_emitter.specs.ExpPiece.{made_piece, op_piece, renewed_piece, exp_piece, part_piece, exps_piece, entries_piece, args_piece, pieces_piece, spec_piece, links_piece, ands_piece, ors_piece, formals_piece, first_piece, clauses_piece, item_piece, target_piece, targets_piece, place_piece}
+use Rattle.sem_compile.specs.emitter.Ops.{push_cell, renew}
+use Rattle.sem_compile.specs.emitter.ExpPiece.{made_piece, op_piece, renewed_piece, exp_piece, part_piece, exps_piece, entries_piece, args_piece, pieces_piece, spec_piece, links_piece, ands_piece, ors_piece, formals_piece, first_piece, clauses_piece, item_piece, target_piece, targets_piece, place_piece}
 use Rattle.pt_expr_forms.specs.Behind.{known}
 
 module _ {V : Type 0} (null : V) (b : BlockNames) where

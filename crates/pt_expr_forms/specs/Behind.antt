@@ -7,7 +7,7 @@ use Rattle.pt_tree.specs.Syntax as S
 use Rattle.pt_tree.specs.Syntax.{Name, Exp, Exps, Opt, Pieces, Entries, Links, Args, Tgt, Tgts, Formals}
 use Rattle.pt_instr.specs.declared.Instr.{Instr}
 use Rattle.pt_instr.specs.declared.Instr.TheVariants as instr
-use Rattle.pt_control.specs.Turn.{Around}
+use Rattle.sem_control.specs.control.Turn.{Around}
 use Rattle.pt_block_names.specs.declared.block_names.BlockNames.{BlockNames}
 use Rattle.pt_block_names.specs.Named as named
 pub use Rattle.pt_block_names.specs.Named.{numbers}
@@ -17,8 +17,8 @@ use Rattle.pt_assembler.specs.declared.operation.Jump.TheVariants.{Always, IfFal
 use Rattle.pt_assembler.specs.declared.operation.Operation.TheVariants.{Plain, To}
 use Rattle.pt_assembler.specs.Piece.{const, act}
 use Rattle.pt_assembler.specs.Layout.{Written, layout, put, put_act, act_of, new_label, next_label, bind}
-use Rattle.pt_emitter.specs.Ops.{formatting_of}
-use Rattle.pt_emitter.specs.ExpPiece.{exp_piece, target_piece, null_piece}
+use Rattle.sem_compile.specs.emitter.Ops.{formatting_of}
+use Rattle.sem_compile.specs.emitter.ExpPiece.{exp_piece, target_piece, null_piece}
 use Rattle.pt_expr_forms.specs.declared.display.Display.{Display}
 use Rattle.pt_expr_forms.specs.declared.display.Display.TheVariants as display
 use Rattle.pt_expr_forms.specs.declared.links.LinkEnds.{LinkEnds}

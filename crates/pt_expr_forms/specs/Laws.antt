@@ -2,14 +2,14 @@
 use Rattle.std.specs.Prelude.{ℕ, List, Bool}
 use Rattle.pt_tree.specs.Syntax.{Exp}
 use Rattle.pt_code.specs.declared.Start.{Start}
-use Rattle.pt_slots.specs.CodeObject.{CodeObject}
+use Rattle.sem_code.specs.slots.CodeObject.{CodeObject}
 use Rattle.pt_block_names.specs.declared.block_names.BlockNames.{BlockNames}
 use Rattle.pt_block_names.specs.Named.{around}
 use Rattle.pt_assembler.specs.declared.operation.Target.{Target}
 use Rattle.pt_assembler.specs.PieceAt.{Context, Piece_at}
-use Rattle.pt_comp_expr.specs.Places.{Exp_at}
-use Rattle.pt_emitter.specs.Laws.{Agrees}
-use Rattle.pt_emitter.specs.ExpPiece.{exp_piece}
+use Rattle.sem_code.specs.comp_expr.Places.{Exp_at}
+use Rattle.sem_compile.specs.emitter.Laws.{Agrees}
+use Rattle.sem_compile.specs.emitter.ExpPiece.{exp_piece}
 use Rattle.pt_expr_forms.specs.Behind.{known}
 
 -- where the piece that is written of an expression stands, there stands the code of the expression, whatever the value None is

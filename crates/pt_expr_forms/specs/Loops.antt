@@ -6,14 +6,14 @@ use Rattle.pt_tree.specs.Syntax.{Name, Exp, Made}
 use Rattle.pt_tree.specs.Fold.{ClauseOf, behind}
 use Rattle.pt_instr.specs.declared.Instr.{Instr}
 use Rattle.pt_instr.specs.declared.Instr.TheVariants as instr
-use Rattle.pt_control.specs.Expressions.{target_names, clause_names}
+use Rattle.sem_control.specs.control.Expressions.{target_names, clause_names}
 use Rattle.pt_block_names.specs.declared.block_names.BlockNames.{BlockNames}
 use Rattle.pt_assembler.specs.declared.operation.Label.{Label}
 use Rattle.pt_assembler.specs.declared.operation.Jump.TheVariants.{AtEnd, Always, IfFalse}
 use Rattle.pt_assembler.specs.declared.operation.Operation.TheVariants.{Plain, To}
 use Rattle.pt_assembler.specs.Piece.{move}
 use Rattle.pt_assembler.specs.Layout.{Written, layout, put, new_label, next_label, bind}
-use Rattle.pt_emitter.specs.Ops.{renew}
+use Rattle.sem_compile.specs.emitter.Ops.{renew}
 use Rattle.pt_expr_forms.specs.declared.comprehension.Built.{Built}
 use Rattle.pt_expr_forms.specs.declared.comprehension.Built.TheVariants as built
 use Rattle.pt_expr_forms.specs.declared.comprehension.Begun.{Begun}

@@ -7,7 +7,7 @@ use Rattle.pt_heap.specs.declared.value.Value.TheVariants as value
 use Rattle.pt_frames.specs.declared.slot.Slot.{Slot}
 use Rattle.pt_frames.specs.declared.slot.Slot.TheVariants as slot
 use Rattle.pt_frames.specs.Slots.{active_in}
-use Rattle.pt_heap_rows.specs.declared.progress.Progress.TheVariants as progress
+use Rattle.sem_rows.specs.declared.heap_rows.progress.Progress.TheVariants as progress
 use Rattle.pt_moves.specs.Operands.{one_value}
 use Rattle.pt_moves.specs.Truth.{branch}
 use Rattle.pt_moves.proofs.TakeLemmas.{quiet_one}

@@ -21,7 +21,7 @@ use Rattle.pt_prims.specs.declared.answer.PrimAns.TheVariants as prim
 use Rattle.pt_prims.specs.Arithmetic.{integer_content}
 use Rattle.pt_prims.specs.Comparisons.{comparison_content}
 use Rattle.pt_prims.specs.Operations.{content_of, placed, grown}
-use Rattle.pt_heap_rows.specs.declared.progress.Progress.TheVariants as progress
+use Rattle.sem_rows.specs.declared.heap_rows.progress.Progress.TheVariants as progress
 use Rattle.pt_moves.specs.Operands.{two_values}
 use Rattle.pt_moves.proofs.TakeLemmas.{two_on, two_off}
 use Rattle.pt_operators.specs.Operates.{Operates}

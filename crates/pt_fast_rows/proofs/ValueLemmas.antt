@@ -10,8 +10,8 @@ use Rattle.pt_frames.specs.declared.slot.Slot.{Slot}
 use Rattle.pt_frames.specs.declared.slot.Slot.TheVariants as slot
 use Rattle.pt_frames.specs.Slots.{active_in}
 use Rattle.pt_host.specs.World.{with_objects}
-use Rattle.pt_heap_rows.specs.declared.progress.Progress.{Progress}
-use Rattle.pt_heap_rows.specs.declared.progress.Progress.TheVariants as progress
+use Rattle.sem_rows.specs.declared.heap_rows.progress.Progress.{Progress}
+use Rattle.sem_rows.specs.declared.heap_rows.progress.Progress.TheVariants as progress
 use Rattle.pt_moves.specs.Operands.{one_value, RowsSlots, RowsHeap}
 use Rattle.pt_moves.proofs.TakeLemmas.{quiet_one}
 use Rattle.pt_moves.proofs.MoveLemmas.{pop_row, return_row}

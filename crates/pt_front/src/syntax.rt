@@ -11,8 +11,8 @@ use pt_expr::{ParseErr, wide};
 use pt_grammar::Part;
 use pt_lexer::Token;
 use pt_parser::wide_script;
+use pt_refine::narrow;
 use pt_refine_expr::{Narrowing, narrow_expr};
-use pt_refine_script::narrow;
 use pt_tree::{Expr, Script};
 use std::alloc::Global;
 

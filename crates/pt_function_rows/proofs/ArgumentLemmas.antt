@@ -2,10 +2,10 @@
 use Rattle.std.proofs.Common.{◌≡◌, ◌∙◌, ◌+◌, ◌-◌, ◌<◌, ◌≤◌, ℕ, zero, suc, false, List, [], ◌∷◌, ◌++◌, length, take, drop, get_or, map, replicate, refl, sym, ap, append_assoc, add-one, arith}
 use Rattle.std.proofs.Math.Seq.{drop-cons}
 use Rattle.pt_tree.specs.Syntax.{Name}
-use Rattle.pt_control.specs.Turn as T
+use Rattle.sem_control.specs.control.Turn as T
 use Rattle.pt_heap.specs.declared.value.Value.{Value}
 use Rattle.pt_heap.specs.declared.view.Binding.{Binding}
-use Rattle.pt_slots.specs.Instructions.{all_positional, last_named}
+use Rattle.sem_code.specs.slots.Instructions.{all_positional, last_named}
 use Rattle.pt_host.specs.Calls.{plain_arguments, named_arguments, arguments, has_spread, defaults_of}
 use Rattle.pt_function_rows.specs.Arguments.{named_last}
 

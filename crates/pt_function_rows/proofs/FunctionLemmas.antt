@@ -4,7 +4,7 @@ use Rattle.std.specs.Prelude.{drop, nat_eq, if◌then◌else◌}
 use Rattle.pt_base.specs.declared.numbers.BlockId.{BlockId}
 use Rattle.pt_base.specs.declared.what.What.TheVariants.{Heap}
 use Rattle.pt_tree.specs.Syntax.{Name}
-use Rattle.pt_control.specs.Turn as T
+use Rattle.sem_control.specs.control.Turn as T
 use Rattle.pt_instr.specs.declared.Instr.TheVariants as instr
 use Rattle.pt_instr.specs.declared.ListNo.{ListNo}
 use Rattle.pt_heap.specs.declared.value.Value.{Value}
@@ -15,20 +15,20 @@ use Rattle.pt_heap.specs.declared.object.Object.TheVariants as object
 use Rattle.pt_frames.specs.declared.slot.Slot.{Slot}
 use Rattle.pt_frames.specs.declared.slot.Slot.TheVariants as slot
 use Rattle.pt_code.specs.View.{Ins}
-use Rattle.pt_slots.specs.Steps.{gives}
-use Rattle.pt_slots.specs.Pops as P
-use Rattle.pt_run.specs.Host.{made, beyond}
+use Rattle.sem_code.specs.slots.Steps.{gives}
+use Rattle.sem_code.specs.slots.Pops as P
+use Rattle.sem_run.specs.run.Host.{made, beyond}
 use Rattle.pt_prims.specs.Operations.{next_object}
 use Rattle.pt_host.specs.World.{Stores, Allotted, IsAllotted, allot, with_objects}
 use Rattle.pt_host.specs.Trees.{answer_with}
 use Rattle.pt_host.specs.Calls.{defaults_of, number_of, function_object}
-use Rattle.pt_heap_rows.specs.declared.progress.Progress.TheVariants as progress
-use Rattle.pt_heap_rows.specs.Laws.{reached}
-use Rattle.pt_heap_rows.specs.Leads.{by_tree, giving}
-use Rattle.pt_heap_rows.specs.Told.{told}
-use Rattle.pt_heap_rows.specs.RowsIn.{Standpoint, RowsIn}
-use Rattle.pt_heap_rows.specs.Views.{slots_view}
-use Rattle.pt_heap_rows.proofs.RowLemmas.{operations_lead}
+use Rattle.sem_rows.specs.declared.heap_rows.progress.Progress.TheVariants as progress
+use Rattle.sem_rows.specs.heap_rows.Laws.{reached}
+use Rattle.sem_rows.specs.heap_rows.Leads.{by_tree, giving}
+use Rattle.sem_rows.specs.heap_rows.Told.{told}
+use Rattle.sem_rows.specs.heap_rows.RowsIn.{Standpoint, RowsIn}
+use Rattle.sem_rows.specs.heap_rows.Views.{slots_view}
+use Rattle.sem_rows.proofs.heap_rows.RowLemmas.{operations_lead}
 use Rattle.pt_moves.proofs.MoveLemmas.{stuck_row}
 use Rattle.pt_function_rows.specs.Operands.{many_values, many_cells}
 use Rattle.pt_function_rows.specs.FunctionRows.{MakesFunction, RowsFunction}

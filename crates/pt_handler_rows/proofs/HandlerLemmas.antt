@@ -8,14 +8,14 @@ use Rattle.pt_heap.specs.declared.completion.Completion.TheVariants as completio
 use Rattle.pt_frames.specs.declared.slot.Slot.{Slot}
 use Rattle.pt_frames.specs.declared.slot.Slot.TheVariants as slot
 use Rattle.pt_frames.specs.Slots.{active_in}
-use Rattle.pt_control.specs.Turn.{stuck}
-use Rattle.pt_slots.specs.Slots as S
-use Rattle.pt_slots.specs.Pops.{Next, an_exception, a_completion}
-use Rattle.pt_slots.specs.Landing.{land}
-use Rattle.pt_heap_rows.specs.declared.progress.Progress.TheVariants as progress
-use Rattle.pt_heap_rows.specs.Views.{slots_view}
-use Rattle.pt_heap_rows.specs.Told.{KeepsActive}
-use Rattle.pt_heap_rows.proofs.RowLemmas.{moves_lead}
+use Rattle.sem_control.specs.control.Turn.{stuck}
+use Rattle.sem_code.specs.slots.Slots as S
+use Rattle.sem_code.specs.slots.Pops.{Next, an_exception, a_completion}
+use Rattle.sem_code.specs.slots.Landing.{land}
+use Rattle.sem_rows.specs.declared.heap_rows.progress.Progress.TheVariants as progress
+use Rattle.sem_rows.specs.heap_rows.Views.{slots_view}
+use Rattle.sem_rows.specs.heap_rows.Told.{KeepsActive}
+use Rattle.sem_rows.proofs.heap_rows.RowLemmas.{moves_lead}
 use Rattle.pt_moves.specs.Operands.{RowsSlots}
 use Rattle.pt_moves.proofs.MoveLemmas.{stuck_row}
 use Rattle.pt_handler_rows.specs.Held.{exception_in, one_exception, completion_in, one_completion, let_go}

@@ -4,8 +4,8 @@ use Rattle.std.specs.Option.{option_or}
 use Rattle.std.specs.Str.{bytes_eq}
 use Rattle.std.proofs.lemmas.List.Elements.{Contains-append_left, Contains-append_right}
 use Rattle.pt_tree.specs.Syntax.{Name}
-use Rattle.pt_control.specs.Turn as T
-use Rattle.pt_control.specs.Turn.{Role, End, gave, left_by}
+use Rattle.sem_control.specs.control.Turn as T
+use Rattle.sem_control.specs.control.Turn.{Role, End, gave, left_by}
 use Rattle.pt_heap.specs.declared.value.Value.{Value}
 use Rattle.pt_heap.specs.declared.value.Value.TheVariants as value
 use Rattle.pt_heap.specs.declared.view.Binding.{Binding}
@@ -27,7 +27,7 @@ use Rattle.pt_prims.specs.Operations.{of_function}
 use Rattle.pt_prims.specs.declared.op.Op.{Op}
 use Rattle.pt_prims.specs.declared.operand.Operand.{Operand}
 use Rattle.pt_prims.specs.declared.operand.Operand.TheVariants as operand
-use Rattle.pt_run.specs.Host.{Here}
+use Rattle.sem_run.specs.run.Host.{Here}
 use Rattle.pt_host.specs.declared.places.TheConstants.{TYPE_ERROR}
 use Rattle.pt_host.specs.World.{Stores, CodeFacts, Program, allot}
 use Rattle.pt_host.specs.Texts.{binding_text, not_callable_text}
@@ -184,7 +184,7 @@ module _ (n : ℕ) (st : Stores) (r : Here Value) (s : IsSoundFrom n st) (active
     function-sound : (facts : CodeFacts) (f : Function) → BindingsWithin heap f.defaults → KeepsSound IsWithin n (call_function facts f args r st)
     function-sound facts f d = by (is_simple facts)
       where
-        by : (b : Bool) → KeepsSound IsWithin n (if b then call_bound facts f (binding_with facts.params f.defaults args) r st else Rattle.pt_run.specs.Host.leave Rattle.pt_base.specs.declared.what.What.TheVariants.Feature)
+        by : (b : Bool) → KeepsSound IsWithin n (if b then call_bound facts f (binding_with facts.params f.defaults args) r st else Rattle.sem_run.specs.run.Host.leave Rattle.pt_base.specs.declared.what.What.TheVariants.Feature)
         by true = bound-sound facts f (binding_with facts.params f.defaults args) (binding-within heap f.defaults args d named facts.params plain)
         by false = tt
 
@@ -216,6 +216,6 @@ module _ (n : ℕ) (st : Stores) (r : Here Value) (s : IsSoundFrom n st) (active
   pub call-sound : (program : Program) (rs : List Role) (f : Value) (vs : List Value) → AllWithin heap vs → KeepsSound IsWithin n (call program rs f vs r st)
   call-sound program rs f vs w = by (has_spread rs)
     where
-      by : (b : Bool) → KeepsSound IsWithin n (if b then Rattle.pt_run.specs.Host.leave Rattle.pt_base.specs.declared.what.What.TheVariants.Feature else call_value program f (arguments rs vs) r st)
+      by : (b : Bool) → KeepsSound IsWithin n (if b then Rattle.sem_run.specs.run.Host.leave Rattle.pt_base.specs.declared.what.What.TheVariants.Feature else call_value program f (arguments rs vs) r st)
       by true = tt
       by false = value-sound (arguments rs vs) (plain-within heap rs vs w) (named-args-within heap rs vs w) program f

@@ -6,15 +6,15 @@ use Rattle.std.proofs.lemmas.List.{length-map}
 use Rattle.std.proofs.lemmas.List.Quantifiers.{position-Some}
 use Rattle.pt_tree.specs.declared.expression.Constant.{Constant}
 use Rattle.pt_tree.specs.declared.expression.Constant.TheVariants as constant
-use Rattle.pt_control.specs.Turn as T
-use Rattle.pt_control.specs.Turn.{Ask, Seek, Deed, Operation}
+use Rattle.sem_control.specs.control.Turn as T
+use Rattle.sem_control.specs.control.Turn.{Ask, Seek, Deed, Operation}
 use Rattle.pt_heap.specs.declared.value.Value.{Value}
 use Rattle.pt_heap.specs.declared.value.Value.TheVariants as value
 use Rattle.pt_heap.specs.declared.object.Object.{Object}
 use Rattle.pt_heap.specs.Sound.{IsWithin}
-use Rattle.pt_start.specs.Start.{object_of, start_rows, start_objects}
+use Rattle.pt_builtin_objects.specs.Start.{object_of, start_rows, start_objects}
 use Rattle.pt_prims.specs.declared.op.Op.TheVariants as op
-use Rattle.pt_run.specs.Host.{answer, raise, print, leave, request, Here}
+use Rattle.sem_run.specs.run.Host.{answer, raise, print, leave, request, Here}
 use Rattle.pt_host.specs.World.{Stores, Program}
 use Rattle.pt_host.specs.Trees.{Tree, and_then}
 use Rattle.pt_host.specs.Answers.{truth, branch, deeds, text_object, constant_value, operate, seeks, answers}

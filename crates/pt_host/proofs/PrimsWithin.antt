@@ -17,7 +17,7 @@ use Rattle.pt_heap.specs.declared.value.Value.TheVariants as value
 use Rattle.pt_heap.specs.declared.object.Object.{Object}
 use Rattle.pt_heap.specs.declared.object.Object.TheVariants.{Str}
 use Rattle.pt_heap.specs.Sound.{IsClassAt, IsWithin}
-use Rattle.pt_start.specs.Start.{start_objects}
+use Rattle.pt_builtin_objects.specs.Start.{start_objects}
 use Rattle.pt_prims.specs.declared.op.Op.{Op}
 use Rattle.pt_prims.specs.declared.op.Op.TheVariants as op
 use Rattle.pt_prims.specs.declared.operand.Operand.{Operand}
@@ -31,7 +31,7 @@ use Rattle.pt_prims.specs.Truths.{truth_by}
 use Rattle.pt_prims.specs.Printing.{has_instance, has_compound, print_content, printed}
 use Rattle.pt_heap.specs.Limits.{object_limit}
 use Rattle.pt_prims.specs.Operations.{content_of, next_object, new_text, raised_with, placed, grown}
-use Rattle.pt_run.specs.Host.{Here}
+use Rattle.sem_run.specs.run.Host.{Here}
 use Rattle.pt_host.specs.World.{Stores, with_objects}
 use Rattle.pt_host.specs.Calls.{of_prim, by_prim}
 use Rattle.pt_host.specs.Sound.{IsWithinIf, IsSoundFrom, KeepsSound}

@@ -9,16 +9,16 @@ use Rattle.std.proofs.lemmas.List.Quantifiers.{position-Some}
 use Rattle.indexmap.specs.IndexMap.{insert_entry}
 use Rattle.pt_tables.specs.Names.{builtin_names, unbuilt_names}
 use Rattle.pt_tree.specs.Syntax.{Name}
-use Rattle.pt_control.specs.Turn as T
-use Rattle.pt_control.specs.Turn.{Scope, Variable}
+use Rattle.sem_control.specs.control.Turn as T
+use Rattle.sem_control.specs.control.Turn.{Scope, Variable}
 use Rattle.pt_heap.specs.declared.value.Value.{Value}
 use Rattle.pt_heap.specs.declared.value.Value.TheVariants as value
 use Rattle.pt_heap.specs.declared.object.Object.{Object}
 use Rattle.pt_heap.specs.Sound.{IsClassAt, IsWithin}
-use Rattle.pt_start.specs.Start.{start_rows, start_objects}
+use Rattle.pt_builtin_objects.specs.Start.{start_rows, start_objects}
 use Rattle.pt_names.specs.Names.{Named, name_value}
 use Rattle.pt_bind.specs.NameSets.{is_among}
-use Rattle.pt_run.specs.Host.{Here}
+use Rattle.sem_run.specs.run.Host.{Here}
 use Rattle.pt_host.specs.World.{Stores}
 use Rattle.pt_host.specs.Texts.{unbound_text, unbound_class}
 use Rattle.pt_host.specs.Builtins.{Builtin, is, unavailable, no_builtin, at_place, start_object, builtin}

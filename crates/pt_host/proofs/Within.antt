@@ -12,12 +12,12 @@ use Rattle.pt_heap.specs.declared.object.Object.{Object}
 use Rattle.pt_heap.specs.declared.object.Object.TheVariants.{Str, Class}
 use Rattle.pt_heap.specs.Sound.{place_of, place_in, places_in, IsClassAt, Fits, IsSound, IsWithin}
 use Rattle.pt_heap.proofs.SoundLemmas.{sound-add}
-use Rattle.pt_start.specs.Start.{start_objects}
+use Rattle.pt_builtin_objects.specs.Start.{start_objects}
 use Rattle.pt_names.specs.Names.{Named}
 use Rattle.pt_heap.specs.Limits.{object_limit}
 use Rattle.pt_prims.specs.Operations.{next_object}
-use Rattle.pt_run.specs.Host as H
-use Rattle.pt_run.specs.Host.{Here, made, beyond}
+use Rattle.sem_run.specs.run.Host as H
+use Rattle.sem_run.specs.run.Host.{Here, made, beyond}
 use Rattle.pt_host.specs.declared.places.TheConstants.{GENERATOR_EXIT, RECURSION_ERROR, RUNTIME_ERROR, VALUE_ERROR}
 use Rattle.pt_host.specs.World.{Stores, Allotted, with_objects, allot, allot_then}
 use Rattle.pt_host.specs.Trees.{answer_with, raise_with}
@@ -95,7 +95,7 @@ values-below : (h : List Object) (vs : List Value) → AllWithin h vs → Below 
 values-below h [] w = none-below (length h)
 values-below h (v ∷ vs) w = both-below (length h) (place_of v) (places_in vs) (value-below h v w.0) (values-below h vs w.1)
 
-object-below : (h : List Object) (o : Option Value) → IsWithinIf h o → Below (length h) (place_in (object_place o))
+pub object-below : (h : List Object) (o : Option Value) → IsWithinIf h o → Below (length h) (place_in (object_place o))
 object-below h None w = none-below (length h)
 object-below h (Some value.None) w = none-below (length h)
 object-below h (Some (value.Bool b)) w = none-below (length h)
@@ -201,6 +201,6 @@ raise-text-sound P n st c t h s k w =
 
 pub failures_sound : MakesSoundFailures
 failures_sound H.too_deep x h s u w = saying-sound h RECURSION_ERROR (codes "too many activations") None x s (_, refl) tt w
-failures_sound H.generator_exit x h s u w = error-sound h GENERATOR_EXIT [] None x s (_, refl) tt tt w
+failures_sound H.generator_exit x h s u w = error-sound h GENERATOR_EXIT [] None None s (_, refl) tt tt tt
 failures_sound (H.stop_iteration v) x h s u w = saying-sound h RUNTIME_ERROR (codes "generator raised StopIteration") (Some v) (Some v) s (_, refl) u u
 failures_sound H.not_local x h s u w = saying-sound h VALUE_ERROR (codes "event is not local") None x s (_, refl) tt w

@@ -5,13 +5,13 @@ use Rattle.std.specs.Str.{bytes_eq}
 use Rattle.pt_base.specs.declared.what.What.TheVariants.{Feature}
 use Rattle.pt_tree.specs.declared.expression.Constant.{Constant}
 use Rattle.pt_tree.specs.declared.expression.Constant.TheVariants as constant
-use Rattle.pt_control.specs.Turn as T
-use Rattle.pt_control.specs.Turn.{Ask, Seek, Deed, Operation}
+use Rattle.sem_control.specs.control.Turn as T
+use Rattle.sem_control.specs.control.Turn.{Ask, Seek, Deed, Operation}
 use Rattle.pt_heap.specs.declared.value.Value.{Value}
 use Rattle.pt_heap.specs.declared.value.Value.TheVariants as value
-use Rattle.pt_start.specs.Start.{start_rows}
+use Rattle.pt_builtin_objects.specs.Start.{start_rows}
 use Rattle.pt_prims.specs.declared.op.Op.TheVariants as op
-use Rattle.pt_run.specs.Host.{Here, Finding, answer, leave}
+use Rattle.sem_run.specs.run.Host.{Here, Finding, answer, leave}
 use Rattle.pt_host.specs.World.{Stores, Program}
 use Rattle.pt_host.specs.Trees.{Tree, and_then}
 use Rattle.pt_host.specs.Variables.{load, store, delete, make_anew, cell_of}

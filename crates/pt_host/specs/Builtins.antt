@@ -7,7 +7,7 @@ use Rattle.pt_tables.specs.Names.{builtin_names, unbuilt_names}
 use Rattle.pt_tree.specs.Syntax.{Name}
 use Rattle.pt_heap.specs.declared.value.Value.{Value}
 use Rattle.pt_heap.specs.declared.value.Value.TheVariants as value
-use Rattle.pt_start.specs.Start.{start_rows}
+use Rattle.pt_builtin_objects.specs.Start.{start_rows}
 use Rattle.pt_bind.specs.NameSets.{is_among}
 
 pub data Builtin : Type 0 where

@@ -4,8 +4,8 @@ use Rattle.std.specs.Prelude.{length, Option, Some, None, Result, Ok, Err, slice
 use Rattle.std.specs.Prelude.{if◌then◌else◌}
 use Rattle.pt_base.specs.declared.what.What.TheVariants.{Feature}
 use Rattle.pt_tree.specs.Syntax.{Name}
-use Rattle.pt_control.specs.Turn as T
-use Rattle.pt_control.specs.Turn.{Role, End, gave, left_by}
+use Rattle.sem_control.specs.control.Turn as T
+use Rattle.sem_control.specs.control.Turn.{Role, End, gave, left_by}
 use Rattle.pt_heap.specs.declared.value.Value.{Value}
 use Rattle.pt_heap.specs.declared.value.Value.TheVariants as value
 use Rattle.pt_heap.specs.declared.view.Binding.{Binding}
@@ -27,9 +27,9 @@ use Rattle.pt_prims.specs.declared.operand.Operand.{Operand}
 use Rattle.pt_prims.specs.declared.operand.Operand.TheVariants as operand
 use Rattle.pt_prims.specs.declared.answer.PrimAns.{PrimAns}
 use Rattle.pt_prims.specs.declared.answer.PrimAns.TheVariants as prim
-use Rattle.pt_run.specs.Machine.{BlockId}
-use Rattle.pt_run.specs.Host.{Here, Opening, answer, raise, print, leave, request}
-use Rattle.pt_run.specs.Host.{opens}
+use Rattle.sem_run.specs.run.Machine.{BlockId}
+use Rattle.sem_run.specs.run.Host.{Here, Opening, answer, raise, print, leave, request}
+use Rattle.sem_run.specs.run.Host.{opens}
 use Rattle.pt_host.specs.declared.places.TheConstants.{TYPE_ERROR}
 use Rattle.pt_host.specs.World.{Names, World, Stores, CodeFacts, Program, with_objects, in_world}
 use Rattle.pt_host.specs.World.{allot}

@@ -1,14 +1,14 @@
 -- Exceptions that a run makes (Language Reference 7.8; Library Reference, "Built-in Exceptions").
 use Rattle.std.specs.Prelude.{ℕ, Bool, true, false, List, [], ◌∷◌, ◌++◌, Option, Some, None, codes}
-use Rattle.std.specs.Prelude.{slice_get, slice_set}
+use Rattle.std.specs.Prelude.{slice_get, slice_set, ◌==◌, if◌then◌else◌}
 use Rattle.pt_base.specs.declared.numbers.ObjId.{ObjId}
 use Rattle.pt_heap.specs.declared.value.Value.{Value}
 use Rattle.pt_heap.specs.declared.value.Value.TheVariants as value
 use Rattle.pt_heap.specs.declared.object.Object.{Object}
 use Rattle.pt_heap.specs.declared.object.Object.TheVariants.{Str, Error}
 use Rattle.pt_heap.specs.declared.object.TraceEntry.{TraceEntry}
-use Rattle.pt_run.specs.Host as H
-use Rattle.pt_run.specs.Host.{Here, Entry, Failure, Made, made, beyond}
+use Rattle.sem_run.specs.run.Host as H
+use Rattle.sem_run.specs.run.Host.{Here, Entry, Failure, Made, made, beyond}
 use Rattle.pt_host.specs.declared.places.TheConstants.{GENERATOR_EXIT, RECURSION_ERROR}
 use Rattle.pt_host.specs.declared.places.TheConstants.{RUNTIME_ERROR, VALUE_ERROR}
 use Rattle.pt_host.specs.World.{World, Stores, Allotted, with_heap, allot, allot_then}
@@ -49,7 +49,8 @@ raise_saying c t h st = raise_with (error_saying c t None h.active st.world.heap
 -- those that a run makes by itself
 abbrev pub failure : Failure Value → (active : Option Value) → List Object → Allotted
 failure H.too_deep x h = error_saying RECURSION_ERROR (codes "too many activations") None x h
-failure H.generator_exit x h = allot (error GENERATOR_EXIT [] None x) h
+-- a GeneratorExit gets its context where it arises
+failure H.generator_exit x h = allot (error GENERATOR_EXIT [] None None) h
 failure (H.stop_iteration v) x h =
     error_saying RUNTIME_ERROR (codes "generator raised StopIteration") (Some v) (Some v) h
 failure H.not_local x h = error_saying VALUE_ERROR (codes "event is not local") None x h
@@ -60,6 +61,19 @@ in_heap_of w (beyond what) = beyond what
 
 abbrev pub makes : Failure Value → Here Value → World → Made Value World
 makes f h w = in_heap_of w (failure f h.active w.heap)
+
+-- where an exception arises that was made before, another one that is active becomes its context
+abbrev pub with_context : (context id : ObjId) → Option Object → List Object → List Object
+with_context c id (Some (Error x)) h = slice_set h id.0 (Error (record x { context = Some c }))
+with_context c id o h = h
+
+abbrev pub arise_while : (active : Option ObjId) → (id : ObjId) → List Object → List Object
+arise_while (Some c) id h = if c.0 == id.0 then h else with_context c id (slice_get h id.0) h
+arise_while None id h = h
+
+abbrev pub arises : Value → Here Value → World → World
+arises (value.Obj id) h w = with_heap (arise_while (object_place h.active) id w.heap) w
+arises v h w = w
 
 -- a traceback stands in its exception, the newest entry last
 abbrev pub trace_entry : Entry → TraceEntry

@@ -1,17 +1,17 @@
 -- The host of runs over the objects of a heap.
-use Rattle.std.specs.Prelude.{◌==◌, Bool, true, false, not, List, ◌∷◌, Option, Some, None}
+use Rattle.std.specs.Prelude.{◌==◌, Bool, true, false, not, List, [], ◌∷◌, Option, Some, None}
 use Rattle.std.specs.Prelude.{slice_get}
 use Rattle.pt_base.specs.declared.what.What.TheVariants.{Feature}
-use Rattle.pt_control.specs.Turn as T
-use Rattle.pt_control.specs.Turn.{Role}
+use Rattle.sem_control.specs.control.Turn as T
+use Rattle.sem_control.specs.control.Turn.{Role}
 use Rattle.pt_heap.specs.declared.value.Value.{Value}
 use Rattle.pt_heap.specs.declared.value.Value.TheVariants as value
 use Rattle.pt_heap.specs.declared.object.Object.{Object}
 use Rattle.pt_heap.specs.declared.object.Object.TheVariants as object
-use Rattle.pt_run.specs.Host.{Host, Callee, leave}
+use Rattle.sem_run.specs.run.Host.{Host, Callee, leave}
 use Rattle.pt_host.specs.declared.places.TheConstants.{DISABLE, MISSING}
-use Rattle.pt_host.specs.World.{Names, World, Program}
-use Rattle.pt_host.specs.Errors.{makes, enters}
+use Rattle.pt_host.specs.World.{Names, World, Program, names_left}
+use Rattle.pt_host.specs.Errors.{makes, arises, enters}
 use Rattle.pt_host.specs.Answers.{answers}
 use Rattle.pt_host.specs.Leaving.{is_stop, leaving}
 use Rattle.pt_host.specs.LogLines.{log_line}
@@ -35,13 +35,23 @@ abbrev pub is_builtin : Value → World → Bool
 is_builtin (value.Obj id) w = is_builtin_object (slice_get w.heap id.0)
 is_builtin v w = false
 
-abbrev pub first_argument : List Role → List Value → Value
-first_argument (T.positional ∷ rs) (v ∷ vs) = v
-first_argument (r ∷ rs) (v ∷ vs) = first_argument rs vs
-first_argument rs vs = value.Obj MISSING
+-- an argument that is spread is a tuple by then
+abbrev pub first_item : Option Object → (otherwise : Value) → Value
+first_item (Some (object.Tuple (v ∷ vs))) u = v
+first_item o u = u
+
+abbrev pub first_spread : Value → (otherwise : Value) → World → Value
+first_spread (value.Obj id) u w = first_item (slice_get w.heap id.0) u
+first_spread v u w = u
+
+abbrev pub first_argument : List Role → List Value → World → Value
+first_argument (T.positional ∷ rs) (v ∷ vs) w = v
+first_argument (T.spread ∷ rs) (v ∷ vs) w = first_spread v (first_argument rs vs w) w
+first_argument (r ∷ rs) (v ∷ vs) w = first_argument rs vs w
+first_argument rs vs w = value.Obj MISSING
 
 abbrev pub callee : Value → List Role → List Value → World → Callee Value
-callee f rs vs w = record { first = first_argument rs vs; is_builtin = is_builtin f w }
+callee f rs vs w = record { first = first_argument rs vs w; is_builtin = is_builtin f w }
 
 -- hooks are called by the calls of sys, which aren't there yet
 abbrev pub heap_host : Program → Host Names Value World
@@ -55,7 +65,9 @@ heap_host program = record {
   is_stop = is_stop;
   callee = callee;
   makes = makes;
+  arises = arises;
   enters = enters;
   leaving = leaving;
+  names_left = names_left;
   log_line = log_line program;
 }

@@ -13,7 +13,7 @@ use Rattle.pt_heap.specs.declared.object.Object.{Object}
 use Rattle.pt_heap.specs.declared.object.Object.TheVariants as object
 use Rattle.pt_dicts.specs.Chain.{class_in}
 use Rattle.pt_dicts.specs.Keys.{truth}
-use Rattle.pt_run.specs.Host.{Leaving, exits, exits_oddly, fails, Entry}
+use Rattle.sem_run.specs.run.Host.{Leaving, exits, exits_oddly, fails, Entry}
 use Rattle.pt_host.specs.declared.places.TheConstants.{SYSTEM_EXIT, STOP_ITERATION}
 use Rattle.pt_host.specs.World.{World}
 

@@ -7,8 +7,8 @@ use Rattle.pt_heap.specs.declared.value.Value.{Value}
 use Rattle.pt_heap.specs.declared.object.Object.{Object}
 use Rattle.pt_prims.specs.Classes.{class_name}
 use Rattle.pt_prims.specs.TypeErrors.{sentence}
-use Rattle.pt_run.specs.Events.{Happening, raises, Event, TraceKind, a_call, a_line, a_return}
-use Rattle.pt_run.specs.Events.{an_exception, trace_kind}
+use Rattle.sem_run.specs.run.Events.{Happening, raises, Event, TraceKind, a_call, a_line, a_return}
+use Rattle.sem_run.specs.run.Events.{an_exception, trace_kind}
 use Rattle.pt_host.specs.World.{World, Program}
 
 abbrev pub kind_word : TraceKind → List ℕ

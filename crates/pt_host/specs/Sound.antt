@@ -1,18 +1,18 @@
 -- When the names and the world of a run are sound: so is the heap, and each value that is held
 -- names an object of it.
 use Rattle.std.specs.Prelude.{ℕ, ◌≤◌, ◌+◌, List, [], ◌∷◌, length, Option, Some, None}
-use Rattle.pt_control.specs.Turn as T
-use Rattle.pt_control.specs.Turn.{Ask, Seek, Deed, End, gave, left_by}
+use Rattle.sem_control.specs.control.Turn as T
+use Rattle.sem_control.specs.control.Turn.{Ask, Seek, Deed, End, gave, left_by}
 use Rattle.pt_heap.specs.declared.value.Value.{Value}
 use Rattle.pt_heap.specs.declared.object.Object.{Object}
 use Rattle.pt_heap.specs.Sound.{IsSound, IsWithin}
-use Rattle.pt_start.specs.Start.{start_objects}
+use Rattle.pt_builtin_objects.specs.Start.{start_objects}
 use Rattle.pt_names.specs.Names.{Named}
-use Rattle.pt_run.specs.Host.{Request, Response, opens, answer, raise, print, leave, request}
-use Rattle.pt_run.specs.Host.{Finding, Here, Entry, Failure, stop_iteration, made, beyond}
+use Rattle.sem_run.specs.run.Host.{Request, Response, opens, answer, raise, print, leave, request}
+use Rattle.sem_run.specs.run.Host.{Finding, Here, Entry, Failure, stop_iteration, made, beyond}
 use Rattle.pt_host.specs.World.{Names, World, Stores, Program, Allotted}
 use Rattle.pt_host.specs.Trees.{Tree}
-use Rattle.pt_host.specs.Errors.{failure, enters}
+use Rattle.pt_host.specs.Errors.{failure, arises, enters}
 use Rattle.pt_host.specs.Answers.{answers}
 
 abbrev pub IsWithinIf : List Object → Option Value → Type 0
@@ -104,6 +104,11 @@ abbrev pub TakesEntries : Type 0
 TakesEntries =
     (v : Value) (e : Entry) (w : World) → IsSound start_objects w.heap
     → IsSound start_objects (enters v e w).heap
+
+abbrev pub ArisesSoundly : Type 0
+ArisesSoundly =
+    (v : Value) (here : Here Value) (w : World) → IsSound start_objects w.heap
+    → IsWithinIf w.heap here.active → IsSound start_objects (arises v here w).heap
 
 abbrev pub KeepsTheHeapSound : Program → Type 0
 KeepsTheHeapSound program =

@@ -1,6 +1,6 @@
 -- Answers in the making, over the names and the world of a run.
 use Rattle.pt_heap.specs.declared.value.Value.{Value}
-use Rattle.pt_run.specs.Host.{Answering, answer, raise, print, leave, request, made, beyond}
+use Rattle.sem_run.specs.run.Host.{Answering, answer, raise, print, leave, request, made, beyond}
 use Rattle.pt_host.specs.World.{Names, World, Stores, Allotted, with_objects}
 
 abbrev pub Tree : Type 0 → Type 0

@@ -7,12 +7,12 @@ use Rattle.std.specs.Str.{bytes_eq}
 use Rattle.indexmap.specs.IndexMap.{insert_entry}
 use Rattle.pt_base.specs.declared.what.What.TheVariants.{Feature}
 use Rattle.pt_tree.specs.Syntax.{Name}
-use Rattle.pt_control.specs.Turn as T
-use Rattle.pt_control.specs.Turn.{Scope, Variable}
+use Rattle.sem_control.specs.control.Turn as T
+use Rattle.sem_control.specs.control.Turn.{Scope, Variable}
 use Rattle.pt_heap.specs.declared.value.Value.{Value}
 use Rattle.pt_heap.specs.declared.value.Value.TheVariants as value
 use Rattle.pt_names.specs.Names.{name_value}
-use Rattle.pt_run.specs.Host.{Here, answer, leave}
+use Rattle.sem_run.specs.run.Host.{Here, answer, leave}
 use Rattle.pt_host.specs.World.{Names, World, Stores, in_world}
 use Rattle.pt_host.specs.Trees.{Tree}
 use Rattle.pt_host.specs.Texts.{unbound_text, unbound_class}

@@ -1,19 +1,22 @@
 -- What the asks of a run read and change: the names of an activation, and the objects, cells and
 -- global names of the run (Language Reference 3.1, 4.2).
 use Rattle.std.specs.Prelude.{◌≡◌, ℕ, List, [], ◌∷◌, ◌++◌, Bool, Option, Some, None, length, map}
-use Rattle.std.specs.Prelude.{nat_eq, if◌then◌else◌}
+use Rattle.std.specs.Prelude.{nat_eq, slice_get, if◌then◌else◌}
+use Rattle.std.specs.Option.{option_flatten}
+use Rattle.std.specs.Str.{bytes_eq}
+use Rattle.indexmap.specs.IndexMap.{insert_entry}
 use Rattle.pt_base.specs.declared.what.What.TheVariants.{Heap}
 use Rattle.pt_tree.specs.Syntax.{Name}
 use Rattle.pt_heap.specs.declared.value.Value.{Value}
 use Rattle.pt_heap.specs.declared.object.Object.{Object}
 use Rattle.pt_heap.specs.declared.object.Object.TheVariants.{Str}
-use Rattle.pt_start.specs.Start.{start_objects}
+use Rattle.pt_builtin_objects.specs.Start.{start_objects}
 use Rattle.pt_names.specs.Names.{Named}
 use Rattle.pt_bind.specs.declared.arguments.Params.{Params}
 use Rattle.pt_heap.specs.Limits.{object_limit}
 use Rattle.pt_prims.specs.Operations.{next_object}
-use Rattle.pt_run.specs.Machine.{BlockId}
-use Rattle.pt_run.specs.Host.{Store, Made, made, beyond}
+use Rattle.sem_run.specs.run.Machine.{BlockId}
+use Rattle.sem_run.specs.run.Host.{Store, Made, made, beyond}
 
 -- the values of the local names, or of those of a class; and the numbers of the cells of the names
 -- that have one
@@ -41,10 +44,17 @@ pub record CodeFacts : Type 0 where
   pub frees : List Name
   pub yields : Bool
 
--- the blocks, and the texts of constants, each once
+-- the blocks, and the texts of constants, each once; the name of the file that it was read from
+-- (`co_filename`), and its text, from which tracebacks take their lines, if that is known
 pub record Program : Type 0 where
   pub facts : BlockId → CodeFacts
   pub texts : List (List ℕ)
+  pub file : List ℕ
+  pub source : Option (List ℕ)
+
+-- the same program, read from there
+abbrev pub read_from : (file : List ℕ) → (source : Option (List ℕ)) → Program → Program
+read_from f t p = record p { file = f; source = t }
 
 abbrev pub with_heap : List Object → World → World
 with_heap h w = record w { heap = h }
@@ -75,6 +85,15 @@ IsAllotted (beyond what) o heap = o ≡ None
 -- as a run begins: the builtin objects, an object for each text of a constant, and no names
 abbrev pub start_world : Program → World
 start_world p = record { heap = start_objects ++ map Str p.texts; globals = []; cells = [] }
+
+-- as an activation is left its names keep what stands in their cells then
+abbrev pub with_cell_values : List (Name × ℕ) → World → Named → Named
+with_cell_values [] w vs = vs
+with_cell_values (c ∷ cs) w vs =
+    with_cell_values cs w (insert_entry bytes_eq vs c.0 (option_flatten (slice_get w.cells c.1)))
+
+abbrev pub names_left : Names → World → Names
+names_left ns w = record { values = with_cell_values ns.cells w ns.values; cells = [] }
 
 abbrev pub no_names : Names
 no_names = record { values = []; cells = [] }

@@ -1,7 +1,8 @@
 //! Laws of the host, each the contract of a function that does nothing.
 
 ghost use Rattle.std.specs.Prelude.{◌≡◌, codes};
-ghost use Rattle.pt_host.specs.Sound.{KeepsTheHeapSound, MakesSoundFailures, TakesEntries};
+ghost use Rattle.pt_host.specs.Sound.{ArisesSoundly, KeepsTheHeapSound, MakesSoundFailures};
+ghost use Rattle.pt_host.specs.Sound.{TakesEntries};
 ghost use Rattle.pt_host.specs.World.{Program};
 ghost use Rattle.pt_host.specs.declared.places.TheConstants.{DISABLE, GENERATOR_EXIT, MISSING};
 ghost use Rattle.pt_host.specs.declared.places.TheConstants.{NAME_ERROR, RECURSION_ERROR};
@@ -26,11 +27,12 @@ pub fn objects_stand_at_their_places()
 {}
 
 /// Where the heap is sound and all that is held and asked names objects of it, each answer leaves
-/// that so, with no fewer objects; and so do the exceptions that a run makes by itself and the
-/// entries of tracebacks.
-#[tactic(auto, using(crate::proofs::HeapSound::keeps_sound, crate::proofs::Within::failures_sound, crate::proofs::EntriesSound::takes_entries))]
+/// that so, with no fewer objects; and so do the exceptions that a run makes by itself, those that
+/// arise while another one is active, and the entries of tracebacks.
+#[tactic(auto, using(crate::proofs::HeapSound::keeps_sound, crate::proofs::Within::failures_sound, crate::proofs::EntriesSound::arises_soundly, crate::proofs::EntriesSound::takes_entries))]
 pub fn the_host_keeps_the_heap_sound()
     ensures answers { (program : Program) → KeepsTheHeapSound program }
     ensures failures { MakesSoundFailures }
+    ensures contexts { ArisesSoundly }
     ensures entries { TakesEntries }
 {}

@@ -6,13 +6,13 @@ use Rattle.std.proofs.lemmas.Bool.{cases_order, eq-eqb, eqb-true, false≢true}
 use Rattle.pt_instr.specs.declared.kinds.Kind.{Kind}
 use Rattle.pt_instr.specs.declared.kinds.Kind.TheVariants.{Pending}
 use Rattle.pt_instr.specs.Effects.{Kinds}
-use Rattle.pt_fits.specs.Block.{Block}
-use Rattle.pt_fits.specs.Places.{Gets}
-use Rattle.pt_fits.specs.Leaves as L
-use Rattle.pt_fits.specs.Leaves.{Common}
-use Rattle.pt_fits.specs.Fits.{IsLeast}
-use Rattle.pt_fits.specs.Jumps as J
-use Rattle.pt_fits.specs.Jumps.{Answer, Into, Jumps, Starts, ThroughFinally, into_block, lands, no_statement, out_of_finally}
+use Rattle.sem_fits.specs.fits.Block.{Block}
+use Rattle.sem_fits.specs.fits.Places.{Gets}
+use Rattle.sem_fits.specs.fits.Leaves as L
+use Rattle.sem_fits.specs.fits.Leaves.{Common}
+use Rattle.sem_fits.specs.fits.Fits.{IsLeast}
+use Rattle.sem_fits.specs.fits.Jumps as J
+use Rattle.sem_fits.specs.fits.Jumps.{Answer, Into, Jumps, Starts, ThroughFinally, into_block, lands, no_statement, out_of_finally}
 use Rattle.pt_jump.specs.Slots as S
 use Rattle.pt_jump.specs.Slots.{AnswersAt, EndsHeld, GetsMany, IsApart, IsHeld, IsTogether, SlotsTold, TellsSlots}
 use Rattle.pt_jump.specs.Targets.{first_on, starts_on}

@@ -3,10 +3,10 @@ use Rattle.std.specs.Prelude.{◌≡◌, ◌⊎◌, ℕ, suc, ◌<◌, max, leng
 use Rattle.std.specs.Option.{unwrap_or}
 use Rattle.pt_instr.specs.declared.kinds.Kind.TheVariants.{Pending}
 use Rattle.pt_instr.specs.Effects.{Kinds}
-use Rattle.pt_fits.specs.Block.{Block}
-use Rattle.pt_fits.specs.Places.{Gets}
-use Rattle.pt_fits.specs.Leaves.{Common}
-use Rattle.pt_fits.specs.Jumps.{Answer, into_block, lands, out_of_finally}
+use Rattle.sem_fits.specs.fits.Block.{Block}
+use Rattle.sem_fits.specs.fits.Places.{Gets}
+use Rattle.sem_fits.specs.fits.Leaves.{Common}
+use Rattle.sem_fits.specs.fits.Jumps.{Answer, into_block, lands, out_of_finally}
 
 -- of places: how many slots lie there, and how many there are up to the topmost that holds a
 -- completion

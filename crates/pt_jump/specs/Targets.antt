@@ -1,7 +1,7 @@
 -- The first place of a statement on a line, and what an answer says of a jump.
 use Rattle.std.specs.Prelude.{ℕ, min, List, [], ◌∷◌, Bool, ◌&&◌, nat_eq, is_some, if◌then◌else◌, Option, Some, None, Result, Ok, Err}
 use Rattle.pt_code.specs.declared.Start.{Start}
-use Rattle.pt_fits.specs.Jumps.{Answer, no_statement, out_of_finally, into_block, lands}
+use Rattle.sem_fits.specs.fits.Jumps.{Answer, no_statement, out_of_finally, into_block, lands}
 use Rattle.pt_jump.specs.declared.landing.Land.{Land}
 use Rattle.pt_jump.specs.declared.landing.JumpErr.{JumpErr}
 use Rattle.pt_jump.specs.declared.landing.JumpErr.TheVariants as error

@@ -1,9 +1,9 @@
 //! The target of a jump, and why none is permitted (Library Reference, "inspect": `f_lineno`).
 ghost use Rattle.std.specs.Prelude.{◌≡◌, ◌+◌, ℕ, MatchBool, None, Option, option_map};
 ghost use Rattle.pt_instr.specs.Effects.{Kinds};
-ghost use Rattle.pt_fits.specs.Block.{Block};
-ghost use Rattle.pt_fits.specs.Places.{Gets};
-ghost use Rattle.pt_fits.specs.Jumps.{Jumps};
+ghost use Rattle.sem_fits.specs.fits.Block.{Block};
+ghost use Rattle.sem_fits.specs.fits.Places.{Gets};
+ghost use Rattle.sem_fits.specs.fits.Jumps.{Jumps};
 ghost use Rattle.pt_jump.specs.Slots.{AnswersAt, IsApart, IsTogether, TellsSlots};
 ghost use Rattle.pt_jump.specs.Targets.{answer_of, first_on, nearer, starts_on};
 

@@ -1,6 +1,6 @@
 ghost use Rattle.std.specs.Prelude.{◌≡◌, MatchBool};
-ghost use Rattle.pt_fits.specs.Block.{Block};
-ghost use Rattle.pt_fits.specs.Leaves.{Common};
+ghost use Rattle.sem_fits.specs.fits.Block.{Block};
+ghost use Rattle.sem_fits.specs.fits.Leaves.{Common};
 ghost use Rattle.pt_jump.specs.Slots.{SlotsTold};
 
 use pt_base::Pc;

@@ -2,9 +2,9 @@
 use Rattle.std.proofs.Common.{◌≡◌, Bool, true, false, ◌&&◌, ◌||◌, ◌++◌, map, ap, ◌∙◌, Some, None, refl}
 use Rattle.std.specs.Prelude.{nat_eq, is_some}
 use Rattle.std.proofs.lemmas.List.Elements.{Contains-append_left, Contains-append_right}
-use Rattle.pt_fits.specs.Block.{Block}
-use Rattle.pt_fits.specs.Tables.{in_order, is_laid, is_place, rows_hold}
-use Rattle.pt_fits.specs.Fits.{TablesHold}
+use Rattle.sem_fits.specs.fits.Block.{Block}
+use Rattle.sem_fits.specs.fits.Tables.{in_order, is_laid, is_place, rows_hold}
+use Rattle.sem_fits.specs.fits.Fits.{TablesHold}
 use Rattle.pt_block_kinds.specs.Astray.{RowsLandOnPlaces}
 use Rattle.pt_block_kinds.proofs.Lists.{map_has, has_number}
 

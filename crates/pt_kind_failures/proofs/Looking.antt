@@ -5,8 +5,8 @@ use Rattle.std.proofs.lemmas.Bool.{false≢true}
 use Rattle.pt_places.specs.declared.places.Place.{Place}
 use Rattle.pt_places.specs.PlaceTable.{entry}
 use Rattle.pt_sizes.proofs.Tables.{entry_in}
-use Rattle.pt_fits.specs.Block.{Links, effect}
-use Rattle.pt_fits.specs.Steps.{finds}
+use Rattle.sem_fits.specs.fits.Block.{Links, effect}
+use Rattle.sem_fits.specs.fits.Steps.{finds}
 use Rattle.pt_kinds.specs.declared.forest.Forest.{Forest}
 use Rattle.pt_kinds.specs.Forest.{IsForest, IsInside}
 use Rattle.pt_kind_flow.specs.Search.{Grows}

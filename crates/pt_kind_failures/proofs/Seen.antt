@@ -10,11 +10,11 @@ use Rattle.pt_code.specs.declared.CodeBlock.{CodeBlock}
 use Rattle.pt_code.specs.View.{Ins, ins_at, laid_from, IsView}
 use Rattle.pt_places.specs.declared.places.Place.{Place}
 use Rattle.pt_places.specs.PlaceTable.{entry, place_at, HasPlaces}
-use Rattle.pt_fits.specs.Block.{Block, block_of}
-use Rattle.pt_verify.specs.Sizes as S
-use Rattle.pt_verify.specs.Sizes.{Sized}
-use Rattle.pt_verify.specs.PlaceTable as T
-use Rattle.pt_verify.specs.PlaceTable.{AreSizesUpTo}
+use Rattle.sem_fits.specs.fits.Block.{Block, block_of}
+use Rattle.pt_verify_depths.specs.Sizes as S
+use Rattle.pt_verify_depths.specs.Sizes.{Sized}
+use Rattle.pt_verify_depths.specs.PlaceTable as T
+use Rattle.pt_verify_depths.specs.PlaceTable.{AreSizesUpTo}
 use Rattle.pt_block_limits.proofs.SilentLemmas.{rows_laid}
 use Rattle.pt_kind_flow.specs.Search.{IsFlow}
 use Rattle.pt_block_kinds.specs.declared.graph.BlockKinds.{BlockKinds}

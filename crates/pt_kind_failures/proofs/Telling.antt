@@ -8,9 +8,9 @@ use Rattle.pt_code.specs.declared.CodeBlock.{CodeBlock}
 use Rattle.pt_code.specs.View.{Ins}
 use Rattle.pt_places.specs.declared.places.Place.{Place}
 use Rattle.pt_places.specs.PlaceTable.{entry, place_of, place_at, HasPlaces}
-use Rattle.pt_fits.specs.Block.{Block, block_of, effect}
-use Rattle.pt_fits.specs.Steps.{finds}
-use Rattle.pt_verify.specs.Refusals.{CutsOf}
+use Rattle.sem_fits.specs.fits.Block.{Block, block_of, effect}
+use Rattle.sem_fits.specs.fits.Steps.{finds}
+use Rattle.pt_verify_depths.specs.Refusals.{CutsOf}
 use Rattle.pt_kinds.specs.Forest.{list_at}
 use Rattle.pt_block_kinds.specs.declared.graph.BlockKinds.{BlockKinds}
 use Rattle.pt_block_kinds.specs.Graph.{HasSizes, IsSeen}

@@ -7,8 +7,8 @@ use Rattle.pt_instr.specs.declared.effects.Effect.{Effect}
 use Rattle.pt_instr.specs.declared.kinds.Kind.{Kind}
 use Rattle.pt_instr.specs.declared.kinds.Kind.TheVariants as kind
 use Rattle.pt_instr.specs.Effects.{Kinds}
-use Rattle.pt_fits.specs.Steps.{is_kind, are_kinds, spared, below, taken, swaps_iterator}
-use Rattle.pt_fits.proofs.KindLemmas.{same_kinds, no_swap, length_below}
+use Rattle.sem_fits.specs.fits.Steps.{is_kind, are_kinds, spared, below, taken, swaps_iterator}
+use Rattle.sem_fits.proofs.fits.KindLemmas.{same_kinds, no_swap, length_below}
 use Rattle.pt_kind_failures.specs.Lacking.{has_taken}
 
 is_itself : (k : Kind) → is_kind k k ≡ true

@@ -5,9 +5,9 @@ use Rattle.pt_instr.specs.Effects.{Kinds}
 use Rattle.pt_code.specs.View.{Ins}
 use Rattle.pt_places.specs.declared.places.Place.{Place}
 use Rattle.pt_places.specs.PlaceTable.{entry}
-use Rattle.pt_fits.specs.Block.{Links, Block, effect}
-use Rattle.pt_fits.specs.Steps.{are_kinds, taken, swaps_iterator, finds}
-use Rattle.pt_fits.specs.Places.{Reached}
+use Rattle.sem_fits.specs.fits.Block.{Links, Block, effect}
+use Rattle.sem_fits.specs.fits.Steps.{are_kinds, taken, swaps_iterator, finds}
+use Rattle.sem_fits.specs.fits.Places.{Reached}
 use Rattle.pt_kinds.specs.declared.forest.Forest.{Forest}
 use Rattle.pt_kinds.specs.Forest.{IsInside, list_at}
 

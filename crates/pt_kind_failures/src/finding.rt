@@ -1,7 +1,7 @@
 //! Whether an instruction finds what it takes on a list of kinds.
 ghost use Rattle.std.specs.Prelude.{◌≡◌, ◌++◌, ◌∷◌, [], IfOk, MatchBool};
 ghost use Rattle.pt_instr.specs.declared.kinds.Kind.TheVariants.{Iter, Value};
-ghost use Rattle.pt_fits.specs.Steps.{below, finds, has_value};
+ghost use Rattle.sem_fits.specs.fits.Steps.{below, finds, has_value};
 ghost use Rattle.pt_kinds.specs.Forest.{Has, IsForest, IsInside, list_at};
 ghost use Rattle.pt_kind_flow.specs.Search.{Grows};
 ghost use Rattle.pt_kind_failures.specs.Lacking.{has_taken};
@@ -9,7 +9,7 @@ ghost use Rattle.pt_kind_failures.specs.Lacking.{has_taken};
 use pt_base::Memory;
 use pt_instr::{Effect, Kind, Kinds};
 use pt_kinds::Forest;
-use pt_verify::count;
+use pt_verify_depths::count;
 
 /// Slots of these kinds upon a list.
 fn push_kinds(forest: &mut Forest, list: usize, kinds: &Kinds) -> Result<usize, Memory>

@@ -1,6 +1,6 @@
 //! Whether an instruction finds another kind than it takes.
 ghost use Rattle.std.specs.Prelude.{◌≡◌, Option, option_map, IfOk, IfSome, MatchBool};
-ghost use Rattle.pt_fits.specs.Block.{links_of};
+ghost use Rattle.sem_fits.specs.fits.Block.{links_of};
 ghost use Rattle.pt_kinds.specs.Forest.{IsForest, IsInside};
 ghost use Rattle.pt_kind_flow.specs.Search.{Grows};
 ghost use Rattle.pt_kind_failures.specs.Lacking.{AnyLacks, AreInside, lacks_in};
@@ -12,7 +12,7 @@ use pt_code::Code;
 use pt_instr::effect;
 use pt_kinds::Forest;
 use pt_places::{Place, Places};
-use pt_verify::captured;
+use pt_verify_depths::captured;
 
 /// Whether the instruction of a place with such a list finds another kind.
 fn lacks_in(

@@ -5,8 +5,8 @@ use Rattle.std.proofs.Math.Seq.{take-length}
 use Rattle.pt_instr.specs.declared.kinds.Kind.{Kind}
 use Rattle.pt_instr.specs.declared.kinds.Kind.TheVariants as kind
 use Rattle.pt_instr.specs.Effects.{Kinds}
-use Rattle.pt_fits.specs.Steps.{is_kind, is_prefix}
-use Rattle.pt_fits.proofs.KindLemmas.{prefix_taken}
+use Rattle.sem_fits.specs.fits.Steps.{is_kind, is_prefix}
+use Rattle.sem_fits.proofs.fits.KindLemmas.{prefix_taken}
 
 itself : (k : Kind) → is_kind k k ≡ true
 itself kind.Value = refl

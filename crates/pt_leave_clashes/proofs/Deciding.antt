@@ -11,14 +11,14 @@ use Rattle.pt_code.specs.View.{Ins}
 use Rattle.pt_places.specs.declared.places.Place.{Place}
 use Rattle.pt_places.specs.PlaceTable.{HasPlaces, place_at}
 use Rattle.pt_sizes.specs.Flow.{entry}
-use Rattle.pt_fits.specs.Block.{Block}
-use Rattle.pt_fits.specs.Steps.{is_prefix}
-use Rattle.pt_fits.specs.Places.{Gets}
-use Rattle.pt_fits.proofs.KindLemmas.{both}
-use Rattle.pt_fits.proofs.Ways.{place_of}
-use Rattle.pt_verify.specs.PlaceTable.{AreSizesUpTo, deep}
-use Rattle.pt_verify.specs.Refusals.{LeaveLacks}
-use Rattle.pt_verify.proofs.SizeLemmas.{kinds_have_sizes, sizes_have_kinds}
+use Rattle.sem_fits.specs.fits.Block.{Block}
+use Rattle.sem_fits.specs.fits.Steps.{is_prefix}
+use Rattle.sem_fits.specs.fits.Places.{Gets}
+use Rattle.sem_fits.proofs.fits.KindLemmas.{both}
+use Rattle.sem_fits.proofs.fits.Ways.{place_of}
+use Rattle.pt_verify_depths.specs.PlaceTable.{AreSizesUpTo, deep}
+use Rattle.pt_verify_depths.specs.Refusals.{LeaveLacks}
+use Rattle.pt_verify_depths.proofs.SizeLemmas.{kinds_have_sizes, sizes_have_kinds}
 use Rattle.pt_kinds.specs.Forest.{list_at}
 use Rattle.pt_kind_flow.specs.declared.flow.Flow.{Flow}
 use Rattle.pt_kind_flow.specs.Flow.{told}

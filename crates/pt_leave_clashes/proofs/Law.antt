@@ -6,18 +6,18 @@ use Rattle.std.proofs.lemmas.Bool.{true_from_ne_false, leb-true, false≢true, c
 use Rattle.pt_instr.specs.declared.kinds.Kind.{Kind}
 use Rattle.pt_instr.specs.Effects.{Kinds}
 use Rattle.pt_ranges.specs.declared.handlers.Handler.{Handler}
-use Rattle.pt_fits.specs.Block.{Block}
-use Rattle.pt_fits.specs.Steps.{step, cut, is_prefix}
-use Rattle.pt_fits.specs.Places as P
-use Rattle.pt_fits.specs.Places.{Gets, Reached}
-use Rattle.pt_fits.specs.Leaves as L
-use Rattle.pt_fits.specs.Leaves.{Departs, Leaving}
-use Rattle.pt_fits.proofs.KindLemmas.{same_kinds, prefix_taken}
-use Rattle.pt_fits.proofs.Alike.{get_taken, step_alike}
-use Rattle.pt_fits.proofs.CommonSlots.{front}
-use Rattle.pt_verify.specs.PlaceTable.{SizesDisagree}
-use Rattle.pt_verify.specs.Refusals as R
-use Rattle.pt_verify.specs.Refusals.{LeaveLacks}
+use Rattle.sem_fits.specs.fits.Block.{Block}
+use Rattle.sem_fits.specs.fits.Steps.{step, cut, is_prefix}
+use Rattle.sem_fits.specs.fits.Places as P
+use Rattle.sem_fits.specs.fits.Places.{Gets, Reached}
+use Rattle.sem_fits.specs.fits.Leaves as L
+use Rattle.sem_fits.specs.fits.Leaves.{Departs, Leaving}
+use Rattle.sem_fits.proofs.fits.KindLemmas.{same_kinds, prefix_taken}
+use Rattle.sem_fits.proofs.fits.Alike.{get_taken, step_alike}
+use Rattle.sem_fits.proofs.fits.CommonSlots.{front}
+use Rattle.pt_verify_depths.specs.PlaceTable.{SizesDisagree}
+use Rattle.pt_verify_depths.specs.Refusals as R
+use Rattle.pt_verify_depths.specs.Refusals.{LeaveLacks}
 use Rattle.pt_joins.specs.Joins.{related, same, back, along}
 use Rattle.pt_common_slots.specs.Common.{Keeps, by_row, by_leave, IsKept, one_step, RowsLead}
 use Rattle.pt_common_slots.proofs.Law.{departs_kept}

@@ -1,8 +1,8 @@
 -- What is said of Leaves that leave other kinds than their targets have.
 use Rattle.std.specs.Prelude.{◌↔◌, ℕ}
-use Rattle.pt_fits.specs.Block.{Block}
-use Rattle.pt_verify.specs.PlaceTable.{SizesDisagree}
-use Rattle.pt_verify.specs.Refusals.{LeaveLacks}
+use Rattle.sem_fits.specs.fits.Block.{Block}
+use Rattle.pt_verify_depths.specs.PlaceTable.{SizesDisagree}
+use Rattle.pt_verify_depths.specs.Refusals.{LeaveLacks}
 use Rattle.pt_common_slots.specs.Common.{RowsLead}
 use Rattle.pt_refusals.specs.Told.{Clashes, LeaveClashes}
 use Rattle.pt_leave_clashes.specs.Others.{LeavesOthers}

@@ -6,9 +6,9 @@ use Rattle.pt_instr.specs.Effects.{Kinds}
 use Rattle.pt_code.specs.View.{Ins}
 use Rattle.pt_places.specs.declared.places.Place.{Place}
 use Rattle.pt_sizes.specs.Flow.{entry}
-use Rattle.pt_fits.specs.Block.{Block}
-use Rattle.pt_fits.specs.Steps.{is_prefix}
-use Rattle.pt_fits.specs.Places.{Gets, Reached}
+use Rattle.sem_fits.specs.fits.Block.{Block}
+use Rattle.sem_fits.specs.fits.Steps.{is_prefix}
+use Rattle.sem_fits.specs.fits.Places.{Gets, Reached}
 use Rattle.pt_kinds.specs.declared.forest.Forest.{Forest}
 use Rattle.pt_kinds.specs.Forest.{list_at}
 use Rattle.pt_kind_flow.specs.declared.flow.Flow.{Flow}

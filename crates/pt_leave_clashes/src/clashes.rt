@@ -1,12 +1,12 @@
 //! A Leave is asked at its own place alone.
 ghost use Rattle.std.specs.Prelude.{◌≡◌, ◌+◌, min, length, is_some, option_map, MatchBool};
 ghost use Rattle.std.specs.Bool.{Decides};
-ghost use Rattle.pt_fits.specs.Block.{Block};
-ghost use Rattle.pt_fits.specs.Steps.{is_prefix};
+ghost use Rattle.sem_fits.specs.fits.Block.{Block};
+ghost use Rattle.sem_fits.specs.fits.Steps.{is_prefix};
 ghost use Rattle.pt_places.specs.PlaceTable.{HasPlaces};
 ghost use Rattle.pt_sizes.specs.Flow.{entry};
-ghost use Rattle.pt_verify.specs.PlaceTable.{AreSizesUpTo};
-ghost use Rattle.pt_verify.specs.Refusals.{LeaveLacks};
+ghost use Rattle.pt_verify_depths.specs.PlaceTable.{AreSizesUpTo};
+ghost use Rattle.pt_verify_depths.specs.Refusals.{LeaveLacks};
 ghost use Rattle.pt_kinds.specs.Forest.{IsForest, IsInside, list_at};
 ghost use Rattle.pt_kind_flow.specs.Search.{IsFlow};
 ghost use Rattle.pt_block_kinds.specs.Graph.{IsSeen};

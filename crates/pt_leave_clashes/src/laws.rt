@@ -1,5 +1,5 @@
 ghost use Rattle.std.specs.Prelude.{ℕ};
-ghost use Rattle.pt_fits.specs.Block.{Block};
+ghost use Rattle.sem_fits.specs.fits.Block.{Block};
 ghost use Rattle.pt_leave_clashes.specs.Laws.{ClashAtPlaces};
 
 /// Where nothing else clashes and no Leave leaves too few slots, a Leave leaves other kinds than

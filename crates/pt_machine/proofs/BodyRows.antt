@@ -6,10 +6,10 @@ use Rattle.pt_heap.specs.declared.value.Value.{Value}
 use Rattle.pt_names.specs.Names.{Named}
 use Rattle.pt_frames.specs.declared.slot.Slot.{Slot}
 use Rattle.pt_frames.specs.Slots.{active_in}
-use Rattle.pt_code_machine.specs.CodeBlocks.{CodeBlocks}
-use Rattle.pt_heap_rows.specs.declared.progress.Progress.{Progress}
-use Rattle.pt_heap_rows.specs.RowsIn.{RowsIn}
-use Rattle.pt_heap_rows.specs.Views.{stores_in, world_view}
+use Rattle.sem_code_machine.specs.code_machine.CodeBlocks.{CodeBlocks}
+use Rattle.sem_rows.specs.declared.heap_rows.progress.Progress.{Progress}
+use Rattle.sem_rows.specs.heap_rows.RowsIn.{RowsIn}
+use Rattle.sem_rows.specs.heap_rows.Views.{stores_in, world_view}
 use Rattle.pt_code_facts.specs.declared.facts.BlockFacts.{BlockFacts}
 use Rattle.pt_host.specs.World.{Program}
 use Rattle.pt_body_rows.specs.Bodies.{IsNameOf, RowsName, RowsLoadName}

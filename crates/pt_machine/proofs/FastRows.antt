@@ -9,10 +9,10 @@ use Rattle.pt_instr.specs.declared.TextNo.{TextNo}
 use Rattle.pt_heap.specs.declared.value.Value.{Value}
 use Rattle.pt_names.specs.Names.{Named}
 use Rattle.pt_frames.specs.declared.slot.Slot.{Slot}
-use Rattle.pt_heap_rows.specs.declared.progress.Progress.TheVariants as progress
+use Rattle.sem_rows.specs.declared.heap_rows.progress.Progress.TheVariants as progress
 use Rattle.pt_code_facts.specs.declared.facts.BlockFacts.{BlockFacts}
 use Rattle.pt_code_facts.specs.Facts.{facts_at}
-use Rattle.pt_heap_rows.specs.Told.{block_id}
+use Rattle.sem_rows.specs.heap_rows.Told.{block_id}
 use Rattle.pt_moves.specs.Operands.{RowsConstant}
 use Rattle.pt_moves.proofs.MoveLemmas.{jump_row}
 use Rattle.pt_name_rows.specs.Names.{RowsGlobal, RowsLoadGlobal}

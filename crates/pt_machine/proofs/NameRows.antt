@@ -7,16 +7,16 @@ use Rattle.pt_names.specs.Names.{Named}
 use Rattle.pt_frames.specs.declared.slot.Slot.{Slot}
 use Rattle.pt_frames.specs.Slots.{active_in}
 use Rattle.pt_code.specs.View.{Ins}
-use Rattle.pt_run.specs.Host.{Here}
+use Rattle.sem_run.specs.run.Host.{Here}
 use Rattle.pt_host.specs.World.{Program, Stores, CodeFacts}
 use Rattle.pt_host.specs.HeapHost.{heap_host}
-use Rattle.pt_rows.specs.Rows.{row_of}
-use Rattle.pt_code_machine.specs.CodeBlocks.{CodeBlocks}
-use Rattle.pt_heap_rows.specs.declared.progress.Progress.{Progress}
-use Rattle.pt_heap_rows.specs.RowsIn.{RowsIn, Standpoint}
-use Rattle.pt_heap_rows.specs.Told.{told, block_id}
-use Rattle.pt_heap_rows.specs.Views.{slots_view, stores_in, world_view}
-use Rattle.pt_variables.specs.Numbers.{KnowsNames}
+use Rattle.sem_code_machine.specs.rows.Rows.{row_of}
+use Rattle.sem_code_machine.specs.code_machine.CodeBlocks.{CodeBlocks}
+use Rattle.sem_rows.specs.declared.heap_rows.progress.Progress.{Progress}
+use Rattle.sem_rows.specs.heap_rows.RowsIn.{RowsIn, Standpoint}
+use Rattle.sem_rows.specs.heap_rows.Told.{told, block_id}
+use Rattle.sem_rows.specs.heap_rows.Views.{slots_view, stores_in, world_view}
+use Rattle.sem_rows.specs.variables.Numbers.{KnowsNames}
 use Rattle.pt_code_facts.specs.declared.facts.BlockFacts.{BlockFacts}
 use Rattle.pt_code_facts.specs.Facts.{facts_view, facts_at}
 use Rattle.pt_name_rows.specs.Names.{RowsLocal, RowsCell, RowsOwnCell, RowsGlobal, RowsLoadGlobal}
@@ -24,7 +24,7 @@ use Rattle.pt_machine_state.specs.declared.machine.Machine.{Machine}
 use Rattle.pt_machine_state.specs.Views.{block_of, stores_of}
 use Rattle.pt_code_tables.specs.declared.tables.CodeTables.{CodeTables}
 use Rattle.pt_code_tables.specs.Tables.{AreTablesOf, HasDifferentNames, text_in, builtin_in}
-use Rattle.pt_run_names.specs.Operands.{OperandsNameIn}
+use Rattle.law_frames.specs.Operands.{OperandsNameIn}
 use Rattle.pt_machine.specs.Performing.{Performs}
 use Rattle.pt_machine.proofs.RowLemmas.{IsTold, keeps, told_row}
 

@@ -3,21 +3,21 @@ use Rattle.std.proofs.Common.{◌≡◌, ◌∙◌, ℕ, ◌++◌, List, [], ◌
 use Rattle.std.specs.Prelude.{MatchBool}
 use Rattle.std.specs.Option.{option_map}
 use Rattle.pt_base.specs.declared.numbers.Pc.{Pc}
-use Rattle.pt_control.specs.LineEvents.{is_told}
-use Rattle.pt_slots.specs.Steps.{mark_of}
+use Rattle.sem_control.specs.control.LineEvents.{is_told}
+use Rattle.sem_code.specs.slots.Steps.{mark_of}
 use Rattle.pt_ranges.specs.declared.lines.ActMark.{ActMark}
 use Rattle.pt_instr.specs.declared.Instr.{Instr}
 use Rattle.pt_instr.specs.declared.Instr.TheVariants as instr
 use Rattle.pt_heap.specs.declared.value.Value.{Value}
 use Rattle.pt_heap.specs.declared.completion.Completion.TheVariants as completion
 use Rattle.pt_frames.specs.declared.slot.Slot.{Slot}
-use Rattle.pt_heap_rows.specs.declared.progress.Progress.TheVariants as progress
+use Rattle.sem_rows.specs.declared.heap_rows.progress.Progress.TheVariants as progress
 use Rattle.pt_machine_state.proofs.ApplyLemmas.{applied_leaves}
 use Rattle.pt_places.specs.declared.places.Place.{Place}
 use Rattle.pt_places.specs.PlaceTable.{entry}
-use Rattle.pt_heap_rows.specs.declared.progress.Progress.{Progress}
+use Rattle.sem_rows.specs.declared.heap_rows.progress.Progress.{Progress}
 use Rattle.pt_fast_rows.specs.FastPaths.{FastReturn, Leads, Led}
-use Rattle.pt_run.specs.Run as run
+use Rattle.sem_run.specs.run.Run as run
 use Rattle.pt_machine_state.specs.declared.blocks.BlockCode.{BlockCode}
 use Rattle.pt_machine_state.specs.declared.machine.Machine.{Machine}
 use Rattle.pt_machine_state.specs.declared.machine.Standing.TheVariants as standing

@@ -7,22 +7,22 @@ use Rattle.pt_tree.specs.Syntax.{Name}
 use Rattle.pt_heap.specs.declared.value.Value.{Value}
 use Rattle.pt_ranges.specs.declared.lines.ActMark.{ActMark}
 use Rattle.pt_code.specs.View.{Ins}
-use Rattle.pt_control.specs.Turn as T
-use Rattle.pt_control.specs.Turn.{Turn}
-use Rattle.pt_slots.specs.Slots.{State, on}
-use Rattle.pt_slots.specs.Steps.{mark_of}
-use Rattle.pt_slots.specs.Machine as slots
-use Rattle.pt_slots.specs.Needs.{Begins}
-use Rattle.pt_slots.proofs.MarkLaw.{begins_at}
-use Rattle.pt_heap_rows.specs.Views.{paired, slots_view}
+use Rattle.sem_control.specs.control.Turn as T
+use Rattle.sem_control.specs.control.Turn.{Turn}
+use Rattle.sem_code.specs.slots.Slots.{State, on}
+use Rattle.sem_code.specs.slots.Steps.{mark_of}
+use Rattle.sem_code.specs.slots.Machine as slots
+use Rattle.sem_code.specs.slots.Needs.{Begins}
+use Rattle.sem_code.proofs.slots.MarkLaw.{begins_at}
+use Rattle.sem_rows.specs.heap_rows.Views.{paired, slots_view}
 use Rattle.pt_places.specs.declared.places.Place.{Place}
 use Rattle.pt_places.specs.PlaceTable.{entry, place_at, place_of}
 use Rattle.pt_host.specs.World.{CodeFacts, Program}
 use Rattle.pt_host.specs.HeapHost.{heap_host}
 use Rattle.pt_bare_runs.specs.Strides.{take_turn, stride as stride_of}
-use Rattle.pt_code_machine.specs.CodeBlocks.{CodeBlocks, machine}
-use Rattle.pt_heap_rows.specs.declared.progress.Progress.{Progress}
-use Rattle.pt_heap_rows.specs.declared.progress.Progress.TheVariants as progress
+use Rattle.sem_code_machine.specs.code_machine.CodeBlocks.{CodeBlocks, machine}
+use Rattle.sem_rows.specs.declared.heap_rows.progress.Progress.{Progress}
+use Rattle.sem_rows.specs.declared.heap_rows.progress.Progress.TheVariants as progress
 use Rattle.pt_base.specs.declared.numbers.Pc.{Pc}
 use Rattle.pt_fast_rows.specs.FastPaths.{Led, place_behind}
 use Rattle.pt_machine_state.specs.declared.blocks.BlockCode.{BlockCode}

@@ -4,9 +4,9 @@ use Rattle.pt_instr.specs.declared.Instr.{Instr}
 use Rattle.pt_heap.specs.declared.value.Value.{Value}
 use Rattle.pt_code.specs.View.{Ins}
 use Rattle.pt_host.specs.World.{Program}
-use Rattle.pt_code_machine.specs.CodeBlocks.{CodeBlocks}
-use Rattle.pt_heap_rows.specs.declared.progress.Progress.{Progress}
-use Rattle.pt_heap_rows.specs.Told.{KeepsActive}
+use Rattle.sem_code_machine.specs.code_machine.CodeBlocks.{CodeBlocks}
+use Rattle.sem_rows.specs.declared.heap_rows.progress.Progress.{Progress}
+use Rattle.sem_rows.specs.heap_rows.Told.{KeepsActive}
 use Rattle.pt_machine_state.specs.declared.machine.Machine.{Machine}
 use Rattle.pt_machine_state.specs.declared.blocks.BlockCode.{BlockCode}
 use Rattle.pt_machine_state.specs.declared.machine.Stride.{Stride}
@@ -17,7 +17,7 @@ use Rattle.pt_places.specs.declared.places.Place.{Place}
 use Rattle.pt_machine_state.specs.Laws.{RowDone, behind_row, IsRow}
 use Rattle.pt_code_tables.specs.declared.tables.CodeTables.{CodeTables}
 use Rattle.pt_code_tables.specs.Tables.{AreTablesOf, is_class_in}
-use Rattle.pt_run_names.specs.Operands.{OperandsName}
+use Rattle.law_frames.specs.Operands.{OperandsName}
 
 -- what an instruction came to, with what is left of the machine
 abbrev pub row_done : Progress → Machine → RowDone

@@ -4,7 +4,7 @@ use Rattle.pt_heap.specs.declared.value.Value.{Value}
 use Rattle.pt_host.specs.World.{Program}
 use Rattle.pt_host.specs.HeapHost.{heap_host}
 use Rattle.pt_bare_runs.specs.Strides.{stride as stride_of}
-use Rattle.pt_code_machine.specs.CodeBlocks.{CodeBlocks, machine}
+use Rattle.sem_code_machine.specs.code_machine.CodeBlocks.{CodeBlocks, machine}
 use Rattle.pt_machine_state.specs.declared.machine.Machine.{Machine}
 use Rattle.pt_machine_state.specs.declared.machine.Stride.{Stride}
 use Rattle.pt_machine_state.specs.declared.writes.Writes.{Writes}
@@ -12,9 +12,9 @@ use Rattle.pt_machine_state.specs.Views.{Beside, AllWait, block_of, run_of}
 use Rattle.pt_machine_state.specs.Strode.{Strode}
 use Rattle.pt_code_tables.specs.declared.tables.CodeTables.{CodeTables}
 use Rattle.pt_code_tables.specs.Tables.{AreTablesOf}
-use Rattle.pt_heap_rows.specs.Views.{names_view}
-use Rattle.pt_run_names.specs.RunNames.{HasItsNames}
-use Rattle.pt_run_names.specs.Operands.{CodeNamesItsBlocks}
+use Rattle.sem_rows.specs.heap_rows.Views.{names_view}
+use Rattle.law_frames.specs.RunNames.{HasItsNames}
+use Rattle.law_frames.specs.Operands.{CodeNamesItsBlocks}
 
 -- the code names what its blocks have, and the newest activation has the names of its block, and none of a class
 pub record MachineHasNames (program : Program) (code : CodeBlocks Value) (m : Machine) : Type 0 where

@@ -11,10 +11,10 @@ use crate::moves::perform_move;
 use crate::operations::perform_operation;
 use pt_base::Memory;
 use pt_code_tables::CodeTables;
-use pt_heap_rows::Progress;
 use pt_instr::Instr;
 use pt_machine_state::Machine;
-use pt_unsupported_rows::not_supported;
+use sem_rows::heap_rows::Progress;
+use sem_rows::unsupported_rows::not_supported;
 
 /// Does the row of an instruction that stands at the place of the newest activation.
 ///

@@ -7,28 +7,28 @@ use Rattle.pt_heap.specs.declared.value.Value.{Value}
 use Rattle.pt_heap.specs.declared.value.Value.TheVariants as value
 use Rattle.pt_heap.specs.declared.completion.Completion.{Completion}
 use Rattle.pt_heap.specs.declared.completion.Completion.TheVariants as completion
-use Rattle.pt_control.specs.Events as E
-use Rattle.pt_slots.specs.Slots as S
-use Rattle.pt_slots.specs.Slots.{State, on, reraises}
-use Rattle.pt_slots.specs.Landing.{land}
+use Rattle.sem_control.specs.control.Events as E
+use Rattle.sem_code.specs.slots.Slots as S
+use Rattle.sem_code.specs.slots.Slots.{State, on, reraises}
+use Rattle.sem_code.specs.slots.Landing.{land}
 use Rattle.pt_unwind.specs.declared.Landing.{Landing}
 use Rattle.pt_unwind.specs.declared.Landing.TheVariants.{Enter, Jump, Out}
 use Rattle.pt_unwind.specs.Landings.{landing_of}
 use Rattle.pt_unwind.specs.Steps.{completion_of}
-use Rattle.pt_run.specs.Events as Told
-use Rattle.pt_run.specs.Host.{Host, Entry}
-use Rattle.pt_run.specs.Views.{line_or}
-use Rattle.pt_run.specs.Run as run
+use Rattle.sem_run.specs.run.Events as Told
+use Rattle.sem_run.specs.run.Host.{Host, Entry}
+use Rattle.sem_run.specs.run.Views.{line_or}
+use Rattle.sem_run.specs.run.Run as run
 use Rattle.pt_host.specs.World.{Names, World, Program}
 use Rattle.pt_host.specs.Errors.{enters}
 use Rattle.pt_prims.specs.Classes.{class_name}
 use Rattle.pt_host.specs.HeapHost.{heap_host}
-use Rattle.pt_transitions.specs.Successors as leads
+use Rattle.sem_run.specs.transitions.Successors as leads
 use Rattle.pt_bare_runs.specs.Strides as bare
 use Rattle.pt_bare_runs.specs.Strides.{goes, stride as stride_of, in_state, in_world, raise_here, logged, arise, here_of}
-use Rattle.pt_code_machine.specs.CodeBlocks.{CodeBlocks, machine}
-use Rattle.pt_heap_rows.specs.declared.progress.Progress.TheVariants as progress
-use Rattle.pt_heap_rows.specs.Views.{slots_view, world_view}
+use Rattle.sem_code_machine.specs.code_machine.CodeBlocks.{CodeBlocks, machine}
+use Rattle.sem_rows.specs.declared.heap_rows.progress.Progress.TheVariants as progress
+use Rattle.sem_rows.specs.heap_rows.Views.{slots_view, world_view}
 use Rattle.pt_machine_state.specs.declared.blocks.BlockCode.{BlockCode}
 use Rattle.pt_machine_state.specs.declared.blocks.Blocks.{Blocks}
 use Rattle.pt_machine_state.specs.declared.machine.Machine.{Machine}

@@ -9,31 +9,31 @@ use Rattle.pt_base.specs.declared.what.What.{What}
 use Rattle.pt_base.specs.declared.what.What.TheVariants.{Heap}
 use Rattle.pt_heap.specs.declared.value.Value.{Value}
 use Rattle.pt_frames.specs.Slots.{active_in}
-use Rattle.pt_comp_expr.specs.Law.{active_at}
+use Rattle.sem_code.specs.comp_expr.Law.{active_at}
 use Rattle.pt_heap.specs.declared.object.Object.{Object}
 use Rattle.pt_bind.specs.declared.arguments.Locals.{Locals}
 use Rattle.pt_frames.specs.declared.activations.OpenActivation.{OpenActivation}
 use Rattle.pt_frames.specs.declared.purpose.Purpose.TheVariants.{Result}
-use Rattle.pt_slots.specs.Slots.{State, on, iterator}
-use Rattle.pt_slots.specs.Machine as slots
-use Rattle.pt_run.specs.Machine as M
-use Rattle.pt_run.specs.State.{most_activations}
-use Rattle.pt_run.specs.Source.{or_null}
-use Rattle.pt_run.specs.Events as Told
-use Rattle.pt_run.specs.Host as H
-use Rattle.pt_run.specs.Host.{Opening, BlockResult, Store, Made, made, beyond}
+use Rattle.sem_code.specs.slots.Slots.{State, on, iterator}
+use Rattle.sem_code.specs.slots.Machine as slots
+use Rattle.sem_run.specs.run.Machine as M
+use Rattle.sem_run.specs.run.State.{most_activations}
+use Rattle.sem_run.specs.run.Source.{or_null}
+use Rattle.sem_run.specs.run.Events as Told
+use Rattle.sem_run.specs.run.Host as H
+use Rattle.sem_run.specs.run.Host.{Opening, BlockResult, Store, Made, made, beyond}
 use Rattle.pt_host.specs.World.{Names, World, Program, Allotted, IsAllotted}
 use Rattle.pt_host.specs.Errors.{error_saying, in_heap_of}
 use Rattle.pt_host.specs.HeapHost.{heap_host}
 use Rattle.pt_host.specs.declared.places.TheConstants.{RECURSION_ERROR}
-use Rattle.pt_transitions.specs.Successors.{Successor}
+use Rattle.sem_run.specs.transitions.Successors.{Successor}
 use Rattle.pt_bare_runs.specs.Strides as bare
 use Rattle.pt_bare_runs.specs.Strides.{logged, open_above, open_or_fail, fail_opening, is_full, store, lead}
-use Rattle.pt_code_machine.specs.CodeBlocks.{CodeBlocks, machine, start_of}
-use Rattle.pt_heap_rows.specs.declared.progress.Progress.TheVariants as progress
-use Rattle.pt_heap_rows.specs.Leads.{HasHeapTruths}
-use Rattle.pt_heap_rows.specs.Told.{block_id, opening_of}
-use Rattle.pt_heap_rows.specs.Views.{slots_view, world_view}
+use Rattle.sem_code_machine.specs.code_machine.CodeBlocks.{CodeBlocks, machine, start_of}
+use Rattle.sem_rows.specs.declared.heap_rows.progress.Progress.TheVariants as progress
+use Rattle.sem_rows.specs.heap_rows.Leads.{HasHeapTruths}
+use Rattle.sem_rows.specs.heap_rows.Told.{block_id, opening_of}
+use Rattle.sem_rows.specs.heap_rows.Views.{slots_view, world_view}
 use Rattle.pt_machine_state.specs.declared.blocks.BlockCode.{BlockCode}
 use Rattle.pt_machine_state.specs.declared.blocks.Blocks.{Blocks}
 use Rattle.pt_machine_state.specs.declared.machine.Machine.{Machine}

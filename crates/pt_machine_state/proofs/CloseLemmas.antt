@@ -8,22 +8,22 @@ use Rattle.pt_heap.specs.declared.value.Value.{Value}
 use Rattle.pt_frames.specs.declared.activation.Activation.{Activation}
 use Rattle.pt_frames.specs.declared.activations.OpenActivation.{OpenActivation}
 use Rattle.pt_frames.specs.declared.purpose.Purpose.{Purpose}
-use Rattle.pt_control.specs.Turn.{End, gave, left_by}
-use Rattle.pt_slots.specs.Slots as S
-use Rattle.pt_slots.specs.Slots.{State, on, off}
+use Rattle.sem_control.specs.control.Turn.{End, gave, left_by}
+use Rattle.sem_code.specs.slots.Slots as S
+use Rattle.sem_code.specs.slots.Slots.{State, on, off}
 use Rattle.pt_places.specs.declared.places.Place.{Place}
 use Rattle.pt_places.specs.PlaceTable.{entry, place_at, place_of}
-use Rattle.pt_transitions.specs.Successors as leads
-use Rattle.pt_run.specs.Host as H
-use Rattle.pt_run.specs.Host.{Leaving, BlockResult}
-use Rattle.pt_run.specs.Run as run
+use Rattle.sem_run.specs.transitions.Successors as leads
+use Rattle.sem_run.specs.run.Host as H
+use Rattle.sem_run.specs.run.Host.{Leaving, BlockResult}
+use Rattle.sem_run.specs.run.Run as run
 use Rattle.pt_host.specs.World.{Names, Program}
 use Rattle.pt_host.specs.HeapHost.{heap_host}
 use Rattle.pt_host.specs.Leaving.{leaving}
 use Rattle.pt_bare_runs.specs.Strides as bare
 use Rattle.pt_bare_runs.specs.Strides.{outside_at, behind, close, end_by_exception, end_logged, lead, return_to, store, stride as stride_of}
-use Rattle.pt_code_machine.specs.CodeBlocks.{CodeBlocks, machine}
-use Rattle.pt_heap_rows.specs.Views.{slots_view, world_view}
+use Rattle.sem_code_machine.specs.code_machine.CodeBlocks.{CodeBlocks, machine}
+use Rattle.sem_rows.specs.heap_rows.Views.{slots_view, world_view}
 use Rattle.pt_machine_state.specs.declared.blocks.BlockCode.{BlockCode}
 use Rattle.pt_machine_state.specs.declared.blocks.Blocks.{Blocks}
 use Rattle.pt_machine_state.specs.declared.machine.Machine.{Machine}

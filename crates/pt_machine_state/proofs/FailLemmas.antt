@@ -14,23 +14,23 @@ use Rattle.pt_heap.specs.Limits.{object_limit}
 use Rattle.pt_frames.specs.declared.activations.OpenActivation.{OpenActivation}
 use Rattle.pt_frames.specs.Activations.{active_exception}
 use Rattle.pt_frames.specs.Slots.{active_in}
-use Rattle.pt_control.specs.Bases as bases
-use Rattle.pt_slots.specs.Slots as S
-use Rattle.pt_slots.specs.Landing.{land}
-use Rattle.pt_comp_expr.specs.Law.{active_at}
-use Rattle.pt_run.specs.Host.{made, beyond}
+use Rattle.sem_control.specs.control.Bases as bases
+use Rattle.sem_code.specs.slots.Slots as S
+use Rattle.sem_code.specs.slots.Landing.{land}
+use Rattle.sem_code.specs.comp_expr.Law.{active_at}
+use Rattle.sem_run.specs.run.Host.{made, beyond}
 use Rattle.pt_host.specs.World.{Program, Allotted, allot, allot_then, IsAllotted}
 use Rattle.pt_host.specs.Errors.{error, error_saying}
 use Rattle.pt_host.specs.HeapHost.{heap_host}
 use Rattle.pt_prims.specs.Operations.{next_object}
 use Rattle.pt_host.specs.Trees.{raise_with}
 use Rattle.pt_host.specs.Calls.{arguments_of}
-use Rattle.pt_transitions.specs.Successors as leads
+use Rattle.sem_run.specs.transitions.Successors as leads
 use Rattle.pt_bare_runs.specs.Strides.{with_store, active_in as active_among}
-use Rattle.pt_code_machine.specs.CodeBlocks.{CodeBlocks, machine}
-use Rattle.pt_heap_rows.specs.declared.progress.Progress.TheVariants as progress
-use Rattle.pt_heap_rows.specs.Leads.{by_tree, giving}
-use Rattle.pt_heap_rows.specs.Views.{slots_view}
+use Rattle.sem_code_machine.specs.code_machine.CodeBlocks.{CodeBlocks, machine}
+use Rattle.sem_rows.specs.declared.heap_rows.progress.Progress.TheVariants as progress
+use Rattle.sem_rows.specs.heap_rows.Leads.{by_tree, giving}
+use Rattle.sem_rows.specs.heap_rows.Views.{slots_view}
 use Rattle.pt_machine_state.specs.declared.blocks.BlockCode.{BlockCode}
 use Rattle.pt_machine_state.specs.declared.blocks.Blocks.{Blocks}
 use Rattle.pt_machine_state.specs.declared.machine.Machine.{Machine}

@@ -11,18 +11,18 @@ use Rattle.pt_frames.specs.declared.slot.Slot.{Slot}
 use Rattle.pt_frames.specs.declared.slot.Slot.TheVariants as slot
 use Rattle.pt_frames.specs.Slots as frames
 use Rattle.pt_frames.specs.Slots.{active_in}
-use Rattle.pt_slots.specs.Slots as S
-use Rattle.pt_slots.specs.Slots.{Abrupt, Slots, State, on}
-use Rattle.pt_slots.specs.Landing.{land, cut, held_by}
+use Rattle.sem_code.specs.slots.Slots as S
+use Rattle.sem_code.specs.slots.Slots.{Abrupt, Slots, State, on}
+use Rattle.sem_code.specs.slots.Landing.{land, cut, held_by}
 use Rattle.pt_unwind.specs.declared.Landing.{Landing}
 use Rattle.pt_unwind.specs.declared.Landing.TheVariants.{Enter, Jump, Out}
 use Rattle.pt_unwind.specs.Landings.{landing_of}
 use Rattle.pt_unwind.specs.Steps.{completion_of, state_behind}
 use Rattle.pt_unwind.proofs.StepLemmas.{lands_same}
-use Rattle.pt_run.specs.Machine.{BlockId}
+use Rattle.sem_run.specs.run.Machine.{BlockId}
 use Rattle.pt_host.specs.World.{Program}
-use Rattle.pt_code_machine.specs.CodeBlocks.{CodeBlocks}
-use Rattle.pt_heap_rows.specs.Views.{slot_view, slots_view}
+use Rattle.sem_code_machine.specs.code_machine.CodeBlocks.{CodeBlocks}
+use Rattle.sem_rows.specs.heap_rows.Views.{slot_view, slots_view}
 use Rattle.pt_machine_state.specs.declared.blocks.BlockCode.{BlockCode}
 use Rattle.pt_machine_state.specs.declared.machine.Machine.{Machine}
 use Rattle.pt_machine_state.specs.declared.machine.Standing.TheVariants as standing

@@ -8,17 +8,17 @@ use Rattle.pt_base.specs.declared.what.What.{What}
 use Rattle.pt_heap.specs.declared.value.Value.{Value}
 use Rattle.pt_frames.specs.declared.activation.Activation.{Activation}
 use Rattle.pt_frames.specs.declared.activations.OpenActivation.{OpenActivation}
-use Rattle.pt_slots.specs.Slots.{State}
-use Rattle.pt_run.specs.Machine.{BlockId}
-use Rattle.pt_run.specs.Host.{Frame}
-use Rattle.pt_run.specs.Views as views
-use Rattle.pt_run.specs.Views.{line_or, visible, line_of_first}
+use Rattle.sem_code.specs.slots.Slots.{State}
+use Rattle.sem_run.specs.run.Machine.{BlockId}
+use Rattle.sem_run.specs.run.Host.{Frame}
+use Rattle.sem_run.specs.run.Views as views
+use Rattle.sem_run.specs.run.Views.{line_or, visible, line_of_first}
 use Rattle.pt_host.specs.World.{Names, Stores, Program}
 use Rattle.pt_host.specs.HeapHost.{heap_host}
-use Rattle.pt_transitions.specs.Successors as leads
+use Rattle.sem_run.specs.transitions.Successors as leads
 use Rattle.pt_bare_runs.specs.Strides as bare
 use Rattle.pt_bare_runs.specs.Strides.{with_store, frames_in, outside_at}
-use Rattle.pt_code_machine.specs.CodeBlocks.{CodeBlocks, machine}
+use Rattle.sem_code_machine.specs.code_machine.CodeBlocks.{CodeBlocks, machine}
 use Rattle.pt_machine_state.specs.declared.blocks.BlockCode.{BlockCode}
 use Rattle.pt_machine_state.specs.declared.blocks.Blocks.{Blocks}
 use Rattle.pt_machine_state.specs.declared.machine.Machine.{Machine}

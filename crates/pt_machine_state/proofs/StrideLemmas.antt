@@ -6,28 +6,28 @@ use Rattle.pt_base.specs.declared.numbers.Pc.{Pc}
 use Rattle.pt_heap.specs.declared.value.Value.{Value}
 use Rattle.pt_ranges.specs.declared.lines.ActMark.{ActMark}
 use Rattle.pt_code.specs.View.{Ins}
-use Rattle.pt_control.specs.Turn.{Ask}
-use Rattle.pt_control.specs.LineEvents.{is_told}
-use Rattle.pt_slots.specs.Slots.{on}
-use Rattle.pt_slots.specs.Steps.{mark_of}
-use Rattle.pt_slots.specs.Machine as slots
-use Rattle.pt_slots.specs.Instructions.{perform}
-use Rattle.pt_slots.specs.Needs.{Begins}
-use Rattle.pt_slots.proofs.MarkLaw.{begins_at}
+use Rattle.sem_control.specs.control.Turn.{Ask}
+use Rattle.sem_control.specs.control.LineEvents.{is_told}
+use Rattle.sem_code.specs.slots.Slots.{on}
+use Rattle.sem_code.specs.slots.Steps.{mark_of}
+use Rattle.sem_code.specs.slots.Machine as slots
+use Rattle.sem_code.specs.slots.Instructions.{perform}
+use Rattle.sem_code.specs.slots.Needs.{Begins}
+use Rattle.sem_code.proofs.slots.MarkLaw.{begins_at}
 use Rattle.pt_host.specs.World.{Program}
 use Rattle.pt_host.specs.HeapHost.{heap_host}
-use Rattle.pt_rows.specs.Rows.{row_of}
+use Rattle.sem_code_machine.specs.rows.Rows.{row_of}
 use Rattle.pt_bare_runs.specs.Strides.{behind, here_of, lead, line_logged, store, take_turn, take_unit, stride as stride_of}
-use Rattle.pt_run.specs.Step.{line_before}
-use Rattle.pt_code_machine.specs.CodeBlocks.{CodeBlocks, machine}
-use Rattle.pt_comp_expr.specs.Law.{active_at}
+use Rattle.sem_run.specs.run.Step.{line_before}
+use Rattle.sem_code_machine.specs.code_machine.CodeBlocks.{CodeBlocks, machine}
+use Rattle.sem_code.specs.comp_expr.Law.{active_at}
 use Rattle.pt_frames.specs.Slots.{active_in}
-use Rattle.pt_transitions.specs.Successors as leads
-use Rattle.pt_heap_rows.specs.declared.progress.Progress.{Progress}
-use Rattle.pt_heap_rows.specs.declared.progress.Progress.TheVariants as progress
-use Rattle.pt_heap_rows.specs.Leads.{HeapSuccessor, IsStuck}
-use Rattle.pt_heap_rows.specs.Told.{told, IfActive}
-use Rattle.pt_heap_rows.specs.Views.{slots_view}
+use Rattle.sem_run.specs.transitions.Successors as leads
+use Rattle.sem_rows.specs.declared.heap_rows.progress.Progress.{Progress}
+use Rattle.sem_rows.specs.declared.heap_rows.progress.Progress.TheVariants as progress
+use Rattle.sem_rows.specs.heap_rows.Leads.{HeapSuccessor, IsStuck}
+use Rattle.sem_rows.specs.heap_rows.Told.{told, IfActive}
+use Rattle.sem_rows.specs.heap_rows.Views.{slots_view}
 use Rattle.pt_machine_state.specs.declared.blocks.BlockCode.{BlockCode}
 use Rattle.pt_machine_state.specs.declared.blocks.Blocks.{Blocks}
 use Rattle.pt_machine_state.specs.declared.machine.Machine.{Machine}

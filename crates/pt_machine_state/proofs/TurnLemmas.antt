@@ -2,19 +2,19 @@
 use Rattle.std.proofs.Common.{◌≡◌, ◌∙◌, ℕ, [], true, false, Option, Some, None, refl, sym, ap, subst}
 use Rattle.std.specs.Prelude.{nat_lt, if◌then◌else◌}
 use Rattle.pt_heap.specs.declared.value.Value.{Value}
-use Rattle.pt_control.specs.Turn as T
-use Rattle.pt_control.specs.Turn.{Mark, Ask, Seek, Deed, Leave, Test, Answer, Reply, Turn}
-use Rattle.pt_slots.specs.Slots.{State}
-use Rattle.pt_slots.specs.Needs.{Begins}
-use Rattle.pt_run.specs.Host.{Here}
+use Rattle.sem_control.specs.control.Turn as T
+use Rattle.sem_control.specs.control.Turn.{Mark, Ask, Seek, Deed, Leave, Test, Answer, Reply, Turn}
+use Rattle.sem_code.specs.slots.Slots.{State}
+use Rattle.sem_code.specs.slots.Needs.{Begins}
+use Rattle.sem_run.specs.run.Host.{Here}
 use Rattle.pt_host.specs.World.{Names, World, Stores, Program}
 use Rattle.pt_host.specs.HeapHost.{heap_host}
-use Rattle.pt_transitions.specs.Transitions.{transition}
-use Rattle.pt_transitions.specs.Successors.{Successor, successor}
+use Rattle.sem_run.specs.transitions.Transitions.{transition}
+use Rattle.sem_run.specs.transitions.Successors.{Successor, successor}
 use Rattle.pt_bare_runs.specs.Strides as bare
 use Rattle.pt_bare_runs.specs.Strides.{behind, store, take_unit, here_of, line_logged, lead, take_turn}
-use Rattle.pt_run.specs.Step.{line_before}
-use Rattle.pt_code_machine.specs.CodeBlocks.{CodeBlocks, machine}
+use Rattle.sem_run.specs.run.Step.{line_before}
+use Rattle.sem_code_machine.specs.code_machine.CodeBlocks.{CodeBlocks, machine}
 use Rattle.pt_machine_state.specs.declared.machine.Machine.{Machine}
 use Rattle.pt_machine_state.specs.declared.machine.MachineEnd.TheVariants as end
 use Rattle.pt_machine_state.specs.declared.machine.Stride.{Stride}

@@ -1,13 +1,13 @@
 -- What is put behind what a run has to write.
 use Rattle.std.proofs.Common.{◌≡◌, ◌∙◌, List, [], ◌∷◌, ◌++◌, Bool, true, false, refl, sym, ap, append_assoc, append-nil}
-use Rattle.pt_run.specs.Run as run
-use Rattle.pt_run.specs.Run.{to_out, to_log}
+use Rattle.sem_run.specs.run.Run as run
+use Rattle.sem_run.specs.run.Run.{to_out, to_log}
 use Rattle.pt_heap.specs.declared.value.Value.{Value}
-use Rattle.pt_slots.specs.Slots.{State}
+use Rattle.sem_code.specs.slots.Slots.{State}
 use Rattle.pt_host.specs.World.{Names, World, Program}
 use Rattle.pt_bare_runs.specs.Strides as bare
 use Rattle.pt_bare_runs.specs.Strides.{behind}
-use Rattle.pt_code_machine.specs.CodeBlocks.{CodeBlocks}
+use Rattle.sem_code_machine.specs.code_machine.CodeBlocks.{CodeBlocks}
 use Rattle.pt_machine_state.specs.declared.machine.Machine.{Machine}
 use Rattle.pt_machine_state.specs.declared.machine.Stride.{Stride}
 use Rattle.pt_machine_state.specs.declared.writes.Writes.{Writes}

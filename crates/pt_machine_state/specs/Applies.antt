@@ -3,20 +3,20 @@ use Rattle.std.specs.Prelude.{◌≡◌, ℕ, [], Some}
 use Rattle.pt_base.specs.declared.numbers.Pc.{Pc}
 use Rattle.pt_heap.specs.declared.value.Value.{Value}
 use Rattle.pt_code.specs.View.{Ins}
-use Rattle.pt_control.specs.Turn.{Ask}
+use Rattle.sem_control.specs.control.Turn.{Ask}
 use Rattle.pt_frames.specs.Slots.{active_in}
-use Rattle.pt_slots.specs.Slots.{State}
-use Rattle.pt_slots.specs.CodeObject.{CodeObject}
-use Rattle.pt_comp_expr.specs.Law.{active_at}
-use Rattle.pt_run.specs.Host.{Here}
+use Rattle.sem_code.specs.slots.Slots.{State}
+use Rattle.sem_code.specs.slots.CodeObject.{CodeObject}
+use Rattle.sem_code.specs.comp_expr.Law.{active_at}
+use Rattle.sem_run.specs.run.Host.{Here}
 use Rattle.pt_host.specs.World.{Program}
 use Rattle.pt_host.specs.HeapHost.{heap_host}
 use Rattle.pt_bare_runs.specs.Strides.{with_store, here_of, lead, stride as stride_of}
-use Rattle.pt_code_machine.specs.CodeBlocks.{CodeBlocks, machine}
-use Rattle.pt_heap_rows.specs.declared.progress.Progress.{Progress}
-use Rattle.pt_heap_rows.specs.Leads.{HeapSuccessor}
-use Rattle.pt_heap_rows.specs.Told.{told, IfActive}
-use Rattle.pt_heap_rows.specs.Views.{slots_view}
+use Rattle.sem_code_machine.specs.code_machine.CodeBlocks.{CodeBlocks, machine}
+use Rattle.sem_rows.specs.declared.heap_rows.progress.Progress.{Progress}
+use Rattle.sem_rows.specs.heap_rows.Leads.{HeapSuccessor}
+use Rattle.sem_rows.specs.heap_rows.Told.{told, IfActive}
+use Rattle.sem_rows.specs.heap_rows.Views.{slots_view}
 use Rattle.pt_machine_state.specs.declared.blocks.BlockCode.{BlockCode}
 use Rattle.pt_machine_state.specs.declared.blocks.Blocks.{Blocks}
 use Rattle.pt_machine_state.specs.declared.machine.Machine.{Machine}

@@ -22,11 +22,11 @@ use Rattle.pt_unwind.specs.declared.Landing.TheVariants.{Enter, Jump, Out}
 use Rattle.pt_unwind.specs.Landings.{landing_of}
 use Rattle.pt_ranges.specs.declared.lines.ActMark.{ActMark}
 use Rattle.pt_names.specs.Names.{Named}
-use Rattle.pt_control.specs.LineEvents.{is_told}
-use Rattle.pt_slots.specs.Steps.{mark_of}
-use Rattle.pt_run.specs.Host.{Entry}
-use Rattle.pt_run.specs.Run as run
-use Rattle.pt_run.specs.Views.{line_or}
+use Rattle.sem_control.specs.control.LineEvents.{is_told}
+use Rattle.sem_code.specs.slots.Steps.{mark_of}
+use Rattle.sem_run.specs.run.Host.{Entry}
+use Rattle.sem_run.specs.run.Run as run
+use Rattle.sem_run.specs.run.Views.{line_or}
 use Rattle.pt_host.specs.Errors.{with_entry}
 use Rattle.pt_machine_state.specs.declared.blocks.BlockCode.{BlockCode}
 use Rattle.pt_machine_state.specs.declared.machine.Machine.{Machine}

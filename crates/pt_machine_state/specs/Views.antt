@@ -3,27 +3,27 @@ use Rattle.std.specs.Prelude.{◌≡◌, ℕ, List, [], ◌∷◌, true, false, 
 use Rattle.std.specs.Option.{option_map, option_or}
 use Rattle.pt_heap.specs.declared.value.Value.{Value}
 use Rattle.pt_code.specs.View.{Ins}
-use Rattle.pt_control.specs.Turn.{Ask, gave, left_by}
-use Rattle.pt_control.specs.Events as E
+use Rattle.sem_control.specs.control.Turn.{Ask, gave, left_by}
+use Rattle.sem_control.specs.control.Events as E
 use Rattle.pt_frames.specs.declared.activation.Activation.{Activation}
 use Rattle.pt_frames.specs.declared.activations.OpenActivation.{OpenActivation}
 use Rattle.pt_frames.specs.Activations.{active_exception}
 use Rattle.pt_frames.specs.Slots.{active_in}
-use Rattle.pt_slots.specs.Slots as S
-use Rattle.pt_slots.specs.Slots.{State, on, off}
-use Rattle.pt_comp_expr.specs.Law.{active_at}
-use Rattle.pt_run.specs.Machine.{BlockId}
-use Rattle.pt_run.specs.Host.{Frame, Store, BlockResult}
-use Rattle.pt_run.specs.State as run
+use Rattle.sem_code.specs.slots.Slots as S
+use Rattle.sem_code.specs.slots.Slots.{State, on, off}
+use Rattle.sem_code.specs.comp_expr.Law.{active_at}
+use Rattle.sem_run.specs.run.Machine.{BlockId}
+use Rattle.sem_run.specs.run.Host.{Frame, Store, BlockResult}
+use Rattle.sem_run.specs.run.State as run
 use Rattle.pt_host.specs.World.{Names, World, Stores, Program}
 use Rattle.pt_host.specs.Calls.{result_of}
-use Rattle.pt_transitions.specs.Successors.{Successor}
+use Rattle.sem_run.specs.transitions.Successors.{Successor}
 use Rattle.pt_bare_runs.specs.Strides as bare
 use Rattle.pt_bare_runs.specs.Strides.{Waiting}
-use Rattle.pt_code_machine.specs.CodeBlocks.{CodeBlocks}
-use Rattle.pt_heap_rows.specs.Views.{slots_view, names_view, world_view, stores_view}
-use Rattle.pt_heap_rows.specs.Leads.{by_tree, giving}
-use Rattle.pt_heap_rows.specs.Told.{block_id}
+use Rattle.sem_code_machine.specs.code_machine.CodeBlocks.{CodeBlocks}
+use Rattle.sem_rows.specs.heap_rows.Views.{slots_view, names_view, world_view, stores_view}
+use Rattle.sem_rows.specs.heap_rows.Leads.{by_tree, giving}
+use Rattle.sem_rows.specs.heap_rows.Told.{block_id}
 use Rattle.pt_machine_state.specs.declared.machine.Machine.{Machine}
 use Rattle.pt_machine_state.specs.declared.machine.Standing.{Standing}
 use Rattle.pt_machine_state.specs.declared.machine.Standing.TheVariants as standing

@@ -2,8 +2,8 @@
 use Rattle.std.specs.Prelude.{◌≡◌, ℕ, pos, List, [], ◌∷◌, ◌++◌, map, Bool, true, false, codes}
 use Rattle.std.specs.Fmt.{signed_decimal}
 use Rattle.pt_prims.specs.TypeErrors.{sentence}
-use Rattle.pt_run.specs.Run as run
-use Rattle.pt_run.specs.Run.{to_out, to_log}
+use Rattle.sem_run.specs.run.Run as run
+use Rattle.sem_run.specs.run.Run.{to_out, to_log}
 use Rattle.pt_machine_state.specs.declared.writes.Write.{Write}
 use Rattle.pt_machine_state.specs.declared.writes.Write.TheVariants as write
 use Rattle.pt_machine_state.specs.declared.writes.Writes.{Writes}

@@ -15,8 +15,8 @@ ghost use Rattle.pt_heap.specs.declared.completion.Completion.TheVariants as com
 ghost use Rattle.pt_heap.specs.declared.completion.Completion.{Completion};
 ghost use Rattle.pt_heap.specs.declared.object.Object.{Object};
 ghost use Rattle.pt_heap.specs.declared.value.Value.{Value};
-ghost use Rattle.pt_heap_rows.specs.Told.{block_id};
-ghost use Rattle.pt_heap_rows.specs.declared.progress.Progress.TheVariants as progress;
+ghost use Rattle.sem_rows.specs.heap_rows.Told.{block_id};
+ghost use Rattle.sem_rows.specs.declared.heap_rows.progress.Progress.TheVariants as progress;
 ghost use Rattle.pt_host.specs.Calls.{arguments_of};
 ghost use Rattle.pt_host.specs.Errors.{error, error_saying};
 ghost use Rattle.pt_host.specs.World.{IsAllotted, allot};
@@ -38,7 +38,7 @@ ghost use Rattle.pt_machine_state.specs.declared.machine.Stride.TheVariants as s
 ghost use Rattle.pt_machine_state.specs.declared.machine.Stride.{Stride};
 ghost use Rattle.pt_machine_state.specs.declared.writes.Writes.{Writes};
 ghost use Rattle.pt_places.specs.PlaceTable.{entry};
-ghost use Rattle.pt_run.specs.State.{most_activations};
+ghost use Rattle.sem_run.specs.run.State.{most_activations};
 ghost use Rattle.pt_places.specs.declared.places.Place.{Place};
 
 /// The machine does what an instruction comes to as a run does: it goes to a place, a completion

@@ -11,11 +11,11 @@ use Rattle.pt_heap.specs.declared.object.Object.{Object}
 use Rattle.pt_frames.specs.declared.slot.Slot.{Slot}
 use Rattle.pt_frames.specs.declared.slot.Slot.TheVariants as slot
 use Rattle.pt_code.specs.View.{Ins}
-use Rattle.pt_control.specs.Turn as T
-use Rattle.pt_slots.specs.Slots.{Slots, State}
-use Rattle.pt_slots.specs.CodeObject.{CodeObject}
-use Rattle.pt_slots.specs.Steps.{mark_of, unmarked, after, decided, dropped, kept, branches}
-use Rattle.pt_run.specs.Host.{Here, made, beyond}
+use Rattle.sem_control.specs.control.Turn as T
+use Rattle.sem_code.specs.slots.Slots.{Slots, State}
+use Rattle.sem_code.specs.slots.CodeObject.{CodeObject}
+use Rattle.sem_code.specs.slots.Steps.{mark_of, unmarked, after, decided, dropped, kept, branches}
+use Rattle.sem_run.specs.run.Host.{Here, made, beyond}
 use Rattle.pt_prims.specs.declared.op.Op.TheVariants.{Truth}
 use Rattle.pt_prims.specs.declared.operand.Operand.{Operand}
 use Rattle.pt_prims.specs.declared.operand.Operand.TheVariants as operand
@@ -29,15 +29,15 @@ use Rattle.pt_host.specs.Answers.{branch as answered, truth as host_truth}
 use Rattle.pt_host.specs.Calls.{of_prim, arguments_of}
 use Rattle.pt_host.specs.Errors.{error}
 use Rattle.pt_host.specs.Trees.{and_then, raise_with}
-use Rattle.pt_transitions.specs.Successors.{to}
-use Rattle.pt_heap_rows.specs.declared.progress.Progress.{Progress}
-use Rattle.pt_heap_rows.specs.declared.progress.Progress.TheVariants as progress
-use Rattle.pt_heap_rows.specs.Leads.{HeapSuccessor}
-use Rattle.pt_heap_rows.specs.Leads.{by_tree, giving, HasHeapTruths, known_truth}
-use Rattle.pt_heap_rows.specs.Laws.{reached}
-use Rattle.pt_heap_rows.specs.Told.{told}
-use Rattle.pt_heap_rows.specs.Views.{slots_view}
-use Rattle.pt_heap_rows.proofs.RowLemmas.{test_leads}
+use Rattle.sem_run.specs.transitions.Successors.{to}
+use Rattle.sem_rows.specs.declared.heap_rows.progress.Progress.{Progress}
+use Rattle.sem_rows.specs.declared.heap_rows.progress.Progress.TheVariants as progress
+use Rattle.sem_rows.specs.heap_rows.Leads.{HeapSuccessor}
+use Rattle.sem_rows.specs.heap_rows.Leads.{by_tree, giving, HasHeapTruths, known_truth}
+use Rattle.sem_rows.specs.heap_rows.Laws.{reached}
+use Rattle.sem_rows.specs.heap_rows.Told.{told}
+use Rattle.sem_rows.specs.heap_rows.Views.{slots_view}
+use Rattle.sem_rows.proofs.heap_rows.RowLemmas.{test_leads}
 use Rattle.pt_moves.specs.Operands.{one_value, RowsHeap}
 use Rattle.pt_moves.specs.Truth.{branch, truth_in, truth, tested}
 use Rattle.pt_moves.proofs.TakeLemmas.{one_on}

@@ -8,18 +8,18 @@ use Rattle.pt_heap.specs.declared.value.Value.{Value}
 use Rattle.pt_frames.specs.declared.slot.Slot.{Slot}
 use Rattle.pt_frames.specs.declared.slot.Slot.TheVariants as slot
 use Rattle.pt_code.specs.View.{Ins}
-use Rattle.pt_control.specs.Turn as T
-use Rattle.pt_slots.specs.Slots.{Slots}
-use Rattle.pt_slots.specs.CodeObject.{CodeObject}
-use Rattle.pt_slots.specs.Steps.{mark_of, unmarked, after, gives_known, known}
-use Rattle.pt_run.specs.Host.{Here}
+use Rattle.sem_control.specs.control.Turn as T
+use Rattle.sem_code.specs.slots.Slots.{Slots}
+use Rattle.sem_code.specs.slots.CodeObject.{CodeObject}
+use Rattle.sem_code.specs.slots.Steps.{mark_of, unmarked, after, gives_known, known}
+use Rattle.sem_run.specs.run.Host.{Here}
 use Rattle.pt_host.specs.World.{Stores, Program}
 use Rattle.pt_host.specs.Answers.{constant_value}
-use Rattle.pt_transitions.specs.Successors.{to}
-use Rattle.pt_heap_rows.specs.declared.progress.Progress.TheVariants as progress
-use Rattle.pt_heap_rows.specs.Leads.{HasHeapTruths, giving}
-use Rattle.pt_heap_rows.specs.Laws.{reached}
-use Rattle.pt_heap_rows.specs.Views.{slots_view}
+use Rattle.sem_run.specs.transitions.Successors.{to}
+use Rattle.sem_rows.specs.declared.heap_rows.progress.Progress.TheVariants as progress
+use Rattle.sem_rows.specs.heap_rows.Leads.{HasHeapTruths, giving}
+use Rattle.sem_rows.specs.heap_rows.Laws.{reached}
+use Rattle.sem_rows.specs.heap_rows.Views.{slots_view}
 use Rattle.pt_moves.specs.Operands.{RowsConstant}
 
 module _ (program : Program) (code : CodeObject Value) (i : Ins) (h : Here Value) (st : Stores) (ss : Slots Value) where

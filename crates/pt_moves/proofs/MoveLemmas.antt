@@ -7,19 +7,19 @@ use Rattle.pt_heap.specs.declared.value.Value.{Value}
 use Rattle.pt_heap.specs.declared.completion.Completion.TheVariants as completion
 use Rattle.pt_frames.specs.declared.slot.Slot.{Slot}
 use Rattle.pt_frames.specs.declared.slot.Slot.TheVariants as slot
-use Rattle.pt_control.specs.Turn as T
-use Rattle.pt_control.specs.Turn.{Turn, stuck}
-use Rattle.pt_slots.specs.Slots as S
-use Rattle.pt_slots.specs.Slots.{State}
-use Rattle.pt_slots.specs.Pops.{Next, one, two, three, movable}
-use Rattle.pt_run.specs.Host.{Here}
+use Rattle.sem_control.specs.control.Turn as T
+use Rattle.sem_control.specs.control.Turn.{Turn, stuck}
+use Rattle.sem_code.specs.slots.Slots as S
+use Rattle.sem_code.specs.slots.Slots.{State}
+use Rattle.sem_code.specs.slots.Pops.{Next, one, two, three, movable}
+use Rattle.sem_run.specs.run.Host.{Here}
 use Rattle.pt_host.specs.World.{Stores, Program}
 use Rattle.pt_host.specs.HeapHost.{heap_host}
-use Rattle.pt_transitions.specs.Transitions.{transition}
-use Rattle.pt_transitions.specs.Successors.{successor, none}
-use Rattle.pt_heap_rows.specs.declared.progress.Progress.TheVariants as progress
-use Rattle.pt_heap_rows.specs.Views.{slots_view}
-use Rattle.pt_heap_rows.proofs.RowLemmas.{moves_lead, leaves_lead, discards_lead}
+use Rattle.sem_run.specs.transitions.Transitions.{transition}
+use Rattle.sem_run.specs.transitions.Successors.{successor, none}
+use Rattle.sem_rows.specs.declared.heap_rows.progress.Progress.TheVariants as progress
+use Rattle.sem_rows.specs.heap_rows.Views.{slots_view}
+use Rattle.sem_rows.proofs.heap_rows.RowLemmas.{moves_lead, leaves_lead, discards_lead}
 use Rattle.pt_moves.specs.Operands.{one_value, two_values, three_values, one_movable, RowsSlots}
 use Rattle.pt_moves.proofs.TakeLemmas.{one_on, two_on, three_on}
 

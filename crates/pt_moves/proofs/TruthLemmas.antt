@@ -6,7 +6,7 @@ use Rattle.pt_heap.specs.declared.object.Object.{Object}
 use Rattle.pt_prims.specs.declared.op.Op.TheVariants.{Truth}
 use Rattle.pt_prims.specs.declared.answer.PrimAns.{PrimAns}
 use Rattle.pt_prims.specs.Operations.{prim_answer, prim_heap}
-use Rattle.pt_heap_rows.specs.declared.progress.Progress.{Progress}
+use Rattle.sem_rows.specs.declared.heap_rows.progress.Progress.{Progress}
 use Rattle.pt_moves.specs.Truth.{truth_in, truth, tested}
 
 pub known_truth : (b : Bool) (heap : List Object) → ◌≡◌ {A = Result Bool Progress} (Ok b) (truth (value.Bool b) heap)

@@ -8,16 +8,16 @@ use Rattle.pt_heap.specs.declared.object.Object.{Object}
 use Rattle.pt_frames.specs.declared.slot.Slot.{Slot}
 use Rattle.pt_frames.specs.declared.slot.Slot.TheVariants as slot
 use Rattle.pt_code.specs.View.{Ins}
-use Rattle.pt_slots.specs.CodeObject.{CodeObject}
-use Rattle.pt_run.specs.Host.{Here}
+use Rattle.sem_code.specs.slots.CodeObject.{CodeObject}
+use Rattle.sem_run.specs.run.Host.{Here}
 use Rattle.pt_host.specs.World.{Stores, Program, with_objects}
 use Rattle.pt_host.specs.HeapHost.{heap_host}
 use Rattle.pt_host.specs.Answers.{constant_value}
-use Rattle.pt_heap_rows.specs.declared.progress.Progress.{Progress}
-use Rattle.pt_rows.specs.Rows.{row_of}
-use Rattle.pt_heap_rows.specs.Leads.{HasHeapTruths}
-use Rattle.pt_heap_rows.specs.Told.{told}
-use Rattle.pt_heap_rows.specs.Views.{slots_view}
+use Rattle.sem_rows.specs.declared.heap_rows.progress.Progress.{Progress}
+use Rattle.sem_code_machine.specs.rows.Rows.{row_of}
+use Rattle.sem_rows.specs.heap_rows.Leads.{HasHeapTruths}
+use Rattle.sem_rows.specs.heap_rows.Told.{told}
+use Rattle.sem_rows.specs.heap_rows.Views.{slots_view}
 
 -- the value that a slot holds
 abbrev pub value_in : Option Slot → Option Value

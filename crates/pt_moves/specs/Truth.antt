@@ -8,8 +8,8 @@ use Rattle.pt_prims.specs.declared.op.Op.TheVariants.{Truth}
 use Rattle.pt_prims.specs.declared.answer.PrimAns.{PrimAns}
 use Rattle.pt_prims.specs.declared.answer.PrimAns.TheVariants as prim
 use Rattle.pt_prims.specs.Operations.{prim_answer, prim_heap}
-use Rattle.pt_heap_rows.specs.declared.progress.Progress.{Progress}
-use Rattle.pt_heap_rows.specs.declared.progress.Progress.TheVariants as progress
+use Rattle.sem_rows.specs.declared.heap_rows.progress.Progress.{Progress}
+use Rattle.sem_rows.specs.declared.heap_rows.progress.Progress.TheVariants as progress
 
 abbrev pub truth_in : PrimAns → Result Bool Progress
 truth_in (prim.Value (value.Bool b)) = Ok b

@@ -9,8 +9,8 @@ use crate::taking::take_one;
 use pt_base::{Memory, Pc, What};
 use pt_frames::{Slot, Slots};
 use pt_heap::{Heap, Value};
-use pt_heap_rows::Progress;
 use pt_prims::{Op, PrimAns, prim};
+use sem_rows::heap_rows::Progress;
 use std::alloc::Global;
 
 fn truth_in(answer: PrimAns) -> Result<bool, Progress>

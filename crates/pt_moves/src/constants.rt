@@ -6,7 +6,7 @@ ghost use Rattle.pt_moves.specs.Operands.{RowsConstant};
 use pt_base::Memory;
 use pt_frames::{Slot, Slots};
 use pt_heap::Value;
-use pt_heap_rows::Progress;
+use sem_rows::heap_rows::Progress;
 
 /// Gives the value of a constant (Language Reference 6.2.2).
 #[tactic(auto, using(crate::proofs::ConstantLemmas::constant_row, crate::proofs::TakeLemmas::quiet_over))]

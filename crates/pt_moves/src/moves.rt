@@ -10,7 +10,7 @@ use crate::taking::{take_movable, take_one, take_three, take_two};
 use pt_base::{Memory, Pc};
 use pt_frames::{Slot, Slots};
 use pt_heap::{Completion, Value};
-use pt_heap_rows::Progress;
+use sem_rows::heap_rows::Progress;
 
 /// Does nothing.
 #[tactic(auto, using(crate::proofs::MoveLemmas::nop_row))]

@@ -1,25 +1,25 @@
 -- Where the host's answers about names lead, by what a name's value is.
 use Rattle.std.proofs.Common.{◌≡◌, ◌∙◌, ◌∷◌, Some, None, refl, sym, ap}
-use Rattle.pt_control.specs.Turn as T
-use Rattle.pt_control.specs.Turn.{Scope, Variable}
+use Rattle.sem_control.specs.control.Turn as T
+use Rattle.sem_control.specs.control.Turn.{Scope, Variable}
 use Rattle.pt_heap.specs.declared.value.Value.{Value}
 use Rattle.pt_code.specs.View.{Ins}
-use Rattle.pt_slots.specs.Slots as S
-use Rattle.pt_slots.specs.Slots.{Slots, State, on}
-use Rattle.pt_slots.specs.CodeObject.{CodeObject}
-use Rattle.pt_slots.specs.Steps.{gives, does}
-use Rattle.pt_run.specs.Host.{Here, made, beyond}
+use Rattle.sem_code.specs.slots.Slots as S
+use Rattle.sem_code.specs.slots.Slots.{Slots, State, on}
+use Rattle.sem_code.specs.slots.CodeObject.{CodeObject}
+use Rattle.sem_code.specs.slots.Steps.{gives, does}
+use Rattle.sem_run.specs.run.Host.{Here, made, beyond}
 use Rattle.pt_host.specs.World.{Stores, Program, Allotted}
 use Rattle.pt_host.specs.Trees.{raise_with}
 use Rattle.pt_host.specs.Errors.{error_saying}
 use Rattle.pt_host.specs.Texts.{unbound_text, unbound_class}
 use Rattle.pt_host.specs.Variables.{readable_value, variable_value, load_by, unless_bound, delete_by, put, make_anew}
-use Rattle.pt_transitions.specs.Successors.{to}
-use Rattle.pt_heap_rows.specs.Leads.{HeapSuccessor}
-use Rattle.pt_heap_rows.specs.Leads.{by_tree, giving, behind}
-use Rattle.pt_heap_rows.specs.Laws.{reached}
-use Rattle.pt_heap_rows.specs.Told.{told}
-use Rattle.pt_heap_rows.proofs.RowLemmas.{loads_lead, deeds_lead}
+use Rattle.sem_run.specs.transitions.Successors.{to}
+use Rattle.sem_rows.specs.heap_rows.Leads.{HeapSuccessor}
+use Rattle.sem_rows.specs.heap_rows.Leads.{by_tree, giving, behind}
+use Rattle.sem_rows.specs.heap_rows.Laws.{reached}
+use Rattle.sem_rows.specs.heap_rows.Told.{told}
+use Rattle.sem_rows.proofs.heap_rows.RowLemmas.{loads_lead, deeds_lead}
 use Rattle.pt_name_rows.specs.Names.{unbound}
 
 abbrev pub goes_to : State Value → Stores → HeapSuccessor

@@ -2,29 +2,29 @@
 use Rattle.std.proofs.Common.{◌≡◌, ◌∙◌, ◌<◌, ◌≤◌, ℕ, zero, suc, Bool, true, false, List, [], ◌∷◌, ◌++◌, length, Option, Some, None, refl, sym, ap, subst, arith}
 use Rattle.std.specs.Prelude.{drop, nat_lt, slice_get, slice_set, if◌then◌else◌}
 use Rattle.pt_tree.specs.Syntax.{Name}
-use Rattle.pt_control.specs.Turn as T
-use Rattle.pt_control.specs.Turn.{Scope, Variable}
+use Rattle.sem_control.specs.control.Turn as T
+use Rattle.sem_control.specs.control.Turn.{Scope, Variable}
 use Rattle.pt_instr.specs.declared.Instr.TheVariants as instr
 use Rattle.pt_instr.specs.declared.SlotNo.{SlotNo}
 use Rattle.pt_heap.specs.declared.value.Value.{Value}
 use Rattle.pt_names.specs.Names.{Named}
 use Rattle.pt_frames.specs.declared.slot.Slot.{Slot}
 use Rattle.pt_frames.specs.declared.slot.Slot.TheVariants as slot
-use Rattle.pt_run.specs.Host.{Here}
-use Rattle.pt_slots.specs.Slots as S
-use Rattle.pt_slots.specs.Slots.{on}
+use Rattle.sem_run.specs.run.Host.{Here}
+use Rattle.sem_code.specs.slots.Slots as S
+use Rattle.sem_code.specs.slots.Slots.{on}
 use Rattle.pt_host.specs.World.{World, Stores}
 use Rattle.pt_host.specs.Trees.{Tree}
 use Rattle.pt_host.specs.Variables.{variable_value, readable_value, cell_number, cell_value, unless_bound, raise_unbound, put, with_cell, with_new_cell, make_anew, number_value}
-use Rattle.pt_heap_rows.specs.declared.progress.Progress.{Progress}
-use Rattle.pt_heap_rows.specs.declared.progress.Progress.TheVariants as progress
-use Rattle.pt_heap_rows.specs.Leads.{by_tree, giving}
-use Rattle.pt_heap_rows.specs.Told.{told}
-use Rattle.pt_heap_rows.specs.RowsIn.{RowsIn}
-use Rattle.pt_heap_rows.proofs.RowLemmas.{cells_lead}
-use Rattle.pt_heap_rows.specs.Views.{slots_view, stores_in}
-use Rattle.pt_variables.specs.Numbers.{cell_name, cell_variable, HasCells}
-use Rattle.pt_variables.proofs.NumberLemmas.{cells_stand}
+use Rattle.sem_rows.specs.declared.heap_rows.progress.Progress.{Progress}
+use Rattle.sem_rows.specs.declared.heap_rows.progress.Progress.TheVariants as progress
+use Rattle.sem_rows.specs.heap_rows.Leads.{by_tree, giving}
+use Rattle.sem_rows.specs.heap_rows.Told.{told}
+use Rattle.sem_rows.specs.heap_rows.RowsIn.{RowsIn}
+use Rattle.sem_rows.proofs.heap_rows.RowLemmas.{cells_lead}
+use Rattle.sem_rows.specs.heap_rows.Views.{slots_view, stores_in}
+use Rattle.sem_rows.specs.variables.Numbers.{cell_name, cell_variable, HasCells}
+use Rattle.sem_rows.proofs.variables.NumberLemmas.{cells_stand}
 use Rattle.pt_code_facts.specs.declared.facts.BlockFacts.{BlockFacts}
 use Rattle.pt_code_facts.specs.Facts.{facts_view}
 use Rattle.pt_moves.specs.Operands.{one_value}

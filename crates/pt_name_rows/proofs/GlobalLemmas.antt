@@ -5,24 +5,24 @@ use Rattle.std.specs.Str.{bytes_eq}
 use Rattle.indexmap.specs.IndexMap.{insert_entry}
 use Rattle.pt_base.specs.declared.what.What.TheVariants.{Feature}
 use Rattle.pt_tree.specs.Syntax.{Name}
-use Rattle.pt_control.specs.Turn as T
+use Rattle.sem_control.specs.control.Turn as T
 use Rattle.pt_instr.specs.declared.Instr.TheVariants as instr
 use Rattle.pt_instr.specs.declared.TextNo.{TextNo}
 use Rattle.pt_heap.specs.declared.value.Value.{Value}
 use Rattle.pt_names.specs.Names.{Named, name_value}
 use Rattle.pt_frames.specs.declared.slot.Slot.{Slot}
 use Rattle.pt_frames.specs.declared.slot.Slot.TheVariants as slot
-use Rattle.pt_slots.specs.Slots.{on}
-use Rattle.pt_slots.specs.CodeObject.{global}
+use Rattle.sem_code.specs.slots.Slots.{on}
+use Rattle.sem_code.specs.slots.CodeObject.{global}
 use Rattle.pt_host.specs.World.{Stores}
 use Rattle.pt_host.specs.Variables.{by_builtin}
 use Rattle.pt_host.specs.Builtins.{builtin}
-use Rattle.pt_heap_rows.specs.declared.progress.Progress.{Progress}
-use Rattle.pt_heap_rows.specs.declared.progress.Progress.TheVariants as progress
-use Rattle.pt_heap_rows.specs.Leads.{by_tree, giving}
-use Rattle.pt_heap_rows.specs.Told.{told}
-use Rattle.pt_heap_rows.specs.RowsIn.{Standpoint, RowsIn}
-use Rattle.pt_heap_rows.specs.Views.{slots_view}
+use Rattle.sem_rows.specs.declared.heap_rows.progress.Progress.{Progress}
+use Rattle.sem_rows.specs.declared.heap_rows.progress.Progress.TheVariants as progress
+use Rattle.sem_rows.specs.heap_rows.Leads.{by_tree, giving}
+use Rattle.sem_rows.specs.heap_rows.Told.{told}
+use Rattle.sem_rows.specs.heap_rows.RowsIn.{Standpoint, RowsIn}
+use Rattle.sem_rows.specs.heap_rows.Views.{slots_view}
 use Rattle.pt_code.specs.View.{Ins}
 use Rattle.pt_builtins.specs.declared.BuiltinLookup.{BuiltinLookup}
 use Rattle.pt_builtins.specs.declared.BuiltinLookup.TheVariants as lookup

@@ -5,24 +5,24 @@ use Rattle.std.specs.Option.{option_flatten}
 use Rattle.std.specs.Str.{bytes_eq}
 use Rattle.indexmap.specs.IndexMap.{insert_entry}
 use Rattle.pt_tree.specs.Syntax.{Name}
-use Rattle.pt_control.specs.Turn as T
+use Rattle.sem_control.specs.control.Turn as T
 use Rattle.pt_instr.specs.declared.Instr.TheVariants as instr
 use Rattle.pt_instr.specs.declared.SlotNo.{SlotNo}
 use Rattle.pt_heap.specs.declared.value.Value.{Value}
 use Rattle.pt_names.specs.Names.{Named, name_value}
 use Rattle.pt_frames.specs.declared.slot.Slot.{Slot}
 use Rattle.pt_frames.specs.declared.slot.Slot.TheVariants as slot
-use Rattle.pt_slots.specs.CodeObject.{local}
+use Rattle.sem_code.specs.slots.CodeObject.{local}
 use Rattle.pt_host.specs.World.{World, Stores}
 use Rattle.pt_host.specs.Variables.{variable_value}
-use Rattle.pt_slots.specs.Slots.{on}
-use Rattle.pt_heap_rows.specs.declared.progress.Progress.{Progress}
-use Rattle.pt_heap_rows.specs.declared.progress.Progress.TheVariants as progress
-use Rattle.pt_heap_rows.specs.Told.{told}
-use Rattle.pt_heap_rows.specs.RowsIn.{RowsIn}
-use Rattle.pt_heap_rows.specs.Views.{slots_view, stores_in}
-use Rattle.pt_variables.specs.Numbers.{HasLocals}
-use Rattle.pt_variables.proofs.NumberLemmas.{locals_stand}
+use Rattle.sem_code.specs.slots.Slots.{on}
+use Rattle.sem_rows.specs.declared.heap_rows.progress.Progress.{Progress}
+use Rattle.sem_rows.specs.declared.heap_rows.progress.Progress.TheVariants as progress
+use Rattle.sem_rows.specs.heap_rows.Told.{told}
+use Rattle.sem_rows.specs.heap_rows.RowsIn.{RowsIn}
+use Rattle.sem_rows.specs.heap_rows.Views.{slots_view, stores_in}
+use Rattle.sem_rows.specs.variables.Numbers.{HasLocals}
+use Rattle.sem_rows.proofs.variables.NumberLemmas.{locals_stand}
 use Rattle.pt_code_facts.specs.declared.facts.BlockFacts.{BlockFacts}
 use Rattle.pt_code_facts.specs.Facts.{facts_view}
 use Rattle.pt_moves.specs.Operands.{one_value}

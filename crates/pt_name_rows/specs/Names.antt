@@ -2,8 +2,8 @@
 use Rattle.std.specs.Prelude.{◌≡◌, ℕ, ◌==◌, ◌<◌, ◌++◌, List, [], ◌∷◌, if◌then◌else◌, length, Option, Some, None, slice_get, slice_set}
 use Rattle.std.specs.Option.{option_flatten}
 use Rattle.pt_tree.specs.Syntax.{Name}
-use Rattle.pt_control.specs.Turn as T
-use Rattle.pt_control.specs.Turn.{Scope, Variable}
+use Rattle.sem_control.specs.control.Turn as T
+use Rattle.sem_control.specs.control.Turn.{Scope, Variable}
 use Rattle.pt_instr.specs.declared.Instr.{Instr}
 use Rattle.pt_heap.specs.declared.value.Value.{Value}
 use Rattle.pt_names.specs.Names.{Named}
@@ -11,11 +11,11 @@ use Rattle.pt_frames.specs.declared.slot.Slot.{Slot}
 use Rattle.pt_host.specs.World.{CodeFacts, World, Stores, in_world}
 use Rattle.pt_host.specs.Texts.{unbound_text, unbound_class}
 use Rattle.pt_host.specs.Builtins.{builtin}
-use Rattle.pt_heap_rows.specs.declared.progress.Progress.{Progress}
-use Rattle.pt_heap_rows.specs.declared.progress.Progress.TheVariants as progress
-use Rattle.pt_heap_rows.specs.RowsIn.{RowsIn}
-use Rattle.pt_heap_rows.specs.Views.{stores_in}
-use Rattle.pt_variables.specs.Numbers.{cell_variable, KnowsNames, HasLocals, HasCells}
+use Rattle.sem_rows.specs.declared.heap_rows.progress.Progress.{Progress}
+use Rattle.sem_rows.specs.declared.heap_rows.progress.Progress.TheVariants as progress
+use Rattle.sem_rows.specs.heap_rows.RowsIn.{RowsIn}
+use Rattle.sem_rows.specs.heap_rows.Views.{stores_in}
+use Rattle.sem_rows.specs.variables.Numbers.{cell_variable, KnowsNames, HasLocals, HasCells}
 use Rattle.pt_code_facts.specs.declared.facts.BlockFacts.{BlockFacts}
 use Rattle.pt_code_facts.specs.Facts.{facts_view}
 use Rattle.pt_builtins.specs.declared.BuiltinLookup.{BuiltinLookup}

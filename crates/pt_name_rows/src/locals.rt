@@ -10,9 +10,9 @@ use pt_base::{Memory, Seq};
 use pt_code_facts::BlockFacts;
 use pt_frames::{Slot, Slots};
 use pt_heap::Value;
-use pt_heap_rows::Progress;
 use pt_instr::SlotNo;
 use pt_moves::take_one;
+use sem_rows::heap_rows::Progress;
 use std::alloc::Global;
 
 /// The value at a number, if there is one.

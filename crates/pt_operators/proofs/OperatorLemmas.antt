@@ -10,11 +10,11 @@ use Rattle.pt_heap.specs.declared.object.Object.{Object}
 use Rattle.pt_frames.specs.declared.slot.Slot.{Slot}
 use Rattle.pt_frames.specs.declared.slot.Slot.TheVariants as slot
 use Rattle.pt_code.specs.View.{Ins}
-use Rattle.pt_control.specs.Turn as T
-use Rattle.pt_control.specs.Turn.{stuck}
-use Rattle.pt_slots.specs.CodeObject.{CodeObject}
-use Rattle.pt_slots.specs.Pops.{Next, values}
-use Rattle.pt_run.specs.Host.{Here}
+use Rattle.sem_control.specs.control.Turn as T
+use Rattle.sem_control.specs.control.Turn.{stuck}
+use Rattle.sem_code.specs.slots.CodeObject.{CodeObject}
+use Rattle.sem_code.specs.slots.Pops.{Next, values}
+use Rattle.sem_run.specs.run.Host.{Here}
 use Rattle.pt_prims.specs.declared.op.Op.{Op}
 use Rattle.pt_prims.specs.declared.op.Op.TheVariants as op
 use Rattle.pt_prims.specs.declared.answer.PrimAns.{PrimAns}
@@ -22,12 +22,12 @@ use Rattle.pt_prims.specs.declared.answer.PrimAns.TheVariants as prim
 use Rattle.pt_prims.specs.Operations.{prim_answer, prim_heap}
 use Rattle.pt_host.specs.World.{Program, Stores, with_objects}
 use Rattle.pt_host.specs.Calls.{of_prim}
-use Rattle.pt_heap_rows.specs.declared.progress.Progress.{Progress}
-use Rattle.pt_heap_rows.specs.declared.progress.Progress.TheVariants as progress
-use Rattle.pt_heap_rows.specs.Leads.{by_tree, giving}
-use Rattle.pt_heap_rows.specs.Told.{told}
-use Rattle.pt_heap_rows.specs.Views.{slots_view}
-use Rattle.pt_heap_rows.proofs.RowLemmas.{operations_lead}
+use Rattle.sem_rows.specs.declared.heap_rows.progress.Progress.{Progress}
+use Rattle.sem_rows.specs.declared.heap_rows.progress.Progress.TheVariants as progress
+use Rattle.sem_rows.specs.heap_rows.Leads.{by_tree, giving}
+use Rattle.sem_rows.specs.heap_rows.Told.{told}
+use Rattle.sem_rows.specs.heap_rows.Views.{slots_view}
+use Rattle.sem_rows.proofs.heap_rows.RowLemmas.{operations_lead}
 use Rattle.pt_moves.specs.Operands.{one_value, two_values, RowsHeap}
 use Rattle.pt_moves.proofs.TakeLemmas.{one_on, two_on}
 use Rattle.pt_moves.proofs.MoveLemmas.{stuck_row}

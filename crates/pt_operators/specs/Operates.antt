@@ -7,18 +7,18 @@ use Rattle.pt_heap.specs.declared.object.Object.{Object}
 use Rattle.pt_frames.specs.declared.slot.Slot.{Slot}
 use Rattle.pt_frames.specs.declared.slot.Slot.TheVariants as slot
 use Rattle.pt_code.specs.View.{Ins}
-use Rattle.pt_slots.specs.CodeObject.{CodeObject}
-use Rattle.pt_run.specs.Host.{Here}
+use Rattle.sem_code.specs.slots.CodeObject.{CodeObject}
+use Rattle.sem_run.specs.run.Host.{Here}
 use Rattle.pt_prims.specs.declared.op.Op.{Op}
 use Rattle.pt_prims.specs.declared.answer.PrimAns.{PrimAns}
 use Rattle.pt_prims.specs.declared.answer.PrimAns.TheVariants as prim
 use Rattle.pt_host.specs.Calls.{by_prim}
 use Rattle.pt_host.specs.World.{Program, Stores, with_objects}
-use Rattle.pt_heap_rows.specs.declared.progress.Progress.{Progress}
-use Rattle.pt_heap_rows.specs.declared.progress.Progress.TheVariants as progress
-use Rattle.pt_heap_rows.specs.Leads.{by_tree, giving}
-use Rattle.pt_heap_rows.specs.Told.{told}
-use Rattle.pt_heap_rows.specs.Views.{slots_view}
+use Rattle.sem_rows.specs.declared.heap_rows.progress.Progress.{Progress}
+use Rattle.sem_rows.specs.declared.heap_rows.progress.Progress.TheVariants as progress
+use Rattle.sem_rows.specs.heap_rows.Leads.{by_tree, giving}
+use Rattle.sem_rows.specs.heap_rows.Told.{told}
+use Rattle.sem_rows.specs.heap_rows.Views.{slots_view}
 
 -- what an operation answers as progress, and the slots behind it
 abbrev pub progress_of : PrimAns → Progress

@@ -8,9 +8,9 @@ ghost use Rattle.pt_operators.specs.Operates.{Operates, progress_of, slots_behin
 use pt_base::{BinOp, CompareOp, Memory, UnOp, What};
 use pt_frames::{Slot, Slots};
 use pt_heap::{Heap, Value};
-use pt_heap_rows::Progress;
 use pt_moves::{take_one, take_two};
 use pt_prims::{Op, PrimAns, prim};
+use sem_rows::heap_rows::Progress;
 use std::alloc::Global;
 
 /// Gives the value that an operation answers, if it does.

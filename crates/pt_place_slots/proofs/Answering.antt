@@ -4,8 +4,8 @@ use Rattle.std.specs.Prelude.{option_map}
 use Rattle.std.proofs.lemmas.Option.{same_Some}
 use Rattle.pt_instr.specs.Effects.{Kinds}
 use Rattle.pt_places.specs.PlaceTable.{entry}
-use Rattle.pt_fits.specs.Block.{Block}
-use Rattle.pt_fits.specs.Places.{Gets}
+use Rattle.sem_fits.specs.fits.Block.{Block}
+use Rattle.sem_fits.specs.fits.Places.{Gets}
 use Rattle.pt_jump.specs.Slots.{GetsMany, IsHeld}
 use Rattle.pt_kinds.specs.Forest.{list_at}
 use Rattle.pt_block_kinds.specs.Told.{TellsListAt}

@@ -5,10 +5,10 @@ use Rattle.pt_instr.specs.declared.kinds.Kind.{Kind}
 use Rattle.pt_code.specs.View.{Ins}
 use Rattle.pt_places.specs.declared.places.Place.{Place}
 use Rattle.pt_places.specs.PlaceTable.{entry, place_at, HasPlaces}
-use Rattle.pt_fits.specs.Block.{Block}
-use Rattle.pt_fits.specs.Agreement as A
-use Rattle.pt_fits.specs.Fits.{Fits}
-use Rattle.pt_verify.specs.PlaceTable.{AreSizes}
+use Rattle.sem_fits.specs.fits.Block.{Block}
+use Rattle.sem_fits.specs.fits.Agreement as A
+use Rattle.sem_fits.specs.fits.Fits.{Fits}
+use Rattle.pt_verify_depths.specs.PlaceTable.{AreSizes}
 use Rattle.pt_kinds.specs.Forest as K
 use Rattle.pt_kinds.specs.Forest.{list_at}
 use Rattle.pt_kind_flow.specs.Search.{IsFlow}

@@ -6,7 +6,7 @@ use Rattle.std.proofs.lemmas.Option.{same_Some}
 use Rattle.pt_code.specs.View.{Ins}
 use Rattle.pt_places.specs.declared.places.Place.{Place}
 use Rattle.pt_places.specs.PlaceTable.{entry}
-use Rattle.pt_fits.specs.Block.{Block}
+use Rattle.sem_fits.specs.fits.Block.{Block}
 use Rattle.pt_kinds.specs.Forest.{list_at}
 use Rattle.pt_block_kinds.specs.declared.graph.BlockKinds.{BlockKinds}
 use Rattle.pt_block_kinds.specs.Graph.{HasSizes, IsSeen}

@@ -4,11 +4,11 @@ use Rattle.std.specs.Prelude.{Contains}
 use Rattle.pt_instr.specs.Effects.{Kinds}
 use Rattle.pt_ranges.specs.Rows.{covers}
 use Rattle.pt_code.specs.View.{Ins}
-use Rattle.pt_fits.specs.Block.{Block}
-use Rattle.pt_fits.specs.Places as P
-use Rattle.pt_fits.specs.Places.{Gets}
-use Rattle.pt_fits.specs.Fits.{TablesHold}
-use Rattle.pt_verify.specs.PlaceTable.{AreSizes, AreSizesUpTo}
+use Rattle.sem_fits.specs.fits.Block.{Block}
+use Rattle.sem_fits.specs.fits.Places as P
+use Rattle.sem_fits.specs.fits.Places.{Gets}
+use Rattle.sem_fits.specs.fits.Fits.{TablesHold}
+use Rattle.pt_verify_depths.specs.PlaceTable.{AreSizes, AreSizesUpTo}
 use Rattle.pt_block_kinds.specs.Graph.{IsSeen}
 use Rattle.pt_block_kinds.proofs.Lists.{in_filter}
 use Rattle.pt_common_slots.specs.Common.{RowsLead}

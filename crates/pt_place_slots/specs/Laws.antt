@@ -1,7 +1,7 @@
 -- What is said of the tables of a block.
 use Rattle.std.specs.Prelude.{◌≡◌, ◌↔◌, ℕ}
-use Rattle.pt_fits.specs.Block.{Block}
-use Rattle.pt_fits.specs.Leaves.{Common}
+use Rattle.sem_fits.specs.fits.Block.{Block}
+use Rattle.sem_fits.specs.fits.Leaves.{Common}
 use Rattle.pt_jump.specs.Slots.{TellsSlots}
 use Rattle.pt_place_slots.specs.declared.tables.BlockSlots.{BlockSlots}
 use Rattle.pt_place_slots.specs.Tables.{IsNumber, IsSound, TellsSlotsOf, told_of}

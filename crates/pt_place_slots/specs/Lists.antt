@@ -5,7 +5,7 @@ use Rattle.pt_instr.specs.declared.kinds.Kind.TheVariants.{Pending}
 use Rattle.pt_code.specs.View.{Ins}
 use Rattle.pt_places.specs.declared.places.Place.{Place}
 use Rattle.pt_places.specs.PlaceTable.{entry}
-use Rattle.pt_fits.specs.Block.{Block}
+use Rattle.sem_fits.specs.fits.Block.{Block}
 use Rattle.pt_jump.specs.Slots.{IsHeld}
 use Rattle.pt_kinds.specs.declared.forest.Forest.{Forest}
 use Rattle.pt_kinds.specs.Forest.{IsInside, list_at}

@@ -4,8 +4,8 @@ use Rattle.pt_instr.specs.declared.kinds.Kind.{Kind}
 use Rattle.pt_instr.specs.Effects.{Kinds}
 use Rattle.pt_places.specs.declared.places.Place.{Place}
 use Rattle.pt_places.specs.PlaceTable.{entry}
-use Rattle.pt_fits.specs.Block.{Block}
-use Rattle.pt_fits.specs.Places.{Gets}
+use Rattle.sem_fits.specs.fits.Block.{Block}
+use Rattle.sem_fits.specs.fits.Places.{Gets}
 use Rattle.pt_jump.specs.Slots.{SlotsTold}
 use Rattle.pt_kinds.specs.Forest as K
 use Rattle.pt_kinds.specs.Forest.{list_at}

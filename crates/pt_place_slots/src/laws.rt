@@ -1,6 +1,6 @@
 //! Laws of the tables of a block, each the contract of a function that does nothing.
 
-ghost use Rattle.pt_fits.specs.Block.{Block};
+ghost use Rattle.sem_fits.specs.fits.Block.{Block};
 ghost use Rattle.pt_place_slots.specs.declared.tables.BlockSlots.{BlockSlots};
 ghost use Rattle.pt_place_slots.specs.Laws.{AnswerJumps, NumbersTell};
 

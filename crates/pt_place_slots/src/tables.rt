@@ -3,12 +3,12 @@ ghost use Rattle.std.specs.Prelude.{◌≡◌, ◌≤◌, ◌<◌, ℕ, length, 
 ghost use Rattle.pt_instr.specs.Effects.{Kinds};
 ghost use Rattle.pt_code.specs.View.{Ins, IsView};
 ghost use Rattle.pt_places.specs.PlaceTable.{HasPlaces, entry};
-ghost use Rattle.pt_fits.specs.Block.{Block, block_of};
-ghost use Rattle.pt_fits.specs.Fits.{Fits};
-ghost use Rattle.pt_fits.specs.Jumps.{Jumps};
-ghost use Rattle.pt_fits.specs.Places.{Gets};
+ghost use Rattle.sem_fits.specs.fits.Block.{Block, block_of};
+ghost use Rattle.sem_fits.specs.fits.Fits.{Fits};
+ghost use Rattle.sem_fits.specs.fits.Jumps.{Jumps};
+ghost use Rattle.sem_fits.specs.fits.Places.{Gets};
 ghost use Rattle.pt_jump.specs.Targets.{answer_of};
-ghost use Rattle.pt_verify.specs.PlaceTable.{AreSizes};
+ghost use Rattle.pt_verify_depths.specs.PlaceTable.{AreSizes};
 ghost use Rattle.pt_kind_flow.specs.Search.{IsFlow};
 ghost use Rattle.pt_block_kinds.specs.Drawing.{Draws};
 ghost use Rattle.pt_block_kinds.specs.Told.{TellsListAt};

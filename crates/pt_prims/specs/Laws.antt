@@ -2,7 +2,7 @@
 use Rattle.std.specs.Prelude.{◌≡◌, ℕ, List, length, take}
 use Rattle.pt_base.specs.declared.numbers.ObjId.{ObjId}
 use Rattle.pt_heap.specs.declared.object.Object.{Object}
-use Rattle.pt_start.specs.Start.{start_objects}
+use Rattle.pt_builtin_objects.specs.Start.{start_objects}
 use Rattle.pt_prims.specs.Classes.{name_at}
 
 -- the name of the class at a place as a run starts

@@ -17,7 +17,8 @@ mod truth;
 mod type_error;
 
 pub use answer::{Helper, PrimAns};
-pub use class::{TYPE_ERROR, VALUE_ERROR, ZERO_DIVISION_ERROR, class_name};
+pub use class::{TYPE_ERROR, VALUE_ERROR, ZERO_DIVISION_ERROR, class_name, name_at};
 pub use laws::{errors_are_of_their_classes, objects_stay};
 pub use op::{Op, of_function};
 pub use operation::prim;
+pub use printing::text_content;

@@ -33,7 +33,11 @@ fn number_text(alloc: Global, number: i128) -> Result<Text, Memory>
 }
 
 /// What `str` gives (Library Reference, "Text Sequence Type").
-fn text_content(alloc: Global, heap: &Heap, value: Value) -> Result<Text, Memory>
+///
+/// # Errors
+///
+/// `Memory` for want of it.
+pub fn text_content(alloc: Global, heap: &Heap, value: Value) -> Result<Text, Memory>
     ensures { IfOk result (λ text. text ≡ text_content heap.now value) }
 {
     match value {

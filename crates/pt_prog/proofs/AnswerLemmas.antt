@@ -4,7 +4,7 @@ use Rattle.std.specs.declared.string.String.{String}
 use Rattle.std.specs.declared.alloc.Global.{Global}
 use Rattle.pt_base.specs.Taken.{Pieces}
 use Rattle.pt_base.specs.Told.{Told, IsWhole}
-use Rattle.pt_run.specs.Run.{Write}
+use Rattle.sem_run.specs.run.Run.{Write}
 use Rattle.pt_heap.specs.declared.value.Value.{Value}
 use Rattle.pt_host.specs.World.{World}
 use Rattle.pt_bare_runs.specs.Strides as bare

@@ -8,18 +8,18 @@ use Rattle.pt_heap.specs.declared.value.Value.{Value}
 use Rattle.pt_heap.specs.declared.value.Value.TheVariants as value
 use Rattle.pt_host.specs.HeapHost.{heap_host}
 use Rattle.pt_host.specs.World.{World, no_names, start_world}
-use Rattle.pt_run.specs.Run.{Write}
+use Rattle.sem_run.specs.run.Run.{Write}
 use Rattle.pt_bare_runs.specs.Strides.{Outcome}
 use Rattle.pt_bare_runs.proofs.BareRuns.{bare_runs_once}
 use Rattle.pt_machine_state.specs.Writing.{kept}
 use Rattle.pt_sinks.specs.Writing.{outs}
 use Rattle.pt_sinks.proofs.WritingLemmas.{outs_append}
-use Rattle.pt_script_program.specs.ScriptProgram.{program_of}
-use Rattle.pt_script_runs.specs.Blocks.{the_module}
-use Rattle.pt_script_runs.specs.Laws.{tree_machine}
+use Rattle.law_loading.specs.script_program.ScriptProgram.{program_of}
+use Rattle.law_compile.specs.script_runs.Blocks.{the_module}
+use Rattle.law_compile.specs.script_runs.Laws.{tree_machine}
 use Rattle.pt_runner.specs.Work.{Work}
 use Rattle.pt_run_script.specs.ScriptRun.{RunsTo}
-use Rattle.pt_built.specs.Built.{Built, unbuilt_of}
+use Rattle.pt_supported.specs.Built.{Built, unbuilt_of}
 use Rattle.pt_front.proofs.Once.{one_script, one_refusal, never_both}
 use Rattle.pt_words.specs.Words.{Asked}
 use Rattle.pt_words.specs.declared.line.Command.{Command}

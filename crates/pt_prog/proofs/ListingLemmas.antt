@@ -6,13 +6,13 @@ use Rattle.pt_tree.specs.Syntax.{Stms}
 use Rattle.pt_code.specs.declared.Code.{Code}
 use Rattle.pt_code.specs.File.{HasFile, file}
 use Rattle.pt_wide.specs.StatementFold.{stms_from}
-use Rattle.pt_numbering.specs.Numbered.{IsNumbered}
-use Rattle.pt_script_numbers.proofs.Scripts.{numbered}
+use Rattle.sem_control.specs.numbering.Numbered.{IsNumbered}
+use Rattle.law_front.proofs.script_numbers.Scripts.{numbered}
 use Rattle.pt_front.specs.Text.{IsScript}
-use Rattle.pt_compile.specs.ScriptCode.{code_of}
-use Rattle.pt_code_files.specs.Numbers.{NumbersFit}
-use Rattle.pt_code_files.proofs.Marks.{marks_rise}
-use Rattle.pt_code_files.proofs.Whole.{script_has_file}
+use Rattle.sem_compile.specs.compile.ScriptCode.{code_of}
+use Rattle.law_files.specs.code_files.Numbers.{NumbersFit}
+use Rattle.law_files.proofs.code_files.Marks.{marks_rise}
+use Rattle.law_files.proofs.code_files.Whole.{script_has_file}
 use Rattle.pt_listing.specs.Listing.{IsListing}
 use Rattle.pt_words.specs.declared.line.Command.{Command}
 use Rattle.pt_words.specs.declared.line.Command.TheVariants as command

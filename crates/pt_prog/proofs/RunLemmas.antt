@@ -3,9 +3,9 @@ use Rattle.std.proofs.Common.{◌≡◌, ◌∙◌, ◌++◌, ◌-◌, ◌^◌, 
 use Rattle.std.specs.Prelude.{IsErr, IsErrAnd, MatchOption}
 use Rattle.pt_base.specs.Taken.{Pieces}
 use Rattle.pt_tree.specs.Syntax.{Stms}
-use Rattle.pt_run.specs.Run.{Write}
+use Rattle.sem_run.specs.run.Run.{Write}
 use Rattle.pt_heap.specs.declared.value.Value.{Value}
-use Rattle.pt_fits.specs.Fits.{AllFit}
+use Rattle.sem_fits.specs.fits.Fits.{AllFit}
 use Rattle.pt_host.specs.World.{World}
 use Rattle.pt_bare_runs.specs.Strides as bare
 use Rattle.pt_bare_runs.specs.Strides.{Ending}
@@ -19,7 +19,7 @@ use Rattle.pt_bare_runs.specs.Strides.{Outcome}
 use Rattle.pt_code.specs.declared.Code.{Code}
 use Rattle.pt_runner.specs.Work.{Work}
 use Rattle.pt_base.specs.declared.numbers.Line.{Line}
-use Rattle.pt_built_code.specs.Built.{BuiltCode, IsUnbuiltCode}
+use Rattle.pt_supported_code.specs.Built.{BuiltCode, IsUnbuiltCode}
 use Rattle.pt_run_code.specs.CodeRun.{CodeBrokeOff, CodeFinished}
 use Rattle.pt_run_script.specs.ScriptRun.{ScriptBrokeOff, ScriptFinished}
 use Rattle.pt_sinks.specs.Writing.{Took, TookFront}

@@ -7,19 +7,19 @@ use Rattle.pt_base.specs.Told.{Told, IsLacked, IsLonger, IsWhole}
 use Rattle.pt_base.specs.Told.Told.{Holds}
 use Rattle.pt_base.specs.Taken.{Pieces}
 use Rattle.pt_tree.specs.Syntax.{Stms}
-use Rattle.pt_run.specs.Run.{Write, write, to_out, to_log}
+use Rattle.sem_run.specs.run.Run.{Write, write, to_out, to_log}
 use Rattle.pt_sinks.specs.Writing.{Took, TookFront}
 use Rattle.pt_sinks.specs.declared.writing.WriteErr.{WriteErr}
 use Rattle.pt_sinks.specs.declared.writing.WriteErr.TheVariants as error
 use Rattle.pt_bare_runs.specs.Strides as bare
 use Rattle.pt_bare_runs.specs.Strides.{Ending, Outcome}
 use Rattle.pt_heap.specs.declared.value.Value.{Value}
-use Rattle.pt_fits.specs.Fits.{AllFit}
+use Rattle.sem_fits.specs.fits.Fits.{AllFit}
 use Rattle.pt_host.specs.World.{World}
 use Rattle.pt_machine_state.specs.Writing.{kept}
 use Rattle.pt_runner.specs.Work.{Work}
 use Rattle.pt_run_script.specs.ScriptRun.{CodeRunsBy, RunsTo, ScriptWritesFirst}
-use Rattle.pt_built.specs.Built.{Built, unbuilt_of}
+use Rattle.pt_supported.specs.Built.{Built, unbuilt_of}
 use Rattle.pt_front.specs.Text.{IsScript, IsRefused}
 use Rattle.pt_front.specs.declared.refusal.Refusal.{Refusal}
 use Rattle.pt_code.specs.declared.Code.{Code}
@@ -27,13 +27,13 @@ use Rattle.pt_code.specs.File.{HasFile, file}
 use Rattle.pt_code.specs.Refusals.{answer}
 use Rattle.pt_code.specs.declared.refusing.CodeErr.{CodeErr}
 use Rattle.pt_code.specs.declared.refusing.CodeErr.TheVariants as format
-use Rattle.pt_verifier.specs.Verdict.{IsRefused as IsRefusedCode}
-use Rattle.pt_verifier.specs.declared.error.VerifyErr.{VerifyErr}
-use Rattle.pt_verifier.specs.declared.error.VerifyErr.TheVariants as misfit
-use Rattle.pt_built_code.specs.Built.{IsUnbuiltCode}
-use Rattle.pt_code_program.specs.Laws.{IsRunnable}
+use Rattle.pt_verify.specs.Verdict.{IsRefused as IsRefusedCode}
+use Rattle.pt_verify.specs.declared.error.VerifyErr.{VerifyErr}
+use Rattle.pt_verify.specs.declared.error.VerifyErr.TheVariants as misfit
+use Rattle.pt_supported_code.specs.Built.{IsUnbuiltCode}
+use Rattle.law_loading.specs.code_program.Laws.{IsRunnable}
 use Rattle.pt_run_code.specs.CodeRun.{CodeRunsTo, CodeWritesFirst}
-use Rattle.pt_compile.specs.ScriptCode.{code_of}
+use Rattle.sem_compile.specs.compile.ScriptCode.{code_of}
 use Rattle.pt_listing.specs.Listing.{IsListing}
 use Rattle.pt_words.specs.Words.{Asked, command_line}
 use Rattle.pt_words.specs.declared.line.Command.{Command}

@@ -2,7 +2,7 @@
 use Rattle.std.specs.Prelude.{ℕ, Option, Some, None}
 use Rattle.pt_code.specs.declared.refusing.CodeErr.{CodeErr}
 use Rattle.pt_code.specs.declared.refusing.CodeErr.TheVariants as format
-use Rattle.pt_verifier.specs.Verdict.{number_and_place}
+use Rattle.pt_verify.specs.Verdict.{number_and_place}
 use Rattle.pt_prog.specs.declared.end.CodeRefusal.{CodeRefusal}
 use Rattle.pt_prog.specs.declared.end.CodeRefusal.TheVariants.{Format, Misfit}
 

@@ -2,7 +2,7 @@
 use Rattle.std.specs.Prelude.{ℕ, List, [], ◌∷◌, ◌++◌, codes, Bool, true, false, Option, Some, None}
 use Rattle.std.specs.Fmt.{decimal}
 use Rattle.pt_base.specs.Words.{word_of}
-use Rattle.pt_run.specs.Run.{Write, write, to_log}
+use Rattle.sem_run.specs.run.Run.{Write, write, to_log}
 use Rattle.pt_front.specs.Refusals.{number_of, place_of}
 use Rattle.pt_prog.specs.CodeRefusals as code
 use Rattle.pt_prog.specs.declared.end.End.{End}

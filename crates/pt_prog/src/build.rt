@@ -2,14 +2,14 @@
 
 ghost use Rattle.std.specs.Prelude.{◌≡◌, ℕ, List, IfOk};
 ghost use Rattle.pt_code.specs.File.{HasFile, file};
-ghost use Rattle.pt_compile.specs.ScriptCode.{code_of};
+ghost use Rattle.sem_compile.specs.compile.ScriptCode.{code_of};
 ghost use Rattle.pt_front.specs.Text.{IsScript};
 ghost use Rattle.pt_tree.specs.StatementFold.{script_of};
 
 use pt_base::Memory;
 use pt_code::write;
+use pt_compile::compile;
 use pt_tree::Script;
-use pt_write_script::compile;
 use std::alloc::Global;
 
 /// The file of the code of a script that a text is.

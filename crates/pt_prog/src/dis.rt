@@ -1,15 +1,15 @@
 //! The listing of a script's code, for people (Library Reference, "dis").
 
 ghost use Rattle.std.specs.Prelude.{ℕ, List, IfOk, string_bytes};
-ghost use Rattle.pt_compile.specs.ScriptCode.{code_of};
+ghost use Rattle.sem_compile.specs.compile.ScriptCode.{code_of};
 ghost use Rattle.pt_front.specs.Text.{IsScript};
 ghost use Rattle.pt_listing.specs.Listing.{IsListing};
 ghost use Rattle.pt_tree.specs.StatementFold.{script_of};
 
 use pt_base::Memory;
+use pt_compile::compile;
 use pt_listing::listing;
 use pt_tree::Script;
-use pt_write_script::compile;
 use std::alloc::Global;
 
 /// The listing of the code of a script that a text is.

@@ -6,7 +6,7 @@ use pt_base::{Line, What};
 use pt_code::CodeErr;
 use pt_front::Refusal;
 use pt_sinks::Out;
-use pt_verifier::VerifyErr;
+use pt_verify::VerifyErr;
 
 /// How a call of the program ends.
 #[derive(Debug, Drop)]

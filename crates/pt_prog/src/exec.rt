@@ -4,7 +4,7 @@ ghost use Rattle.std.specs.Prelude.{◌≡◌, ◌≤◌, Err, IfErr, IfOk, true
 ghost use Rattle.pt_base.specs.Failures.{IfRefused};
 ghost use Rattle.pt_base.specs.Faults.{Rose};
 ghost use Rattle.pt_base.specs.declared.failure.Failure.TheVariants as failure;
-ghost use Rattle.pt_fits.specs.Fits.{AllFit};
+ghost use Rattle.sem_fits.specs.fits.Fits.{AllFit};
 ghost use Rattle.pt_prog.specs.Answer.{BrokeOffFor, IsBadFile, IsFileOf, IsMisfitOf, IsNoFile};
 ghost use Rattle.pt_prog.specs.Answer.{IsVerifiedFile, WroteAllFor};
 ghost use Rattle.pt_prog.specs.Limits.{reads_code};
@@ -16,12 +16,12 @@ use crate::end::{CodeRefusal, End};
 use crate::ending::{write_final, write_last, write_totals};
 use crate::running::tells_events;
 use pt_base::{Failure, Sink};
-use pt_built_code::unbuilt;
 use pt_code::{Code, CodeErr, read};
 use pt_heap::Seed;
 use pt_run_code::run_code;
 use pt_sinks::WriteErr;
-use pt_verifier::{VerifyErr, verify};
+use pt_supported_code::unbuilt;
+use pt_verify::{VerifyErr, verify};
 use pt_words::CommandLine;
 use std::alloc::Global;
 

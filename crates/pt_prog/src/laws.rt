@@ -3,7 +3,7 @@
 ghost use Rattle.std.specs.Prelude.{◌≡◌, ℕ, List, true};
 ghost use Rattle.pt_prog.specs.declared.end.End.{End as HowItEnds};
 ghost use Rattle.pt_prog.specs.Answer.{IsAnswerFor, is_run};
-ghost use Rattle.pt_run.specs.Run.{Write};
+ghost use Rattle.sem_run.specs.run.Run.{Write};
 ghost use Rattle.pt_sinks.specs.Writing.{outs};
 ghost use Rattle.pt_words.specs.Words.{Asked};
 

@@ -8,13 +8,13 @@ use Rattle.pt_base.specs.declared.what.What.TheVariants.{Heap}
 use Rattle.pt_bind.specs.declared.arguments.Locals.{Locals}
 use Rattle.pt_heap.specs.declared.value.Value.{Value}
 use Rattle.pt_heap.specs.declared.object.Object.{Object}
-use Rattle.pt_heap_rows.specs.declared.progress.Progress.{Progress}
-use Rattle.pt_heap_rows.specs.declared.progress.Progress.TheVariants as progress
+use Rattle.sem_rows.specs.declared.heap_rows.progress.Progress.{Progress}
+use Rattle.sem_rows.specs.declared.heap_rows.progress.Progress.TheVariants as progress
 use Rattle.pt_host.specs.Calls.{arguments_of}
 use Rattle.pt_host.specs.Errors.{error, error_saying}
 use Rattle.pt_host.specs.World.{IsAllotted, allot}
 use Rattle.pt_host.specs.declared.places.TheConstants.{RECURSION_ERROR}
-use Rattle.pt_run.specs.State.{most_activations}
+use Rattle.sem_run.specs.run.State.{most_activations}
 use Rattle.pt_machine_state.specs.declared.blocks.BlockCode.{BlockCode}
 use Rattle.pt_machine_state.specs.declared.blocks.Blocks.{Blocks}
 use Rattle.pt_machine_state.specs.declared.machine.Machine.{Machine}

@@ -8,7 +8,7 @@ use Rattle.pt_frames.specs.declared.purpose.Purpose.{Purpose}
 use Rattle.pt_places.specs.declared.places.Place.{Place}
 use Rattle.pt_places.specs.PlaceTable.{entry, place_at}
 use Rattle.pt_host.specs.World.{Program}
-use Rattle.pt_code_machine.specs.CodeBlocks.{CodeBlocks}
+use Rattle.sem_code_machine.specs.code_machine.CodeBlocks.{CodeBlocks}
 use Rattle.pt_machine_state.specs.declared.blocks.Blocks.{Blocks}
 use Rattle.pt_machine_state.specs.declared.machine.Machine.{Machine}
 use Rattle.pt_machine_state.specs.declared.machine.Standing.{Standing}

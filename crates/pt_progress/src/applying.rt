@@ -2,16 +2,16 @@
 ghost use Rattle.std.specs.Prelude.{◌≡◌, IfOk};
 ghost use Rattle.pt_base.specs.declared.numbers.Pc.{Pc};
 ghost use Rattle.pt_machine_state.specs.Applies.{Applied};
-ghost use Rattle.pt_heap_rows.specs.declared.progress.Progress.TheVariants as progress;
+ghost use Rattle.sem_rows.specs.declared.heap_rows.progress.Progress.TheVariants as progress;
 
 use crate::failing::{outside, raise_saying, raise_with};
 use pt_base::{BlockId, Memory, Pc, Text};
 use pt_bind::Locals;
 use pt_heap::Completion;
-use pt_heap_rows::Progress;
 use pt_host::RECURSION_ERROR;
 use pt_machine_state::{BlockCode, Blocks, Machine, Stride, Writes};
 use pt_transfers::{go_to, land, leave_place, open, print, tell};
+use sem_rows::heap_rows::Progress;
 
 /// The most activations that may be open.
 const MOST_ACTIVATIONS: usize = 1_000;

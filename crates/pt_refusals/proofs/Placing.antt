@@ -5,17 +5,17 @@ use Rattle.std.specs.Bool.{Decides}
 use Rattle.std.proofs.lemmas.Bool.{false≢true}
 use Rattle.pt_ranges.specs.declared.handlers.Handler.{Handler}
 use Rattle.pt_ranges.specs.Rows.{covers}
-use Rattle.pt_fits.specs.Block.{Block}
-use Rattle.pt_fits.specs.Agreement as A
-use Rattle.pt_fits.specs.Agreement.{HandlerFails, KindsClash, LengthsMeet, Strays, TooFew}
-use Rattle.pt_fits.specs.Fits as F
-use Rattle.pt_fits.specs.Fits.{NumberFails, table}
-use Rattle.pt_verify.specs.Sizes.{SizesMeet}
-use Rattle.pt_verify.specs.PlaceTable as T
-use Rattle.pt_verify.specs.PlaceTable.{SizesDisagree}
-use Rattle.pt_verify.specs.Refusals as R
-use Rattle.pt_verify.specs.Refusals.{CutsDiffer, CutsOf, LeaveLacks}
-use Rattle.pt_verify.proofs.SizeLemmas.{lack_as_few, rows_are_as_deep, sizes_meet_as_lengths}
+use Rattle.sem_fits.specs.fits.Block.{Block}
+use Rattle.sem_fits.specs.fits.Agreement as A
+use Rattle.sem_fits.specs.fits.Agreement.{HandlerFails, KindsClash, LengthsMeet, Strays, TooFew}
+use Rattle.sem_fits.specs.fits.Fits as F
+use Rattle.sem_fits.specs.fits.Fits.{NumberFails, table}
+use Rattle.pt_verify_depths.specs.Sizes.{SizesMeet}
+use Rattle.pt_verify_depths.specs.PlaceTable as T
+use Rattle.pt_verify_depths.specs.PlaceTable.{SizesDisagree}
+use Rattle.pt_verify_depths.specs.Refusals as R
+use Rattle.pt_verify_depths.specs.Refusals.{CutsDiffer, CutsOf, LeaveLacks}
+use Rattle.pt_verify_depths.proofs.SizeLemmas.{lack_as_few, rows_are_as_deep, sizes_meet_as_lengths}
 use Rattle.pt_block_limits.proofs.Steps.{kept}
 use Rattle.pt_block_limits.proofs.SilentLemmas.{rows_laid}
 use Rattle.pt_refusals.specs.declared.failures.Failures.{Failures}

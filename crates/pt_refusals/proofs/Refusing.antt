@@ -1,14 +1,14 @@
 -- What refuses a block: what does at its first place, and what is told of one that agrees.
 use Rattle.std.proofs.Common.{ℕ, zero, suc, ◌<◌, true, false, Some, None, arith}
 use Rattle.pt_cycles.specs.declared.cycles.Cycles.TheVariants as cycles
-use Rattle.pt_fits.specs.Block.{Block}
-use Rattle.pt_fits.specs.Agreement as A
-use Rattle.pt_fits.specs.Fits as F
-use Rattle.pt_fits.specs.Fits.{Disagrees}
-use Rattle.pt_fits.proofs.Certificates.{no_disagreement}
-use Rattle.pt_verify.specs.Refusals as R
-use Rattle.pt_verify.specs.Refusals.{NeedsKinds}
-use Rattle.pt_verify.proofs.RefusalLemmas.{refused_first}
+use Rattle.sem_fits.specs.fits.Block.{Block}
+use Rattle.sem_fits.specs.fits.Agreement as A
+use Rattle.sem_fits.specs.fits.Fits as F
+use Rattle.sem_fits.specs.fits.Fits.{Disagrees}
+use Rattle.sem_fits.proofs.fits.Certificates.{no_disagreement}
+use Rattle.pt_verify_depths.specs.Refusals as R
+use Rattle.pt_verify_depths.specs.Refusals.{NeedsKinds}
+use Rattle.pt_verify_depths.proofs.RefusalLemmas.{refused_first}
 use Rattle.pt_refusals.specs.Laws.{AgreeingBlocksAreTold, AgreesBefore, FirstPlaceRefuses}
 use Rattle.pt_refusals.proofs.Staying.{disagreement_stays}
 

@@ -1,7 +1,7 @@
 -- What fails up to a place fails up to one behind it.
 use Rattle.std.proofs.Common.{arith}
-use Rattle.pt_fits.specs.Block.{Block}
-use Rattle.pt_fits.proofs.OneAnswer.{disagrees_up}
+use Rattle.sem_fits.specs.fits.Block.{Block}
+use Rattle.sem_fits.proofs.fits.OneAnswer.{disagrees_up}
 use Rattle.pt_refusals.specs.Laws.{DisagreementStays}
 
 pub disagreement_stays : (b : Block) → DisagreementStays b

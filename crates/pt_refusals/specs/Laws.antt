@@ -6,13 +6,13 @@ use Rattle.pt_code.specs.declared.Code.{Code}
 use Rattle.pt_code.specs.View.{Ins, IsView}
 use Rattle.pt_sizes.specs.declared.flow.Sizes.TheVariants as sizes
 use Rattle.pt_cycles.specs.declared.cycles.Cycles.{Cycles}
-use Rattle.pt_fits.specs.Block.{Block, block_of}
-use Rattle.pt_fits.specs.Agreement.{Agrees}
-use Rattle.pt_fits.specs.Fits.{Disagrees, Fits, Misfit, Refused, RefusedAt, TablesHold}
-use Rattle.pt_verify.specs.PlaceTable.{TellsSizes}
+use Rattle.sem_fits.specs.fits.Block.{Block, block_of}
+use Rattle.sem_fits.specs.fits.Agreement.{Agrees}
+use Rattle.sem_fits.specs.fits.Fits.{Disagrees, Fits, Misfit, Refused, RefusedAt, TablesHold}
+use Rattle.pt_verify_depths.specs.PlaceTable.{TellsSizes}
 use Rattle.pt_block_limits.specs.Limits.{TellsDepth, TellsLoops}
 use Rattle.pt_block_limits.specs.Lost.{TellsLost}
-use Rattle.pt_verify.specs.Refusals.{CutsOf}
+use Rattle.pt_verify_depths.specs.Refusals.{CutsOf}
 use Rattle.pt_refusals.specs.declared.failures.Failures.{Failures}
 use Rattle.pt_refusals.specs.declared.failures.Failures.TheVariants as failures
 use Rattle.pt_refusals.specs.Told.{TellsFailures, TellsLeast, TellsLeastBelow}

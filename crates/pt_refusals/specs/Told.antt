@@ -4,17 +4,17 @@ use Rattle.std.specs.Bool.{Decides}
 use Rattle.pt_instr.specs.Effects.{Kinds}
 use Rattle.pt_ranges.specs.declared.handlers.Handler.{Handler}
 use Rattle.pt_code.specs.View.{Ins}
-use Rattle.pt_fits.specs.Block.{Block, effect}
-use Rattle.pt_fits.specs.Steps.{are_kinds, finds, is_prefix}
-use Rattle.pt_fits.specs.Places.{Gets, Reached}
-use Rattle.pt_fits.specs.Leaves.{Leaving}
-use Rattle.pt_fits.specs.Standing.{may_stand}
-use Rattle.pt_fits.specs.Tables.{IsRow}
-use Rattle.pt_fits.specs.Agreement.{Strays}
-use Rattle.pt_fits.specs.Fits.{IsLeast}
-use Rattle.pt_verify.specs.Sizes.{Lacks, RowTooDeep, SizesMeet}
-use Rattle.pt_verify.specs.PlaceTable.{SizesDisagree}
-use Rattle.pt_verify.specs.Refusals.{CutsOf, LeaveLacks}
+use Rattle.sem_fits.specs.fits.Block.{Block, effect}
+use Rattle.sem_fits.specs.fits.Steps.{are_kinds, finds, is_prefix}
+use Rattle.sem_fits.specs.fits.Places.{Gets, Reached}
+use Rattle.sem_fits.specs.fits.Leaves.{Leaving}
+use Rattle.sem_fits.specs.fits.Standing.{may_stand}
+use Rattle.sem_fits.specs.fits.Tables.{IsRow}
+use Rattle.sem_fits.specs.fits.Agreement.{Strays}
+use Rattle.sem_fits.specs.fits.Fits.{IsLeast}
+use Rattle.pt_verify_depths.specs.Sizes.{Lacks, RowTooDeep, SizesMeet}
+use Rattle.pt_verify_depths.specs.PlaceTable.{SizesDisagree}
+use Rattle.pt_verify_depths.specs.Refusals.{CutsOf, LeaveLacks}
 use Rattle.pt_refusals.specs.declared.failures.Failures.{Failures}
 use Rattle.pt_refusals.specs.declared.failures.Failures.TheVariants as failures
 use Rattle.pt_refusals.specs.declared.failures.KindFailures.{KindFailures}

@@ -2,7 +2,7 @@
 use Rattle.std.specs.Prelude.{ℕ, Bool, true, false, ◌||◌, Option, Some, None}
 use Rattle.pt_cycles.specs.declared.cycles.Cycles.{Cycles}
 use Rattle.pt_cycles.specs.declared.cycles.Cycles.TheVariants as cycles
-use Rattle.pt_fits.specs.Fits.{Misfit, stack, kind, target, table, silent_loop, depth}
+use Rattle.sem_fits.specs.fits.Fits.{Misfit, stack, kind, target, table, silent_loop, depth}
 use Rattle.pt_refusals.specs.declared.failures.Failures.{Failures}
 use Rattle.pt_refusals.specs.declared.failures.Failures.TheVariants as failures
 use Rattle.pt_refusals.specs.declared.failures.KindFailures.{KindFailures}

@@ -1,7 +1,7 @@
 //! The first place that refuses a block.
 ghost use Rattle.std.specs.Prelude.{◌≤◌, option_map, IfOk};
-ghost use Rattle.pt_fits.specs.Block.{Block};
-ghost use Rattle.pt_fits.specs.Fits.{Refused, RefusedAt, TablesHold};
+ghost use Rattle.sem_fits.specs.fits.Block.{Block};
+ghost use Rattle.sem_fits.specs.fits.Fits.{Refused, RefusedAt, TablesHold};
 ghost use Rattle.pt_refusals.specs.Laws.{TellsFirst, TellsPlace};
 ghost use Rattle.pt_refusals.specs.Verdicts.{misfit_of};
 
@@ -11,7 +11,7 @@ use pt_base::Memory;
 /// Tells of a block what refuses it at a place.
 pub trait Probe {
     ghost use Rattle.std.specs.Prelude.{ℕ};
-    ghost use Rattle.pt_fits.specs.Block.{Block};
+    ghost use Rattle.sem_fits.specs.fits.Block.{Block};
 
     /// Whether it tells of a block.
     ghost tells: { Self → Block → Type 0 };

@@ -1,7 +1,7 @@
 //! Laws of refusals, each the contract of a function that does nothing.
 
 ghost use Rattle.std.specs.Prelude.{ℕ};
-ghost use Rattle.pt_fits.specs.Block.{Block};
+ghost use Rattle.sem_fits.specs.fits.Block.{Block};
 ghost use Rattle.pt_refusals.specs.Laws.{AgreeingBlocksAreTold, BlocksListRows, DisagreementStays, FirstPlaceRefuses, PlacesAreTold, SizesTellFailures};
 
 /// Of how a block fails up to a place its refusal there is told, or that it agrees up to there. Its

@@ -5,14 +5,14 @@ use Rattle.pt_base.specs.Taken.{Pieces}
 use Rattle.std.proofs.lemmas.Option.{slice_get_within}
 use Rattle.pt_code.specs.declared.Code.{Code}
 use Rattle.pt_code.specs.File.{HasFile}
-use Rattle.pt_operands_fit.specs.Laws.{CellsFit}
-use Rattle.pt_heap_rows.specs.Views.{paired}
+use Rattle.law_files.specs.operands_fit.Laws.{CellsFit}
+use Rattle.sem_rows.specs.heap_rows.Views.{paired}
 use Rattle.pt_host.specs.HeapHost.{heap_host}
 use Rattle.pt_host.specs.World.{Program, World, no_names, start_world}
-use Rattle.pt_run.specs.Machine.{BlockId}
+use Rattle.sem_run.specs.run.Machine.{BlockId}
 use Rattle.pt_bare_runs.specs.Strides as bare
 use Rattle.pt_heap.specs.declared.value.Value.{Value}
-use Rattle.pt_code_machine.specs.CodeBlocks.{CodeBlocks, machine}
+use Rattle.sem_code_machine.specs.code_machine.CodeBlocks.{CodeBlocks, machine}
 use Rattle.pt_machine_state.specs.declared.machine.Machine.{Machine}
 use Rattle.pt_machine_state.specs.Views.{Bare, Beside, block_of, run_of}
 use Rattle.pt_machine_state.specs.Writing.{kept}
@@ -26,12 +26,12 @@ use Rattle.pt_sinks.specs.Writing.{TookFront}
 use Rattle.pt_sinks.specs.declared.writing.WriteErr.{WriteErr}
 use Rattle.pt_sinks.specs.declared.writing.WriteErr.TheVariants as error
 use Rattle.pt_sinks.proofs.WritingLemmas.{took_nothing, front_of_all}
-use Rattle.pt_code_program.specs.CodeProgram.{code_blocks, program_of_code, the_module}
-use Rattle.pt_code_program.specs.Laws.{HasCodeTables, IsRunnable}
-use Rattle.pt_code_program.proofs.Objects.{the_first}
-use Rattle.pt_code_program.proofs.Tables.{loaded_code_has_tables}
-use Rattle.pt_code_program.proofs.Operands.{built_code_names_its_blocks, run_begins_with_names}
-use Rattle.pt_code_program.proofs.Runs.{built_code_is_never_stuck}
+use Rattle.law_loading.specs.code_program.CodeProgram.{code_blocks, program_of_code, the_module}
+use Rattle.law_loading.specs.code_program.Laws.{HasCodeTables, IsRunnable}
+use Rattle.law_loading.proofs.code_program.Objects.{the_first}
+use Rattle.law_loading.proofs.code_program.Tables.{loaded_code_has_tables}
+use Rattle.law_loading.proofs.code_program.Operands.{built_code_names_its_blocks, run_begins_with_names}
+use Rattle.law_loading.proofs.code_program.Runs.{built_code_is_never_stuck}
 use Rattle.pt_run_code.specs.CodeRun.{CodeBrokeOff, CodeFinished, nothing, of_run}
 
 nothing_behind : {A : Type 0} (xs ys : List A) → xs ++ ys ≡ [] → ys ≡ []

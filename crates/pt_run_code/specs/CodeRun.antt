@@ -4,19 +4,19 @@ use Rattle.std.specs.Prelude.{◌≡◌, ◌-◌, ◌^◌, ℕ, List, [], Bool, 
 use Rattle.pt_base.specs.Taken.{Pieces}
 use Rattle.pt_heap.specs.declared.value.Value.{Value}
 use Rattle.pt_code.specs.declared.Code.{Code}
-use Rattle.pt_slots.specs.CodeObject.{CodeObject}
-use Rattle.pt_operands_fit.specs.Laws.{CellsFit}
-use Rattle.pt_run.specs.Run.{Write}
+use Rattle.sem_code.specs.slots.CodeObject.{CodeObject}
+use Rattle.law_files.specs.operands_fit.Laws.{CellsFit}
+use Rattle.sem_run.specs.run.Run.{Write}
 use Rattle.pt_bare_runs.specs.Strides.{Outcome}
 use Rattle.pt_bare_writes.specs.Fronts.{RunWritesFirst}
 use Rattle.pt_host.specs.HeapHost.{heap_host}
 use Rattle.pt_host.specs.World.{World, no_names, start_world}
-use Rattle.pt_code_machine.specs.CodeBlocks.{machine}
+use Rattle.sem_code_machine.specs.code_machine.CodeBlocks.{machine}
 use Rattle.pt_machine_state.specs.Writing.{kept}
 use Rattle.pt_runner.specs.Ends.{IsEnding}
 use Rattle.pt_runner.specs.Work.{Work, RunDoes}
 use Rattle.pt_runner.specs.declared.ending.Ended.{Ended}
-use Rattle.pt_code_program.specs.CodeProgram.{AreObjectsOf, code_blocks, program_of_code, the_module}
+use Rattle.law_loading.specs.code_program.CodeProgram.{AreObjectsOf, code_blocks, program_of_code, the_module}
 use Rattle.pt_sinks.specs.Writing.{Took, TookFront}
 use Rattle.pt_sinks.specs.declared.writing.WriteErr.{WriteErr}
 

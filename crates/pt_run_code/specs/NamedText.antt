@@ -8,7 +8,7 @@ use Rattle.pt_code.specs.declared.Const.{Const}
 use Rattle.pt_code.specs.declared.Const.TheVariants as const
 use Rattle.pt_code.specs.declared.CodeBlock.{CodeBlock}
 use Rattle.pt_code.specs.declared.Code.{Code}
-use Rattle.pt_slots.specs.BlockObject.{text_in}
+use Rattle.sem_code.specs.slots.BlockObject.{text_in}
 
 -- the bytes of text that a code may name
 abbrev pub named_text_limit : ℕ

@@ -1,6 +1,6 @@
 ghost use Rattle.std.specs.Prelude.{◌≡◌, ◌≤◌, Err, IfOk, IfErr};
 ghost use Rattle.pt_base.specs.Faults.{Rose};
-ghost use Rattle.pt_code_program.specs.Laws.{IsRunnable};
+ghost use Rattle.law_loading.specs.code_program.Laws.{IsRunnable};
 ghost use Rattle.pt_run_code.specs.CodeRun.{CodeBrokeOff, CodeFinished};
 ghost use Rattle.pt_sinks.specs.declared.writing.Out.TheVariants as stream;
 

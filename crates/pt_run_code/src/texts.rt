@@ -5,7 +5,7 @@
 ghost use Rattle.std.specs.Prelude.{◌≡◌, ◌+◌, length, nat_lt};
 ghost use Rattle.std.specs.List.{flat_map};
 ghost use Rattle.pt_strs.specs.Answer.{counted};
-ghost use Rattle.pt_slots.specs.BlockObject.{text_in};
+ghost use Rattle.sem_code.specs.slots.BlockObject.{text_in};
 ghost use Rattle.pt_run_code.specs.NamedText.{block_text, constant_text, listed_text, names_text};
 ghost use Rattle.pt_run_code.specs.NamedText.{named_text, named_text_limit};
 

@@ -5,49 +5,49 @@ use Rattle.std.proofs.lemmas.Option.{same_Some}
 use Rattle.pt_base.specs.Taken.{Pieces}
 use Rattle.pt_tree.specs.Syntax.{Stms}
 use Rattle.pt_wide.specs.Syntax as wide
-use Rattle.pt_script_numbers.proofs.Scripts.{numbered}
+use Rattle.law_front.proofs.script_numbers.Scripts.{numbered}
 use Rattle.pt_code.specs.declared.CodeBlock.{CodeBlock}
 use Rattle.pt_code.specs.declared.Code.{Code}
-use Rattle.pt_compile.specs.ScriptCode.{code_of}
-use Rattle.pt_code_files.specs.Numbers.{NumbersFit}
-use Rattle.pt_operands_fit.specs.Laws.{CellsFit}
+use Rattle.sem_compile.specs.compile.ScriptCode.{code_of}
+use Rattle.law_files.specs.code_files.Numbers.{NumbersFit}
+use Rattle.law_files.specs.operands_fit.Laws.{CellsFit}
 use Rattle.pt_heap.specs.declared.value.Value.{Value}
 use Rattle.pt_heap.specs.declared.value.Value.TheVariants as value
 use Rattle.pt_host.specs.HeapHost.{heap_host}
 use Rattle.pt_host.specs.World.{Program, World, no_names, start_world}
-use Rattle.pt_heap_rows.specs.Views.{paired}
+use Rattle.sem_rows.specs.heap_rows.Views.{paired}
 use Rattle.pt_machine_state.specs.Views.{Bare, Beside, block_of, run_of}
 use Rattle.pt_bare_runs.specs.Laws.{NeverStuck}
 use Rattle.pt_bare_runs.specs.Strides as bare
-use Rattle.pt_run.specs.Machine.{BlockId}
-use Rattle.pt_code_machine.specs.CodeBlocks.{CodeBlocks, machine}
+use Rattle.sem_run.specs.run.Machine.{BlockId}
+use Rattle.sem_code_machine.specs.code_machine.CodeBlocks.{CodeBlocks, machine}
 use Rattle.pt_bare_host.proofs.BlocksOnly.{opens_only}
-use Rattle.pt_built.specs.Built.{Built}
-use Rattle.pt_built.proofs.Silent.{built_blocks_give_nothing_on}
+use Rattle.pt_supported.specs.Built.{Built}
+use Rattle.pt_supported.proofs.Silent.{built_blocks_give_nothing_on}
 use Rattle.pt_front.specs.Text.{IsScript}
-use Rattle.pt_read_forms.specs.Laws.{IsWideOf}
-use Rattle.pt_read_forms.proofs.Texts.{scripts_of_texts_are_formed}
-use Rattle.pt_slot_names.proofs.Different.{cells_are_different}
-use Rattle.pt_slot_names.proofs.Written.{blocks_have_names}
-use Rattle.pt_script_program.specs.ScriptProgram.{program_of}
-use Rattle.pt_script_runs.specs.Blocks.{script_code, the_module}
-use Rattle.pt_script_runs.specs.Laws.{code_machine}
-use Rattle.pt_read_runs.specs.Laws.{IsReadWith}
-use Rattle.pt_free_pieces.proofs.Script.{blocks_have_free_names}
-use Rattle.pt_formed_scripts.proofs.Statements.{scripts_are_formed}
-use Rattle.pt_script_objects.proofs.Objects.{objects_have_their_code}
-use Rattle.pt_script_runs.specs.Laws.{AreItsObjects}
-use Rattle.pt_script_runs.proofs.Objects.{script_has_its_bare_runs, code_of_script_writes_nothing_else, code_is_never_stuck}
+use Rattle.law_compile.specs.read_forms.Laws.{IsWideOf}
+use Rattle.law_compile.proofs.read_forms.Texts.{scripts_of_texts_are_formed}
+use Rattle.law_supported.proofs.Different.{cells_are_different}
+use Rattle.law_supported.proofs.Written.{blocks_have_names}
+use Rattle.law_loading.specs.script_program.ScriptProgram.{program_of}
+use Rattle.law_compile.specs.script_runs.Blocks.{script_code, the_module}
+use Rattle.law_compile.specs.script_runs.Laws.{code_machine}
+use Rattle.law_compile.specs.read_runs.Laws.{IsReadWith}
+use Rattle.law_operands.proofs.free_pieces.Script.{blocks_have_free_names}
+use Rattle.law_compile.proofs.formed_scripts.Statements.{scripts_are_formed}
+use Rattle.law_compile.proofs.script_objects.Objects.{objects_have_their_code}
+use Rattle.law_compile.specs.script_runs.Laws.{AreItsObjects}
+use Rattle.law_compile.proofs.script_runs.Objects.{script_has_its_bare_runs, code_of_script_writes_nothing_else, code_is_never_stuck}
 use Rattle.pt_machine_state.specs.declared.machine.Machine.{Machine}
 use Rattle.pt_machine_state.specs.declared.blocks.BlockCode.{BlockCode}
 use Rattle.pt_code_loader.specs.declared.loading.Loaded.{Loaded}
 use Rattle.pt_code_loader.specs.Loaded.{AreLoaded, IsLoaded, IsLoadedCode}
 use Rattle.pt_code_loader.specs.Starting.{Begins, at_start}
-use Rattle.pt_code_names.proofs.Blocks.{code_names_blocks, module_begins}
-use Rattle.pt_loaded_scripts.specs.Laws.{HasTables, IsLoadable}
-use Rattle.pt_loaded_scripts.proofs.Loading.{code_has_its_module, loaded_script_has_tables, loaded_script_is_read}
-use Rattle.pt_fitting_scripts.specs.Laws.{CodeFits}
-use Rattle.pt_fitting_scripts.proofs.Fitting.{code_of_texts_fits}
+use Rattle.law_loading.proofs.code_names.Blocks.{code_names_blocks, module_begins}
+use Rattle.law_loading.specs.loaded_scripts.Laws.{HasTables, IsLoadable}
+use Rattle.law_loading.proofs.loaded_scripts.Loading.{code_has_its_module, loaded_script_has_tables, loaded_script_is_read}
+use Rattle.law_compile.specs.fitting_scripts.Laws.{CodeFits}
+use Rattle.law_compile.proofs.fitting_scripts.Fitting.{code_of_texts_fits}
 use Rattle.pt_runner.specs.declared.ending.Ended.{Ended}
 use Rattle.pt_runner.specs.Runs.{IsReady, ModuleRun}
 use Rattle.pt_runner.specs.Runs as coded

@@ -5,25 +5,25 @@ use Rattle.pt_tree.specs.Syntax.{Stms}
 use Rattle.pt_tree.specs.Blocks.{Block, blocks_script}
 use Rattle.pt_heap.specs.declared.value.Value.{Value}
 use Rattle.pt_heap.specs.declared.value.Value.TheVariants as value
-use Rattle.pt_slots.specs.CodeObject.{CodeObject}
-use Rattle.pt_compile.specs.ScriptCode.{code_of}
-use Rattle.pt_fitting_scripts.specs.Laws.{CodeFits}
-use Rattle.pt_run.specs.Machine.{BlockId}
-use Rattle.pt_run.specs.Run.{Write}
+use Rattle.sem_code.specs.slots.CodeObject.{CodeObject}
+use Rattle.sem_compile.specs.compile.ScriptCode.{code_of}
+use Rattle.law_compile.specs.fitting_scripts.Laws.{CodeFits}
+use Rattle.sem_run.specs.run.Machine.{BlockId}
+use Rattle.sem_run.specs.run.Run.{Write}
 use Rattle.pt_bare_runs.specs.Strides as bare
 use Rattle.pt_bare_runs.specs.Strides.{Outcome}
 use Rattle.pt_bare_writes.specs.Fronts.{RunWritesFirst}
 use Rattle.pt_host.specs.HeapHost.{heap_host}
 use Rattle.pt_host.specs.World.{World, no_names, start_world}
-use Rattle.pt_heap_rows.specs.Leads.{HasHeapTruths, HasHeapExtras}
+use Rattle.sem_rows.specs.heap_rows.Leads.{HasHeapTruths, HasHeapExtras}
 use Rattle.pt_machine_state.specs.Writing.{kept}
 use Rattle.pt_runner.specs.Ends.{IsEnding}
 use Rattle.pt_runner.specs.Work.{Work, RunDoes}
 use Rattle.pt_runner.specs.declared.ending.Ended.{Ended}
-use Rattle.pt_script_objects.specs.Laws.{HasCode}
-use Rattle.pt_script_program.specs.ScriptProgram.{program_of}
-use Rattle.pt_script_runs.specs.Blocks.{number_of, the_module}
-use Rattle.pt_script_runs.specs.Laws.{tree_machine, code_machine}
+use Rattle.law_compile.specs.script_objects.Laws.{HasCode}
+use Rattle.law_loading.specs.script_program.ScriptProgram.{program_of}
+use Rattle.law_compile.specs.script_runs.Blocks.{number_of, the_module}
+use Rattle.law_compile.specs.script_runs.Laws.{tree_machine, code_machine}
 use Rattle.pt_sinks.specs.Writing.{Took, TookFront}
 use Rattle.pt_sinks.specs.declared.writing.WriteErr.{WriteErr}
 

@@ -1,6 +1,6 @@
 ghost use Rattle.std.specs.Prelude.{◌≡◌, ◌≤◌, ℕ, List, Err, IfOk, IfErr};
 ghost use Rattle.pt_base.specs.Faults.{Rose};
-ghost use Rattle.pt_built.specs.Built.{Built};
+ghost use Rattle.pt_supported.specs.Built.{Built};
 ghost use Rattle.pt_front.specs.Text.{IsScript};
 ghost use Rattle.pt_run_script.specs.ScriptRun.{ScriptBrokeOff, ScriptFinished};
 ghost use Rattle.pt_sinks.specs.declared.writing.Out.TheVariants as stream;
@@ -8,11 +8,11 @@ ghost use Rattle.pt_tree.specs.StatementFold.{script_of};
 
 use pt_base::Sink;
 use pt_code_loader::{load, start};
+use pt_compile::compile;
 use pt_heap::Seed;
 use pt_runner::{Ended, run};
 use pt_sinks::WriteErr;
 use pt_tree::Script;
-use pt_write_script::compile;
 use std::alloc::Global;
 
 /// Runs a script that a text is, all of which is built, under a bound on acts. What it prints goes

@@ -4,10 +4,10 @@ use Rattle.std.specs.Prelude.{OnOk, IfErr, IsErr, IsErrAnd, codes}
 use Rattle.pt_base.specs.declared.numbers.Line.{Line}
 use Rattle.pt_base.specs.Taken.{Pieces}
 use Rattle.pt_heap.specs.declared.value.Value.{Value}
-use Rattle.pt_slots.specs.Slots.{State}
-use Rattle.pt_run.specs.Host as H
-use Rattle.pt_run.specs.Host.{Leaving}
-use Rattle.pt_run.specs.Run.{Write}
+use Rattle.sem_code.specs.slots.Slots.{State}
+use Rattle.sem_run.specs.run.Host as H
+use Rattle.sem_run.specs.run.Host.{Leaving}
+use Rattle.sem_run.specs.run.Run.{Write}
 use Rattle.pt_host.specs.World.{Names, World}
 use Rattle.pt_host.specs.Leaving.{leaving}
 use Rattle.pt_bare_runs.specs.Strides as bare
@@ -17,7 +17,7 @@ use Rattle.pt_sinks.specs.Writing.{Took, TookFront}
 use Rattle.pt_sinks.specs.declared.writing.WriteErr.{WriteErr}
 use Rattle.pt_sinks.specs.declared.writing.WriteErr.TheVariants as error
 use Rattle.pt_sinks.proofs.WritingLemmas.{took_nothing, front_of_all, front_before}
-use Rattle.pt_heap_rows.specs.Views.{world_view}
+use Rattle.sem_rows.specs.heap_rows.Views.{world_view}
 use Rattle.pt_machine_state.specs.declared.blocks.BlockCode.{BlockCode}
 use Rattle.pt_machine_state.specs.declared.machine.Machine.{Machine}
 use Rattle.pt_machine_state.specs.declared.machine.MachineEnd.{MachineEnd}

@@ -6,7 +6,7 @@ use Rattle.pt_frames.specs.declared.activation.Activation.{Activation}
 use Rattle.pt_host.specs.World.{World}
 use Rattle.pt_bare_runs.specs.Strides as bare
 use Rattle.pt_bare_runs.specs.Strides.{Ending}
-use Rattle.pt_heap_rows.specs.Views.{slot_view}
+use Rattle.sem_rows.specs.heap_rows.Views.{slot_view}
 use Rattle.pt_machine_state.specs.declared.machine.Standing.{Standing}
 use Rattle.pt_machine_state.specs.declared.machine.Standing.TheVariants as standing
 use Rattle.pt_machine_state.specs.Views.{state_of}

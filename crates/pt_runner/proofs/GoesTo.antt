@@ -1,10 +1,10 @@
 -- A run of code on its way: where it comes to, what it wrote and what it did so far.
 use Rattle.std.proofs.Common.{arith, ◌≡◌, ℕ, ◌+◌, max, List, ◌++◌, refl, sym, ap, subst, append_assoc}
-use Rattle.pt_slots.specs.Slots as slots
-use Rattle.pt_run.specs.Machine.{BlockId, Machine}
-use Rattle.pt_run.specs.Events.{starts}
-use Rattle.pt_run.specs.Host.{Host}
-use Rattle.pt_run.specs.Run.{Write}
+use Rattle.sem_code.specs.slots.Slots as slots
+use Rattle.sem_run.specs.run.Machine.{BlockId, Machine}
+use Rattle.sem_run.specs.run.Events.{starts}
+use Rattle.sem_run.specs.run.Host.{Host}
+use Rattle.sem_run.specs.run.Run.{Write}
 use Rattle.pt_bare_runs.specs.Strides as bare
 use Rattle.pt_bare_runs.specs.Strides.{State, Stride, goes, stride, logged, start, Outcome, outcome_behind, Comes, Runs}
 use Rattle.pt_bare_runs.specs.Laws as laws

@@ -3,10 +3,10 @@ use Rattle.std.proofs.Common.{◌≡◌, ℕ, List, [], ◌++◌, Bool, false, O
 use Rattle.std.specs.Prelude.{codes}
 use Rattle.pt_base.specs.Taken.{Pieces}
 use Rattle.pt_heap.specs.declared.value.Value.{Value}
-use Rattle.pt_slots.specs.Slots.{State}
+use Rattle.sem_code.specs.slots.Slots.{State}
 use Rattle.pt_frames.specs.declared.activations.OpenActivation.{OpenActivation}
-use Rattle.pt_run.specs.Events.{starts}
-use Rattle.pt_run.specs.Run.{Write}
+use Rattle.sem_run.specs.run.Events.{starts}
+use Rattle.sem_run.specs.run.Run.{Write}
 use Rattle.pt_host.specs.World.{Names, World}
 use Rattle.pt_host.specs.HeapHost.{heap_host}
 use Rattle.pt_bare_runs.specs.Strides as bare
@@ -17,7 +17,7 @@ use Rattle.pt_sinks.specs.Writing.{Took, TookFront}
 use Rattle.pt_sinks.specs.declared.writing.WriteErr.{WriteErr}
 use Rattle.pt_sinks.specs.declared.writing.WriteErr.TheVariants as error
 use Rattle.pt_sinks.proofs.WritingLemmas.{took_behind, front_behind, front_of_all}
-use Rattle.pt_code_machine.specs.CodeBlocks.{machine}
+use Rattle.sem_code_machine.specs.code_machine.CodeBlocks.{machine}
 use Rattle.pt_machine_state.specs.declared.machine.Machine.{Machine}
 use Rattle.pt_machine_state.specs.Blocks.{block_at}
 use Rattle.pt_machine_state.specs.Views.{Bare, Beside, Waits, AllWait, none, block_of, state_of, run_of}
@@ -27,8 +27,8 @@ use Rattle.pt_machine_state.specs.Writing.{kept}
 use Rattle.pt_machine_state.proofs.ApplyLemmas.{logged-start}
 use Rattle.pt_machine_state.proofs.WriteLemmas.{kept-append}
 use Rattle.pt_code_tables.specs.declared.tables.CodeTables.{CodeTables}
-use Rattle.pt_run_names.specs.RunNames.{RunHasNames}
-use Rattle.pt_run_names.proofs.Runs.{reached_has_names}
+use Rattle.law_frames.specs.RunNames.{RunHasNames}
+use Rattle.law_frames.proofs.Runs.{reached_has_names}
 use Rattle.pt_runner.specs.declared.ending.Ended.{Ended}
 use Rattle.pt_runner.specs.declared.ending.RunEnd.{RunEnd}
 use Rattle.pt_runner.specs.declared.ending.Totals.{Totals}

@@ -2,8 +2,8 @@
 use Rattle.std.specs.Prelude.{◌≡◌, ℕ, List, [], Bool, true, false, Option, Some, None, min, max, ◌+◌, ◌-◌, ◌^◌, length}
 use Rattle.pt_base.specs.Taken.{Pieces}
 use Rattle.pt_heap.specs.declared.value.Value.{Value}
-use Rattle.pt_slots.specs.Slots.{State}
-use Rattle.pt_run.specs.Run.{Write}
+use Rattle.sem_code.specs.slots.Slots.{State}
+use Rattle.sem_run.specs.run.Run.{Write}
 use Rattle.pt_host.specs.World.{Names, World, Program}
 use Rattle.pt_host.specs.HeapHost.{heap_host}
 use Rattle.pt_bare_runs.specs.Strides as bare
@@ -11,7 +11,7 @@ use Rattle.pt_bare_runs.specs.Strides.{Ending, goes, ends, is_stuck, stride}
 use Rattle.pt_bare_writes.specs.Fronts.{WritesFirst}
 use Rattle.pt_sinks.specs.Writing.{Took, TookFront}
 use Rattle.pt_sinks.specs.declared.writing.WriteErr.{WriteErr}
-use Rattle.pt_code_machine.specs.CodeBlocks.{CodeBlocks, machine}
+use Rattle.sem_code_machine.specs.code_machine.CodeBlocks.{CodeBlocks, machine}
 use Rattle.pt_frames.specs.declared.activation.Activation.{Activation}
 use Rattle.pt_machine_state.specs.declared.machine.Machine.{Machine}
 use Rattle.pt_machine_state.specs.declared.machine.Standing.{Standing}

@@ -2,12 +2,12 @@
 use Rattle.std.specs.Prelude.{◌≡◌}
 use Rattle.pt_base.specs.declared.numbers.Line.{Line}
 use Rattle.pt_base.specs.declared.what.What.TheVariants.{Exit}
-use Rattle.pt_run.specs.Host as H
-use Rattle.pt_run.specs.Host.{Leaving}
+use Rattle.sem_run.specs.run.Host as H
+use Rattle.sem_run.specs.run.Host.{Leaving}
 use Rattle.pt_bare_runs.specs.Strides as bare
 use Rattle.pt_bare_runs.specs.Strides.{Ending}
 use Rattle.pt_host.specs.Leaving.{leaving}
-use Rattle.pt_heap_rows.specs.Views.{world_view}
+use Rattle.sem_rows.specs.heap_rows.Views.{world_view}
 use Rattle.pt_machine_state.specs.declared.machine.Machine.{Machine}
 use Rattle.pt_machine_state.specs.declared.machine.MachineEnd.{MachineEnd}
 use Rattle.pt_machine_state.specs.declared.machine.MachineEnd.TheVariants as machine

@@ -1,10 +1,10 @@
 -- What a run of code does beside what it writes: how many instructions, and over how many slots (Library Reference, "dis").
 use Rattle.std.specs.Prelude.{◌≡◌, ℕ, ◌+◌, max, List, length, Bool, true, false, Option, Some, None, if◌then◌else◌}
-use Rattle.pt_slots.specs.Slots.{State, on}
-use Rattle.pt_run.specs.Machine.{BlockId, Machine}
-use Rattle.pt_run.specs.Events.{starts}
-use Rattle.pt_run.specs.Host.{Host}
-use Rattle.pt_run.specs.Run.{Write}
+use Rattle.sem_code.specs.slots.Slots.{State, on}
+use Rattle.sem_run.specs.run.Machine.{BlockId, Machine}
+use Rattle.sem_run.specs.run.Events.{starts}
+use Rattle.sem_run.specs.run.Host.{Host}
+use Rattle.sem_run.specs.run.Run.{Write}
 use Rattle.pt_bare_runs.specs.Strides as bare
 use Rattle.pt_bare_runs.specs.Strides.{Ending, Stride, goes, ends, stride, Outcome, outcome_behind, logged, start}
 

@@ -1,10 +1,10 @@
 //! The law of the work of a run, the contract of a function that does nothing.
 
 ghost use Rattle.std.specs.Prelude.{ℕ};
-ghost use Rattle.pt_run.specs.Host.{Host};
-ghost use Rattle.pt_run.specs.Machine.{BlockId, Machine};
+ghost use Rattle.sem_run.specs.run.Host.{Host};
+ghost use Rattle.sem_run.specs.run.Machine.{BlockId, Machine};
 ghost use Rattle.pt_runner.specs.Work.{DoesOneWork};
-ghost use Rattle.pt_slots.specs.Slots.{State};
+ghost use Rattle.sem_code.specs.slots.Slots.{State};
 
 /// A run of code that comes to an outcome does one work.
 #[tactic(auto, using(crate::proofs::GoesTo::does_one_work))]

@@ -2,8 +2,8 @@
 
 ghost use Rattle.std.specs.Prelude.{◌≡◌, ℕ, slice_get, Some};
 ghost use Rattle.pt_block_names.specs.Named.{names_with};
-ghost use Rattle.pt_naming.specs.Around.{names_of};
-ghost use Rattle.pt_naming.specs.Script.{naming_script};
+ghost use Rattle.sem_names.specs.Around.{names_of};
+ghost use Rattle.sem_names.specs.Script.{naming_script};
 ghost use Rattle.pt_tree.specs.Blocks.{Block, blocks_script};
 ghost use Rattle.pt_tree.specs.Syntax.{Stms};
 

@@ -1,12 +1,12 @@
 ghost use Rattle.std.specs.Prelude.{◌≡◌, None, IfOk};
-ghost use Rattle.pt_naming.specs.Script.{naming_script};
+ghost use Rattle.sem_names.specs.Script.{naming_script};
 ghost use Rattle.pt_scopes.specs.Mentions.{places_script};
 ghost use Rattle.pt_scopes.specs.Refusals.{fault_of};
 ghost use Rattle.pt_tree.specs.StatementFold.{script_of};
 
 use pt_base::Memory;
 use pt_block_names::ScriptNames;
-use pt_outline::outline;
+use pt_block_shapes::outline::outline;
 use pt_tree::Script;
 use std::alloc::Global;
 

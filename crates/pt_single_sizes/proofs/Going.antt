@@ -8,9 +8,9 @@ use Rattle.pt_code.specs.View.{Ins}
 use Rattle.pt_sizes.specs.Flow.{entry}
 use Rattle.pt_sizes.specs.Waiting.{AllDescend, Level}
 use Rattle.pt_sizes.proofs.Tables.{some_or_none}
-use Rattle.pt_fits.specs.Block.{Block, Links, effect}
-use Rattle.pt_fits.specs.Steps.{target_of}
-use Rattle.pt_verify.specs.Sizes.{SizeStep}
+use Rattle.sem_fits.specs.fits.Block.{Block, Links, effect}
+use Rattle.sem_fits.specs.fits.Steps.{target_of}
+use Rattle.pt_verify_depths.specs.Sizes.{SizeStep}
 use Rattle.pt_single_sizes.specs.Search.{GoesOn, IsRead, Spreads, Went}
 use Rattle.pt_single_sizes.proofs.Spreading.{passed, met, ends, goes_on}
 

@@ -1,7 +1,7 @@
 -- The ways on of an instruction, part by part.
 use Rattle.std.proofs.Common.{◌≡◌, ℕ, true, List, [], ◌++◌, Option, sym, ap, ◌∙◌, if◌then◌else◌, append_assoc}
 use Rattle.pt_instr.specs.declared.effects.Effect.{Effect}
-use Rattle.pt_verify.specs.Sizes.{SizeStep, is_enough, gives_onward, gives_aside, gives_again}
+use Rattle.pt_verify_depths.specs.Sizes.{SizeStep, is_enough, gives_onward, gives_aside, gives_again}
 use Rattle.pt_single_sizes.specs.Single.{own_steps}
 
 pub own_parts : (old : List SizeStep) (e : Effect) (n pc next : ℕ) (t : Option ℕ) → is_enough e n ≡ true

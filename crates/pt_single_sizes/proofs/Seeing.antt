@@ -9,8 +9,8 @@ use Rattle.pt_code.specs.declared.CodeBlock.{CodeBlock}
 use Rattle.pt_code.specs.declared.Code.{Code}
 use Rattle.pt_code.specs.View.{Ins, ins_at, laid_from, IsView}
 use Rattle.pt_sizes.proofs.Tables.{some_or_none}
-use Rattle.pt_fits.specs.Block.{block_of}
-use Rattle.pt_fits.proofs.ViewLaid.{view_is_laid}
+use Rattle.sem_fits.specs.fits.Block.{block_of}
+use Rattle.sem_fits.proofs.fits.ViewLaid.{view_is_laid}
 use Rattle.pt_block_kinds.specs.Graph.{IsSeen}
 
 laid_rows : (b : CodeBlock) (at : ℕ) (is : List Instr) (pc : ℕ) (i : Ins) → laid_from b at is pc ≡ Some i → i.rows ≡ filter (λ row. covers row (record { 0 = pc })) b.handlers

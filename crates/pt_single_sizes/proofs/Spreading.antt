@@ -12,10 +12,10 @@ use Rattle.pt_sizes.specs.Flow.{entry, is_under}
 use Rattle.pt_sizes.specs.Waiting.{AllWait, Level, Waits}
 use Rattle.pt_sizes.proofs.Tables.{entry_after, entry_grow, entry_here, entry_none, some_or_none}
 use Rattle.pt_step_graph.proofs.Numbers.{none_in, only_one, the_one}
-use Rattle.pt_fits.specs.Block.{Block, effect, kinds_at_start}
-use Rattle.pt_fits.specs.Steps.{target_of}
-use Rattle.pt_verify.specs.Sizes as S
-use Rattle.pt_verify.specs.Sizes.{SizeStep, Sized, SizesMeet, left, leaves_enough, landing_size, handler_sizes, size_steps, size_steps_of, sized}
+use Rattle.sem_fits.specs.fits.Block.{Block, effect, kinds_at_start}
+use Rattle.sem_fits.specs.fits.Steps.{target_of}
+use Rattle.pt_verify_depths.specs.Sizes as S
+use Rattle.pt_verify_depths.specs.Sizes.{SizeStep, Sized, SizesMeet, left, leaves_enough, landing_size, handler_sizes, size_steps, size_steps_of, sized}
 use Rattle.pt_block_kinds.specs.Graph.{IsSeen}
 use Rattle.pt_block_kinds.proofs.Lists.{filter_has, in_filter, in_map, map_has}
 use Rattle.pt_single_sizes.specs.Single.{AreSingle, own_steps}

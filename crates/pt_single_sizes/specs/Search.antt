@@ -8,8 +8,8 @@ use Rattle.pt_code.specs.View.{Ins}
 use Rattle.pt_sizes.specs.Flow.{entry, is_under}
 use Rattle.pt_sizes.specs.Waiting.{AllDescend, Level, Waits}
 use Rattle.pt_sizes.specs.Search.{SearchLanding}
-use Rattle.pt_fits.specs.Block.{Block, Links, kinds_at_start}
-use Rattle.pt_verify.specs.Sizes.{SizeStep, Sized, SizesMeet, left, landing_size, size_steps, sized}
+use Rattle.sem_fits.specs.fits.Block.{Block, Links, kinds_at_start}
+use Rattle.pt_verify_depths.specs.Sizes.{SizeStep, Sized, SizesMeet, left, landing_size, size_steps, sized}
 use Rattle.pt_block_kinds.specs.Graph.{IsSeen}
 use Rattle.pt_single_sizes.specs.Single.{own_steps}
 

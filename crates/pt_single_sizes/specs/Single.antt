@@ -2,8 +2,8 @@
 use Rattle.std.specs.Prelude.{◌≡◌, ℕ, List, [], ◌++◌, if◌then◌else◌, Option, Some}
 use Rattle.pt_instr.specs.declared.effects.Effect.{Effect}
 use Rattle.pt_sizes.specs.Flow.{entry}
-use Rattle.pt_fits.specs.Block.{Block}
-use Rattle.pt_verify.specs.Sizes.{SizeStep, Sized, is_enough, gives_onward, gives_aside, gives_again}
+use Rattle.sem_fits.specs.fits.Block.{Block}
+use Rattle.pt_verify_depths.specs.Sizes.{SizeStep, Sized, is_enough, gives_onward, gives_aside, gives_again}
 
 -- the table has the sizes of places through the instructions at a place and below
 pub record AreSingle (b : Block) (p : ℕ) (sizes : List (Option ℕ)) : Type 0 where

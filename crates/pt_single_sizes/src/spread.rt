@@ -3,9 +3,9 @@ ghost use Rattle.std.specs.Prelude.{◌≡◌, ◌+◌, ◌++◌, ◌∷◌, ◌
 ghost use Rattle.pt_code.specs.View.{Ins, IsView};
 ghost use Rattle.pt_places.specs.PlaceTable.{HasPlaces};
 ghost use Rattle.pt_sizes.specs.Waiting.{AllDescend, levels_of};
-ghost use Rattle.pt_fits.specs.Block.{block_of, effect, links_of};
-ghost use Rattle.pt_fits.specs.Steps.{target_of};
-ghost use Rattle.pt_verify.specs.Sizes.{SizesMeet};
+ghost use Rattle.sem_fits.specs.fits.Block.{block_of, effect, links_of};
+ghost use Rattle.sem_fits.specs.fits.Steps.{target_of};
+ghost use Rattle.pt_verify_depths.specs.Sizes.{SizesMeet};
 ghost use Rattle.pt_single_sizes.specs.Single.{AreSingle};
 ghost use Rattle.pt_single_sizes.specs.Search.{GoesOn, Went};
 
@@ -16,7 +16,7 @@ use pt_code::{Code, CodeBlock};
 use pt_instr::effect;
 use pt_places::{Place, Places};
 use pt_sizes::{SizeStep, Waiting};
-use pt_verify::{captured, target_of};
+use pt_verify_depths::{captured, target_of};
 use std::alloc::Global;
 
 /// The sizes that are known, and the ways on that are still due.

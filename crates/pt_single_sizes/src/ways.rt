@@ -1,13 +1,13 @@
 //! The ways on of an instruction, by numbers of slots.
 ghost use Rattle.std.specs.Prelude.{◌≡◌, ◌+◌, ◌++◌, IfOk};
-ghost use Rattle.pt_verify.specs.Sizes.{gives_again, gives_aside, gives_onward};
+ghost use Rattle.pt_verify_depths.specs.Sizes.{gives_again, gives_aside, gives_onward};
 ghost use Rattle.pt_single_sizes.specs.Single.{own_steps};
 
 use pt_base::Memory;
 use pt_block_kinds::{is_enough, left};
 use pt_instr::{Effect, Kinds};
 use pt_sizes::SizeStep;
-use pt_verify::count;
+use pt_verify_depths::count;
 
 /// How many slots lie there, with those that are given.
 fn sum(below: u64, given: u64) -> Result<u64, Memory>

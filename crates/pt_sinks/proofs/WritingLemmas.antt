@@ -3,7 +3,7 @@ use Rattle.std.proofs.Common.{◌≡◌, ℕ, List, [], ◌∷◌, ◌++◌, ref
 use Rattle.pt_base.specs.Taken.{Pieces, Takes, TakesFront}
 use Rattle.pt_base.specs.Taken as one
 use Rattle.pt_base.proofs.TakenLemmas.{takes_nothing, takes_then, front_none}
-use Rattle.pt_run.specs.Run.{Sink, to_out, to_log, Write, write}
+use Rattle.sem_run.specs.run.Run.{Sink, to_out, to_log, Write, write}
 use Rattle.pt_sinks.specs.declared.writing.Out.{Out}
 use Rattle.pt_sinks.specs.declared.writing.Out.TheVariants as out
 use Rattle.pt_sinks.specs.declared.writing.WriteErr.{WriteErr}

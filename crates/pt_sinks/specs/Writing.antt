@@ -2,7 +2,7 @@
 use Rattle.std.specs.Prelude.{◌≡◌, ℕ, List, [], ◌∷◌, ◌++◌}
 use Rattle.pt_base.specs.Taken.{Pieces, Takes}
 use Rattle.pt_base.specs.Taken as one
-use Rattle.pt_run.specs.Run.{Sink, to_out, to_log, Write}
+use Rattle.sem_run.specs.run.Run.{Sink, to_out, to_log, Write}
 use Rattle.pt_sinks.specs.declared.writing.Out.{Out}
 use Rattle.pt_sinks.specs.declared.writing.Out.TheVariants as out
 use Rattle.pt_sinks.specs.declared.writing.WriteErr.{WriteErr}

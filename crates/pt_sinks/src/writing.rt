@@ -1,6 +1,6 @@
 ghost use Rattle.std.specs.Prelude.{◌≡◌, ◌≤◌, ◌∷◌, [], Err, OnOk, IfErr};
 ghost use Rattle.pt_base.specs.Faults.{Rose};
-ghost use Rattle.pt_run.specs.Run.{write};
+ghost use Rattle.sem_run.specs.run.Run.{write};
 ghost use Rattle.pt_sinks.specs.Writing.{Took, TookFront, sink_of};
 ghost use Rattle.pt_sinks.specs.declared.writing.Out.TheVariants as stream;
 ghost use Rattle.pt_sinks.specs.declared.writing.WriteErr.TheVariants.{Memory as out_of_memory};

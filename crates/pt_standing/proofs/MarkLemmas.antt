@@ -8,7 +8,7 @@ use Rattle.std.proofs.lemmas.Cmp.{nat_list_eq_equiv}
 use Rattle.std.proofs.lemmas.List.{length-set, map-append, map_more, take-append-drop}
 use Rattle.std.proofs.lemmas.List.Folds.{list_any-append, list_all-map, list_all_at, list_all_more}
 use Rattle.pt_tree.specs.Syntax.{Name}
-use Rattle.pt_fits.specs.Standing.{are_distinct, is_among}
+use Rattle.sem_fits.specs.fits.Standing.{are_distinct, is_among}
 use Rattle.pt_standing.specs.Texts.{AreFresh, HasMarks, MarkIs, Marked, MarksOne, id_at, mark_on, text_at}
 
 or_none : (x y : Bool) → y ≡ false → (x || (y || false)) ≡ x

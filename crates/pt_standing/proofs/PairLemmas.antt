@@ -15,8 +15,8 @@ use Rattle.pt_code.specs.declared.CodeBlock.{CodeBlock}
 use Rattle.pt_code.specs.declared.Code.{Code}
 use Rattle.pt_tree.specs.Syntax.{Name}
 use Rattle.pt_sizes.proofs.Tables.{below_or}
-use Rattle.pt_fits.specs.Block.{links_of, parameters_of}
-use Rattle.pt_fits.specs.Standing.{are_distinct}
+use Rattle.sem_fits.specs.fits.Block.{links_of, parameters_of}
+use Rattle.sem_fits.specs.fits.Standing.{are_distinct}
 use Rattle.pt_standing.specs.declared.defaults.Defaults.{Defaults}
 use Rattle.pt_standing.specs.Names.{AreDistinctLists, TellsDefaults, TellsMore, names_parameters, pair_cmp, told_of}
 use Rattle.pt_standing.specs.Texts.{AreFresh, AreIds, text_at}

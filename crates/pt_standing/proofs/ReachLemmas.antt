@@ -8,10 +8,10 @@ use Rattle.pt_places.specs.declared.places.Place as P
 use Rattle.pt_places.specs.PlaceTable.{place_at, HasPlaces}
 use Rattle.pt_sizes.specs.Flow.{entry}
 use Rattle.pt_sizes.proofs.Tables.{below_or, entry_in}
-use Rattle.pt_fits.specs.Block.{Block, Links}
-use Rattle.pt_fits.specs.Standing.{may_stand}
-use Rattle.pt_verify.specs.PlaceTable.{AreSizesUpTo}
-use Rattle.pt_verify.proofs.SizeLemmas.{kinds_have_sizes, sizes_have_kinds}
+use Rattle.sem_fits.specs.fits.Block.{Block, Links}
+use Rattle.sem_fits.specs.fits.Standing.{may_stand}
+use Rattle.pt_verify_depths.specs.PlaceTable.{AreSizesUpTo}
+use Rattle.pt_verify_depths.proofs.SizeLemmas.{kinds_have_sizes, sizes_have_kinds}
 use Rattle.pt_standing.specs.Misplaced.{Misplaced, is_misplaced}
 
 -- the parts of a place with an instruction that may not stand there

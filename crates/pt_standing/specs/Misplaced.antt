@@ -4,9 +4,9 @@ use Rattle.pt_instr.specs.Effects.{Kinds}
 use Rattle.pt_code.specs.View.{Ins}
 use Rattle.pt_code.specs.declared.BlockKind.{BlockKind}
 use Rattle.pt_places.specs.declared.places.Place.{Place}
-use Rattle.pt_fits.specs.Block.{Block, Links}
-use Rattle.pt_fits.specs.Places.{Reached}
-use Rattle.pt_fits.specs.Standing.{may_stand}
+use Rattle.sem_fits.specs.fits.Block.{Block, Links}
+use Rattle.sem_fits.specs.fits.Places.{Reached}
+use Rattle.sem_fits.specs.fits.Standing.{may_stand}
 
 -- an instruction that is reached may not stand in the block
 pub record Misplaced (b : Block) (p : ℕ) : Type 0 where

@@ -6,8 +6,8 @@ use Rattle.std.specs.declared.cmp.Ordering.{Ordering}
 use Rattle.std.specs.BTreeMap.{get}
 use Rattle.pt_code.specs.declared.Code.{Code}
 use Rattle.pt_tree.specs.Syntax.{Name}
-use Rattle.pt_fits.specs.Block.{links_of}
-use Rattle.pt_fits.specs.Standing.{are_distinct, is_among, is_function}
+use Rattle.sem_fits.specs.fits.Block.{links_of}
+use Rattle.sem_fits.specs.fits.Standing.{are_distinct, is_among, is_function}
 use Rattle.pt_standing.specs.Texts.{text_at}
 use Rattle.pt_standing.specs.declared.defaults.Defaults.{Defaults}
 

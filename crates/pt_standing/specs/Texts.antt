@@ -5,7 +5,7 @@ use Rattle.std.specs.BTreeMap.{BTreeMap, get_by_text}
 use Rattle.std.specs.declared.string.String.{String}
 use Rattle.std.specs.declared.alloc.Global.{Global}
 use Rattle.pt_tree.specs.Syntax.{Name}
-use Rattle.pt_fits.specs.Standing.{is_among}
+use Rattle.sem_fits.specs.fits.Standing.{is_among}
 
 -- the text with a number
 abbrev pub text_at : List Name → ℕ → Name

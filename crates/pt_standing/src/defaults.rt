@@ -1,7 +1,7 @@
 //! Whether the lists that instructions name are those of different parameters.
 ghost use Rattle.std.specs.Prelude.{◌≡◌, ◌+◌, take, List, IfOk, OnOk};
 ghost use Rattle.pt_tree.specs.Syntax.{Name};
-ghost use Rattle.pt_fits.specs.Block.{links_of};
+ghost use Rattle.sem_fits.specs.fits.Block.{links_of};
 ghost use Rattle.pt_standing.specs.Names.{AreDistinctLists, TellsDefaults, are_among};
 ghost use Rattle.pt_standing.specs.Texts.{AreIds, HasMarks};
 

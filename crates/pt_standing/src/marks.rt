@@ -3,7 +3,7 @@
 ghost use Rattle.std.specs.Prelude.{◌≡◌, ◌+◌, List, map, IfOk};
 ghost use Rattle.std.specs.List.{list_all};
 ghost use Rattle.pt_tree.specs.Syntax.{Name};
-ghost use Rattle.pt_fits.specs.Standing.{are_distinct, is_among};
+ghost use Rattle.sem_fits.specs.fits.Standing.{are_distinct, is_among};
 ghost use Rattle.pt_standing.specs.Texts.{AreFresh, HasMarks, IsIdIn, MarkIs, Marked, MarksOne, text_at};
 
 use pt_base::Memory;

@@ -3,8 +3,8 @@ ghost use Rattle.std.specs.Prelude.{◌≡◌, ℕ, Option, option_map, IfOk};
 ghost use Rattle.std.specs.Bool.{Decides};
 ghost use Rattle.pt_code.specs.View.{Ins};
 ghost use Rattle.pt_places.specs.PlaceTable.{HasPlaces};
-ghost use Rattle.pt_fits.specs.Block.{block_of, links_of};
-ghost use Rattle.pt_verify.specs.PlaceTable.{AreSizesUpTo};
+ghost use Rattle.sem_fits.specs.fits.Block.{block_of, links_of};
+ghost use Rattle.pt_verify_depths.specs.PlaceTable.{AreSizesUpTo};
 ghost use Rattle.pt_standing.specs.Names.{TellsDefaults};
 ghost use Rattle.pt_standing.specs.Misplaced.{Misplaced, is_misplaced};
 

@@ -1,7 +1,7 @@
 //! Whether an instruction may stand in a block of a kind.
 ghost use Rattle.std.specs.Prelude.{◌≡◌, Option, option_map, length, IfOk};
-ghost use Rattle.pt_fits.specs.Block.{links_of};
-ghost use Rattle.pt_fits.specs.Standing.{has_names, is_class, is_function, is_generator_expression, may_stand, may_yield};
+ghost use Rattle.sem_fits.specs.fits.Block.{links_of};
+ghost use Rattle.sem_fits.specs.fits.Standing.{has_names, is_class, is_function, is_generator_expression, may_stand, may_yield};
 ghost use Rattle.pt_standing.specs.Names.{TellsDefaults, makes_function};
 
 use crate::defaults::Defaults;

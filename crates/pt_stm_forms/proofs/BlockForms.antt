@@ -8,7 +8,7 @@ use Rattle.pt_tree.specs.Blocks.{function_body, is_string}
 use Rattle.pt_tree.specs.Fold.{ClauseOf, behind, clauses_of}
 use Rattle.pt_tree.specs.Sizes.{size}
 use Rattle.pt_instr.specs.declared.Instr.TheVariants as instr
-use Rattle.pt_control.specs.Jump.{starts_on}
+use Rattle.sem_control.specs.control.Jump.{starts_on}
 use Rattle.pt_block_names.specs.declared.block_names.BlockNames.{BlockNames}
 use Rattle.pt_assembler.specs.declared.operation.Label.{Label}
 use Rattle.pt_assembler.specs.declared.operation.Jump.TheVariants.{Always}
@@ -21,8 +21,8 @@ use Rattle.pt_expr_forms.specs.declared.comprehension.Innermost.{Innermost}
 use Rattle.pt_expr_forms.proofs.Acts.{new_label-act}
 use Rattle.pt_expr_forms.proofs.Forms.{acted}
 use Rattle.pt_expr_forms.proofs.LoopForms.{turn-laid, clauses-laid}
-use Rattle.pt_stm_pieces.specs.Needed.{Behind, free, in_front}
-use Rattle.pt_stm_pieces.specs.StmPiece.{block_piece, yielded_piece}
+use Rattle.sem_compile.specs.stm_pieces.Needed.{Behind, free, in_front}
+use Rattle.sem_compile.specs.stm_pieces.StmPiece.{block_piece, yielded_piece}
 use Rattle.pt_stm_forms.specs.Simple.{behind_value}
 use Rattle.pt_stm_forms.specs.Compound.{behind_suite}
 use Rattle.pt_stm_forms.specs.Blocks.{behind_code, returned_none, behind_statements, behind_lambda, behind_yielded, outermost, behind_outermost, behind_generator, is_docstring}

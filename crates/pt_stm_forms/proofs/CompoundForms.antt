@@ -6,8 +6,8 @@ use Rattle.pt_tree.specs.Syntax.{Exp, Tgt, Stm, Stms, Branches, none, more}
 use Rattle.pt_tree.specs.declared.expression.Constant.TheVariants as constant
 use Rattle.pt_tree.specs.Sizes.{size, target_size, stm_size, stms_size}
 use Rattle.pt_instr.specs.declared.Instr.TheVariants as instr
-use Rattle.pt_control.specs.Numbers.{tested_body, behind_body, for_body, for_else}
-use Rattle.pt_control.specs.Jump.{starts_on}
+use Rattle.sem_control.specs.control.Numbers.{tested_body, behind_body, for_body, for_else}
+use Rattle.sem_control.specs.control.Jump.{starts_on}
 use Rattle.pt_block_names.specs.declared.block_names.BlockNames.{BlockNames}
 use Rattle.pt_assembler.specs.declared.operation.Label.{Label}
 use Rattle.pt_assembler.specs.declared.operation.Exit.TheVariants.{Break, Continue}
@@ -15,13 +15,13 @@ use Rattle.pt_assembler.specs.declared.operation.Jump.TheVariants.{AtEnd, Always
 use Rattle.pt_assembler.specs.declared.operation.Operation.TheVariants.{Plain, To}
 use Rattle.pt_assembler.specs.Piece.{Piece, plain, const, to, act, move, block, closed, looped, started, ◌▸◌}
 use Rattle.pt_assembler.specs.Layout.{Written, layout, put, put_act, act_of, put_start, new_label, next_label, bind, placed, loop_in, numbered_from}
-use Rattle.pt_emitter.specs.ExpPiece.{exp_piece, target_piece}
+use Rattle.sem_compile.specs.emitter.ExpPiece.{exp_piece, target_piece}
 use Rattle.pt_expr_forms.specs.Behind.{known, jump_act, behind_exp, behind_target}
 use Rattle.pt_expr_forms.proofs.Acts.{put-act, new_label-act, bind-act, move_has}
 use Rattle.pt_expr_forms.proofs.Forms.{acted, acts-exp}
-use Rattle.pt_stm_pieces.specs.Needed as needed
-use Rattle.pt_stm_pieces.specs.Needed.{Behind, free, in_front, is_needed, is_silent, leaves, needed_if, some_exits}
-use Rattle.pt_stm_pieces.specs.StmPiece.{value_piece, all_piece, branches_piece, stm_piece}
+use Rattle.sem_compile.specs.stm_pieces.Needed as needed
+use Rattle.sem_compile.specs.stm_pieces.Needed.{Behind, free, in_front, is_needed, is_silent, leaves, needed_if, some_exits}
+use Rattle.sem_compile.specs.stm_pieces.StmPiece.{value_piece, all_piece, branches_piece, stm_piece}
 use Rattle.pt_stm_forms.specs.Simple.{behind_stm, behind_value}
 use Rattle.pt_stm_forms.specs.Compound.{behind_suite, behind_start, behind_untaken, behind_branch, behind_branches, behind_choice, behind_loop_body, behind_loop_else, tested_again, behind_tested, behind_while_body, behind_while, next_again, behind_iterator, behind_first, over_more, behind_deep_body, behind_for_body, behind_for}
 use Rattle.pt_stm_forms.proofs.StatementActs.{placed-act, put_start-act, numbered-act, begun_ends, stm_ends, all_ends}

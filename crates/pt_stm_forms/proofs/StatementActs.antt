@@ -9,21 +9,21 @@ use Rattle.pt_tree.specs.Syntax.{Name, Exp, Opt, Place as TreePlace, Tgt, Tgts, 
 use Rattle.pt_tree.specs.declared.expression.Constant.TheVariants as constant
 use Rattle.pt_tree.specs.Sizes.{size, opt_size, place_size, target_size, targets_size, params_size, deleted_size, all_deleted_size, decorators_size, decorator_calls, items_size, stm_size, stms_size, branches_size, handlers_size}
 use Rattle.pt_instr.specs.declared.Instr.TheVariants as instr
-use Rattle.pt_control.specs.Turn as T
-use Rattle.pt_control.specs.Turn.{Around, Variable, Operation}
-use Rattle.pt_control.specs.Frames.{Definition, a_function, a_class}
-use Rattle.pt_control.specs.Numbers.{tested_body, behind_body, for_body, for_else, try_handlers, try_else, try_finally, handler_body}
-use Rattle.pt_control.specs.Statements.{all_places, places}
-use Rattle.pt_control.specs.Jump.{starts_on}
+use Rattle.sem_control.specs.control.Turn as T
+use Rattle.sem_control.specs.control.Turn.{Around, Variable, Operation}
+use Rattle.sem_control.specs.control.Frames.{Definition, a_function, a_class}
+use Rattle.sem_control.specs.control.Numbers.{tested_body, behind_body, for_body, for_else, try_handlers, try_else, try_finally, handler_body}
+use Rattle.sem_control.specs.control.Statements.{all_places, places}
+use Rattle.sem_control.specs.control.Jump.{starts_on}
 use Rattle.pt_assembler.specs.declared.operation.Exit.{Exit}
 use Rattle.pt_assembler.specs.declared.operation.Label.{Label}
 use Rattle.pt_assembler.specs.declared.operation.Place.{Place}
 use Rattle.pt_assembler.specs.Piece.{Op, plain, with_text, Piece, empty, act, move, block, headed, closed, looped, leave, ensured, caught, deeper, started, numbered, ◌▸◌}
 use Rattle.pt_assembler.specs.Layout.{Written, layout, put_row, put_start, new_label, next_label, placed, numbered_from}
-use Rattle.pt_emitter.specs.ExpPiece.{made_piece, exp_piece, target_piece}
+use Rattle.sem_compile.specs.emitter.ExpPiece.{made_piece, exp_piece, target_piece}
 use Rattle.pt_expr_forms.proofs.Acts.{Has, put-act, put_act-act, new_label-act, bind-act, act_has, move_has, exp_has, target_has}
-use Rattle.pt_stm_pieces.specs.Needed.{Behind, is_needed, is_silent, leaves, in_front, free}
-use Rattle.pt_stm_pieces.specs.StmPiece.{guarded_piece, ensured_piece, begun_piece, store_piece, assigned_piece, changed_piece, augmented_piece, deleted_piece, all_deleted_piece, failed_piece, returned_piece, thrown_piece, imported_piece, imported_from_piece, bound_piece, definition_piece, defined_piece, handled_piece, items_piece, stm_piece, all_piece, branches_piece, handlers_piece}
+use Rattle.sem_compile.specs.stm_pieces.Needed.{Behind, is_needed, is_silent, leaves, in_front, free}
+use Rattle.sem_compile.specs.stm_pieces.StmPiece.{guarded_piece, ensured_piece, begun_piece, store_piece, assigned_piece, changed_piece, augmented_piece, deleted_piece, all_deleted_piece, failed_piece, returned_piece, thrown_piece, imported_piece, imported_from_piece, bound_piece, definition_piece, defined_piece, handled_piece, items_piece, stm_piece, all_piece, branches_piece, handlers_piece}
 
 pub put_row-act : (r : Handler) (w : Written) → (put_row r w).act ≡ w.act
 unfolding put_row

@@ -4,23 +4,23 @@ use Rattle.pt_tree.specs.Syntax as S
 use Rattle.pt_tree.specs.Syntax.{Name, Opt, Stms, Handlers, none, more}
 use Rattle.pt_tree.specs.Sizes.{size, opt_size, stored_by, stms_size, handlers_size}
 use Rattle.pt_instr.specs.declared.Instr.TheVariants as instr
-use Rattle.pt_control.specs.Turn as T
-use Rattle.pt_control.specs.Turn.{Variable}
-use Rattle.pt_control.specs.Numbers.{handler_body}
+use Rattle.sem_control.specs.control.Turn as T
+use Rattle.sem_control.specs.control.Turn.{Variable}
+use Rattle.sem_control.specs.control.Numbers.{handler_body}
 use Rattle.pt_block_names.specs.declared.block_names.BlockNames.{BlockNames}
 use Rattle.pt_assembler.specs.declared.operation.Label.{Label}
 use Rattle.pt_assembler.specs.declared.operation.Jump.TheVariants.{Always, IfFalse}
 use Rattle.pt_assembler.specs.declared.operation.Operation.TheVariants.{Plain, To}
 use Rattle.pt_assembler.specs.Piece.{Piece, move, closed, numbered, ◌▸◌}
 use Rattle.pt_assembler.specs.Layout.{Written, layout, at, put, put_act, act_of, new_label, next_label, bind, placed, numbered_from, operation_of, with_operand}
-use Rattle.pt_emitter.specs.Ops.{store}
-use Rattle.pt_emitter.specs.ExpPiece.{null_piece}
+use Rattle.sem_compile.specs.emitter.Ops.{store}
+use Rattle.sem_compile.specs.emitter.ExpPiece.{null_piece}
 use Rattle.pt_expr_forms.specs.Behind.{known, plain_act, no_value, behind_opt}
 use Rattle.pt_expr_forms.proofs.Acts.{put-act, new_label-act, bind-act, move_has}
 use Rattle.pt_expr_forms.proofs.Forms.{acted, null-act}
-use Rattle.pt_stm_pieces.specs.Needed as needed
-use Rattle.pt_stm_pieces.specs.Needed.{Behind, free, in_front, is_needed, needed_if}
-use Rattle.pt_stm_pieces.specs.StmPiece.{delete, store_piece, guarded_piece, all_piece, handled_piece, handlers_piece}
+use Rattle.sem_compile.specs.stm_pieces.Needed as needed
+use Rattle.sem_compile.specs.stm_pieces.Needed.{Behind, free, in_front, is_needed, needed_if}
+use Rattle.sem_compile.specs.stm_pieces.StmPiece.{delete, store_piece, guarded_piece, all_piece, handled_piece, handlers_piece}
 use Rattle.pt_stm_forms.specs.Simple.{behind_stm, behind_store, behind_unbinding}
 use Rattle.pt_stm_forms.specs.Compound.{over_more, ensured_from, behind_covered, behind_handled, behind_handler, behind_handlers, behind_body, row_caught, behind_caught, behind_guarded, behind_try}
 use Rattle.pt_stm_forms.proofs.StatementActs.{placed-act, numbered-act}

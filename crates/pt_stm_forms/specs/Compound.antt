@@ -5,7 +5,7 @@ use Rattle.pt_tree.specs.Syntax.{Name, Exp, Opt, Tgt, Items, Stm, Stms, Branches
 use Rattle.pt_tree.specs.declared.expression.Constant.TheVariants as constant
 use Rattle.pt_tree.specs.Sizes.{handlers_size, stms_size}
 use Rattle.pt_instr.specs.declared.Instr.TheVariants as instr
-use Rattle.pt_control.specs.Jump.{starts_on}
+use Rattle.sem_control.specs.control.Jump.{starts_on}
 use Rattle.pt_block_names.specs.declared.block_names.BlockNames.{BlockNames}
 use Rattle.pt_assembler.specs.declared.operation.Label.{Label}
 use Rattle.pt_assembler.specs.declared.operation.Exit.TheVariants.{Break, Continue}
@@ -15,9 +15,9 @@ use Rattle.pt_assembler.specs.Piece.{const, move, started}
 use Rattle.pt_assembler.specs.PieceAt.{row_of}
 use Rattle.pt_assembler.specs.Layout.{Written, layout, at, put, put_act, act_of, put_row, new_label, next_label, bind, placed, deeper_in, loop_in, numbered_from}
 use Rattle.pt_expr_forms.specs.Behind.{known, plain_act, jump_act, behind_exp, behind_target, behind_opt}
-use Rattle.pt_stm_pieces.specs.Needed as needed
-use Rattle.pt_stm_pieces.specs.Needed.{Behind, free, in_front, is_needed, needed_if, some_exits}
-use Rattle.pt_stm_pieces.specs.StmPiece.{all_piece, begun_piece, stm_piece}
+use Rattle.sem_compile.specs.stm_pieces.Needed as needed
+use Rattle.sem_compile.specs.stm_pieces.Needed.{Behind, free, in_front, is_needed, needed_if, some_exits}
+use Rattle.sem_compile.specs.stm_pieces.StmPiece.{all_piece, begun_piece, stm_piece}
 use Rattle.pt_stm_forms.specs.declared.contexts.OpenContext.{OpenContext}
 use Rattle.pt_stm_forms.specs.Simple.{behind_stm, behind_store, behind_unbinding, behind_value}
 

@@ -6,19 +6,19 @@ use Rattle.pt_tree.specs.Syntax as S
 use Rattle.pt_tree.specs.Syntax.{Name, Exp, Opt, Place, Tgt, Tgts, Params, Decorators, Stm}
 use Rattle.pt_tree.specs.declared.expression.Constant.TheVariants as constant
 use Rattle.pt_instr.specs.declared.Instr.TheVariants as instr
-use Rattle.pt_control.specs.Statements.{bound_name}
+use Rattle.sem_control.specs.control.Statements.{bound_name}
 use Rattle.pt_block_names.specs.declared.block_names.BlockNames.{BlockNames}
 use Rattle.pt_assembler.specs.declared.operation.Exit.{Exit}
 use Rattle.pt_assembler.specs.declared.operation.Jump.TheVariants.{IfTrue, Leave}
 use Rattle.pt_assembler.specs.declared.operation.Operation.TheVariants.{Plain}
 use Rattle.pt_assembler.specs.Piece.{act, move, with_text, ◌▸◌}
 use Rattle.pt_assembler.specs.Layout.{Written, layout, put, new_label, next_label, bind, exit_label}
-use Rattle.pt_emitter.specs.Ops.{store}
-use Rattle.pt_emitter.specs.ExpPiece.{null_piece}
+use Rattle.sem_compile.specs.emitter.Ops.{store}
+use Rattle.sem_compile.specs.emitter.ExpPiece.{null_piece}
 use Rattle.pt_write_ops.specs.Written.{cells_piece}
 use Rattle.pt_expr_forms.specs.Behind.{known, plain_act, jump_act, behind_exp, behind_target, behind_opt}
-use Rattle.pt_stm_pieces.specs.Needed.{Behind}
-use Rattle.pt_stm_pieces.specs.StmPiece.{delete, store_piece, stm_piece}
+use Rattle.sem_compile.specs.stm_pieces.Needed.{Behind}
+use Rattle.sem_compile.specs.stm_pieces.StmPiece.{delete, store_piece, stm_piece}
 
 -- A statement, as its piece is laid out, whatever is asked of the place behind it.
 unfoldable pub behind_stm : BlockNames → Stm → Behind → Written → Written

@@ -8,7 +8,7 @@ use Rattle.pt_ranges.specs.declared.handlers.Handler.{Handler}
 use Rattle.pt_ranges.specs.Rows.{covers}
 use Rattle.pt_sizes.specs.Flow.{is_under}
 use Rattle.pt_sizes.specs.Waiting.{Level, AllWait, up, stretch, levels_of}
-use Rattle.pt_fits.specs.Leaves.{takes_leave, taker}
+use Rattle.sem_fits.specs.fits.Leaves.{takes_leave, taker}
 use Rattle.pt_takers.specs.declared.sides.Side.TheVariants.{Behind, Before}
 use Rattle.pt_takers.specs.declared.takers.Takers.{Takers}
 use Rattle.pt_takers.specs.Sides.{PLACES, bound, is_below}

@@ -2,7 +2,7 @@
 ghost use Rattle.std.specs.Prelude.{◌≡◌, ◌<◌, ℕ, List, Option, filter, option_map, IfOk};
 ghost use Rattle.pt_ranges.specs.declared.handlers.Handler.{Handler};
 ghost use Rattle.pt_ranges.specs.Rows.{covers};
-ghost use Rattle.pt_fits.specs.Leaves.{taker};
+ghost use Rattle.sem_fits.specs.fits.Leaves.{taker};
 ghost use Rattle.pt_takers.specs.Numbers.{AreNumbered, add_numbered, numbered};
 ghost use Rattle.pt_takers.specs.Takers.{TellsTakers};
 

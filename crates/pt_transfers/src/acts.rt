@@ -1,8 +1,8 @@
 //! Acts begin.
 ghost use Rattle.std.specs.Prelude.{◌≡◌, OnOk};
 ghost use Rattle.std.specs.Option.{option_map};
-ghost use Rattle.pt_control.specs.LineEvents.{is_told};
-ghost use Rattle.pt_slots.specs.Steps.{mark_of};
+ghost use Rattle.sem_control.specs.control.LineEvents.{is_told};
+ghost use Rattle.sem_code.specs.slots.Steps.{mark_of};
 ghost use Rattle.pt_machine_state.specs.Changes.{at_act, line_events};
 ghost use Rattle.pt_machine_state.specs.Writing.{Adds};
 

@@ -3,10 +3,10 @@ use Rattle.std.proofs.Common.{◌≡◌, Bool, true, false, cond, List, [], ◌�
 use Rattle.pt_base.specs.declared.numbers.Pc.{Pc}
 use Rattle.pt_heap.specs.declared.value.Value.{Value}
 use Rattle.pt_ranges.specs.declared.handlers.Handler.{Handler}
-use Rattle.pt_slots.specs.Slots.{Abrupt, raise, return, jump_to, Slots, on}
-use Rattle.pt_slots.specs.CodeObject.{CodeObject}
-use Rattle.pt_slots.specs.Landing as slots
-use Rattle.pt_slots.specs.Landing.{cut, held_by}
+use Rattle.sem_code.specs.slots.Slots.{Abrupt, raise, return, jump_to, Slots, on}
+use Rattle.sem_code.specs.slots.CodeObject.{CodeObject}
+use Rattle.sem_code.specs.slots.Landing as slots
+use Rattle.sem_code.specs.slots.Landing.{cut, held_by}
 use Rattle.pt_unwind.specs.Landings.{entry_of, landing_among}
 use Rattle.pt_unwind.specs.Steps.{completion_of, state_behind, TakesSame, LandsSame}
 

@@ -1,14 +1,14 @@
--- What a landing is to the machine of code, whose slots and completions stand in pt_slots: the state in which it goes on.
+-- What a landing is to the machine of code, whose slots and completions stand in sem_code::slots: the state in which it goes on.
 use Rattle.std.specs.Prelude.{◌≡◌, List, ◌∷◌}
 use Rattle.pt_base.specs.declared.numbers.Pc.{Pc}
 use Rattle.pt_heap.specs.declared.value.Value.{Value}
 use Rattle.pt_heap.specs.declared.completion.Completion.{Completion}
 use Rattle.pt_heap.specs.declared.completion.Completion.TheVariants.{Raise, Return, Leave}
 use Rattle.pt_ranges.specs.declared.handlers.Handler.{Handler}
-use Rattle.pt_slots.specs.Slots.{Abrupt, raise, return, jump_to, Slots, State, on}
-use Rattle.pt_slots.specs.CodeObject.{CodeObject}
-use Rattle.pt_slots.specs.Landing as slots
-use Rattle.pt_slots.specs.Landing.{cut, held_by, leaves}
+use Rattle.sem_code.specs.slots.Slots.{Abrupt, raise, return, jump_to, Slots, State, on}
+use Rattle.sem_code.specs.slots.CodeObject.{CodeObject}
+use Rattle.sem_code.specs.slots.Landing as slots
+use Rattle.sem_code.specs.slots.Landing.{cut, held_by, leaves}
 use Rattle.pt_unwind.specs.declared.Landing.{Landing}
 use Rattle.pt_unwind.specs.declared.Landing.TheVariants.{Enter, Jump, Out}
 use Rattle.pt_unwind.specs.Landings.{takes, landing_among}

@@ -2,8 +2,8 @@ ghost use Rattle.std.specs.Prelude.{List, filter};
 ghost use Rattle.pt_base.specs.declared.numbers.Pc.{Pc};
 ghost use Rattle.pt_heap.specs.declared.value.Value.{Value};
 ghost use Rattle.pt_ranges.specs.declared.handlers.Handler.{Handler};
-ghost use Rattle.pt_slots.specs.CodeObject.{CodeObject};
-ghost use Rattle.pt_slots.specs.Slots.{Abrupt, Slots};
+ghost use Rattle.sem_code.specs.slots.CodeObject.{CodeObject};
+ghost use Rattle.sem_code.specs.slots.Slots.{Abrupt, Slots};
 ghost use Rattle.pt_unwind.specs.Steps.{LandsSame, TakesSame};
 
 /// What leaves a place of code goes on in the machine of code as it lands here: a handler takes the

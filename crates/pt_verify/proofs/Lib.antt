@@ -1,6 +1,4 @@
-pub mod SizeLemmas
-pub mod ObjectRuns
-pub mod PlaceTable
-mod PlaceLemmas
-pub mod RefusalLemmas
-pub mod ViewLemmas
+pub mod LeaveLemmas
+pub mod ProbeLemmas
+pub mod ErrorLemmas
+pub mod LawLemmas

@@ -1,51 +1,12 @@
--- Sizes are the lengths of kinds, so they decide what lengths decide.
-use Rattle.std.specs.Prelude.{◌≡◌, ℕ, Contains, false, length}
-use Rattle.pt_instr.specs.Effects.{Kinds}
-use Rattle.pt_ranges.specs.declared.handlers.Handler.{Handler}
-use Rattle.pt_code.specs.View.{Ins}
-use Rattle.pt_fits.specs.Block.{Block, effect}
-use Rattle.pt_fits.specs.Steps.{has_enough, is_within}
-use Rattle.pt_fits.specs.Places.{Gets, Reached}
-use Rattle.pt_fits.specs.Agreement.{LengthsMeet}
-use Rattle.pt_verify.specs.Sizes.{Sized, SizesMeet, RowTooDeep, Lacks}
+-- What the law of the verifier says of code.
+use Rattle.std.specs.Prelude.{◌≡◌}
+use Rattle.pt_code.specs.declared.Code.{Code}
+use Rattle.pt_code.specs.File.{HasFile}
+use Rattle.sem_fits.specs.fits.Fits.{AllFit}
+use Rattle.pt_verify.specs.declared.error.VerifyErr.{VerifyErr}
+use Rattle.pt_verify.specs.declared.error.VerifyErr.TheVariants.{Memory}
+use Rattle.pt_verify.specs.Verdict.{IsRefused}
 
--- a place gets kinds of a size
-pub record GetsSize (b : Block) (p pc n : ℕ) : Type 0 where
-  pub kinds : Kinds
-  pub gets : Gets b p pc kinds
-  pub long : length kinds ≡ n
-
-abbrev pub KindsHaveSizes : Block → Type 0
-KindsHaveSizes b = (p q : ℕ) (ks : Kinds) → Gets b p q ks → Sized b p q (length ks)
-
-abbrev pub SizesHaveKinds : Block → Type 0
-SizesHaveKinds b = (p q n : ℕ) → Sized b p q n → GetsSize b p q n
-
--- two sizes meet at a place exactly where two lengths do
-pub record AsLengths (b : Block) (p : ℕ) : Type 0 where
-  pub sizes : LengthsMeet b p → SizesMeet b p
-  pub lengths : SizesMeet b p → LengthsMeet b p
-
--- a reached instruction under a row that is too deep for it, and one that lacks what it takes and reads
-pub record Deep (b : Block) (p : ℕ) (row : Handler) : Type 0 where
-  pub pc : ℕ
-  pub ins : Ins
-  pub kinds : Kinds
-  pub reached : Reached b p pc ins kinds
-  pub under : Contains ins.rows row
-  pub fails : is_within (effect b.links ins.instr) kinds row ≡ false
-
-pub record Few (b : Block) (p : ℕ) : Type 0 where
-  pub pc : ℕ
-  pub ins : Ins
-  pub kinds : Kinds
-  pub reached : Reached b p pc ins kinds
-  pub fails : has_enough (effect b.links ins.instr) kinds ≡ false
-
-pub record AsDeep (b : Block) (p : ℕ) (row : Handler) : Type 0 where
-  pub sizes : Deep b p row → RowTooDeep b p row
-  pub kinds : RowTooDeep b p row → Deep b p row
-
-pub record AsFew (b : Block) (p : ℕ) : Type 0 where
-  pub sizes : Few b p → Lacks b p
-  pub kinds : Lacks b p → Few b p
+-- code that fits isn't refused, but for want of memory
+abbrev pub FittingIsUnrefused : Code → Type 0
+FittingIsUnrefused c = HasFile c → AllFit c → (e : VerifyErr) → IsRefused c e → e ≡ Memory

@@ -1,7 +1,4 @@
-pub mod Sizes
+pub mod Leaves
+pub mod Probing
+pub mod Verdict
 pub mod Laws
-pub mod Objects
-pub mod PlaceTable
-pub mod PlacesUpTo
-pub mod Refusals
-pub mod Views

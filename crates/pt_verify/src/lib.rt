@@ -1,12 +1,14 @@
-//! Which code fits: what a verifier of code files computes.
+//! The verifier of code: whether all of its blocks fit, or why the first is refused that doesn't.
 #![tactic(auto)]
 
+mod block;
+mod code;
+mod cuts;
+mod error;
 mod laws;
-mod places;
+mod leaves;
+mod probe;
 
-pub use laws::{
-    a_code_object_runs_its_block, a_table_tells_of_its_block, blocks_that_are_read_are_seen,
-    sizes_are_lengths, sizes_decide, sizes_tell_refusals,
-};
-pub use places::{captured, count, sizes, sizes_up_to, target_of};
-pub use pt_sizes::Sizes;
+pub use code::{Verified, verify};
+pub use error::VerifyErr;
+pub use laws::code_that_fits_is_verified;

@@ -6,7 +6,7 @@ use Rattle.pt_tree.specs.declared.expression.Expr.{Expr}
 use Rattle.pt_tree.specs.declared.expression.Parameter.{Parameter, out-Parameter}
 use Rattle.pt_tree.specs.Fold.{formal_of, opt_exp}
 use Rattle.pt_tree.proofs.Folds.{formal_of-parts}
-use Rattle.pt_control.specs.Expressions.{defaulted}
+use Rattle.sem_control.specs.control.Expressions.{defaulted}
 
 given-cases : (l : ℕ) (x : Name) (a : Opt) (d : Option Expr) (r : Formals) → is_some d ≡ true → defaulted (S.formal l x a (opt_exp d) r) ≡ x ∷ defaulted r
 given-cases l x a (Some d) r is = refl

@@ -3,11 +3,11 @@ use Rattle.std.proofs.Common.{◌≡◌, List, [], ◌∷◌, ◌++◌, refl}
 use Rattle.pt_base.specs.declared.numbers.ActNo.{ActNo}
 use Rattle.pt_tree.specs.Syntax.{Name, Exp, Clauses}
 use Rattle.pt_tree.specs.Fold.{conditions_of}
-use Rattle.pt_control.specs.Expressions.{clause_names}
+use Rattle.sem_control.specs.control.Expressions.{clause_names}
 use Rattle.pt_block_names.specs.declared.block_names.BlockNames.{BlockNames}
 use Rattle.pt_assembler.specs.Piece.{move}
 use Rattle.pt_assembler.specs.Layout.{Written, layout}
-use Rattle.pt_emitter.specs.Ops.{renew}
+use Rattle.sem_compile.specs.emitter.Ops.{renew}
 use Rattle.pt_expr_forms.specs.Behind.{known, numbers}
 use Rattle.pt_expr_forms.specs.Loops.{behind_renewal}
 

@@ -3,12 +3,12 @@
 ghost use Rattle.std.specs.Prelude.{◌≡◌, [], map, false, OnOk};
 ghost use Rattle.pt_tree.specs.Syntax.{name, no_args};
 ghost use Rattle.pt_tree.specs.Fold.{argument_of, chained, target_of, targets_of};
-ghost use Rattle.pt_control.specs.Expressions.{roles as roles_in};
-ghost use Rattle.pt_control.specs.Statements.{count as count_of, star_of};
+ghost use Rattle.sem_control.specs.control.Expressions.{roles as roles_in};
+ghost use Rattle.sem_control.specs.control.Statements.{count as count_of, star_of};
 ghost use Rattle.pt_assembler.specs.Piece.{act, with_text};
 ghost use Rattle.pt_assembler.specs.Layout.{layout};
-ghost use Rattle.pt_emitter.specs.ExpPiece.{unpack_op};
-ghost use Rattle.pt_emitter.specs.Ops.{call as call_op, store as store_op};
+ghost use Rattle.sem_compile.specs.emitter.ExpPiece.{unpack_op};
+ghost use Rattle.sem_compile.specs.emitter.Ops.{call as call_op, store as store_op};
 ghost use Rattle.pt_instr.specs.declared.Instr.TheVariants.{Attr, SetAttr, Delegate, Iter, MakeGenerator};
 ghost use Rattle.pt_write_ops.specs.Written.{cells_piece};
 ghost use Rattle.pt_expr_forms.specs.Behind.{behind_exp, joined, known, no_value, numbers, plain_act};

@@ -3,7 +3,7 @@
 ghost use Rattle.std.specs.Prelude.{◌≡◌, ◌++◌, [], map, IfOk, OnOk};
 ghost use Rattle.pt_tree.specs.Syntax.{no_formals};
 ghost use Rattle.pt_tree.specs.Fold.{chained, formal_of, parameters_of};
-ghost use Rattle.pt_control.specs.Expressions.{defaulted, all_defaulted};
+ghost use Rattle.sem_control.specs.control.Expressions.{defaulted, all_defaulted};
 ghost use Rattle.pt_expr_forms.specs.Behind.{known};
 
 use pt_base::{Memory, Seq, Text};

@@ -4,7 +4,7 @@
 ghost use Rattle.std.specs.Prelude.{◌≡◌, ◌∷◌, ◌++◌, map, IfOk, OnOk};
 ghost use Rattle.pt_tree.specs.Fold.{behind, clause_of, target_of, targets_of, place_node_of};
 ghost use Rattle.pt_tree.specs.Syntax.{single};
-ghost use Rattle.pt_control.specs.Expressions.{target_names, all_target_names, clause_names};
+ghost use Rattle.sem_control.specs.control.Expressions.{target_names, all_target_names, clause_names};
 ghost use Rattle.pt_expr_forms.specs.Loops.{behind_renewal};
 
 use crate::surroundings::{Surroundings, inside};

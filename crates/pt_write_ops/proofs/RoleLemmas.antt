@@ -5,9 +5,9 @@ use Rattle.pt_tree.specs.declared.expression.Target.{Target}
 use Rattle.pt_tree.specs.Fold.{target_of, targets_of}
 use Rattle.pt_tree.specs.Syntax as S
 use Rattle.pt_tree.specs.Syntax.{Name, Tgt, Tgts}
-use Rattle.pt_control.specs.Turn as T
-use Rattle.pt_control.specs.Statements.{star_of, count}
-use Rattle.pt_emitter.specs.Ops.{are_plain}
+use Rattle.sem_control.specs.control.Turn as T
+use Rattle.sem_control.specs.control.Statements.{star_of, count}
+use Rattle.sem_compile.specs.emitter.Ops.{are_plain}
 use Rattle.pt_write_ops.specs.Roles.{is_plain_argument}
 use Rattle.pt_write_ops.specs.Written.{is_starred}
 

@@ -1,7 +1,7 @@
 -- How arguments are passed, as control has it.
 use Rattle.std.specs.Prelude.{Bool, true}
-use Rattle.pt_control.specs.Turn as T
-use Rattle.pt_emitter.specs.Ops.{is_plain}
+use Rattle.sem_control.specs.control.Turn as T
+use Rattle.sem_compile.specs.emitter.Ops.{is_plain}
 use Rattle.pt_write_ops.specs.declared.role.Role.{Role}
 use Rattle.pt_write_ops.specs.declared.role.Role.TheVariants as role
 

@@ -2,9 +2,9 @@
 use Rattle.std.specs.Prelude.{List, [], ◌∷◌, Bool, true, false}
 use Rattle.pt_tree.specs.Syntax as S
 use Rattle.pt_tree.specs.Syntax.{Tgt}
-use Rattle.pt_control.specs.Turn.{Variable}
+use Rattle.sem_control.specs.control.Turn.{Variable}
 use Rattle.pt_assembler.specs.Piece.{Piece, empty, move, ◌▸◌}
-use Rattle.pt_emitter.specs.Ops.{push_cell}
+use Rattle.sem_compile.specs.emitter.Ops.{push_cell}
 
 -- the cells of variables
 abbrev pub cells_piece : List Variable → Piece

@@ -3,7 +3,7 @@
 ghost use Rattle.std.specs.Prelude.{◌≡◌, ◌+◌, ◌≤◌, [], length, map, drop, false, IfOk, OnOk};
 ghost use Rattle.pt_assembler.specs.Piece.{act};
 ghost use Rattle.pt_assembler.specs.Layout.{layout, operation_of, with_operand};
-ghost use Rattle.pt_emitter.specs.Ops.{names_alone as names_alone_of, last_names as last_names_of, text_of as text_of_role, is_plain, are_plain as are_plain_roles, call as call_of};
+ghost use Rattle.sem_compile.specs.emitter.Ops.{names_alone as names_alone_of, last_names as last_names_of, text_of as text_of_role, is_plain, are_plain as are_plain_roles, call as call_of};
 ghost use Rattle.pt_write_ops.specs.Roles.{role_of, is_plain_argument};
 
 use crate::Role;

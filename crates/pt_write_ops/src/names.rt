@@ -4,7 +4,7 @@ ghost use Rattle.std.specs.Prelude.{◌≡◌, ◌+◌, [], map, false, IfOk, On
 ghost use Rattle.pt_assembler.specs.Piece.{act, move};
 ghost use Rattle.pt_assembler.specs.Layout.{layout, operation_of, with_operand};
 ghost use Rattle.pt_block_names.specs.Named.{variable_of};
-ghost use Rattle.pt_emitter.specs.Ops.{load as load_op, store as store_op, renew as renew_op, push_cell as push_cell_op};
+ghost use Rattle.sem_compile.specs.emitter.Ops.{load as load_op, store as store_op, renew as renew_op, push_cell as push_cell_op};
 ghost use Rattle.pt_write_ops.specs.Written.{cells_piece};
 
 use pt_assembler::{FreeUse, Operation, Writer};

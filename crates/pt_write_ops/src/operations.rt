@@ -3,11 +3,11 @@
 ghost use Rattle.std.specs.Prelude.{◌≡◌, ◌+◌, [], length, false, IfOk, OnOk};
 ghost use Rattle.pt_tree.specs.declared.expression.Constant.TheVariants.{Str};
 ghost use Rattle.pt_instr.specs.declared.Instr.TheVariants.{Attr, SetAttr};
-ghost use Rattle.pt_control.specs.Turn.{function as function_of};
+ghost use Rattle.sem_control.specs.control.Turn.{function as function_of};
 ghost use Rattle.pt_assembler.specs.Piece.{act, move, const, with_text, plain as plain_op};
 ghost use Rattle.pt_assembler.specs.Layout.{layout};
-ghost use Rattle.pt_emitter.specs.ExpPiece.{null_piece};
-ghost use Rattle.pt_emitter.specs.Ops.{operation};
+ghost use Rattle.sem_compile.specs.emitter.ExpPiece.{null_piece};
+ghost use Rattle.sem_compile.specs.emitter.Ops.{operation};
 
 use pt_assembler::{Operation, Writer};
 use pt_base::{BlockId, Line, Memory, Text};

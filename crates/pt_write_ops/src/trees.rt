@@ -4,12 +4,12 @@
 ghost use Rattle.std.specs.Prelude.{◌≡◌, ◌<◌, ◌∷◌, length, map, IfOk, IfSome};
 ghost use Rattle.pt_tree.specs.Syntax.{no_args};
 ghost use Rattle.pt_tree.specs.Fold.{argument_of, chained, target_of, targets_of};
-ghost use Rattle.pt_control.specs.Expressions.{roles as roles_in};
-ghost use Rattle.pt_control.specs.Statements.{count as count_of, star_of};
+ghost use Rattle.sem_control.specs.control.Expressions.{roles as roles_in};
+ghost use Rattle.sem_control.specs.control.Statements.{count as count_of, star_of};
 ghost use Rattle.pt_block_names.specs.Named.{around};
 ghost use Rattle.pt_assembler.specs.Piece.{plain as plain_op};
-ghost use Rattle.pt_emitter.specs.ExpPiece.{unpack_op};
-ghost use Rattle.pt_emitter.specs.Ops.{formatting_of};
+ghost use Rattle.sem_compile.specs.emitter.ExpPiece.{unpack_op};
+ghost use Rattle.sem_compile.specs.emitter.Ops.{formatting_of};
 ghost use Rattle.pt_write_ops.specs.Roles.{role_of};
 ghost use Rattle.pt_write_ops.specs.Written.{is_starred as has_star};
 

@@ -9,9 +9,9 @@ use crate::values::{bind_place, bind_target, value_code};
 use pt_assembler::{Operation, Writer};
 use pt_base::{BinOp, Line, Memory};
 use pt_block_names::BlockNames;
+use pt_comp_expr::Surroundings;
 use pt_instr::Instr;
 use pt_tree::{Expr, Place, PlaceNode, Target};
-use pt_write_expr::Surroundings;
 use pt_write_leaves::{bind_attribute, get_attribute, name_code};
 use pt_write_ops::plain;
 

@@ -10,9 +10,9 @@ use crate::values::{optional_value, value_code};
 use pt_assembler::Writer;
 use pt_base::{BlockId, Line, Memory};
 use pt_block_names::BlockNames;
+use pt_comp_expr::{Surroundings, function_code};
 use pt_instr::Instr;
 use pt_tree::{Decorator, Expr, Parameters};
-use pt_write_expr::{Surroundings, function_code};
 use pt_write_leaves::push_captured;
 use pt_write_ops::plain;
 

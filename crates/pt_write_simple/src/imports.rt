@@ -1,7 +1,7 @@
 //! Imports (Language Reference 7.11).
 
 ghost use Rattle.std.specs.Prelude.{◌≡◌, OnOk};
-ghost use Rattle.pt_control.specs.Statements.{bound_name};
+ghost use Rattle.sem_control.specs.control.Statements.{bound_name};
 ghost use Rattle.pt_stm_forms.specs.Simple.{behind_imports, behind_module, behind_module_name, behind_module_names};
 
 use crate::names::store_name;

@@ -4,17 +4,17 @@ ghost use Rattle.std.specs.Prelude.{◌≡◌, [], false, IfOk, OnOk};
 ghost use Rattle.pt_assembler.specs.Piece.{act, move, ◌▸◌};
 ghost use Rattle.pt_assembler.specs.Layout.{layout, operation_of, with_operand};
 ghost use Rattle.pt_block_names.specs.Named.{variable_of};
-ghost use Rattle.pt_emitter.specs.ExpPiece.{null_piece};
-ghost use Rattle.pt_emitter.specs.Ops.{store as store_op};
-ghost use Rattle.pt_stm_pieces.specs.StmPiece.{delete as delete_op};
+ghost use Rattle.sem_compile.specs.emitter.ExpPiece.{null_piece};
+ghost use Rattle.sem_compile.specs.emitter.Ops.{store as store_op};
+ghost use Rattle.sem_compile.specs.stm_pieces.StmPiece.{delete as delete_op};
 ghost use Rattle.pt_stm_forms.specs.Simple.{behind_delete, behind_delete_attribute, behind_store, behind_unbinding};
 
 use pt_assembler::{FreeUse, Operation, Writer};
 use pt_base::{Line, Memory};
 use pt_block_names::{BlockNames, Variable};
+use pt_comp_expr::Surroundings;
 use pt_instr::Instr;
 use pt_scopes::Scope;
-use pt_write_expr::Surroundings;
 use pt_write_leaves::bind_name;
 use pt_write_ops::null;
 

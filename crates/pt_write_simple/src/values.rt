@@ -10,9 +10,9 @@ ghost use Rattle.pt_stm_forms.specs.Simple.{behind_value};
 use pt_assembler::Writer;
 use pt_base::{Line, Memory};
 use pt_block_names::BlockNames;
+use pt_comp_expr::{Surroundings, expr_code, place_code, target_code};
 use pt_instr::Instr;
 use pt_tree::{Expr, PlaceNode, Target};
-use pt_write_expr::{Surroundings, expr_code, place_code, target_code};
 use pt_write_ops::{null, plain};
 
 /// The code of an expression. Its first act begins a re-test where it is said so.

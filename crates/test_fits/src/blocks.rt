@@ -2,7 +2,7 @@
 
 use pt_base::Memory;
 use pt_code::{Code, CodeBlock};
-use pt_verify::{Sizes, sizes};
+use pt_verify_depths::{Sizes, sizes};
 use std::alloc::{AllocError, AllocFailed, Global};
 use std::fmt::Write;
 

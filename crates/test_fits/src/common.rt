@@ -7,7 +7,7 @@ use pt_base::Pc;
 use pt_code::{Code, CodeBlock};
 use pt_common_slots::{Joins, common_slots, in_common};
 use pt_places::Places;
-use pt_verify::{Sizes, sizes};
+use pt_verify_depths::{Sizes, sizes};
 use std::alloc::Global;
 use std::fmt::Write;
 

@@ -4,7 +4,7 @@ use crate::blocks::NoRow;
 use pt_code::{Code, CodeBlock};
 use pt_cut_failures::first_differing;
 use pt_places::Places;
-use pt_verify::{Sizes, sizes};
+use pt_verify_depths::{Sizes, sizes};
 use std::alloc::Global;
 use std::fmt::Write;
 

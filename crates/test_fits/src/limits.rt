@@ -8,10 +8,10 @@ use pt_block_tables::first_bad_row;
 use pt_budget::Budget;
 use pt_code::{Code, CodeBlock};
 use pt_common_slots::common_slots;
-use pt_held_leaves::{HeldLeaves, held_leaves, leaves_lack};
 use pt_places::Places;
 use pt_takers::Takers;
-use pt_verify::{Sizes, sizes};
+use pt_verify_depths::{Sizes, sizes};
+use pt_verify_leaves::{HeldLeaves, held_leaves, leaves_lack};
 use std::alloc::Global;
 use std::fmt::Write;
 

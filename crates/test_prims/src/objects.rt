@@ -1,9 +1,9 @@
 use crate::no_row::NoRow;
 use pt_base::{BlockId, ObjId, Seq, Text};
+use pt_builtin_objects::start;
 use pt_heap::{
     Class, Dict, DictView, Error, Function, Heap, Instance, Object, Part, Range, Seed, Str, Value,
 };
-use pt_start::start;
 use std::alloc::Global;
 
 fn seed() -> Seed {

@@ -5,9 +5,9 @@
 use crate::no_row::NoRow;
 use crate::spelling;
 use pt_base::{ObjId, Seq, Text};
+use pt_builtin_objects::start;
 use pt_dicts::{KeyErr, key_of, name_key};
 use pt_heap::{Class, Dict, Heap, Instance, Object, Seed, Str, Value};
-use pt_start::start;
 use std::alloc::Global;
 
 fn seed() -> Seed {

@@ -7,8 +7,8 @@
 use crate::no_row::NoRow;
 use pt_attrs::{Found, NoAttr, delete, lookup, store, super_of};
 use pt_base::{BlockId, Failure, ObjId, Seq, Text};
+use pt_builtin_objects::start;
 use pt_heap::{Binding, Class, Dict, Error, Function, Heap, Instance, Object, Seed, Str, Value};
-use pt_start::start;
 use std::alloc::Global;
 
 /// A heap, and the values with names in it.

@@ -3,7 +3,7 @@
 #![tactic(auto)]
 
 use pt_code::CodeErr;
-use pt_verifier::{VerifyErr, verify};
+use pt_verify::{VerifyErr, verify};
 use std::alloc::{AllocError, Global};
 use std::process::ExitCode;
 use std::{env, fs, io};

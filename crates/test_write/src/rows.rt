@@ -6,9 +6,9 @@ use crate::names::{names, script_of, stand};
 use pt_assembler::{Heading, Tables, Writer};
 use pt_base::{Line, Memory};
 use pt_code::{BlockKind, CodeBlock, Rest};
+use pt_comp_expr::{Surroundings, expr_code, function_code, place_code, target_code};
 use pt_instr::TextNo;
 use pt_tree::{Expr, ExprNode, Stmt, StmtNode};
-use pt_write_expr::{Surroundings, expr_code, function_code, place_code, target_code};
 use std::alloc::{AllocError, Global};
 use std::fmt::Write;
 

@@ -1,7 +1,7 @@
 use Rattle.std.proofs.Common.{◌≡◌, subst, arith}
 use Rattle.std.specs.Prelude.{IfOk}
 use Rattle.pt_places.specs.PlaceTable.{entry}
-use Rattle.pt_fits.specs.Block.{links_of}
+use Rattle.sem_fits.specs.fits.Block.{links_of}
 use Rattle.pt_block_kinds.specs.Leads.{leads_of}
 use Rattle.pt_block_kinds.proofs.Opening.{row_leads}
 use Rattle.pt_block_kinds.proofs.graph.edges_of_vertex.Goals as goal

@@ -1,7 +1,7 @@
 use Rattle.std.proofs.Common.{◌≡◌, ℕ, ◌+◌, ◌-◌, length, refl, subst, arith}
 use Rattle.pt_places.specs.PlaceTable.{entry}
 use Rattle.pt_sizes.specs.Waiting.{levels_of}
-use Rattle.pt_fits.specs.Block.{kinds_at_start, links_of}
+use Rattle.sem_fits.specs.fits.Block.{kinds_at_start, links_of}
 use Rattle.pt_block_kinds.specs.Leads.{leads_of, vertex_leads}
 use Rattle.pt_block_kinds.specs.Drawing.{IsPlan, DrawnFrom}
 use Rattle.pt_block_kinds.proofs.Opening.{edges_descend, drawn_more, draws, room, none_yet}

@@ -1,6 +1,6 @@
 use Rattle.pt_places.specs.PlaceTable.{entry}
 use Rattle.pt_sizes.specs.Waiting.{levels_of}
-use Rattle.pt_fits.specs.Block.{kinds_at_start, links_of}
+use Rattle.sem_fits.specs.fits.Block.{kinds_at_start, links_of}
 use Rattle.pt_block_kinds.specs.Leads.{vertex_leads}
 use Rattle.pt_block_kinds.specs.Drawing.{DrawnFrom}
 use Rattle.pt_block_kinds.proofs.graph.kinds_up_to.Given as goal

@@ -1,6 +1,6 @@
 use Rattle.std.proofs.Common.{None, map, subst}
 use Rattle.std.proofs.lemmas.Result.{IfOk-weaker}
-use Rattle.pt_fits.specs.Tables.{in_order, is_laid}
+use Rattle.sem_fits.specs.fits.Tables.{in_order, is_laid}
 use Rattle.pt_block_tables.specs.FirstRow.{IsFirstFalse}
 use Rattle.pt_block_tables.proofs.FirstLemmas.{counted, laid_length}
 use Rattle.pt_block_tables.proofs.rows.bad_behind_marks.Goals as goal

@@ -1,7 +1,7 @@
 use Rattle.std.proofs.Common.{Some, map, false, ap, ◌∙◌, get_or}
 use Rattle.std.proofs.lemmas.Option.{slice_get-get_or}
 use Rattle.pt_ranges.specs.declared.handlers.Handler.{Handler}
-use Rattle.pt_fits.specs.Tables.{is_laid}
+use Rattle.sem_fits.specs.fits.Tables.{is_laid}
 use Rattle.pt_block_tables.proofs.FirstLemmas.{mapped_is, least_at, none_more, none_in_map}
 use Rattle.pt_block_tables.proofs.rows.bad_handler.Goals as goal
 

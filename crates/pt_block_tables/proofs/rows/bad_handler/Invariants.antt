@@ -1,7 +1,7 @@
 use Rattle.std.proofs.Common.{◌≡◌, map}
 use Rattle.pt_places.specs.PlaceTable.{HasPlaces}
-use Rattle.pt_fits.specs.Block.{Block}
-use Rattle.pt_fits.specs.Tables.{is_laid}
+use Rattle.sem_fits.specs.fits.Block.{Block}
+use Rattle.sem_fits.specs.fits.Tables.{is_laid}
 use Rattle.pt_block_tables.proofs.FirstLemmas.{NoneBelow}
 use Rattle.pt_block_tables.proofs.rows.bad_handler.Given as goal
 

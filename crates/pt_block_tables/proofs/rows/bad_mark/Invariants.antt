@@ -1,8 +1,8 @@
 use Rattle.std.proofs.Common.{◌≡◌, None, map}
 use Rattle.std.specs.Prelude.{option_map}
 use Rattle.pt_places.specs.PlaceTable.{HasPlaces}
-use Rattle.pt_fits.specs.Block.{Block}
-use Rattle.pt_fits.specs.Tables.{in_order}
+use Rattle.sem_fits.specs.fits.Block.{Block}
+use Rattle.sem_fits.specs.fits.Tables.{in_order}
 use Rattle.pt_block_tables.proofs.FirstLemmas.{NoneBelow, before_of}
 use Rattle.pt_block_tables.proofs.rows.bad_mark.Given as goal
 

@@ -2,7 +2,7 @@ use Rattle.std.proofs.Common.{◌≡◌, None, Some, map, ap, ◌∙◌, get_or}
 use Rattle.std.specs.Prelude.{option_map, slice_get}
 use Rattle.std.proofs.lemmas.Option.{slice_get-get_or}
 use Rattle.pt_code.specs.declared.Start.{Start}
-use Rattle.pt_fits.specs.Tables.{in_order}
+use Rattle.sem_fits.specs.fits.Tables.{in_order}
 use Rattle.pt_block_tables.proofs.FirstLemmas.{next_is, before_next, least_at, none_more, none_in_order}
 use Rattle.pt_block_tables.proofs.rows.bad_start.Goals as goal
 

@@ -1,7 +1,7 @@
 use Rattle.std.proofs.Common.{◌++◌, None, map, subst, sym}
 use Rattle.std.proofs.lemmas.Result.{IfOk-weaker}
-use Rattle.pt_fits.specs.Block.{Block, block_of}
-use Rattle.pt_fits.specs.Tables.{in_order, is_laid}
+use Rattle.sem_fits.specs.fits.Block.{Block, block_of}
+use Rattle.sem_fits.specs.fits.Tables.{in_order, is_laid}
 use Rattle.pt_block_tables.specs.FirstRow.{IsFirstFalse}
 use Rattle.pt_block_tables.proofs.FirstLemmas.{counted, marks_length, tells}
 use Rattle.pt_block_tables.proofs.rows.first_bad_row.Goals as goal

@@ -1,5 +1,5 @@
 use Rattle.std.proofs.Common.{◌≡◌, ◌++◌, map, drop}
-use Rattle.pt_slots.specs.Instructions.{role_of}
+use Rattle.sem_code.specs.slots.Instructions.{role_of}
 use Rattle.pt_host.specs.Calls.{plain_arguments, named_arguments}
 use Rattle.pt_call_rows.proofs.roles.arguments.Given as goal
 

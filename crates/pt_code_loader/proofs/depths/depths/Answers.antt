@@ -1,8 +1,8 @@
 use Rattle.std.proofs.Common.{map, sym, ap, ◌∙◌, subst}
 use Rattle.std.specs.Option.{unwrap_or}
 use Rattle.std.proofs.lemmas.Result.{IfOk-weaker}
-use Rattle.pt_fits.specs.Block.{block_of}
-use Rattle.pt_verify.specs.PlaceTable.{AreSizes, TellsSizes}
+use Rattle.sem_fits.specs.fits.Block.{block_of}
+use Rattle.pt_verify_depths.specs.PlaceTable.{AreSizes, TellsSizes}
 use Rattle.pt_code_loader.specs.Loaded.{HasDepths}
 use Rattle.pt_code_loader.proofs.DepthLemmas.{agreeing}
 use Rattle.pt_code_loader.proofs.depths.depths.Goals as goal

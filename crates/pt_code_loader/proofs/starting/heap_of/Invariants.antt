@@ -1,6 +1,6 @@
 use Rattle.std.proofs.Common.{◌≡◌, ◌++◌, map, take}
 use Rattle.pt_heap.specs.declared.object.Object.TheVariants.{Str}
-use Rattle.pt_start.specs.Start.{start_objects}
+use Rattle.pt_builtin_objects.specs.Start.{start_objects}
 use Rattle.pt_code_loader.proofs.starting.heap_of.Given as goal
 
 abbrev pub invariant-loop-text : goal.invariant-loop-text

@@ -1,7 +1,7 @@
 use Rattle.std.proofs.Common.{◌∙◌, ap, sym, subst, length}
 use Rattle.std.specs.Prelude.{◌↔◌}
 use Rattle.std.proofs.lemmas.Result.{IfOk-weaker}
-use Rattle.pt_fits.specs.Block.{block_of}
+use Rattle.sem_fits.specs.fits.Block.{block_of}
 use Rattle.pt_joins.specs.Joins.{AreWithin, Joined}
 use Rattle.pt_row_joins.specs.Rows.{Under}
 use Rattle.pt_common_slots.specs.Common.{AreCommon}

@@ -1,6 +1,6 @@
 use Rattle.std.proofs.Common.{◌≡◌, length, subst, arith}
 use Rattle.std.proofs.lemmas.Result.{IfOk-weaker}
-use Rattle.pt_fits.specs.Block.{block_of}
+use Rattle.sem_fits.specs.fits.Block.{block_of}
 use Rattle.pt_single_sizes.proofs.Seeing.{is_seen}
 use Rattle.pt_cut_failures.specs.Cuts.{TellsShortBelow}
 use Rattle.pt_cut_failures.specs.Graph.{DrawsCuts}

@@ -1,6 +1,6 @@
 use Rattle.std.proofs.Common.{◌≡◌, ℕ, ◌+◌, ◌-◌, length, ap, subst, arith}
 use Rattle.pt_places.specs.PlaceTable.{entry}
-use Rattle.pt_fits.specs.Block.{kinds_at_start, links_of}
+use Rattle.sem_fits.specs.fits.Block.{kinds_at_start, links_of}
 use Rattle.pt_block_kinds.specs.Leads.{leads_of}
 use Rattle.pt_block_kinds.specs.Drawing.{DrawnFrom}
 use Rattle.pt_block_kinds.proofs.Opening.{drawn_more, room, none_yet}

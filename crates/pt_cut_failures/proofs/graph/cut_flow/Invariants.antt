@@ -1,5 +1,5 @@
 use Rattle.pt_places.specs.PlaceTable.{entry}
-use Rattle.pt_fits.specs.Block.{kinds_at_start, links_of}
+use Rattle.sem_fits.specs.fits.Block.{kinds_at_start, links_of}
 use Rattle.pt_block_kinds.specs.Drawing.{DrawnFrom}
 use Rattle.pt_cut_failures.specs.Leads.{vertex_leads}
 use Rattle.pt_cut_failures.proofs.graph.cut_flow.Given as goal

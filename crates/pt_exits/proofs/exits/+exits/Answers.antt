@@ -1,7 +1,7 @@
 use Rattle.std.proofs.Common.{ap, sym, arith}
 use Rattle.std.proofs.lemmas.Grind.{common_steps}
 use Rattle.pt_tree.proofs.StatementFolds.{branch_of-parts, handler_of-parts, stm_of-Expr, stm_of-Assign, stm_of-Augmented, stm_of-Annotated, stm_of-Assert, stm_of-Del, stm_of-Return, stm_of-Raise, stm_of-Import, stm_of-ImportFrom, stm_of-Global, stm_of-Nonlocal, stm_of-Def, stm_of-Class, stm_of-If, stm_of-While, stm_of-For, stm_of-Try, stm_of-With}
-use Rattle.pt_stm_pieces.specs.Needed.{exits}
+use Rattle.sem_compile.specs.stm_pieces.Needed.{exits}
 use Rattle.pt_exits.proofs.exits.+exits.Goals as goal
 
 pub exits-returns-in-Expr : goal.exits-returns-in-Expr

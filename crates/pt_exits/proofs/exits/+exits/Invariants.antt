@@ -2,7 +2,7 @@ use Rattle.std.proofs.Common.{◌≡◌, drop, map}
 use Rattle.pt_tree.specs.Syntax as S
 use Rattle.pt_tree.specs.Fold.{chained}
 use Rattle.pt_tree.specs.StatementFold.{branch_of, handler_of, stms_of}
-use Rattle.pt_stm_pieces.specs.Needed.{some_exits, some_branch_exits, some_handler_exits}
+use Rattle.sem_compile.specs.stm_pieces.Needed.{some_exits, some_branch_exits, some_handler_exits}
 use Rattle.pt_exits.proofs.exits.+exits.Given as goal
 
 abbrev pub invariant-some_exits-loop-s : goal.invariant-some_exits-loop-s

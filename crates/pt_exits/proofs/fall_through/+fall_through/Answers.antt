@@ -1,7 +1,7 @@
 use Rattle.std.proofs.Common.{ap, sym, arith}
 use Rattle.std.proofs.lemmas.Grind.{common_steps}
 use Rattle.pt_tree.proofs.StatementFolds.{branch_of-parts, handler_of-parts, stm_of-Expr, stm_of-Assign, stm_of-Augmented, stm_of-Annotated, stm_of-Assert, stm_of-Del, stm_of-Return, stm_of-Raise, stm_of-With, stm_of-Def, stm_of-Class, stm_of-Try, stm_of-If, stm_of-While, stm_of-For}
-use Rattle.pt_stm_pieces.specs.Needed.{goes_on}
+use Rattle.sem_compile.specs.stm_pieces.Needed.{goes_on}
 use Rattle.pt_exits.proofs.fall_through.+fall_through.Goals as goal
 
 pub goes_on-returns-in-Expr : goal.goes_on-returns-in-Expr

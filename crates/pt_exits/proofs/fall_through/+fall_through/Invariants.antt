@@ -2,7 +2,7 @@ use Rattle.std.proofs.Common.{◌≡◌, drop, map}
 use Rattle.pt_tree.specs.Syntax as S
 use Rattle.pt_tree.specs.Fold.{chained}
 use Rattle.pt_tree.specs.StatementFold.{branch_of, handler_of}
-use Rattle.pt_stm_pieces.specs.Needed.{some_branch_goes_on, some_handler_goes_on}
+use Rattle.sem_compile.specs.stm_pieces.Needed.{some_branch_goes_on, some_handler_goes_on}
 use Rattle.pt_exits.proofs.fall_through.+fall_through.Given as goal
 
 abbrev pub invariant-some_branch_goes_on-loop-branch : goal.invariant-some_branch_goes_on-loop-branch

@@ -1,7 +1,7 @@
 use Rattle.std.proofs.Common.{ap, sym}
 use Rattle.pt_tree.proofs.Folds.{target_of-Place}
-use Rattle.pt_control.specs.Statements.{places}
-use Rattle.pt_stm_pieces.specs.Needed.{is_nowhere}
+use Rattle.sem_control.specs.control.Statements.{places}
+use Rattle.sem_compile.specs.stm_pieces.Needed.{is_nowhere}
 use Rattle.pt_exits.proofs.places.+nowhere.Goals as goal
 
 pub is_empty_target-returns-in-Place : goal.is_empty_target-returns-in-Place

@@ -1,6 +1,6 @@
 use Rattle.std.proofs.Common.{ap, sym, arith}
 use Rattle.pt_tree.proofs.StatementFolds.{stm_of-Expr, stm_of-Assign, stm_of-Augmented, stm_of-Annotated, stm_of-Assert, stm_of-Return, stm_of-Raise, stm_of-While, stm_of-For, stm_of-Try, stm_of-Def, stm_of-Class, stm_of-If, stm_of-With}
-use Rattle.pt_stm_pieces.specs.Needed.{is_silent}
+use Rattle.sem_compile.specs.stm_pieces.Needed.{is_silent}
 use Rattle.pt_exits.proofs.ExitLemmas.{choice-none, choice-some, with-none, with-some}
 use Rattle.pt_exits.proofs.places.is_silent.Goals as goal
 

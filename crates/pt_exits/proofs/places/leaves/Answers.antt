@@ -1,6 +1,6 @@
 use Rattle.std.proofs.Common.{ap, sym}
 use Rattle.pt_tree.proofs.StatementFolds.{stm_of-Expr, stm_of-Assign, stm_of-Augmented, stm_of-Annotated, stm_of-Assert, stm_of-Del, stm_of-Return, stm_of-Raise, stm_of-If, stm_of-While, stm_of-For, stm_of-Try, stm_of-With, stm_of-Def, stm_of-Class}
-use Rattle.pt_stm_pieces.specs.Needed.{leaves}
+use Rattle.sem_compile.specs.stm_pieces.Needed.{leaves}
 use Rattle.pt_exits.proofs.places.leaves.Goals as goal
 
 pub returns-in-Expr : goal.returns-in-Expr

@@ -1,6 +1,6 @@
 use Rattle.std.proofs.Common.{ℕ, List, Option, subst}
 use Rattle.std.proofs.lemmas.Result.{IfOk-weaker}
-use Rattle.pt_fits.specs.Block.{block_of, links_of}
+use Rattle.sem_fits.specs.fits.Block.{block_of, links_of}
 use Rattle.pt_kind_failures.specs.Lacking.{AnyLacks}
 use Rattle.pt_kind_failures.proofs.Seen.{is_seen, has_sizes}
 use Rattle.pt_kind_failures.proofs.Telling.{met, none_met, lacking, standing, found, not_found}

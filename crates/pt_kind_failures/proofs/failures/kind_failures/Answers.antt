@@ -1,4 +1,4 @@
-use Rattle.pt_fits.specs.Block.{block_of}
+use Rattle.sem_fits.specs.fits.Block.{block_of}
 use Rattle.pt_kind_failures.proofs.Seen.{is_seen, has_sizes}
 use Rattle.pt_kind_failures.proofs.failures.kind_failures.Goals as goal
 

@@ -1,8 +1,8 @@
 use Rattle.std.proofs.Common.{◌+◌, ◌∙◌, sym, subst, ap}
 use Rattle.std.specs.Prelude.{option_map}
 use Rattle.std.proofs.lemmas.Result.{IfOk-weaker}
-use Rattle.pt_fits.specs.Block.{block_of}
-use Rattle.pt_verify.specs.Refusals.{CutsOf}
+use Rattle.sem_fits.specs.fits.Block.{block_of}
+use Rattle.pt_verify_depths.specs.Refusals.{CutsOf}
 use Rattle.pt_refusals.specs.Told.{TellsLeast}
 use Rattle.pt_kind_failures.proofs.Seen.{is_seen, has_sizes}
 use Rattle.pt_kind_failures.proofs.Telling.{tells_row}

@@ -1,6 +1,6 @@
 use Rattle.std.proofs.Common.{◌≤◌, length, ap, ◌∙◌, arith}
 use Rattle.pt_places.specs.PlaceTable.{entry}
-use Rattle.pt_fits.specs.Block.{links_of}
+use Rattle.sem_fits.specs.fits.Block.{links_of}
 use Rattle.pt_kind_failures.specs.Lacking.{lacks_in}
 use Rattle.pt_kind_failures.proofs.Looking.{none_looked, inside_still, look, looked_found, looked_up_to, looked_at_all}
 use Rattle.pt_kind_failures.proofs.lacking.any_lacks.Goals as goal

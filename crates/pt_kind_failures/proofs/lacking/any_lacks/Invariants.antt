@@ -1,4 +1,4 @@
-use Rattle.pt_fits.specs.Block.{links_of}
+use Rattle.sem_fits.specs.fits.Block.{links_of}
 use Rattle.pt_kind_failures.proofs.Looking.{Looked}
 use Rattle.pt_kind_failures.proofs.lacking.any_lacks.Given as goal
 

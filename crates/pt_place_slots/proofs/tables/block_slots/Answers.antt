@@ -1,7 +1,7 @@
 use Rattle.std.proofs.Common.{◌≡◌, ◌≤◌, length, refl, sym, subst, arith}
 use Rattle.pt_joins.specs.declared.joins.Joins.{Joins}
-use Rattle.pt_fits.specs.Block.{block_of}
-use Rattle.pt_verify.specs.PlaceTable.{AreSizesUpTo}
+use Rattle.sem_fits.specs.fits.Block.{block_of}
+use Rattle.pt_verify_depths.specs.PlaceTable.{AreSizesUpTo}
 use Rattle.pt_block_kinds.specs.Drawing.{Draws}
 use Rattle.pt_common_slots.specs.Common.{TellsCommon}
 use Rattle.pt_kind_failures.proofs.Seen.{is_flow, is_seen}

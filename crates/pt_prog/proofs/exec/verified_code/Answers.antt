@@ -1,6 +1,6 @@
 use Rattle.std.proofs.Common.{sym, subst}
 use Rattle.pt_base.specs.Failures.{IfRefused}
-use Rattle.pt_fits.specs.Fits.{AllFit}
+use Rattle.sem_fits.specs.fits.Fits.{AllFit}
 use Rattle.pt_prog.specs.Answer.{IsBadFile, IsFileOf, IsMisfitOf, IsNoFile, misfits, no_file}
 use Rattle.pt_prog.specs.declared.end.CodeRefusal.TheVariants as refusal
 use Rattle.pt_prog.proofs.exec.verified_code.Goals as goal

@@ -1,9 +1,9 @@
 use Rattle.std.proofs.Common.{rules, ◌≡◌, ◌∙◌, ◌∷◌, [], ap, refl, string_bytes, subst, sym, true≢false}
 use Rattle.pt_base.specs.Failures.{IfRefused}
-use Rattle.pt_compile.specs.ScriptCode.{code_of}
+use Rattle.sem_compile.specs.compile.ScriptCode.{code_of}
 use Rattle.pt_front.specs.Text.{IsRefused}
 use Rattle.pt_listing.specs.Listing.{IsListing}
-use Rattle.pt_run.specs.Run.{to_out, write}
+use Rattle.sem_run.specs.run.Run.{to_out, write}
 use Rattle.pt_tree.specs.StatementFold.{script_of}
 use Rattle.pt_words.specs.Asked.{asked}
 use Rattle.pt_prog.specs.LogText.{final}

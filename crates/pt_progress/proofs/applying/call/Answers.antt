@@ -3,9 +3,9 @@ use Rattle.std.specs.Prelude.{codes, None}
 use Rattle.std.proofs.lemmas.Result.{IfOk-weaker}
 use Rattle.pt_host.specs.Errors.{error_saying}
 use Rattle.pt_host.specs.declared.places.TheConstants.{RECURSION_ERROR}
-use Rattle.pt_run.specs.State.{most_activations}
-use Rattle.pt_heap_rows.specs.Told.{block_id}
-use Rattle.pt_heap_rows.specs.declared.progress.Progress.TheVariants.{Calls}
+use Rattle.sem_run.specs.run.State.{most_activations}
+use Rattle.sem_rows.specs.heap_rows.Told.{block_id}
+use Rattle.sem_rows.specs.declared.heap_rows.progress.Progress.TheVariants.{Calls}
 use Rattle.pt_machine_state.specs.declared.blocks.BlockCode.{BlockCode}
 use Rattle.pt_machine_state.specs.declared.machine.Machine.{Machine}
 use Rattle.pt_machine_state.specs.declared.machine.Stride.TheVariants.{Goes}

@@ -1,6 +1,6 @@
 use Rattle.std.proofs.Common.{◌-◌, ◌≤◌}
-use Rattle.pt_fits.specs.Block.{Block}
-use Rattle.pt_fits.specs.Fits.{RefusedAt}
+use Rattle.sem_fits.specs.fits.Block.{Block}
+use Rattle.sem_fits.specs.fits.Fits.{RefusedAt}
 use Rattle.pt_refusals.specs.Laws.{FirstSearch}
 use Rattle.pt_refusals.specs.Verdicts.{misfit_of}
 use Rattle.pt_refusals.proofs.halving.refusal_up_to.Given as goal

@@ -1,8 +1,8 @@
 use Rattle.std.proofs.Common.{◌≡◌, ◌∙◌, ℕ, refl, ap}
 use Rattle.std.specs.Prelude.{slice_get, Option, Some, None}
 use Rattle.pt_block_names.specs.Named.{names_in_region}
-use Rattle.pt_naming.specs.Around.{names_at}
-use Rattle.pt_naming.specs.Script.{Naming, naming_script}
+use Rattle.sem_names.specs.Around.{names_at}
+use Rattle.sem_names.specs.Script.{Naming, naming_script}
 use Rattle.pt_tree.specs.Blocks.{Block}
 use Rattle.pt_script_names.proofs.laws.a_block_has_the_names_with_its_parameters.Goals as goal
 

@@ -1,8 +1,8 @@
 use Rattle.std.proofs.Common.{◌≡◌, ◌∷◌, ◌++◌, [], length, None, replicate, refl, sym, ap, ◌∙◌, subst, arith}
 use Rattle.std.proofs.lemmas.List.{length-replicate}
 use Rattle.pt_sizes.specs.Waiting.{AllWait, levels_of}
-use Rattle.pt_fits.specs.Block.{block_of, kinds_at_start}
-use Rattle.pt_verify.specs.Sizes.{sized}
+use Rattle.sem_fits.specs.fits.Block.{block_of, kinds_at_start}
+use Rattle.pt_verify_depths.specs.Sizes.{sized}
 use Rattle.pt_single_sizes.specs.Search.{Spreads}
 use Rattle.pt_single_sizes.proofs.Spreading.{opening, are_single}
 use Rattle.pt_single_sizes.proofs.Seeing.{is_seen}

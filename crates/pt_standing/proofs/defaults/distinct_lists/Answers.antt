@@ -1,6 +1,6 @@
 use Rattle.std.proofs.Common.{◌≡◌, ◌∙◌, ap, sym, subst, [], ◌∷◌, ◌+◌, length, map, length-append, rules, refl, get_or, ℕ, List, ◌<◌, slice_index_or}
 use Rattle.std.proofs.lemmas.List.{get_or_read_under}
-use Rattle.pt_fits.specs.Standing.{are_distinct}
+use Rattle.sem_fits.specs.fits.Standing.{are_distinct}
 use Rattle.pt_standing.specs.Texts.{text_at}
 use Rattle.pt_standing.proofs.PairLemmas.{distinct_more, fresh_first, none_distinct}
 use Rattle.pt_standing.proofs.defaults.distinct_lists.Goals as goal

@@ -1,4 +1,4 @@
-use Rattle.pt_fits.specs.Block.{links_of}
+use Rattle.sem_fits.specs.fits.Block.{links_of}
 use Rattle.pt_standing.specs.Names.{AreDistinctLists, TellsDefaults}
 use Rattle.pt_standing.specs.Texts.{HasMarks}
 use Rattle.pt_standing.proofs.defaults.tell_lists.Given as goal

@@ -1,7 +1,7 @@
 use Rattle.std.proofs.Common.{◌≡◌, ◌∙◌, eq-eqb, map, refl, sym, true, subst}
 use Rattle.std.proofs.lemmas.Bool.{ne_eqb}
 use Rattle.std.proofs.lemmas.List.{map_more, take_all}
-use Rattle.pt_fits.specs.Standing.{are_distinct}
+use Rattle.sem_fits.specs.fits.Standing.{are_distinct}
 use Rattle.pt_standing.specs.Texts.{text_at}
 use Rattle.pt_standing.proofs.MarkLemmas.{distinct_more, marked_more, none_marked, not_distinct, told_by_mark}
 use Rattle.pt_standing.proofs.marks.are_distinct.Goals as goal

@@ -2,7 +2,7 @@ use Rattle.std.proofs.Common.{◌≡◌, ◌∙◌, eq-eqb, map, refl, sym, true
 use Rattle.std.specs.List.{list_all}
 use Rattle.std.proofs.lemmas.Bool.{ne_eqb}
 use Rattle.std.proofs.lemmas.List.{take_all}
-use Rattle.pt_fits.specs.Standing.{is_among}
+use Rattle.sem_fits.specs.fits.Standing.{is_among}
 use Rattle.pt_standing.specs.Texts.{text_at}
 use Rattle.pt_standing.proofs.MarkLemmas.{all_more, not_all, told_by_mark}
 use Rattle.pt_standing.proofs.marks.are_marked.Goals as goal

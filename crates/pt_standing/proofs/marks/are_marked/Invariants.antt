@@ -1,7 +1,7 @@
 use Rattle.std.proofs.Common.{◌≡◌, List, map, take, true}
 use Rattle.std.specs.List.{list_all}
 use Rattle.pt_tree.specs.Syntax.{Name}
-use Rattle.pt_fits.specs.Standing.{is_among}
+use Rattle.sem_fits.specs.fits.Standing.{is_among}
 use Rattle.pt_standing.specs.Texts.{HasMarks, text_at}
 use Rattle.pt_standing.proofs.marks.are_marked.Given as goal
 

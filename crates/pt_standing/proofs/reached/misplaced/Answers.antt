@@ -1,6 +1,6 @@
 use Rattle.std.proofs.Common.{◌≡◌, ◌∙◌, sym, ap, arith, inl, inr}
 use Rattle.pt_sizes.specs.Flow.{entry}
-use Rattle.pt_fits.specs.Block.{block_of, links_of}
+use Rattle.sem_fits.specs.fits.Block.{block_of, links_of}
 use Rattle.pt_standing.specs.Misplaced.{is_misplaced}
 use Rattle.pt_standing.proofs.ReachLemmas.{found_none, found_one, none_more}
 use Rattle.pt_standing.proofs.reached.misplaced.Goals as goal

@@ -1,4 +1,4 @@
-use Rattle.pt_fits.specs.Block.{links_of}
+use Rattle.sem_fits.specs.fits.Block.{links_of}
 use Rattle.pt_standing.specs.Names.{TellsDefaults}
 use Rattle.pt_standing.proofs.ReachLemmas.{NoneBelow}
 use Rattle.pt_standing.proofs.reached.misplaced.Given as goal

@@ -1,7 +1,7 @@
 use Rattle.std.proofs.Common.{◌∙◌, ap, sym}
 use Rattle.std.specs.Option.{option_map}
 use Rattle.pt_base.specs.declared.numbers.Line.{Line}
-use Rattle.pt_run.specs.Views.{line_or}
+use Rattle.sem_run.specs.run.Views.{line_or}
 use Rattle.pt_machine_state.specs.declared.blocks.BlockCode.{BlockCode}
 use Rattle.pt_machine_state.specs.Blocks.{block_at}
 use Rattle.pt_machine_state.specs.Views.{block_of}

@@ -1,9 +1,9 @@
 use Rattle.std.proofs.Common.{◌∙◌, [], ap, sym}
 use Rattle.std.proofs.lemmas.Result.{on_ok_weaker}
-use Rattle.pt_control.specs.Turn.{Variable}
+use Rattle.sem_control.specs.control.Turn.{Variable}
 use Rattle.pt_assembler.specs.Piece.{act}
 use Rattle.pt_assembler.specs.Layout.{layout}
-use Rattle.pt_emitter.specs.Ops.{load}
+use Rattle.sem_compile.specs.emitter.Ops.{load}
 use Rattle.pt_expr_forms.proofs.Forms.{name-form}
 use Rattle.pt_write_leaves.proofs.leaves.name_code.Goals as goal
 

@@ -5,7 +5,7 @@ use Rattle.pt_tree.specs.Syntax.{Formals, Name, Params, parameters, no_formals}
 use Rattle.pt_tree.specs.Fold.{chained, formal_of, parameters_of}
 use Rattle.pt_tree.specs.declared.expression.Parameter.{Parameter}
 use Rattle.pt_tree.specs.declared.expression.Parameters.{out-Parameters}
-use Rattle.pt_control.specs.Expressions.{defaulted, all_defaulted}
+use Rattle.sem_control.specs.control.Expressions.{defaulted, all_defaulted}
 use Rattle.pt_expr_forms.specs.Behind.{known}
 use Rattle.pt_write_leaves.proofs.parameters.defaulted_names.Goals as goal
 

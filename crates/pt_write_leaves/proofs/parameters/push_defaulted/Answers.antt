@@ -4,7 +4,7 @@ use Rattle.std.proofs.lemmas.List.{drop_more}
 use Rattle.pt_tree.specs.Syntax.{no_formals}
 use Rattle.pt_tree.specs.Fold.{chained, formal_of}
 use Rattle.pt_tree.specs.declared.expression.Parameter.{Parameter, out-Parameter}
-use Rattle.pt_control.specs.Expressions.{defaulted}
+use Rattle.sem_control.specs.control.Expressions.{defaulted}
 use Rattle.pt_write_leaves.proofs.DefaultLemmas.{defaulted-given, defaulted-absent}
 use Rattle.pt_write_leaves.proofs.parameters.push_defaulted.Goals as goal
 use Rattle.pt_write_leaves.proofs.parameters.push_defaulted.Goals.{then-is_some+in_ok-spelled+in_ok-push, else-is_some}

@@ -1,7 +1,7 @@
 use Rattle.std.proofs.Common.{◌≡◌, ◌++◌, drop, map}
 use Rattle.pt_tree.specs.Syntax.{no_formals}
 use Rattle.pt_tree.specs.Fold.{chained, formal_of}
-use Rattle.pt_control.specs.Expressions.{defaulted}
+use Rattle.sem_control.specs.control.Expressions.{defaulted}
 use Rattle.pt_expr_forms.specs.Behind.{known}
 use Rattle.pt_write_leaves.proofs.parameters.push_defaulted.Given as goal
 

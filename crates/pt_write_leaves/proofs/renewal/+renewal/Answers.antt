@@ -5,7 +5,7 @@ use Rattle.pt_tree.proofs.Folds.{target_of-Place}
 use Rattle.pt_tree.specs.Fold.{target_of, targets_of}
 use Rattle.pt_tree.specs.Syntax.{Tgt}
 use Rattle.pt_tree.specs.declared.expression.Target.{Target}
-use Rattle.pt_control.specs.Expressions.{target_names, all_target_names}
+use Rattle.sem_control.specs.control.Expressions.{target_names, all_target_names}
 use Rattle.pt_assembler.specs.Layout.{Written}
 use Rattle.pt_expr_forms.specs.Loops.{behind_renewal}
 use Rattle.pt_write_leaves.proofs.LoopLemmas.{renewal-append}

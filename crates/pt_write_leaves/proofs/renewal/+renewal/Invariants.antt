@@ -1,6 +1,6 @@
 use Rattle.std.proofs.Common.{◌≡◌, drop, map}
 use Rattle.pt_tree.specs.Fold.{target_of, targets_of}
-use Rattle.pt_control.specs.Expressions.{all_target_names}
+use Rattle.sem_control.specs.control.Expressions.{all_target_names}
 use Rattle.pt_expr_forms.specs.Loops.{behind_renewal}
 use Rattle.pt_write_leaves.proofs.renewal.+renewal.Given as goal
 

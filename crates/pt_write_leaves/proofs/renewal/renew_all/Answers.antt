@@ -3,7 +3,7 @@ use Rattle.std.proofs.lemmas.List.{drop_more}
 use Rattle.pt_tree.proofs.Folds.{clause_of-parts}
 use Rattle.pt_tree.specs.Fold.{ClauseOf, clause_of, clauses_of}
 use Rattle.pt_tree.specs.declared.expression.Clause.{Clause}
-use Rattle.pt_control.specs.Expressions.{target_names, clause_names}
+use Rattle.sem_control.specs.control.Expressions.{target_names, clause_names}
 use Rattle.pt_expr_forms.specs.Loops.{behind_renewal}
 use Rattle.pt_write_leaves.proofs.LoopLemmas.{renewal-append, clause_names-conditions}
 use Rattle.pt_write_leaves.proofs.renewal.renew_all.Goals as goal

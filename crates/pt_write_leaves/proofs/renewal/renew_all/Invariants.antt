@@ -1,6 +1,6 @@
 use Rattle.std.proofs.Common.{◌≡◌, ◌++◌, drop, map}
 use Rattle.pt_tree.specs.Fold.{clause_of, clauses_of, behind}
-use Rattle.pt_control.specs.Expressions.{target_names, clause_names}
+use Rattle.sem_control.specs.control.Expressions.{target_names, clause_names}
 use Rattle.pt_expr_forms.specs.Loops.{behind_renewal}
 use Rattle.pt_write_leaves.proofs.renewal.renew_all.Given as goal
 

@@ -2,11 +2,11 @@ use Rattle.std.proofs.Common.{◌∙◌, [], ap, sym}
 use Rattle.std.proofs.lemmas.Result.{on_ok_weaker}
 use Rattle.pt_tree.proofs.Folds.{place_node_of-Name, place_node_of-Attribute, place_node_of-Item}
 use Rattle.pt_tree.specs.Syntax.{Place, single}
-use Rattle.pt_control.specs.Turn.{Variable}
-use Rattle.pt_control.specs.Expressions.{target_names}
+use Rattle.sem_control.specs.control.Turn.{Variable}
+use Rattle.sem_control.specs.control.Expressions.{target_names}
 use Rattle.pt_assembler.specs.Piece.{move}
 use Rattle.pt_assembler.specs.Layout.{Written, layout}
-use Rattle.pt_emitter.specs.Ops.{renew}
+use Rattle.sem_compile.specs.emitter.Ops.{renew}
 use Rattle.pt_expr_forms.specs.Behind.{known, numbers}
 use Rattle.pt_expr_forms.specs.Loops.{behind_renewal}
 use Rattle.pt_write_leaves.proofs.renewal.renew_place.Goals as goal

@@ -1,5 +1,5 @@
 use Rattle.std.proofs.Common.{◌≡◌, drop, map}
-use Rattle.pt_emitter.specs.Ops.{are_plain}
+use Rattle.sem_compile.specs.emitter.Ops.{are_plain}
 use Rattle.pt_write_ops.specs.Roles.{role_of}
 use Rattle.pt_write_ops.proofs.calls.are_plain.Given as goal
 

@@ -1,6 +1,6 @@
 use Rattle.std.proofs.Common.{◌≡◌, ◌++◌, drop, map}
 use Rattle.std.specs.Prelude.{option_map}
-use Rattle.pt_emitter.specs.Ops.{names_alone}
+use Rattle.sem_compile.specs.emitter.Ops.{names_alone}
 use Rattle.pt_write_ops.specs.Roles.{role_of}
 use Rattle.pt_write_ops.proofs.calls.names_alone.Given as goal
 

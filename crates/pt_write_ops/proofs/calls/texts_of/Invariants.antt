@@ -1,5 +1,5 @@
 use Rattle.std.proofs.Common.{◌≡◌, ◌++◌, drop, map}
-use Rattle.pt_emitter.specs.Ops.{text_of}
+use Rattle.sem_compile.specs.emitter.Ops.{text_of}
 use Rattle.pt_write_ops.specs.Roles.{role_of}
 use Rattle.pt_write_ops.proofs.calls.texts_of.Given as goal
 

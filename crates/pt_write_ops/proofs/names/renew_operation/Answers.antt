@@ -1,7 +1,7 @@
 use Rattle.std.proofs.Common.{ap}
 use Rattle.pt_instr.specs.declared.Instr.TheVariants as instr
 use Rattle.pt_block_names.specs.Named.{scope_of}
-use Rattle.pt_emitter.specs.Ops.{renew_in}
+use Rattle.sem_compile.specs.emitter.Ops.{renew_in}
 use Rattle.pt_write_ops.proofs.SlotLemmas.{on_cell, on_local}
 use Rattle.pt_write_ops.proofs.names.renew_operation.Goals as goal
 

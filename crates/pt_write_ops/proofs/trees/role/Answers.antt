@@ -1,8 +1,8 @@
 use Rattle.std.proofs.Common.{◌∷◌, ap, sym, ◌∙◌}
 use Rattle.pt_tree.proofs.Folds.{argument_of-Positional, argument_of-Named, argument_of-Spread, argument_of-SpreadNamed}
 use Rattle.pt_block_names.specs.Named.{around}
-use Rattle.pt_control.specs.Turn as T
-use Rattle.pt_control.specs.Expressions.{roles}
+use Rattle.sem_control.specs.control.Turn as T
+use Rattle.sem_control.specs.control.Expressions.{roles}
 use Rattle.pt_write_ops.proofs.trees.role.Goals as goal
 
 pub returns-in-Positional : goal.returns-in-Positional

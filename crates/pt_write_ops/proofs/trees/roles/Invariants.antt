@@ -1,7 +1,7 @@
 use Rattle.std.proofs.Common.{◌≡◌, ◌++◌, drop, map}
 use Rattle.pt_tree.specs.Syntax.{no_args}
 use Rattle.pt_tree.specs.Fold.{argument_of, chained}
-use Rattle.pt_control.specs.Expressions.{roles}
+use Rattle.sem_control.specs.control.Expressions.{roles}
 use Rattle.pt_block_names.specs.Named.{around}
 use Rattle.pt_write_ops.specs.Roles.{role_of}
 use Rattle.pt_write_ops.proofs.trees.roles.Given as goal

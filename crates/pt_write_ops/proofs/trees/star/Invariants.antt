@@ -1,7 +1,7 @@
 use Rattle.std.proofs.Common.{◌≡◌, ◌+◌, drop, map}
 use Rattle.std.specs.Prelude.{option_map}
 use Rattle.pt_tree.specs.Fold.{target_of, targets_of}
-use Rattle.pt_control.specs.Statements.{star_of}
+use Rattle.sem_control.specs.control.Statements.{star_of}
 use Rattle.pt_write_ops.proofs.trees.star.Given as goal
 
 abbrev pub invariant-loop-i : goal.invariant-loop-i

@@ -1,5 +1,5 @@
 use Rattle.std.proofs.Common.{arith}
-use Rattle.pt_fits.specs.Block.{links_of}
+use Rattle.sem_fits.specs.fits.Block.{links_of}
 use Rattle.pt_block_kinds.proofs.Missing.{astray_in}
 use Rattle.pt_block_kinds.proofs.graph.BlockKinds.any_astray.Goals as goal
 

@@ -1,7 +1,7 @@
 use Rattle.std.proofs.Common.{◌≡◌, Some, false, length, subst}
 use Rattle.std.specs.Prelude.{nat_lt, slice_get}
 use Rattle.pt_code_slots.proofs.Making.{lent, some_there, these_tell}
-use Rattle.pt_fits.specs.Block.{block_of}
+use Rattle.sem_fits.specs.fits.Block.{block_of}
 use Rattle.pt_code_slots.proofs.blocks.CodeSlots.slot_at.Goals as goal
 
 pub returns-in-None : goal.returns-in-None

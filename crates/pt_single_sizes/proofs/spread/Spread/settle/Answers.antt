@@ -1,6 +1,6 @@
 use Rattle.std.proofs.Common.{sym, subst}
 use Rattle.pt_sizes.specs.Waiting.{levels_of}
-use Rattle.pt_fits.specs.Block.{links_of}
+use Rattle.sem_fits.specs.fits.Block.{links_of}
 use Rattle.pt_single_sizes.specs.Search.{GoesOn}
 use Rattle.pt_single_sizes.proofs.Going.{then_on}
 use Rattle.pt_single_sizes.proofs.spread.Spread.settle.Goals as goal

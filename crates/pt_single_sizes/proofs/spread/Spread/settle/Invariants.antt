@@ -1,5 +1,5 @@
 use Rattle.pt_sizes.specs.Waiting.{levels_of}
-use Rattle.pt_fits.specs.Block.{links_of}
+use Rattle.sem_fits.specs.fits.Block.{links_of}
 use Rattle.pt_single_sizes.specs.Search.{GoesOn}
 use Rattle.pt_single_sizes.proofs.spread.Spread.settle.Given as goal
 

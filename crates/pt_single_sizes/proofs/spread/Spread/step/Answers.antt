@@ -2,7 +2,7 @@ use Rattle.std.proofs.Common.{Some, None, sym, ap, ◌∙◌, arith}
 use Rattle.std.specs.Prelude.{option_map}
 use Rattle.pt_sizes.specs.Waiting.{levels_of}
 use Rattle.pt_sizes.proofs.Tables.{entry_is}
-use Rattle.pt_fits.specs.Block.{links_of}
+use Rattle.sem_fits.specs.fits.Block.{links_of}
 use Rattle.pt_single_sizes.proofs.Going.{behind_all, none_stands, has_size, not_on, on}
 use Rattle.pt_single_sizes.proofs.spread.Spread.step.Goals as goal
 

@@ -1,0 +1,2 @@
+pub mod code_run
+pub mod code_follows

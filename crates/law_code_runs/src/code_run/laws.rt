@@ -1,0 +1,25 @@
+//! What the runs of code are.
+
+ghost use Rattle.std.specs.Prelude.{ℕ};
+ghost use Rattle.sem_run.specs.run.Host.{Host};
+ghost use Rattle.sem_run.specs.run.Laws.{HaveTheSameRuns};
+ghost use Rattle.sem_run.specs.run.Machine.{BlockId};
+ghost use Rattle.sem_run.specs.run.Run.{Debugger};
+ghost use Rattle.sem_run.specs.run.Source.{Source};
+ghost use Rattle.sem_run.specs.run.Source as script;
+ghost use Rattle.law_code_runs.specs.code_run.CodeMachine.{CodeSource};
+ghost use Rattle.law_code_runs.specs.code_run.CodeMachine as coded;
+ghost use Rattle.law_code_runs.specs.code_run.Law.{IsCodeOf};
+ghost use Rattle.law_code_runs.specs.code_run.Parts.{HasClosedParts, KnowsActs};
+
+/// Where each block of a script has its code, that code has the closed parts of the block, and the
+/// machine knows its acts, the code has the runs of the script: for each host, debugger and bound it
+/// prints the same, tells the same events and acts, answers jumps alike, and ends in the same way.
+pub fn code_runs_as_its_script<D, N, V, W>()
+    ensures { (source : Source V) (code : CodeSource V) → IsCodeOf source code
+        → ((b : BlockId) → HasClosedParts source code b)
+        → ((b : BlockId) → KnowsActs source code b)
+        → (host : Host N V W) (ask : Debugger D N V W) (n : ℕ) (block : BlockId) (names : N)
+        (world : W) (d : D)
+        → HaveTheSameRuns (script.machine source) (coded.machine code) host ask n block names world d }
+{}

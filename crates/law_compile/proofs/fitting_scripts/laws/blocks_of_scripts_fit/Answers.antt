@@ -1,0 +1,5 @@
+use Rattle.law_compile.proofs.fitting_scripts.Fitting.{blocks_of_scripts_fit}
+use Rattle.law_compile.proofs.fitting_scripts.laws.blocks_of_scripts_fit.Goals as goal
+
+pub returns : goal.returns
+returns c = blocks_of_scripts_fit

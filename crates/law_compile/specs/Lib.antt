@@ -1,0 +1,9 @@
+pub mod script_runs
+pub mod loop_exits
+pub mod script_depths
+pub mod formed
+pub mod formed_scripts
+pub mod script_objects
+pub mod read_runs
+pub mod read_forms
+pub mod fitting_scripts

@@ -1,0 +1,2 @@
+pub mod script_files
+pub mod exec_answers

@@ -1,0 +1,3 @@
+pub mod code_files
+pub mod piece_counts
+pub mod operands_fit

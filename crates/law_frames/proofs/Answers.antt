@@ -1,0 +1,332 @@
+-- Each answer of the host keeps the names of the activation that asks, and opens blocks with theirs.
+use Rattle.std.proofs.Common.{◌≡◌, ◌∙◌, ◌+◌, ◌-◌, ℕ, Bool, true, false, List, [], ◌∷◌, ◌++◌, length, map, drop, Option, Some, None, if◌then◌else◌, refl, sym, ap, arith}
+use Rattle.std.specs.Prelude.{Result, Ok, Err, slice_get, nat_eq}
+use Rattle.std.specs.Map.{keys_of}
+use Rattle.std.proofs.lemmas.List.{length-map, length-drop, map-append}
+use Rattle.pt_heap.specs.Limits.{object_limit}
+use Rattle.pt_base.specs.declared.numbers.ObjId.{ObjId}
+use Rattle.pt_base.specs.declared.what.What.TheVariants.{Feature}
+use Rattle.sem_control.specs.control.Turn as T
+use Rattle.sem_control.specs.control.Turn.{Ask, Seek, Deed, Operation, Role, Scope, Variable, End, gave, left_by}
+use Rattle.pt_tree.specs.Syntax.{Name}
+use Rattle.pt_heap.specs.declared.value.Value.{Value}
+use Rattle.pt_heap.specs.declared.value.Value.TheVariants as value
+use Rattle.pt_heap.specs.declared.view.Binding.{Binding}
+use Rattle.pt_heap.specs.declared.object.Function.{Function}
+use Rattle.pt_heap.specs.declared.object.Object.{Object}
+use Rattle.pt_heap.specs.declared.object.Object.TheVariants as object
+use Rattle.pt_names.specs.Names.{Named}
+use Rattle.pt_bind.specs.Binding.{names_of, binding_with}
+use Rattle.pt_bind.specs.declared.arguments.Args.{Args}
+use Rattle.pt_bind.specs.declared.arguments.BindErr.{BindErr}
+use Rattle.pt_bind.specs.declared.arguments.Locals.{Locals}
+use Rattle.pt_prims.specs.Classes.{class_name}
+use Rattle.pt_prims.specs.Operands.{operand_of}
+use Rattle.pt_prims.specs.Operations.{of_function, content_of, grown, with_text, prim_answer, prim_heap}
+use Rattle.pt_prims.specs.declared.op.Op.{Op}
+use Rattle.pt_prims.specs.declared.op.Op.TheVariants as op
+use Rattle.pt_prims.specs.declared.content.Content.{Content}
+use Rattle.pt_prims.specs.declared.content.Content.TheVariants as content
+use Rattle.pt_prims.specs.declared.operand.Operand.{Operand}
+use Rattle.pt_prims.specs.declared.operand.Operand.TheVariants as operand
+use Rattle.pt_prims.specs.declared.answer.PrimAns.{PrimAns}
+use Rattle.pt_prims.specs.declared.answer.PrimAns.TheVariants as prim
+use Rattle.sem_run.specs.run.Machine.{BlockId}
+use Rattle.sem_run.specs.run.Host.{Here, BlockResult, answer, raise, print, leave, request, opens, made, beyond}
+use Rattle.pt_host.specs.World.{Names, Stores, CodeFacts, Program, Allotted, with_objects, allot}
+use Rattle.pt_host.specs.Trees.{Tree, and_then, answer_with, raise_with}
+use Rattle.pt_host.specs.Builtins as B
+use Rattle.pt_host.specs.Builtins.{builtin}
+use Rattle.pt_host.specs.Errors.{error, error_saying, raise_error, raise_saying}
+use Rattle.pt_host.specs.declared.places.TheConstants.{TYPE_ERROR}
+use Rattle.pt_host.specs.Texts.{unbound_text, unbound_class, binding_text, not_callable_text}
+use Rattle.pt_host.specs.Variables.{cell_number, with_cell, put, make_anew, raise_unbound, by_builtin, unless_bound, readable_value, variable_value, load_by, delete_by}
+use Rattle.pt_host.specs.Calls.{arguments_of, not_callable, number_of, function_object, of_prim, by_prim, first_value, cells_from, cells_along, result_of, block_of, parameters_given, run_block, call_bound, is_simple, call_function, by_operation, call_other, call_object, call_value, call, has_spread, arguments}
+use Rattle.pt_host.specs.Answers.{truth, branch, deeds, operate, seeks, answers}
+use Rattle.law_frames.specs.RunNames.{HasItsNames, TakesCells, AllTakeCells, StoresHaveNames}
+use Rattle.law_frames.proofs.Stores.{IsOneOf, put-keeps, all-push, all-get, AllotsCells, allotted, error-allotted, saying-allotted, other-objects}
+
+-- what an ask of a block's code names: a name that is written is one of the block's, and a function gets as many cells as its block has free names
+module _ (program : Program) (b : BlockId) where
+  abbrev pub IsOwn : Scope → Name → Type 0
+  IsOwn T.local x = IsOneOf (program.facts b).locals x
+  IsOwn T.of_class x = IsOneOf (program.facts b).locals x
+  IsOwn s x = Unit {0}
+
+  abbrev pub IsMadeAnew : Scope → Name → Type 0
+  IsMadeAnew T.cell x = IsOneOf ((program.facts b).cells ++ (program.facts b).frees) x
+  IsMadeAnew s x = IsOwn s x
+
+  abbrev pub NamesInDeed : Deed Value → Type 0
+  NamesInDeed (T.store x v) = IsOwn x.scope x.name
+  NamesInDeed (T.delete x) = IsOwn x.scope x.name
+  NamesInDeed (T.fresh x) = IsMadeAnew x.scope x.name
+  NamesInDeed d = Unit {0}
+
+  abbrev pub NamesInOperation : Operation → List Value → Type 0
+  NamesInOperation (T.function n xs) vs = length vs ≡ length xs + length (program.facts (record { hidden = b.hidden; number = n })).frees
+  NamesInOperation o vs = Unit {0}
+
+  abbrev pub NamesInSeek : Seek Value → Type 0
+  NamesInSeek (T.operate o vs) = NamesInOperation o vs
+  NamesInSeek s = Unit {0}
+
+  abbrev pub NamesInAsk : Ask Value → Type 0
+  NamesInAsk (T.seek s) = NamesInSeek s
+  NamesInAsk (T.deed d) = NamesInDeed d
+  NamesInAsk a = Unit {0}
+
+  -- an answer in the making
+  abbrev pub Keeps : {A : Type 0} → Tree A → Type 0
+  Keeps (answer x st) = StoresHaveNames program b st
+  Keeps (raise v st) = StoresHaveNames program b st
+  Keeps (print t k) = Keeps k
+  Keeps (leave what) = Unit {0}
+  Keeps (request (opens o) st k) =
+      StoresHaveNames program b st × (HasItsNames (program.facts o.block) o.names × ((r : BlockResult Names Value) (st1 : Stores)
+      → StoresHaveNames program b st1 → Keeps (k r st1)))
+  Keeps (request r st k) = Unit {0}
+
+-- what the names of a block begin with
+keys-of-firsts : {A : Type 0} (f : Name → A) (xs : List Name) → keys_of (map (λ x. (x, f x)) xs) ≡ xs
+keys-of-firsts f [] = refl
+keys-of-firsts f (x ∷ xs) = ap (λ ys. x ∷ ys) (keys-of-firsts f xs)
+
+keys-from : (n : ℕ) (xs : List Name) → keys_of (cells_from n xs) ≡ xs
+keys-from n [] = refl
+keys-from n (x ∷ xs) = ap (λ ys. x ∷ ys) (keys-from (n + 1) xs)
+
+keys-along : (xs : List Name) (ns : List ℕ) → length ns ≡ length xs → keys_of (cells_along xs ns) ≡ xs
+keys-along [] [] e = refl
+keys-along [] (n ∷ ns) e = refl
+keys-along (x ∷ xs) [] e = absurd (omega (arith, e))
+keys-along (x ∷ xs) (n ∷ ns) e = ap (λ ys. x ∷ ys) (keys-along xs ns (omega (arith, e)))
+
+opened-names : (facts : CodeFacts) (f : Name → Option Value) (n : ℕ) (ns : List ℕ) → length ns ≡ length facts.frees
+    → HasItsNames facts (record { values = map (λ x. (x, f x)) facts.locals; cells = cells_from n facts.cells ++ cells_along facts.frees ns })
+opened-names facts f n ns e = record {
+  values = keys-of-firsts f facts.locals;
+  cells = map-append (λ p. p.0) (cells_from n facts.cells) (cells_along facts.frees ns)
+      ∙ (ap (λ xs. xs ++ keys_of (cells_along facts.frees ns)) (keys-from n facts.cells) ∙ ap (λ xs. facts.cells ++ xs) (keys-along facts.frees ns e));
+}
+
+module _ (program : Program) (b : BlockId) where
+  abbrev K : {A : Type 0} → Tree A → Type 0
+  K t = Keeps program b t
+
+  abbrev Has : Stores → Type 0
+  Has st = StoresHaveNames program b st
+
+  behind-tree : {A B : Type 0} (a : Tree A) (f : A → Stores → Tree B) → K a → ((x : A) (st : Stores) → Has st → K (f x st)) → K (and_then a f)
+  behind-tree (answer x st) f p q = q x st p
+  behind-tree (raise v st) f p q = p
+  behind-tree (print t k) f p q = behind-tree k f p q
+  behind-tree (leave what) f p q = tt
+  behind-tree (request (opens o) st k) f p q = (p.0, (p.1.0, λ r st1 h. behind-tree (k r st1) f (p.1.1 r st1 h) q))
+  behind-tree (request r st k) f p q = tt
+
+  either-tree : {A : Type 0} (c : Bool) (x y : Tree A) → K x → K y → K (if c then x else y)
+  either-tree true x y p q = p
+  either-tree false x y p q = q
+
+  answered : (a : Allotted) (st : Stores) → Has st → AllotsCells program a → K (answer_with a st)
+  answered (made v h) st s m = other-objects program b st h s m
+  answered (beyond what) st s m = tt
+
+  raised : (A : Type 0) (a : Allotted) (st : Stores) → Has st → AllotsCells program a → K (raise_with {A = A} a st)
+  raised A (made v h) st s m = other-objects program b st h s m
+  raised A (beyond what) st s m = tt
+
+  error-keeps : (A : Type 0) (c : ObjId) (args : List Value) (h : Here Value) (st : Stores) → Has st → K (raise_error {A = A} c args h st)
+  error-keeps A c args h st s = raised A (allot (error c args None h.active) st.world.heap) st s
+      (error-allotted program c args None h.active st.world.heap s.functions)
+
+  saying-keeps : (A : Type 0) (c : ObjId) (t : List ℕ) (h : Here Value) (st : Stores) → Has st → K (raise_saying {A = A} c t h st)
+  saying-keeps A c t h st s = raised A (error_saying c t None h.active st.world.heap) st s (saying-allotted program c t None h.active st.world.heap s.functions)
+
+  unbound-keeps : (A : Type 0) (s : Scope) (x : Name) (h : Here Value) (st : Stores) → Has st → K (raise_unbound {A = A} s x h st)
+  unbound-keeps A s x h st has = saying-keeps A (unbound_class s) (unbound_text s x) h st has
+
+  not-callable-keeps : (v : Value) (h : Here Value) (st : Stores) → Has st → K (not_callable v h st)
+  not-callable-keeps v h st s = saying-keeps Value TYPE_ERROR (not_callable_text (class_name st.world.heap v)) h st s
+
+  -- operations on values
+  with-text : (t : List ℕ) (h : List Object) → AllTakeCells program h → AllTakeCells program (with_text t h)
+  with-text t h all = by (nat_eq (length h) object_limit)
+    where
+      by : (c : Bool) → AllTakeCells program (if c then h else h ++ object.Str t ∷ [])
+      by true = all
+      by false = all-push (TakesCells program) h (object.Str t) all tt
+
+  heap-grown : (c : Content) (h : List Object) → AllTakeCells program h → AllTakeCells program (grown c h)
+  heap-grown (content.Text t) h all = with-text t h all
+  heap-grown (content.Raise class t) h all = with-text t h all
+  heap-grown c h all = all
+
+  prim-keeps : (a : PrimAns) (h : Here Value) (st : Stores) → Has st → K (of_prim a h st)
+  prim-keeps (prim.Value v) h st s = s
+  prim-keeps (prim.Raise class v) h st s = error-keeps Value class (arguments_of v) h st s
+  prim-keeps (prim.Help helper) h st s = tt
+  prim-keeps (prim.Print t) h st s = s
+  prim-keeps (prim.Outside what) h st s = tt
+
+  by-prim-keeps : (o : Op) (vs : List Value) (h : Here Value) (st : Stores) → Has st → K (by_prim o vs h st)
+  by-prim-keeps o vs h st s =
+      prim-keeps (prim_answer o vs st.world.heap) h (with_objects (prim_heap o vs st.world.heap) st)
+      (other-objects program b st (prim_heap o vs st.world.heap) s (heap-grown (content_of o vs st.world.heap) st.world.heap s.functions))
+
+  truth-keeps : (v : Value) (st : Stores) → Has st → K (truth v st)
+  truth-keeps (value.Bool c) st s = s
+  truth-keeps v st s = tt
+
+  -- names
+  by-builtin-keeps : (u : B.Builtin) (s : Scope) (x : Name) (h : Here Value) (st : Stores) → Has st → K (by_builtin u s x h st)
+  by-builtin-keeps (B.is v) s x h st has = has
+  by-builtin-keeps B.unavailable s x h st has = tt
+  by-builtin-keeps B.no_builtin s x h st has = unbound-keeps Value s x h st has
+
+  unless-bound-keeps : (s : Scope) (x : Name) (h : Here Value) (st : Stores) → Has st → K (unless_bound s x h st)
+  unless-bound-keeps T.global x h st has = by-builtin-keeps (builtin x) T.global x h st has
+  unless-bound-keeps T.of_class x h st has = by-builtin-keeps (builtin x) T.of_class x h st has
+  unless-bound-keeps s x h st has = unbound-keeps Value s x h st has
+
+  load-keeps : (o : Option Value) (s : Scope) (x : Name) (h : Here Value) (st : Stores) → Has st → K (load_by o s x h st)
+  load-keeps (Some v) s x h st has = has
+  load-keeps None s x h st has = unless-bound-keeps s x h st has
+
+  cell-put : (o : Option ℕ) (v : Option Value) (st : Stores) → Has st → Has (with_cell o v st)
+  cell-put (Some n) v st has = record { names = has.names; functions = has.functions }
+  cell-put None v st has = has
+
+  own-put : (x : Name) (v : Option Value) (st : Stores) → Has st → IsOneOf (program.facts b).locals x → Has (put T.local x v st)
+  own-put x v st has i = record {
+    names = record { values = put-keeps (program.facts b).locals st.names.values x v has.names.values i; cells = has.names.cells };
+    functions = has.functions;
+  }
+
+  put-keeps-names : (s : Scope) (x : Name) (v : Option Value) (st : Stores) → Has st → IsOwn program b s x → Has (put s x v st)
+  put-keeps-names T.local x v st has i = own-put x v st has i
+  put-keeps-names T.of_class x v st has i = own-put x v st has i
+  put-keeps-names T.cell x v st has i = cell-put (cell_number x st.names) v st has
+  put-keeps-names T.free x v st has i = cell-put (cell_number x st.names) v st has
+  put-keeps-names T.global x v st has i = record { names = has.names; functions = has.functions }
+
+  made-anew : (s : Scope) (x : Name) (st : Stores) → Has st → IsMadeAnew program b s x → Has (make_anew s x st)
+  made-anew T.cell x st has i = record {
+    names = record {
+      values = has.names.values;
+      cells = put-keeps ((program.facts b).cells ++ (program.facts b).frees) st.names.cells x (length st.world.cells) has.names.cells i;
+    };
+    functions = has.functions;
+  }
+  made-anew T.local x st has i = put-keeps-names T.local x None st has i
+  made-anew T.of_class x st has i = put-keeps-names T.of_class x None st has i
+  made-anew T.free x st has i = put-keeps-names T.free x None st has i
+  made-anew T.global x st has i = put-keeps-names T.global x None st has i
+
+  delete-keeps : (o : Option Value) (s : Scope) (x : Name) (h : Here Value) (st : Stores) → Has st → IsOwn program b s x → K (delete_by o s x h st)
+  delete-keeps (Some v) s x h st has i = put-keeps-names s x None st has i
+  delete-keeps None s x h st has i = unbound-keeps (Unit {0}) s x h st has
+
+  -- functions
+  taken : (xs : List Name) (vs : List Value) (n : ℕ) → length vs ≡ length xs + n → length (map number_of (drop (length xs) vs)) ≡ n
+  taken xs vs n e =
+      let l : length (map number_of (drop (length xs) vs)) ≡ length (drop (length xs) vs) = length-map (drop (length xs) vs) number_of in
+      let k : length (drop (length xs) vs) ≡ length vs - length xs = length-drop (length xs) vs in
+      omega (arith, e, l, k)
+
+  -- calls
+  result-keeps : (e : End Value) (st : Stores) → Has st → K (result_of e st)
+  result-keeps (gave v) st s = s
+  result-keeps (left_by v) st s = s
+
+  block-keeps : (f : Function) (ps : Named) (st : Stores) → Has st → TakesCells program (object.Function f) → K (run_block (program.facts (block_of f)) f ps st)
+  block-keeps f ps st s t = (
+    record { names = s.names; functions = s.functions },
+    (
+      opened-names (program.facts (block_of f)) (λ x. first_value (program.facts (block_of f)) ps x)
+          (length st.world.cells) f.cells t,
+      λ r st1 h. result-keeps r.end st1 h,
+    ),
+  )
+
+  bound-keeps : (f : Function) (r : Result Locals BindErr) (h : Here Value) (st : Stores) → Has st → TakesCells program (object.Function f)
+      → K (call_bound (program.facts (block_of f)) f r h st)
+  bound-keeps f (Ok ls) h st s t = block-keeps f (parameters_given (names_of (program.facts (block_of f)).params) ls.values) st s t
+  bound-keeps f (Err e) h st s t = saying-keeps Value TYPE_ERROR (binding_text (program.facts (block_of f)).name e) h st s
+
+  function-keeps : (f : Function) (args : Args) (h : Here Value) (st : Stores) → Has st → TakesCells program (object.Function f)
+      → K (call_function (program.facts (block_of f)) f args h st)
+  function-keeps f args h st s t =
+      let facts : CodeFacts = program.facts (block_of f) in
+      either-tree (is_simple facts) (call_bound facts f (binding_with facts.params f.defaults args) h st) (leave Feature)
+      (bound-keeps f (binding_with facts.params f.defaults args) h st s t) tt
+
+  operation-keeps : (o : Option Op) (bs : List Binding) (vs : List Value) (h : Here Value) (st : Stores) → Has st → K (by_operation o bs vs h st)
+  operation-keeps (Some o) [] vs h st s = by-prim-keeps o vs h st s
+  operation-keeps o bs vs h st s = tt
+
+  other-keeps : (k : Operand) (v : Value) (h : Here Value) (st : Stores) → Has st → K (call_other k v h st)
+  other-keeps operand.Instance v h st s = tt
+  other-keeps k v h st s = not-callable-keeps v h st s
+
+  object-keeps : (o : Option Object) (i : ℕ) (v : Value) (args : Args) (h : Here Value) (st : Stores) → slice_get st.world.heap i ≡ o → Has st
+      → K (call_object program o v args h st)
+  object-keeps (Some (object.Function f)) i v args h st e s = function-keeps f args h st s
+      (all-get (TakesCells program) st.world.heap i (object.Function f) s.functions e)
+  object-keeps (Some (object.Builtin u)) i v args h st e s = operation-keeps (of_function u.number) args.named args.plain h st s
+  object-keeps (Some (object.Class c)) i v args h st e s = tt
+  object-keeps (Some (object.Method m)) i v args h st e s = tt
+  object-keeps o i v args h st e s = other-keeps (operand_of st.world.heap v) v h st s
+
+  value-keeps : (v : Value) (args : Args) (h : Here Value) (st : Stores) → Has st → K (call_value program v args h st)
+  value-keeps (value.Obj id) args h st s = object-keeps (slice_get st.world.heap id.0) id.0 (value.Obj id) args h st refl s
+  value-keeps v args h st s = not-callable-keeps v h st s
+
+  call-keeps : (rs : List Role) (f : Value) (vs : List Value) (h : Here Value) (st : Stores) → Has st → K (call program rs f vs h st)
+  call-keeps rs f vs h st s = either-tree (has_spread rs) (leave Feature) (call_value program f (arguments rs vs) h st) tt
+      (value-keeps f (arguments rs vs) h st s)
+
+  module _ (h : Here Value) (is : h.block ≡ b) (st : Stores) (s : Has st) where
+    function-made : (n : ℕ) (xs : List Name) (vs : List Value) → NamesInOperation program b (T.function n xs) vs
+        → TakesCells program (function_object n h.block.hidden xs vs)
+    function-made n xs vs e =
+        taken xs vs (length (program.facts (record { hidden = h.block.hidden; number = n })).frees)
+        (e ∙ ap (λ (k : BlockId). length xs + length (program.facts (record { hidden = k.hidden; number = n })).frees) (sym is))
+
+    operate-keeps : (o : Operation) (vs : List Value) → NamesInOperation program b o vs → K (operate program o vs h st)
+    operate-keeps (T.unary o) vs i = by-prim-keeps (op.Unary o) vs h st s
+    operate-keeps T.inverted vs i = by-prim-keeps op.Not vs h st s
+    operate-keeps (T.binary o) vs i = by-prim-keeps (op.Binary o) vs h st s
+    operate-keeps (T.in_place o) vs i = by-prim-keeps (op.InPlace o) vs h st s
+    operate-keeps (T.compare o) vs i = by-prim-keeps (op.Compare o) vs h st s
+    operate-keeps (T.call rs) (f ∷ vs) i = call-keeps rs f vs h st s
+    operate-keeps (T.function n xs) vs i =
+        answered (allot (function_object n h.block.hidden xs vs) st.world.heap) st s
+        (allotted program (function_object n h.block.hidden xs vs) st.world.heap s.functions (function-made n xs vs i))
+    operate-keeps o vs i = tt
+
+    seeks-keep : (a : Seek Value) → NamesInSeek program b a → K (seeks program a h st)
+    seeks-keep (T.const k) i = s
+    seeks-keep (T.load x) i = load-keeps (readable_value x.scope x.name st) x.scope x.name h st s
+    seeks-keep (T.operate o vs) i = operate-keeps o vs i
+    seeks-keep (T.cell_of x) i = s
+    seeks-keep (T.yielding v) i = tt
+
+    deeds-keep : (d : Deed Value) → NamesInDeed program b d → K (deeds d h st)
+    deeds-keep (T.delete x) i = delete-keeps (variable_value x.scope x.name st) x.scope x.name h st s i
+    deeds-keep (T.store x v) i = put-keeps-names x.scope x.name (Some v) st s i
+    deeds-keep (T.discard v) i = s
+    deeds-keep (T.fresh x) i = made-anew x.scope x.name st s i
+    deeds-keep T.nothing i = s
+    deeds-keep d i = tt
+
+    branch-keeps : (v : Value) → K (branch v h st)
+    branch-keeps v = behind-tree (by_prim op.Truth (v ∷ []) h st) truth (by-prim-keeps op.Truth (v ∷ []) h st s) truth-keeps
+
+    pub answers-keep : (a : Ask Value) → NamesInAsk program b a → K (answers program a h st)
+    answers-keep (T.seek a) i = seeks-keep a i
+    answers-keep (T.deed d) i = deeds-keep d i
+    answers-keep (T.leave l) i = s
+    answers-keep (T.test (T.branch v)) i = branch-keeps v
+    answers-keep a i = tt

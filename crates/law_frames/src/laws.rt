@@ -1,0 +1,16 @@
+//! Laws of names in runs, each the contract of a function that does nothing.
+
+ghost use Rattle.law_frames.specs.Laws.{RunsBeginWithTheirNames, RunsHaveTheirNames};
+
+/// In a run of code whose operands name what their blocks have, the newest activation and each that
+/// waits have the names of their blocks, and each function takes along a cell for each free name of
+/// its block, wherever strides lead (Language Reference 4.2.2, 8.7).
+pub fn runs_have_their_names()
+    ensures { RunsHaveTheirNames }
+{}
+
+/// Where a run begins this is so of a block without names, as the module of a supported script is.
+#[tactic(auto, using(crate::proofs::Start::begins_with_names))]
+pub fn runs_begin_with_their_names()
+    ensures { RunsBeginWithTheirNames }
+{}

@@ -1,0 +1,8 @@
+pub mod reached_acts
+pub mod start_nests
+pub mod script_act_parts
+pub mod script_acts
+pub mod text_parts
+pub mod filled_nests
+pub mod acts_in_parts
+pub mod text_runs

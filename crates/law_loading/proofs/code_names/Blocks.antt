@@ -1,0 +1,187 @@
+-- The code of a supported script names its blocks.
+use Rattle.std.proofs.Common.{◌≡◌, ◌∙◌, ◌+◌, ℕ, zero, suc, Bool, true, false, if◌then◌else◌, List, [], ◌∷◌, ◌++◌, length, map, Option, Some, None, refl, sym, ap, subst, arith}
+use Rattle.std.specs.Prelude.{slice_get}
+use Rattle.std.specs.List.{AllByRecursion}
+use Rattle.std.proofs.lemmas.List.{length-map, length-append}
+use Rattle.pt_tree.specs.Syntax.{Name, Stms}
+use Rattle.pt_tree.specs.Blocks as B
+use Rattle.pt_tree.specs.Blocks.{Block, Code as BlockCode, blocks_script, yields}
+use Rattle.pt_wide.specs.Syntax as wide
+use Rattle.pt_instr.specs.declared.Instr.{Instr}
+use Rattle.pt_instr.specs.declared.Instr.TheVariants as instr
+use Rattle.pt_heap.specs.declared.value.Value.{Value}
+use Rattle.pt_heap.specs.declared.value.Value.TheVariants as value
+use Rattle.sem_control.specs.control.Turn as T
+use Rattle.sem_names.specs.Around.{names_of}
+use Rattle.pt_code.specs.declared.BlockKind.TheVariants as kind
+use Rattle.pt_code.specs.View.{Ins, laid_from}
+use Rattle.pt_code.proofs.OneView.{one_view}
+use Rattle.sem_code.specs.slots.CodeObject.{CodeObject, Pool}
+use Rattle.sem_code.specs.slots.BlockObject.{free_in, scope_of}
+use Rattle.pt_assembler.specs.Layout.{instrs_of}
+use Rattle.sem_compile.specs.compile.ScriptCode.{BlockLayout, code_block, code_of, kind_of, script_layouts}
+use Rattle.sem_compile.specs.compile.Laws.{IsLayoutIn}
+use Rattle.sem_compile.proofs.compile.Blocks.{as_many_blocks, blocks_are_laid_out}
+use Rattle.law_front.proofs.script_numbers.Scripts.{numbered}
+use Rattle.law_compile.specs.script_objects.Laws.{HasCode}
+use Rattle.pt_host.specs.World.{no_names, start_world}
+use Rattle.pt_supported.specs.Built.{Built}
+use Rattle.pt_supported.specs.Laws.{is_class_code}
+use Rattle.pt_supported.proofs.Silent.{built_blocks_are_no_classes}
+use Rattle.law_names.proofs.module_names.Classes.{module_has_no_frees}
+use Rattle.law_compile.specs.script_runs.Blocks.{number_or_module, script_code, the_module}
+use Rattle.law_loading.specs.script_program.ScriptProgram.{program_of, the_module_block}
+use Rattle.law_loading.specs.script_program.Laws.{HasItsNames}
+use Rattle.pt_code_loader.specs.declared.loading.Loaded.{Loaded}
+use Rattle.law_loading.specs.loaded_scripts.Laws.{HasTables, IsLoadable}
+use Rattle.sem_fits.specs.fits.Block.{links_of}
+use Rattle.law_typed_pieces.proofs.standing_pieces.Script.{instructions_may_stand}
+use Rattle.law_frames.specs.RunNames.{StoresHaveNames}
+use Rattle.law_frames.specs.Operands.{CodeNamesItsBlocks, OperandsNameIn}
+use Rattle.law_frames.proofs.Runs.{reached_has_names}
+use Rattle.law_frames.proofs.Start.{begins_with_names}
+use Rattle.law_loading.specs.code_names.Laws.{SupportedCodeNamesItsBlocks, SupportedCodeRunsWithItsNames}
+use Rattle.law_loading.proofs.code_names.Module.{module_has_no_locals, module_has_no_slots}
+use Rattle.law_loading.proofs.code_names.Instructions.{TakesAsNamed, all-take, laid-is, mapped-at, operands-name, seen-names, within_of}
+
+mapped-count : {A B : Type 0} (f : A → B) (xs : List A) (ys : List B) → map f xs ≡ ys → length xs ≡ length ys
+mapped-count f xs ys e = sym (length-map xs f) ∙ ap length e
+
+no-class : (c : BlockCode) → is_class_code c ≡ false → scope_of (kind_of c) ≡ T.global
+no-class (B.of_module ss) e = refl
+no-class (B.of_function ss) e = by (yields (B.of_function ss))
+  where
+    by : (t : Bool) → scope_of (if t then kind.Generator else kind.Function) ≡ T.global
+    by true = refl
+    by false = refl
+no-class (B.of_class ss) e = absurd (let no : true ≡ false = e in cc)
+no-class (B.of_lambda l e) h = by (yields (B.of_lambda l e))
+  where
+    by : (t : Bool) → scope_of (if t then kind.Generator else kind.Function) ≡ T.global
+    by true = refl
+    by false = refl
+no-class (B.of_generator l e k t cs) h = refl
+
+-- by lists that have as many names
+renamed : (locals cells : ℕ) (f g : ℕ → ℕ) → ((l : ℕ) → f l ≡ g l) → (i : Instr) → OperandsNameIn locals cells f i → OperandsNameIn locals cells g i
+renamed locals cells f g same (instr.MakeFunction b n l) h = h ∙ same l.0
+renamed locals cells f g same i h = h
+
+none-there : {A B : Type 0} (xs : List A) (ys : List B) (n : ℕ) → length xs ≡ length ys → slice_get ys n ≡ None → slice_get xs n ≡ None
+none-there [] ys n l e = refl
+none-there (x ∷ xs) [] n l e = absurd (omega (arith, l))
+none-there (x ∷ xs) (y ∷ ys) zero l e = absurd (let no : Some y ≡ None = e in cc)
+none-there (x ∷ xs) (y ∷ ys) (suc n) l e = none-there xs ys n (omega (arith, l)) e
+
+some-same : {A : Type 0} (a b : A) → Some a ≡ Some b → a ≡ b
+some-same a b e = cc
+
+module _ (script : wide.Stms) (ss : Stms) (l : Loaded) (ready : IsLoadable script ss) (built : Built ss) (t : HasTables ss l) where
+  -- of a block with its object
+  module _ (n : ℕ) (k : Block) (h : HasCode value.None ss n k (t.object n)) where
+    abbrev b : BlockLayout
+    b = h.layout
+
+    abbrev object : CodeObject Value
+    object = t.object n
+
+    has : HasItsNames ss n (code_block b)
+    has = ready.names n b h.is_layout
+
+    locals-count : length (code_block b).locals ≡ length (names_of ss n).locals
+    locals-count = mapped-count _ (code_block b).locals (names_of ss n).locals has.locals
+
+    cells-count : length (code_block b).cells + length (code_block b).free ≡ length ((names_of ss n).cells ++ (names_of ss n).frees)
+    cells-count =
+        let c : length (code_block b).cells ≡ length (names_of ss n).cells = mapped-count _ (code_block b).cells (names_of ss n).cells has.cells in
+        let f : length (code_block b).free ≡ length (names_of ss n).frees = mapped-count _ (code_block b).free (names_of ss n).frees has.frees in
+        let both : length ((names_of ss n).cells ++ (names_of ss n).frees) ≡ length (names_of ss n).cells + length (names_of ss n).frees =
+        length-append (names_of ss n).cells (names_of ss n).frees in
+        omega (arith, c, f, both)
+
+    seen : object.at ≡ laid_from (code_block b) 0 (instrs_of b.written)
+    seen = one_view (code_block b) object.at (laid_from (code_block b) 0 (instrs_of b.written)) h.is_object.view
+        (record { instrs = instrs_of b.written; fits = h.fits; spelled = refl; view_is = refl })
+
+    abbrev lists : ℕ → ℕ
+    lists = λ l. length ((links_of (code_of ss)).texts l)
+
+    pub operands : (pc : ℕ) (i : Ins) → object.at pc ≡ Some i
+        → OperandsNameIn (length (names_of ss n).locals) (length ((names_of ss n).cells ++ (names_of ss n).frees)) (λ l. length (object.pool.texts l)) i.instr
+    operands pc i e =
+        let P : ℕ → ℕ → Type 0 = λ m k. OperandsNameIn m k lists i.instr in
+        let laid : laid_from (code_block b) 0 (instrs_of b.written) pc ≡ Some i = ap (λ f. f pc) (sym seen) ∙ e in
+        let take : AllByRecursion (TakesAsNamed lists) (instrs_of b.written) =
+        all-take b.heading.kind (links_of (code_of ss)) b.written b.written.instrs
+        (instructions_may_stand ss ready.no_fault (numbered script ss ready.is_script) n b h.is_layout) in
+        let raw : P (length (code_block b).locals) (length (code_block b).cells + length (code_block b).free) =
+        operands-name (within_of (code_of ss) (code_block b)) lists i.instr
+        (seen-names ss n b h.is_layout (numbered script ss ready.is_script) object.at h.is_object.view pc i e)
+        (laid-is (TakesAsNamed lists) (code_block b) 0 (instrs_of b.written) pc i take laid) in
+        renamed (length (names_of ss n).locals) (length ((names_of ss n).cells ++ (names_of ss n).frees)) lists (λ l. length (object.pool.texts l))
+        (λ l. ap (λ (p : Pool). length (p.texts l)) (sym h.is_object.pool)) i.instr
+        (subst (λ k. P (length (names_of ss n).locals) k) cells-count (subst (λ m. P m (length (code_block b).cells + length
+        (code_block b).free)) locals-count raw))
+
+    pub scope : object.pool.name_scope ≡ T.global
+    scope =
+        let laid : IsLayoutIn ss n b = blocks_are_laid_out ss n b h.is_layout in
+        let kind_is : (code_block b).kind ≡ kind_of k.code =
+        ap (λ (c : BlockLayout). c.heading.kind) laid.is ∙ ap (λ (j : Block). kind_of j.code) (some-same laid.block k (sym laid.is_block ∙ h.is_block)) in
+        ap (λ (p : Pool). p.name_scope) h.is_object.pool ∙ (ap scope_of kind_is ∙ no-class k.code (built_blocks_are_no_classes ss built n k h.is_block))
+
+    pub captures : (m : ℕ) → object.pool.captures m ≡ free_in (slice_get (code_of ss).blocks m)
+    captures m = ap (λ (p : Pool). p.captures m) h.is_object.pool
+
+    pub frees-count : free_in (slice_get (code_of ss).blocks n) ≡ length (names_of ss n).frees
+    frees-count =
+        ap free_in (mapped-at code_block (script_layouts ss) n b h.is_layout) ∙ mapped-count _ (code_block b).free (names_of ss n).frees has.frees
+
+  -- past the end stands the module
+  abbrev the_block : Block
+  the_block = the_module_block ss
+
+  module-code : HasCode value.None ss 0 the_block (t.object 0)
+  module-code = t.of_blocks 0 the_block refl
+
+  operands-by : (o : Option Block) (n : ℕ) → slice_get (blocks_script ss) n ≡ o → (pc : ℕ) (i : Ins) → (t.object (number_or_module o n)).at pc ≡ Some i
+      → OperandsNameIn (length (names_of ss (number_or_module o n)).locals)
+      (length ((names_of ss (number_or_module o n)).cells ++ (names_of ss (number_or_module o n)).frees))
+      (λ l. length ((t.object (number_or_module o n)).pool.texts l)) i.instr
+  operands-by (Some k) n e = operands n k (t.of_blocks n k e)
+  operands-by None n e = operands 0 the_block module-code
+
+  scope-by : (o : Option Block) (n : ℕ) → slice_get (blocks_script ss) n ≡ o → (t.object (number_or_module o n)).pool.name_scope ≡ T.global
+  scope-by (Some k) n e = scope n k (t.of_blocks n k e)
+  scope-by None n e = scope 0 the_block module-code
+
+  captures-by : (o : Option Block) (n : ℕ) → slice_get (blocks_script ss) n ≡ o → (m : ℕ)
+      → (t.object (number_or_module o n)).pool.captures m ≡ free_in (slice_get (code_of ss).blocks m)
+  captures-by (Some k) n e = captures n k (t.of_blocks n k e)
+  captures-by None n e = captures 0 the_block module-code
+
+  frees-by : (o : Option Block) (n : ℕ) → slice_get (blocks_script ss) n ≡ o
+      → free_in (slice_get (code_of ss).blocks n) ≡ length (names_of ss (number_or_module o n)).frees
+  frees-by (Some k) n e = frees-count n k (t.of_blocks n k e)
+  frees-by None n e = ap free_in (none-there (code_of ss).blocks (blocks_script ss) n (as_many_blocks ss) e) ∙ ap length (sym (module_has_no_frees ss))
+
+  names-blocks : CodeNamesItsBlocks (program_of ss) (script_code ss t.object)
+  names-blocks = record {
+    operands = λ b. operands-by (slice_get (blocks_script ss) b.number) b.number refl;
+    names = λ b. t.tables.names b;
+    extras = λ b. t.tables.extras b;
+    scopes = λ b. scope-by (slice_get (blocks_script ss) b.number) b.number refl;
+    captures = λ b m. captures-by (slice_get (blocks_script ss) b.number) b.number refl m ∙ frees-by (slice_get (blocks_script ss) m) m refl;
+  }
+
+pub code_names_blocks : SupportedCodeNamesItsBlocks
+code_names_blocks script ss l ready built t = names-blocks script ss l ready built t
+
+-- the run of the module begins with its names
+pub module_begins : (ss : Stms) → Built ss → StoresHaveNames (program_of ss) the_module (record { names = no_names; world = start_world (program_of ss) })
+module_begins ss built = begins_with_names (program_of ss) the_module (module_has_no_locals ss built) (module_has_no_slots ss built)
+
+pub runs_with_names : SupportedCodeRunsWithItsNames
+runs_with_names script ss l ready built t n s r =
+    reached_has_names (program_of ss) (script_code ss t.object) (names-blocks script ss l ready built t) n the_module no_names (start_world (program_of ss))
+    (module_begins ss built) s r

@@ -1,0 +1,3 @@
+pub mod free_names
+pub mod piece_names
+pub mod free_pieces

@@ -1,0 +1,216 @@
+-- No name in a cell of a block is a free one of the block: a function has the one, and only others the other.
+use Rattle.std.proofs.Common.{if◌then◌else◌, ◌≡◌, ℕ, zero, suc, Bool, true, false, not, cond, List, [], ◌∷◌, ◌++◌, map, filter, length, Option, Some, None, refl, sym, ap, ◌∙◌, subst, append-nil, eq-eqb, eqb-true, bytes_eq}
+use Rattle.std.specs.Prelude.{◌==◌, ◌&&◌, ◌||◌, slice_get}
+use Rattle.std.specs.List.{AllByRecursion, IsDistinct}
+use Rattle.std.proofs.lemmas.Slice.Eq.{bytes_eq-Decides}
+use Rattle.pt_tree.specs.Syntax.{Name, Stms}
+use Rattle.pt_tree.specs.Blocks.{Block, blocks_script}
+use Rattle.pt_scopes.specs.declared.region.Facts.{Facts}
+use Rattle.pt_scopes.specs.declared.region.Kind.{Kind}
+use Rattle.pt_scopes.specs.declared.region.Kind.TheVariants as kind
+use Rattle.pt_scopes.specs.declared.region.Mention.{Mention}
+use Rattle.pt_scopes.specs.declared.region.Region.{Region}
+use Rattle.pt_scopes.specs.declared.region.Verdict.TheVariants.{Own, Nobody, Outwards}
+use Rattle.pt_scopes.specs.declared.scope.Scope.TheVariants as scope
+use Rattle.pt_scopes.specs.Mentions.{places_script}
+use Rattle.pt_scopes.specs.Places.{Places}
+use Rattle.pt_scopes.specs.Scope.{bound_scope, facts, home_of, is_captured, meant, owner, owner_from, scope_at, scope_in, settled, unbound_scope, verdict, verdict_at}
+use Rattle.sem_control.specs.control.Turn.{Scope, Variable}
+use Rattle.sem_names.specs.Around.{names_at}
+use Rattle.sem_names.specs.BlockNames.{cell_names, class_if, distinct, free_names, has_class, is_cell, is_up_to, named_at, names_in, read_free, variables_of}
+use Rattle.sem_names.specs.Naming.{as_control, is_between, is_free_at, own, scope_or_global, seen}
+use Rattle.sem_names.specs.Regions.{before, class_of, further, is_among, outside}
+use Rattle.sem_names.specs.Script.{Naming, functions_of, naming_script}
+use Rattle.law_files.proofs.code_files.Each.{both, mapped, weaken}
+use Rattle.law_files.proofs.code_files.Sound.{Apart, Differs}
+use Rattle.pt_supported.specs.Built.{Built}
+use Rattle.law_operands.proofs.free_names.Distinct.{apart_behind, each_distinct, each_mention}
+use Rattle.law_operands.proofs.free_names.Outwards.{never}
+use Rattle.law_operands.proofs.free_names.Searches.{class_is, owner_found, seen_too}
+use Rattle.law_supported.specs.Laws.{BuiltCellsAreDifferent}
+use Rattle.law_supported.proofs.Homes.{Owner, home_is, is_plain}
+use Rattle.law_supported.proofs.Listed.{each_of}
+use Rattle.law_supported.proofs.Plain.{IsPlain}
+use Rattle.law_supported.proofs.Written.{makes_none, none_of}
+
+-- lists of which no item stands twice
+
+apart_both : (xs ys : List Name) → Apart xs → Apart ys → AllByRecursion (λ x. Differs x ys) xs → Apart (xs ++ ys)
+apart_both [] ys h k d = k
+apart_both (x ∷ xs) ys h k d = (both (λ z. x ≡ z → ⊥) xs ys h.0 d.0, apart_both xs ys h.1 k d.1)
+
+other : (x y : Name) → (x ≡ y → ⊥) → bytes_eq x y ≡ false
+other x y d = by (bytes_eq x y) refl
+  where
+    by : (b : Bool) → bytes_eq x y ≡ b → b ≡ false
+    by true e = absurd (d ((bytes_eq-Decides x y).0 e))
+    by false e = refl
+
+are_different : (xs : List Name) → Apart xs → IsDistinct bytes_eq xs
+unfolding IsDistinct
+are_different [] h = tt
+are_different (x ∷ xs) h = (weaken (λ y. x ≡ y → ⊥) (λ y. bytes_eq x y ≡ false) (other x) xs h.0, are_different xs h.1)
+
+each_name : (Q : Name → Type 0) (p : Scope → Bool) (vs : List Variable) → AllByRecursion (λ (v : Variable). p v.scope ≡ true → Q v.name) vs
+    → AllByRecursion Q (names_in p vs)
+each_name Q p [] h = tt
+each_name Q p (v ∷ vs) h = by (p v.scope) refl (each_name Q p vs h.1)
+  where
+    by : (b : Bool) → p v.scope ≡ b → AllByRecursion Q (names_in p vs) → AllByRecursion Q (if b then v.name ∷ names_in p vs else names_in p vs)
+    by true e rest = (h.0 e, rest)
+    by false e rest = rest
+
+all_filtered : {A : Type 0} (R : A → Type 0) (f : A → Bool) (xs : List A) → ((x : A) → f x ≡ true → R x) → AllByRecursion R (filter f xs)
+all_filtered R f [] g = tt
+all_filtered {A} R f (x ∷ xs) g = by (f x) refl (all_filtered R f xs g)
+  where
+    by : (b : Bool) → f x ≡ b → AllByRecursion R (filter f xs) → AllByRecursion R (cond b (x ∷ filter f xs) (filter f xs))
+    by true e rest = (g x e, rest)
+    by false e rest = rest
+
+-- a name in a cell of its block is owned by it
+cell_parts : (b g n c : Bool) (k : Kind) (o : Option ℕ) → IsPlain k
+    → is_cell (as_control (if g then scope.Global else if n then scope.Free else if b then bound_scope c k else unbound_scope o)) ≡ true
+    → (k ≡ kind.Function) × ((b && not g && not n) ≡ true)
+cell_parts b true n c k o i e = never e
+cell_parts b false true c k o i e = never e
+cell_parts false false false c k None i e = never e
+cell_parts false false false c k (Some q) i e = never e
+cell_parts true false false c kind.Module o i e = never e
+cell_parts true false false c kind.Function o i e = (refl, refl)
+cell_parts true false false c kind.Class o i e = absurd i
+cell_parts true false false c kind.Comprehension o i e = absurd i
+
+-- no search from behind a function that owns the name goes on behind it
+module _ (rs : List Region) (look : ℕ → Facts) (h q : ℕ) (o : Owner rs look h) where
+  at_owner : (n r : ℕ) → r ≡ h → owner (suc n) rs look r ≡ Some q → (r == q) ≡ false → false ≡ true
+  at_owner n r same is apart =
+      let f : ℕ → Option ℕ = λ p. owner n rs look p in
+      let own : owner (suc n) rs look h ≡ Some h =
+      ap (λ r. settled (verdict_at (look h) r) h f) o.at ∙ ap (λ k. settled (verdict (look h) o.here k) h f) o.is_function
+      ∙ ap (λ b. settled (if b then Own else if (look h).global then Nobody else Outwards o.here.around) h f) o.owns_it in
+      let there : Some h ≡ Some q = sym own ∙ subst (λ p. owner (suc n) rs look p ≡ Some q) same is in
+      let end : h ≡ q = ap (λ (o : Option ℕ). elim o [ None ↦ h | Some x ↦ x ]) there in
+      sym apart ∙ eq-eqb r q (same ∙ end)
+
+  on_further : (n r : ℕ) (p : Option Region) → slice_get rs r ≡ p → (r == q) ≡ false → owner (suc n) rs look r ≡ Some q
+      → is_among (further (outside p) (λ p. before n rs q p)) h ≡ true
+      → ((p : ℕ) → is_among (before n rs q p) h ≡ true → owner n rs look p ≡ Some q → false ≡ true) → false ≡ true
+  on_further n r None at apart is inside rest = inside
+  on_further n r (Some here) at apart is inside rest =
+      let next = (owner_found rs look q).step n r here at apart is in
+      rest here.around (subst (λ (o : Option ℕ). is_among (further o (λ p. before n rs q p)) h ≡ true) next.0 inside) next.1
+
+  at_block : (n r : ℕ) (b : Bool) → (r == h) ≡ b → (r == q) ≡ false → owner (suc n) rs look r ≡ Some q
+      → (b || is_among (further (outside (slice_get rs r)) (λ p. before n rs q p)) h) ≡ true
+      → ((p : ℕ) → is_among (before n rs q p) h ≡ true → owner n rs look p ≡ Some q → false ≡ true) → false ≡ true
+  at_block n r true e apart is inside rest = at_owner n r (eqb-true r h e) is apart
+  at_block n r false e apart is inside rest = on_further n r (slice_get rs r) refl apart is inside rest
+
+  at_end : (n r : ℕ) (b : Bool) → (r == q) ≡ b → owner (suc n) rs look r ≡ Some q
+      → is_among (if b then [] else r ∷ further (outside (slice_get rs r)) (λ p. before n rs q p)) h ≡ true
+      → ((p : ℕ) → is_among (before n rs q p) h ≡ true → owner n rs look p ≡ Some q → false ≡ true) → false ≡ true
+  at_end n r true e is inside rest = inside
+  at_end n r false e is inside rest = at_block n r (r == h) refl e is inside rest
+
+  passes_none : (n r : ℕ) → is_among (before n rs q r) h ≡ true → owner n rs look r ≡ Some q → false ≡ true
+  passes_none zero r inside is = inside
+  passes_none (suc n) r inside is = at_end n r (r == q) refl is inside (λ p there found. passes_none n p there found)
+
+module _ (ss : Stms) (built : Built ss) where
+  abbrev g : Naming
+  g = naming_script ss
+
+  abbrev p : Places
+  p = places_script ss
+
+  abbrev rs : List Region
+  rs = p.regions
+
+  abbrev look : Name → ℕ → Facts
+  look x = facts p.mentions x
+
+  abbrev fs : List ℕ
+  fs = functions_of g
+
+  module _ (b h : ℕ) (at : slice_get p.blocks b ≡ Some h) where
+    owner_in : (x : Name) (o : Option Region) → slice_get rs h ≡ o
+        → is_cell (scope_or_global (scope_in rs (facts p.mentions) (is_captured rs (facts p.mentions) p.mentions) h x o)) ≡ true → Owner rs (look x) h
+    owner_in x None is e = never e
+    owner_in x (Some here) is e =
+        let f = look x h in
+        let c = is_captured rs (facts p.mentions) p.mentions h x in
+        let parts = cell_parts f.binds f.global f.nonlocal c here.kind (owner_from rs (look x) here.around) (is_plain ss built h here is) e in
+        record { here = here; at = is; is_function = parts.0; owns_it = parts.1 }
+
+    owner_own : (x : Name) → is_cell (own p b x).scope ≡ true → Owner rs (look x) h
+    owner_own x e =
+        let C = is_captured rs (facts p.mentions) p.mentions in
+        owner_in x (slice_get rs h) refl (sym (ap (λ r. is_cell (scope_or_global (scope_at rs (facts p.mentions) C x r))) at) ∙ e)
+
+    owner_named : (m : Mention) → (home_of rs m.region == h) ≡ true → is_cell (named_at p b h m).scope ≡ true → Owner rs (look (named_at p b h m).name) h
+    owner_named m home e =
+        let region : m.region ≡ h = sym (home_is ss built m.region) ∙ eqb-true (home_of rs m.region) h home in
+        let named : named_at p b h m ≡ own p b m.name =
+        ap (λ (i : Bool). if i then own p b m.name else seen p m.region m.name) (eq-eqb m.region h region) in
+        subst (λ (v : Variable). Owner rs (look v.name) h) (sym named) (owner_own m.name (ap (λ (v : Variable). is_cell v.scope) (sym named) ∙ e))
+
+    abbrev own_cells : List Name
+    own_cells = names_in is_cell (variables_of p b h)
+
+    cells_owned : AllByRecursion (λ x. Owner rs (look x) h) (distinct own_cells)
+    cells_owned =
+        let P : Name → Type 0 = λ x. Owner rs (look x) h in
+        let Q : Variable → Type 0 = λ v. is_cell v.scope ≡ true → P v.name in
+        let f : Mention → Bool = λ m. home_of rs m.region == h in
+        each_distinct P [] own_cells tt (each_name P is_cell (variables_of p b h)
+        (mapped Q (named_at p b h) (filter f p.mentions) (all_filtered (λ m. Q (named_at p b h m)) f p.mentions owner_named)))
+
+    not_owned : (m : Mention) → is_free_at p h m ≡ true → Owner rs (look m.name) h → ⊥
+    not_owned m free o = by (meant rs (look m.name) m.region) refl free
+      where
+        by : (q : Option ℕ) → meant rs (look m.name) m.region ≡ q → is_between rs h q m.region ≡ true → ⊥
+        by None e inside = never inside
+        by (Some q) e inside =
+            never (passes_none rs (look m.name) h q o (length rs) m.region inside (seen_too rs (look m.name) m.region q (slice_get rs m.region) e))
+
+    frees_not_owned : AllByRecursion (λ x. Owner rs (look x) h → ⊥) (read_free p h)
+    frees_not_owned =
+        let Q : Name → Type 0 = λ x. Owner rs (look x) h → ⊥ in
+        each_distinct Q [] (map (λ (m : Mention). m.name) (filter (is_free_at p h) p.mentions)) tt
+        (each_mention Q (is_free_at p h) p.mentions (each_of (λ (m : Mention). is_free_at p h m ≡ true → Q m.name) not_owned p.mentions))
+
+    all_differ : AllByRecursion (λ x. Differs x (read_free p h)) (distinct own_cells)
+    all_differ =
+        weaken (λ x. Owner rs (look x) h) (λ x. Differs x (read_free p h))
+        (λ x o. weaken (λ y. Owner rs (look y) h → ⊥) (λ y. x ≡ y → ⊥) (λ y f e. f (subst (λ z. Owner rs (look z) h) e o)) (read_free p h) frees_not_owned)
+        (distinct own_cells) cells_owned
+
+    no_class_at : (f : ℕ) (o : Option ℕ) → class_of rs f ≡ o → is_up_to rs h o f ≡ false
+    no_class_at f None e = refl
+    no_class_at f (Some q) e = let c = class_is rs (length rs) f q e in absurd (subst IsPlain c.2 (is_plain ss built q c.0 c.1))
+
+    has_none : has_class rs fs h ≡ false
+    has_none = none_of (λ f. is_up_to rs h (class_of rs f) f) fs (λ f. no_class_at f (class_of rs f) refl)
+
+    cells_are : cell_names p fs b h ≡ distinct own_cells
+    cells_are = ap (λ b. distinct own_cells ++ class_if b) (makes_none ss built h) ∙ append-nil (distinct own_cells)
+
+    frees_are : free_names p fs h ≡ read_free p h
+    frees_are = ap (λ b. read_free p h ++ class_if b) has_none ∙ append-nil (read_free p h)
+
+    all_apart : Apart (cell_names p fs b h ++ free_names p fs h)
+    all_apart =
+        subst Apart (sym (ap (λ xs. xs ++ free_names p fs h) cells_are ∙ ap (λ ys. distinct own_cells ++ ys) frees_are))
+        (apart_both (distinct own_cells) (read_free p h) (apart_behind [] own_cells tt)
+        (apart_behind [] (map (λ (m : Mention). m.name) (filter (is_free_at p h) p.mentions)) tt) all_differ)
+
+  by_region : (n : ℕ) (k : Option Block) (r : Option ℕ) → slice_get p.blocks n ≡ r
+      → IsDistinct bytes_eq ((names_at g n k r).cells ++ (names_at g n k r).frees)
+  unfolding IsDistinct
+  by_region n (Some k) (Some h) at = are_different (cell_names p fs n h ++ free_names p fs h) (all_apart n h at)
+  by_region n None r at = tt
+  by_region n (Some k) None at = tt
+
+pub cells_are_different : BuiltCellsAreDifferent
+cells_are_different ss built n = by_region ss built n (slice_get (blocks_script ss) n) (slice_get (places_script ss).blocks n) refl

@@ -1,0 +1,196 @@
+-- A supported script has no classes and no comprehensions.
+use Rattle.std.proofs.Common.{◌≡◌, ℕ, Bool, true, false, if◌then◌else◌, List, [], ◌∷◌, Option, Some, None, refl}
+use Rattle.std.specs.List.{AllByRecursion}
+use Rattle.pt_scopes.specs.declared.region.Context.{Context}
+use Rattle.pt_scopes.specs.declared.region.Kind.{Kind}
+use Rattle.pt_scopes.specs.declared.region.Kind.TheVariants.{Module, Function, Class, Comprehension}
+use Rattle.pt_scopes.specs.declared.region.Region.{Region}
+use Rattle.pt_scopes.specs.declared.region.Role.{Role}
+use Rattle.pt_scopes.specs.declared.region.Role.TheVariants.{Bind, Global, Nonlocal, Parameter, Read}
+use Rattle.pt_scopes.specs.Mentions.{places_script, places_all, places_args, places_branches, places_decorators, places_exp, places_formals, places_links, places_named_parameter, places_names, places_opt, places_params, places_place, places_stm, places_stms, places_target, places_targets}
+use Rattle.pt_scopes.specs.Names.{mangled}
+use Rattle.pt_scopes.specs.Places.{Part, ◌⨾◌, nothing, mention, misplaced, block, in_function, loop_context, module_context}
+use Rattle.pt_tree.specs.declared.expression.NamedParameter.{NamedParameter}
+use Rattle.pt_tree.specs.Syntax as S
+use Rattle.pt_tree.specs.Syntax.{Name, Exp, Exps, Opt, Links, Args, Params, Formals, Place, Tgt, Tgts, Decorators, Stm, Stms, Branches}
+use Rattle.law_files.proofs.code_files.Each.{both}
+use Rattle.std.specs.Option.{option_or}
+use Rattle.pt_supported.specs.Built.{Built, is_plain, prints_one, unless, unbuilt_all, unbuilt_args, unbuilt_branches, unbuilt_decorators, unbuilt_exp, unbuilt_formals, unbuilt_links, unbuilt_of, unbuilt_opt, unbuilt_params, unbuilt_place, unbuilt_stm, unbuilt_target, unbuilt_targets}
+use Rattle.pt_supported.proofs.Never.{first, second, told}
+
+abbrev pub IsPlain : Kind → Type 0
+IsPlain Module = Unit {0}
+IsPlain Function = Unit {0}
+IsPlain Class = ⊥
+IsPlain Comprehension = ⊥
+
+-- so is each region of a part
+record Plain (f : Part) : Type 0 where
+  at : (n : ℕ) → AllByRecursion (λ (r : Region). IsPlain r.kind) (f n).regions
+
+plain_nothing : Plain nothing
+unfolding nothing
+plain_nothing = record { at = λ n. tt }
+
+plain_mention : (r : Role) (a : Context) (x : Name) (l : ℕ) → Plain (mention r a x l)
+unfolding mention
+plain_mention r a x l = record { at = λ n. tt }
+
+plain_then : (f g : Part) → Plain f → Plain g → Plain (f ⨾ g)
+unfolding ◌⨾◌
+plain_then f g h k = record { at = λ n. both (λ (r : Region). IsPlain r.kind) (f n).regions _ (h.at n) (k.at _) }
+
+plain_function : (a : Context) (inside : Context → Part) → ((b : Context) → Plain (inside b)) → Plain (in_function a inside)
+unfolding in_function ◌⨾◌ block
+plain_function a inside h = record { at = λ n. (tt, (h _).at _) }
+
+plain_if : (b : Bool) (a : Context) (l : ℕ) → Plain (if b then nothing else misplaced a l)
+plain_if true a l = plain_nothing
+plain_if false a l = plain_mention _ a [] l
+
+plain_parameter : (b : Context) (c : Name) (s : Option NamedParameter) → Plain (places_named_parameter b c s)
+plain_parameter b c None = plain_nothing
+plain_parameter b c (Some p) = plain_mention Parameter b (mangled c p.name) p.line.0
+
+plain_names : (r : Role) (a : Context) (c : Name) (l : ℕ) (xs : List Name) → Plain (places_names r a c l xs)
+plain_names r a c l [] = plain_nothing
+plain_names r a c l (x ∷ xs) = plain_then _ _ (plain_mention r a (mangled c x) l) (plain_names r a c l xs)
+
+plain_callee : (a : Context) (c : Name) (f : Exp) (args : Args) (b : Bool) → prints_one f args ≡ b → (unbuilt_exp f ≡ None → Plain (places_exp a c f))
+    → (if b then None else unbuilt_exp f) ≡ None → Plain (places_exp a c f)
+plain_callee a c f args false e q h = q h
+plain_callee a c (S.name l x) args true e q h = plain_mention Read a (mangled c x) l
+plain_callee a c f args true e q h = absurd (cc)
+
+mutual
+  plain_exp : (a : Context) (c : Name) (e : Exp) → unbuilt_exp e ≡ None → Plain (places_exp a c e)
+  plain_exp a c (S.constant l k) h = plain_nothing
+  plain_exp a c (S.name l x) h = plain_mention Read a (mangled c x) l
+  plain_exp a c (S.unary l o e) h = plain_exp a c e h
+  plain_exp a c (S.not_of l e) h = plain_exp a c e h
+  plain_exp a c (S.binary l o e f) h = plain_then _ _ (plain_exp a c e (first _ _ h)) (plain_exp a c f (second _ _ h))
+  plain_exp a c (S.compare l e o f r) h =
+      let parts = second _ _ h in
+      let behind = second _ _ parts in
+      plain_then _ _ (plain_exp a c e (first _ _ parts)) (plain_then _ _ (plain_exp a c f (first _ _ behind)) (plain_links a c r (second _ _ behind)))
+  plain_exp a c (S.and l e es) h = plain_then _ _ (plain_exp a c e (first _ _ h)) (plain_all a c es (second _ _ h))
+  plain_exp a c (S.or l e es) h = plain_then _ _ (plain_exp a c e (first _ _ h)) (plain_all a c es (second _ _ h))
+  plain_exp a c (S.conditional l t e f) h =
+      let behind = second _ _ h in
+      plain_then _ _ (plain_exp a c e (first _ _ h)) (plain_then _ _ (plain_exp a c t (first _ _ behind)) (plain_exp a c f (second _ _ behind)))
+  plain_exp a c (S.call l f args) h =
+      plain_then _ _ (plain_callee a c f args (prints_one f args) refl (plain_exp a c f) (first _ _ (second _ _ h)))
+      (plain_args a c args (second _ _ (second _ _ h)))
+  plain_exp a c (S.lambda l n ps e) h =
+      plain_function a (λ b. places_params a b c ps ⨾ places_exp b c e)
+      (λ b. plain_then _ _ (plain_params a b c ps (first _ _ h)) (plain_exp b c e (second _ _ h)))
+  plain_exp a c (S.joined l ps) h = told h
+  plain_exp a c (S.tuple l es) h = told h
+  plain_exp a c (S.list l es) h = told h
+  plain_exp a c (S.set l es) h = told h
+  plain_exp a c (S.dict l es) h = told h
+  plain_exp a c (S.attribute l e x) h = told h
+  plain_exp a c (S.item l e i) h = told h
+  plain_exp a c (S.slice l e f g) h = told h
+  plain_exp a c (S.comprehension l m k t it cs) h = told h
+  plain_exp a c (S.generator l n e k t it cs) h = told h
+  plain_exp a c (S.yield l v) h = told h
+  plain_exp a c (S.yield_from l e) h = told h
+
+  plain_all : (a : Context) (c : Name) (es : Exps) → unbuilt_all es ≡ None → Plain (places_all a c es)
+  plain_all a c S.no_exps h = plain_nothing
+  plain_all a c (S.more_exps e es) h = plain_then _ _ (plain_exp a c e (first _ _ h)) (plain_all a c es (second _ _ h))
+
+  plain_opt : (a : Context) (c : Name) (o : Opt) → unbuilt_opt o ≡ None → Plain (places_opt a c o)
+  plain_opt a c S.absent h = plain_nothing
+  plain_opt a c (S.given e) h = plain_exp a c e h
+
+  plain_links : (a : Context) (c : Name) (r : Links) → unbuilt_links r ≡ None → Plain (places_links a c r)
+  plain_links a c S.no_links h = plain_nothing
+  plain_links a c (S.link o e r) h = plain_then _ _ (plain_exp a c e (first _ _ h)) (plain_links a c r (second _ _ h))
+
+  plain_args : (a : Context) (c : Name) (xs : Args) → unbuilt_args xs ≡ None → Plain (places_args a c xs)
+  plain_args a c S.no_args h = plain_nothing
+  plain_args a c (S.positional e r) h = plain_then _ _ (plain_exp a c e (first _ _ h)) (plain_args a c r (second _ _ h))
+  plain_args a c (S.named x e r) h = plain_then _ _ (plain_exp a c e (first _ _ h)) (plain_args a c r (second _ _ h))
+  plain_args a c (S.spread e r) h = plain_then _ _ (plain_exp a c e (first _ _ h)) (plain_args a c r (second _ _ h))
+  plain_args a c (S.spread_named e r) h = plain_then _ _ (plain_exp a c e (first _ _ h)) (plain_args a c r (second _ _ h))
+
+  plain_params : (a b : Context) (c : Name) (ps : Params) → unbuilt_params ps ≡ None → Plain (places_params a b c ps)
+  plain_params a b c (S.parameters ps s ks d) h =
+      plain_then _ _ (plain_formals a b c ps (first _ _ h)) (plain_then _ _ (plain_parameter b c s)
+      (plain_then _ _ (plain_formals a b c ks (first _ _ (second _ _ (second _ _ h)))) (plain_parameter b c d)))
+
+  plain_formals : (a b : Context) (c : Name) (ps : Formals) → unbuilt_formals ps ≡ None → Plain (places_formals a b c ps)
+  plain_formals a b c S.no_formals h = plain_nothing
+  plain_formals a b c (S.formal l x n d r) h =
+      plain_then _ _ (plain_mention Parameter b (mangled c x) l)
+      (plain_then _ _ (plain_opt a c d (first _ _ (second _ _ h))) (plain_formals a b c r (second _ _ (second _ _ h))))
+
+plain_place : (a : Context) (c : Name) (p : Place) → unbuilt_place p ≡ None → Plain (places_place a c p)
+plain_place a c (S.name_at l x) h = plain_mention Bind a (mangled c x) l
+plain_place a c (S.attribute_at l e x) h = told h
+plain_place a c (S.item_at l e i) h = told h
+
+plain_target : (a : Context) (c : Name) (t : Tgt) → unbuilt_target t ≡ None → Plain (places_target a c t)
+plain_target a c (S.single p) h = plain_place a c p h
+plain_target a c (S.several l f ts) h = told h
+plain_target a c (S.starred l t) h = told h
+
+plain_targets : (a : Context) (c : Name) (ts : Tgts) → unbuilt_targets ts ≡ None → Plain (places_targets a c ts)
+plain_targets a c S.no_targets h = plain_nothing
+plain_targets a c (S.more_targets t ts) h = plain_then _ _ (plain_target a c t (first _ _ h)) (plain_targets a c ts (second _ _ h))
+
+plain_decorators : (a : Context) (c : Name) (ds : Decorators) → unbuilt_decorators ds ≡ None → Plain (places_decorators a c ds)
+plain_decorators a c S.no_decorators h = plain_nothing
+plain_decorators a c (S.decorator l e r) h = plain_then _ _ (plain_exp a c e (first _ _ h)) (plain_decorators a c r (second _ _ h))
+
+mutual
+  plain_stm : (a : Context) (c : Name) (s : Stm) → unbuilt_stm s ≡ None → Plain (places_stm a c s)
+  plain_stm a c (S.expr l e) h = plain_exp a c e h
+  plain_stm a c (S.assign l ts e) h = plain_then _ _ (plain_targets a c ts (first _ _ h)) (plain_exp a c e (second _ _ h))
+  plain_stm a c (S.augmented l p o e) h = plain_then _ _ (plain_place a c p (first _ _ h)) (plain_exp a c e (second _ _ h))
+  plain_stm a c (S.annotated l p n v) h = plain_then _ _ (plain_place a c p (first _ _ h)) (plain_opt a c v (second _ _ h))
+  plain_stm a c (S.pass l) h = plain_nothing
+  plain_stm a c (S.del l ts) h = plain_targets a c ts h
+  plain_stm a c (S.return l v) h = plain_then _ _ (plain_if a.may_give a l) (plain_opt a c v h)
+  plain_stm a c (S.break l) h = plain_if a.in_loop a l
+  plain_stm a c (S.continue l) h = plain_if a.in_loop a l
+  plain_stm a c (S.global l xs) h = plain_names Global a c l xs
+  plain_stm a c (S.nonlocal l xs) h = plain_names Nonlocal a c l xs
+  plain_stm a c (S.choice l bs els) h = plain_then _ _ (plain_branches a c bs (first _ _ h)) (plain_stms a c els (second _ _ h))
+  plain_stm a c (S.while l e body els) h =
+      let behind = second _ _ h in
+      plain_then _ _ (plain_exp a c e (first _ _ h))
+      (plain_then _ _ (plain_stms (loop_context a) c body (first _ _ behind)) (plain_stms a c els (second _ _ behind)))
+  plain_stm a c (S.def l ds dl n x ps r body) h =
+      let inner = option_or (unbuilt_params ps) (unbuilt_of body) in
+      let parts = second (unless (is_plain x) l) (option_or (unbuilt_decorators ds) inner) h in
+      let inside = second (unbuilt_decorators ds) inner parts in
+      plain_then _ _ (plain_decorators a c ds (first (unbuilt_decorators ds) inner parts)) (plain_then _ _ (plain_mention Bind a (mangled c x) dl)
+      (plain_function a (λ b. places_params a b c ps ⨾ places_stms b c body)
+      (λ b. plain_then _ _ (plain_params a b c ps (first (unbuilt_params ps) (unbuilt_of body) inside))
+      (plain_stms b c body (second (unbuilt_params ps) (unbuilt_of body) inside)))))
+  plain_stm a c (S.docstring l) h = plain_nothing
+  plain_stm a c (S.assert l e m) h = told h
+  plain_stm a c (S.raise l e f) h = told h
+  plain_stm a c (S.raise_again l) h = told h
+  plain_stm a c (S.import l xs) h = told h
+  plain_stm a c (S.import_from l m xs) h = told h
+  plain_stm a c (S.for l t e body els) h = told h
+  plain_stm a c (S.try l body hs els fin) h = told h
+  plain_stm a c (S.with l is body) h = told h
+  plain_stm a c (S.class l ds k n x base body) h = told h
+
+  plain_stms : (a : Context) (c : Name) (ss : Stms) → unbuilt_of ss ≡ None → Plain (places_stms a c ss)
+  plain_stms a c S.none h = plain_nothing
+  plain_stms a c (S.more s ss) h = plain_then _ _ (plain_stm a c s (first _ _ h)) (plain_stms a c ss (second _ _ h))
+
+  plain_branches : (a : Context) (c : Name) (bs : Branches) → unbuilt_branches bs ≡ None → Plain (places_branches a c bs)
+  plain_branches a c S.no_branches h = plain_nothing
+  plain_branches a c (S.branch l e body r) h =
+      let behind = second _ _ h in
+      plain_then _ _ (plain_exp a c e (first _ _ h)) (plain_then _ _ (plain_stms a c body (first _ _ behind)) (plain_branches a c r (second _ _ behind)))
+
+pub built_is_plain : (ss : Stms) → Built ss → AllByRecursion (λ (r : Region). IsPlain r.kind) (places_script ss).regions
+built_is_plain ss h = (tt, (plain_stms module_context [] ss h).at 1)

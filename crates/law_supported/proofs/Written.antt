@@ -1,0 +1,208 @@
+-- Code of a block has the names that its operands name, and those are the ones with which it begins.
+use Rattle.std.proofs.Common.{◌≡◌, ℕ, ◌<◌, Bool, true, false, List, [], ◌∷◌, ◌++◌, length, get_or, map, Option, Some, None, refl, sym, ap, ◌∙◌, subst, append-nil}
+use Rattle.std.specs.Prelude.{◌==◌, ◌&&◌, ◌||◌, slice_get}
+use Rattle.std.specs.List.{AllByRecursion, list_any}
+use Rattle.pt_tree.specs.Syntax.{Name, Stms}
+use Rattle.pt_tree.specs.Blocks.{Block}
+use Rattle.pt_scopes.specs.declared.region.Kind.{Kind}
+use Rattle.pt_scopes.specs.declared.region.Kind.TheVariants as kind
+use Rattle.pt_scopes.specs.declared.region.Region.{Region}
+use Rattle.pt_scopes.specs.Scope.{home_of, is_class}
+use Rattle.pt_instr.specs.declared.TextNo.{TextNo}
+use Rattle.sem_control.specs.control.Turn as T
+use Rattle.sem_control.specs.control.Turn.{Around, Scope}
+use Rattle.sem_names.specs.Around.{Names, around_of, names_at, names_of}
+use Rattle.sem_names.specs.BlockNames.{class_if, has_class, is_cell, is_class_of, is_local, makes_class, names_in, param_names, variables_of}
+use Rattle.sem_names.specs.Script.{Naming, functions_of, naming_script, spelled_in}
+use Rattle.pt_assembler.specs.Tables.{Begins}
+use Rattle.pt_assembler.specs.Layout.{Written, keep_cell, keep_free, keep_local, layout, with_cell, with_free, with_local, with_text}
+use Rattle.pt_assembler.proofs.TableLemmas.{begins_then}
+use Rattle.pt_assembler.proofs.Growth.{Tabled, grows, tabled_same, tabled_then}
+use Rattle.sem_compile.specs.stm_pieces.StmPiece.{code_piece}
+use Rattle.sem_compile.specs.compile.ScriptCode.{BlockLayout, Tables, code_of, empty_block, layout_of, with_all}
+use Rattle.sem_compile.specs.compile.Laws.{IsLayoutIn}
+use Rattle.sem_compile.proofs.compile.Blocks.{all_tabled, blocks_are_laid_out}
+use Rattle.law_files.proofs.code_files.Sound.{Apart, Differs}
+use Rattle.pt_supported.specs.Built.{Built}
+use Rattle.law_operands.specs.free_names.FreeNames.{Among, NamedOperands}
+use Rattle.law_operands.proofs.free_names.Begun.{each_among, operands_also}
+use Rattle.law_operands.proofs.free_names.Distinct.{apart_behind, frees_apart}
+use Rattle.law_operands.proofs.free_names.Kept.{Choice, Holds, cell_there, chosen, free_there, holds_on, layout_kept, local_there, the_cells, the_frees, the_locals}
+use Rattle.law_operands.proofs.free_names.Listing.{Lists, all_held, listed, lists_cell, lists_free, lists_local, texts_of}
+use Rattle.law_operands.proofs.free_pieces.Script.{block_named}
+use Rattle.law_supported.specs.Laws.{BuiltBlocksHaveTheirNames}
+use Rattle.law_supported.proofs.Homes.{is_plain}
+use Rattle.law_supported.proofs.Plain.{IsPlain}
+use Rattle.law_supported.proofs.Listed.{Listed, knows_names}
+
+-- what is in the lists of a block's names
+abbrev InNames : Names → Scope → Name → Type 0
+InNames ns T.local x = Among ns.locals x
+InNames ns T.cell x = Among ns.cells x
+InNames ns T.free x = Among ns.frees x
+InNames ns s x = Unit {0}
+
+-- what the writer has in its lists
+abbrev Held : Written → Scope → Name → Type 0
+Held w T.local x = Holds the_locals w x
+Held w T.cell x = Holds the_cells w x
+Held w T.free x = Holds the_frees w x
+Held w s x = Unit {0}
+
+-- a name that comes into one list leaves the others
+
+local_apart : (x : Name) (w : Written) → ((with_local x w).cells ≡ w.cells) × ((with_local x w).free ≡ w.free)
+unfolding with_text keep_local
+local_apart x w = (refl, refl)
+
+cell_apart : (x : Name) (w : Written) → ((with_cell x w).locals ≡ w.locals) × ((with_cell x w).free ≡ w.free)
+unfolding with_text keep_cell
+cell_apart x w = (refl, refl)
+
+free_apart : (x : Name) (w : Written) → ((with_free x w).locals ≡ w.locals) × ((with_free x w).cells ≡ w.cells)
+unfolding with_text keep_free
+free_apart x w = (refl, refl)
+
+all_apart : (c : Choice) (f : Name → Written → Written) → ((x : Name) (w : Written) → chosen c (f x w) ≡ chosen c w) → (xs : List Name) (w : Written)
+    → chosen c (with_all f xs w) ≡ chosen c w
+all_apart c f g [] w = refl
+all_apart c f g (x ∷ xs) w = all_apart c f g xs (f x w) ∙ g x w
+
+one_list : (c : Choice) (f : Name → Written → Written) (l : Lists c f) (zs : List Name) (u : Written) (ts : List Name) → chosen c u ≡ [] → Apart zs
+    → Begins (with_all f zs u).texts ts → texts_of ts (chosen c (with_all f zs u)) ≡ zs
+one_list c f l zs u ts none apart b =
+    listed c f l zs u ts apart
+    (subst (AllByRecursion (λ (s : TextNo). (s.0 < length u.texts) × Differs (get_or u.texts s.0 []) zs)) (sym none) tt) b
+    ∙ ap (λ xs. texts_of ts xs ++ zs) none
+
+nothing_begun : (t : Tables) (k : Block) → let v = with_text k.name (empty_block t k.code) in (v.locals ≡ []) × (v.cells ≡ []) × (v.free ≡ [])
+unfolding with_text
+nothing_begun t k = (refl, refl, refl)
+
+record AllApart (ns : Names) : Type 0 where
+  locals : Apart ns.locals
+  cells : Apart ns.cells
+  frees : Apart ns.frees
+
+record Has (ns : Names) (ts : List Name) (w : Written) : Type 0 where
+  locals : texts_of ts w.locals ≡ ns.locals
+  cells : texts_of ts w.cells ≡ ns.cells
+  frees : texts_of ts w.free ≡ ns.frees
+
+laid : (t : Tables) (a : Around (Unit {0})) (ns : Names) (k : Block) (ts : List Name) → AllApart ns → NamedOperands (InNames ns) (code_piece a k.code)
+    → Begins (layout_of t a ns k).written.texts ts → Has ns ts (layout_of t a ns k).written
+laid t a ns k ts apart operands grown =
+    let v = with_text k.name (empty_block t k.code) in
+    let b = with_all with_local ns.locals v in
+    let c = with_all with_cell ns.cells b in
+    let d = with_all with_free ns.frees c in
+    let p = code_piece a k.code in
+    let w = layout p [] d in
+    let none = nothing_begun t k in
+    let of_b : Tabled b c = all_tabled with_cell lists_cell.tabled ns.cells b in
+    let of_c : Tabled c d = all_tabled with_free lists_free.tabled ns.frees c in
+    let of_d : Tabled d w = (grows p [] d).tables in
+    let from_d : Begins d.texts ts = begins_then d.texts w.texts ts of_d.0 grown in
+    let from_c : Begins c.texts ts = begins_then c.texts d.texts ts of_c.0 from_d in
+    let from_b : Begins b.texts ts = begins_then b.texts c.texts ts of_b.0 from_c in
+    let b_d : Tabled b d = tabled_then b c d of_b of_c in
+    let held : NamedOperands (Held d) p =
+    operands_also (InNames ns) (Held d) (by d
+    (all_later the_locals b d ns.locals b_d b_d.1.1.1.0 (all_held the_locals with_local lists_local ns.locals v))
+    (all_later the_cells c d ns.cells of_c of_c.1.1.1.1.0 (all_held the_cells with_cell lists_cell ns.cells b))
+    (all_held the_frees with_free lists_free ns.frees c)) p operands in
+    record {
+      locals =
+          ap (texts_of ts) (layout_kept the_locals d (Held d) (λ x u g h. local_there x u (holds_on the_locals d u x g g.1.1.1.0 h))
+          (λ x u g h. (cell_apart x u).0) (λ x u g h. (free_apart x u).0) p [] d (tabled_same d) held
+          ∙ all_apart the_locals with_free (λ x u. (free_apart x u).0) ns.frees c
+          ∙ all_apart the_locals with_cell (λ x u. (cell_apart x u).0) ns.cells b)
+          ∙ one_list the_locals with_local lists_local ns.locals v ts none.0 apart.locals from_b;
+      cells =
+          ap (texts_of ts) (layout_kept the_cells d (Held d) (λ x u g h. (local_apart x u).0)
+          (λ x u g h. cell_there x u (holds_on the_cells d u x g g.1.1.1.1.0 h)) (λ x u g h. (free_apart x u).1) p [] d (tabled_same d) held
+          ∙ all_apart the_cells with_free (λ x u. (free_apart x u).1) ns.frees c)
+          ∙ one_list the_cells with_cell lists_cell ns.cells b ts (all_apart the_cells with_local (λ x u. (local_apart x u).0) ns.locals v ∙ none.1)
+          apart.cells from_c;
+      frees =
+          ap (texts_of ts) (layout_kept the_frees d (Held d) (λ x u g h. (local_apart x u).1) (λ x u g h. (cell_apart x u).1)
+          (λ x u g h. free_there x u (holds_on the_frees d u x g g.1.1.1.1.1.0 h)) p [] d (tabled_same d) held)
+          ∙ one_list the_frees with_free lists_free ns.frees c ts
+          (all_apart the_frees with_cell (λ x u. (cell_apart x u).1) ns.cells b ∙ all_apart the_frees with_local (λ x u. (local_apart x u).1) ns.locals v ∙ none.2)
+          apart.frees from_d;
+    }
+  where
+    all_later : (c : Choice) (v w : Written) (xs : List Name) → Tabled v w → Begins (chosen c v) (chosen c w) → AllByRecursion (Holds c v) xs
+        → AllByRecursion (Holds c w) xs
+    all_later c v w [] g b h = tt
+    all_later c v w (x ∷ xs) g b h = (holds_on c v w x g b h.0, all_later c v w xs g b h.1)
+
+    by : (d : Written) → AllByRecursion (Holds the_locals d) ns.locals → AllByRecursion (Holds the_cells d) ns.cells → AllByRecursion (Holds the_frees d) ns.frees
+        → (s : Scope) (x : Name) → InNames ns s x → Held d s x
+    by d l c f T.local x h = each_among (Holds the_locals d) ns.locals x l h
+    by d l c f T.cell x h = each_among (Holds the_cells d) ns.cells x c h
+    by d l c f T.free x h = each_among (Holds the_frees d) ns.frees x f h
+    by d l c f T.global x h = tt
+    by d l c f T.of_class x h = tt
+
+pub none_of : {A : Type 0} (p : A → Bool) (xs : List A) → ((x : A) → p x ≡ false) → list_any p xs ≡ false
+none_of p [] f = refl
+none_of p (x ∷ xs) f = ap (λ b. b || list_any p xs) (f x) ∙ none_of p xs f
+
+module _ (ss : Stms) (built : Built ss) where
+  abbrev g : Naming
+  g = naming_script ss
+
+  no_class : (k : Kind) → IsPlain k → is_class k ≡ false
+  no_class kind.Module i = refl
+  no_class kind.Function i = refl
+  no_class kind.Class i = absurd i
+  no_class kind.Comprehension i = absurd i
+
+  makes_at : (h c : ℕ) (o : Option Region) → slice_get g.places.regions c ≡ o → is_class_of g.places.regions h o ≡ false
+  makes_at h c None at = refl
+  makes_at h c (Some here) at = ap (λ b. b && (home_of g.places.regions here.around == h)) (no_class here.kind (is_plain ss built c here at))
+
+  pub makes_none : (h : ℕ) → makes_class g.places (functions_of g) h ≡ false
+  makes_none h =
+      none_of (λ c. is_class_of g.places.regions h (slice_get g.places.regions c) && has_class g.places.regions (functions_of g) c) g.places.blocks
+      (λ c. ap (λ b. b && has_class g.places.regions (functions_of g) c) (makes_at h c (slice_get g.places.regions c) refl))
+
+  cells_apart : (xs : List Name) (b : Bool) → b ≡ false → Apart xs → Apart (xs ++ class_if b)
+  cells_apart xs true e h = absurd (let no : true ≡ false = e in cc)
+  cells_apart xs false e h = subst Apart (sym (append-nil xs)) h
+
+  names_apart : (n : ℕ) (k : Block) (h : ℕ) → Apart (names_at g n (Some k) (Some h)).frees → AllApart (names_at g n (Some k) (Some h))
+  names_apart n k h frees = record {
+    locals = apart_behind [] (map (spelled_in g n) (param_names k.params) ++ names_in is_local (variables_of g.places n h)) tt;
+    cells = cells_apart _ (makes_class g.places (functions_of g) h) (makes_none h) (apart_behind [] (names_in is_cell (variables_of g.places n h)) tt);
+    frees = frees;
+  }
+
+  in_names : (n : ℕ) (k : Block) (h : ℕ) → slice_get g.places.blocks n ≡ Some h → (s : Scope) (x : Name) → Listed g h s x → InNames (names_at g n (Some k) (Some h)) s x
+  in_names n k h at T.local x f = f n k.params at
+  in_names n k h at T.cell x f = f n at
+  in_names n k h at T.free x f = f
+  in_names n k h at T.global x f = tt
+  in_names n k h at T.of_class x f = tt
+
+pub blocks_have_names : BuiltBlocksHaveTheirNames
+blocks_have_names ss none numbered unused built n b at =
+    let g = naming_script ss in
+    let l : IsLayoutIn ss n b = blocks_are_laid_out ss n b at in
+    let k = l.block in
+    let h = block_named ss (Listed g) (knows_names ss built none numbered) n k l.is_block in
+    let ns = names_at g n (Some k) (Some h.0) in
+    let same : names_of ss n ≡ ns = ap (λ o. names_at g n o (slice_get g.places.blocks n)) l.is_block ∙ ap (λ o. names_at g n (Some k) o) h.1 in
+    let a = around_of {V = Unit {0}} tt ss n in
+    let operands = operands_also (Listed g h.0) (InNames ns) (in_names ss built n k h.0 h.1) (code_piece a k.code) h.2 in
+    let apart = names_apart ss built n k h.0 (subst (λ (ns : Names). Apart ns.frees) same (frees_apart ss n unused)) in
+    let laid_out : b ≡ layout_of l.tables a ns k = l.is ∙ ap (λ ns. layout_of l.tables a ns k) same in
+    let has : Has ns (code_of ss).texts b.written =
+    subst (λ (c : BlockLayout). Has ns (code_of ss).texts c.written) (sym laid_out)
+    (laid l.tables a ns k (code_of ss).texts apart operands (subst (λ (c : BlockLayout). Begins c.written.texts (code_of ss).texts) laid_out l.whole.texts)) in
+    record {
+      locals = has.locals ∙ ap (λ (ns : Names). ns.locals) (sym same);
+      cells = has.cells ∙ ap (λ (ns : Names). ns.cells) (sym same);
+      frees = has.frees ∙ ap (λ (ns : Names). ns.frees) (sym same);
+    }

@@ -1,0 +1,32 @@
+-- What laws say of loops without acts.
+use Rattle.std.specs.Prelude.{◌≡◌, ◌<◌, ℕ, List, [], length}
+use Rattle.pt_tree.specs.Blocks.{Code}
+use Rattle.pt_ranges.specs.declared.handlers.Handler.{Handler}
+use Rattle.pt_instr.specs.Effects.{Kinds}
+use Rattle.pt_code.specs.declared.Start.{Start}
+use Rattle.sem_control.specs.control.Turn.{Around}
+use Rattle.sem_code.specs.slots.CodeObject.{CodeObject}
+use Rattle.pt_assembler.specs.PieceAt.{Piece_at}
+use Rattle.sem_fits.specs.fits.Block.{Block, kinds_at_start}
+use Rattle.sem_fits.specs.fits.Leaves.{Departs}
+use Rattle.sem_fits.specs.fits.Fits.{Unmarked, SilentLoop}
+use Rattle.sem_compile.specs.stm_pieces.Names.{TakesCells, Code_named}
+use Rattle.sem_compile.specs.stm_pieces.Laws.{outermost, slots_of}
+use Rattle.sem_compile.specs.stm_pieces.StmPiece.{code_piece}
+use Rattle.law_pieces.specs.piece_kinds.Walk.{kinds_of}
+use Rattle.law_typed_pieces.specs.typed_pieces.Laws.{first_slots}
+use Rattle.law_pieces.specs.forward_pieces.Laws.{InOrder}
+
+-- each loop of a block has an act
+abbrev pub BlocksHaveActsInLoops : (A V : Type 0) → Type 0
+BlocksHaveActsInLoops A V = (around : Around A) (c : Code) (code : CodeObject V) (starts : List Start) (b : Block) → TakesCells around
+    → ((n : ℕ) → b.links.captures n ≡ length (around.captured n)) → Code_named around c → ((pc : ℕ) → code.at pc ≡ b.at pc) → InOrder code b.size
+    → Piece_at code starts (code_piece around c) [] (outermost (slots_of c)) 0 b.size → kinds_at_start b.kind ≡ kinds_of (first_slots c)
+    → (pc : ℕ) → SilentLoop b pc → ⊥
+
+-- and a jump that is held leads ahead from where it is let go
+abbrev pub HeldJumpsLeadAhead : (A V : Type 0) → Type 0
+HeldJumpsLeadAhead A V = (around : Around A) (c : Code) (code : CodeObject V) (starts : List Start) (b : Block) → TakesCells around
+    → ((n : ℕ) → b.links.captures n ≡ length (around.captured n)) → Code_named around c → ((pc : ℕ) → code.at pc ≡ b.at pc) → InOrder code b.size
+    → Piece_at code starts (code_piece around c) [] (outermost (slots_of c)) 0 b.size → kinds_at_start b.kind ≡ kinds_of (first_slots c)
+    → (t q : ℕ) (rows : List Handler) (ks : Kinds) → Departs b b.size t q rows ks → Unmarked b q → q < t

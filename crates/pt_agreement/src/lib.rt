@@ -1,6 +1,0 @@
-//! How far a block agrees whose code is that of its piece.
-#![tactic(auto)]
-
-mod laws;
-
-pub use laws::blocks_agree;

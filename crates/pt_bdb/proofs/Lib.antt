@@ -1,0 +1,4 @@
+pub mod Rows
+pub mod StopLaws
+pub mod TurnLaws
+pub mod Turns

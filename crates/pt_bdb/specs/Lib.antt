@@ -1,0 +1,4 @@
+pub mod Breakpoints
+pub mod Effective
+pub mod Stops
+pub mod Laws

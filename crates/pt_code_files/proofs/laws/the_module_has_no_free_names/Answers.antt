@@ -1,5 +1,0 @@
-use Rattle.pt_code_files.proofs.Module.{module_has_no_free}
-use Rattle.pt_code_files.proofs.laws.the_module_has_no_free_names.Goals as goal
-
-pub returns : goal.returns
-returns c = module_has_no_free

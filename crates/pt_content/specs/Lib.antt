@@ -1,0 +1,5 @@
+pub mod Functions
+pub mod Changes
+pub mod Operands
+pub mod Classes
+pub mod TypeErrors

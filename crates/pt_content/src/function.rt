@@ -1,0 +1,76 @@
+ghost use Rattle.std.specs.Prelude.{◌≡◌};
+ghost use Rattle.pt_content.specs.Functions.{of_class, of_function};
+
+use pt_base::ObjId;
+
+/// A builtin function, or a builtin class that is called (Library Reference, "Built-in Functions").
+#[derive(Clone, Copy, Debug, PartialEq, Eq)]
+pub enum Function {
+    /// `print`, of the values of `sep` and `end`, None where they aren't given, and then of what
+    /// is printed.
+    Print,
+    Len,
+    Repr,
+    Isinstance,
+    Issubclass,
+    Iter,
+    Next,
+    Abs,
+    Divmod,
+    Ord,
+    Chr,
+    Hasattr,
+    Getattr,
+    Setattr,
+    Callable,
+    Object,
+    Type,
+    Int,
+    Bool,
+    Str,
+    Range,
+    Super,
+}
+
+/// The functions of values, by their numbers.
+pub const FUNCTIONS: [Function; 15] = [
+    Function::Print,
+    Function::Len,
+    Function::Repr,
+    Function::Isinstance,
+    Function::Issubclass,
+    Function::Iter,
+    Function::Next,
+    Function::Abs,
+    Function::Divmod,
+    Function::Ord,
+    Function::Chr,
+    Function::Hasattr,
+    Function::Getattr,
+    Function::Setattr,
+    Function::Callable,
+];
+
+/// The function of a number, if it is one of values. Functions of `sys` are none.
+pub fn of_function(number: u32) -> Option<Function>
+    ensures { result ≡ of_function number }
+{
+    FUNCTIONS.get(number as usize).copied()
+}
+
+/// What a call of the builtin class at a place does, if it is an operation on values. Calls of
+/// lists, tuples, sets, dictionaries and exceptions are none.
+pub fn of_class(class: ObjId) -> Option<Function>
+    ensures { result ≡ of_class class }
+{
+    match class.0 {
+        0 => Some(Function::Object),
+        1 => Some(Function::Type),
+        2 => Some(Function::Int),
+        3 => Some(Function::Bool),
+        4 => Some(Function::Str),
+        9 => Some(Function::Range),
+        21 => Some(Function::Super),
+        _ => None,
+    }
+}

@@ -1,5 +1,0 @@
-use Rattle.pt_emitter.proofs.Expressions.{piece_is_code}
-use Rattle.pt_emitter.proofs.laws.the_piece_of_an_expression_is_its_code.Goals as goal
-
-pub returns : goal.returns
-returns g c = piece_is_code

@@ -1,6 +1,0 @@
-//! The first start on a line in a piece of code, and that it is the least of its block.
-#![tactic(auto)]
-
-mod laws;
-
-pub use laws::the_first_start_on_a_line_is_the_least;

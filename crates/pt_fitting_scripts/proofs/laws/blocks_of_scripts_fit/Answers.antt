@@ -1,5 +1,0 @@
-use Rattle.pt_fitting_scripts.proofs.Fitting.{blocks_of_scripts_fit}
-use Rattle.pt_fitting_scripts.proofs.laws.blocks_of_scripts_fit.Goals as goal
-
-pub returns : goal.returns
-returns c = blocks_of_scripts_fit

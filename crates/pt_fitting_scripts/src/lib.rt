@@ -1,9 +1,0 @@
-//! That the code of a script fits, if no place of it gets too many slots. Definitions and laws,
-//! without code.
-#![tactic(auto)]
-
-mod laws;
-
-pub use laws::{
-    blocks_of_scripts_fit, blocks_of_texts_fit, code_of_texts_fits, sizes_tell_the_depth,
-};

@@ -1,8 +1,0 @@
-//! Trees as the grammar forms them. Laws, without code.
-#![tactic(auto)]
-
-mod laws;
-
-pub use laws::{
-    arguments_are_plain, blocks_of_a_script_are_formed, statements_of_a_block_have_their_parts,
-};

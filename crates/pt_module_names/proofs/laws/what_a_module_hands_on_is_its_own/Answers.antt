@@ -1,5 +1,0 @@
-use Rattle.pt_module_names.proofs.Taken.{all_owned}
-use Rattle.pt_module_names.proofs.laws.what_a_module_hands_on_is_its_own.Goals as goal
-
-pub returns : goal.returns
-returns g c = λ v ss is. all_owned v ss is

@@ -1,9 +1,0 @@
-use Rattle.std.proofs.Common.{◌≡◌, ◌+◌, ◌-◌, length, ℕ}
-use Rattle.pt_name_tables.specs.Tables.{names_in}
-use Rattle.pt_name_tables.proofs.frees.FreeNames.reach.Given as goal
-
-abbrev pub invariant-loop-alloc : goal.invariant-loop-alloc
-invariant-loop-alloc l = (r : ℕ) → names_in l.self r ≡ names_in l.fn.self r
-
-abbrev pub decreases-loop-alloc : goal.decreases-loop-alloc
-decreases-loop-alloc l = l.region + 1 - length l.self.rows.items

@@ -1,6 +1,0 @@
-use Rattle.pt_naming.specs.Script.{naming_script}
-use Rattle.pt_naming.proofs.TakenLemmas.{cells_of_maker}
-use Rattle.pt_naming.proofs.laws.what_is_taken_along_is_in_a_cell.Goals as goal
-
-pub returns : goal.returns
-returns g c = λ v ss b block. cells_of_maker v (naming_script ss) b block

@@ -1,6 +1,0 @@
-//! That comprehensions of a block are known by the numbers of their Nexts. Laws, without code.
-#![tactic(auto)]
-
-mod laws;
-
-pub use laws::a_number_is_of_one_comprehension;

@@ -1,7 +1,0 @@
-//! The numbers that the nodes of a tree give to the blocks which they start. Definitions and a law,
-//! without code.
-#![tactic(auto)]
-
-mod laws;
-
-pub use laws::numbers_are_those_of_blocks;

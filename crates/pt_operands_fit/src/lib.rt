@@ -1,7 +1,0 @@
-//! Each operand of the code of a script fits in its four bytes. Definitions and a law, without
-//! code.
-#![tactic(auto)]
-
-mod laws;
-
-pub use laws::operands_of_a_script_fit;

@@ -1,6 +1,0 @@
-//! What the blocks of a script are for names, and where the first Nexts of its comprehensions stand.
-#![tactic(auto)]
-
-mod statements;
-
-pub use statements::outline;

@@ -1,7 +1,0 @@
-//! What tokens are, by the wide grammar, has names that the tokens have, and the parts that the
-//! grammar asks. A law, without code.
-#![tactic(auto)]
-
-mod laws;
-
-pub use laws::scripts_are_parsed;

@@ -1,5 +1,0 @@
-use Rattle.pt_piece_counts.proofs.Statements.{counts_have_code}
-use Rattle.pt_piece_counts.proofs.laws.what_is_counted_has_code.Goals as goal
-
-pub returns : goal.returns
-returns g c = λ around code before. counts_have_code around code before

@@ -1,7 +1,0 @@
-//! What an instruction of a block counts has instructions of its own in the block's piece.
-//! Definitions and a law, without code.
-#![tactic(auto)]
-
-mod laws;
-
-pub use laws::what_is_counted_has_code;

@@ -1,6 +1,0 @@
-//! That a script that is read runs as its code. Definitions and a law, without code.
-#![tactic(auto)]
-
-mod laws;
-
-pub use laws::a_script_that_is_read_runs_as_its_code;

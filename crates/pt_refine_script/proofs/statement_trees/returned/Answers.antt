@@ -1,6 +1,0 @@
-use Rattle.std.proofs.Common.{◌∙◌}
-use Rattle.pt_refine_expr.proofs.Building.{made-back}
-use Rattle.pt_refine_script.proofs.statement_trees.returned.Goals as goal
-
-pub returns : goal.returns
-returns c = made-back c.in_ok-e.ensures (c.return_to.ensures ∙ c.started-started.ensures)

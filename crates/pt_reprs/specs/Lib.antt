@@ -1,0 +1,5 @@
+pub mod Reached
+pub mod Marks
+pub mod Pieces
+pub mod Reprs
+pub mod Texts

@@ -1,0 +1,238 @@
+ghost use Rattle.std.specs.Prelude.{◌≡◌, [], ◌∷◌, ◌++◌, IfOk, OnOk, slice_get};
+ghost use Rattle.std.specs.Fmt.{signed_decimal};
+ghost use Rattle.pt_reprs.specs.Pieces.{Writes};
+ghost use Rattle.pt_reprs.specs.Reprs.{around, depth_limit, is_open};
+ghost use Rattle.pt_reprs.specs.Reprs.{item_pieces, object_pieces, plain_text, range_end};
+ghost use Rattle.pt_reprs.specs.Reprs.{range_text, repr_pieces, tuple_end};
+ghost use Rattle.pt_reprs.specs.Reprs.{value_pieces};
+
+use crate::quoted::quoted;
+use crate::{WriteErr, Writer};
+use pt_base::{Failure, Memory, ObjId, Seq, Text};
+use pt_content::{object_class, sentence};
+use pt_dicts::object_at;
+use pt_heap::{Heap, Object, Range, Value};
+use std::alloc::Global;
+
+/// How many containers may stand inside one another.
+const DEPTH_LIMIT: u32 = 1000;
+
+fn number_text(alloc: Global, number: i128) -> Result<Text, Memory>
+    ensures { IfOk result (λ text. text ≡ signed_decimal number) }
+{
+    let digits = format!(in alloc; "{number}")?;
+    Text::from_str(alloc, digits.as_str())
+}
+
+/// The end of a range's text. A step of 1 isn't written.
+fn range_end(alloc: Global, step: i128) -> Result<Text, Memory>
+    ensures { IfOk result (λ text. text ≡ range_end step) }
+{
+    if step == 1 {
+        return Text::from_str(alloc, ")");
+    }
+    let step = number_text(alloc, step)?;
+    sentence(alloc, &[", ", step.as_str(), ")"])
+}
+
+fn range_text(alloc: Global, range: Range) -> Result<Text, Memory>
+    ensures { IfOk result (λ text. text ≡ range_text range) }
+{
+    let start = number_text(alloc, range.start)?;
+    let stop = number_text(alloc, range.stop)?;
+    let end = range_end(alloc, range.step)?;
+    sentence(
+        alloc,
+        &["range(", start.as_str(), ", ", stop.as_str(), end.as_str()],
+    )
+}
+
+/// The text of a class, a range, or what has no text of its own.
+fn plain_text(alloc: Global, heap: &Heap, id: ObjId) -> Result<Text, Memory>
+    ensures { IfOk result (λ text. text ≡ plain_text heap.now (slice_get heap.now id.0)) }
+{
+    match object_at(heap, id) {
+        Some(Object::Class(class)) => sentence(alloc, &["<class '", class.name.as_str(), "'>"]),
+        Some(Object::Range(range)) => range_text(alloc, *range),
+        _ => sentence(alloc, &["<", object_class(heap, id), " object>"]),
+    }
+}
+
+/// Whether a container stands inside itself.
+fn is_open(path: &[u32], id: ObjId) -> bool
+    ensures { result ≡ is_open id.0 path.now }
+{
+    for place in path {
+        if id.0 == *place {
+            return true;
+        }
+    }
+    false
+}
+
+fn tuple_end(items: &[Value]) -> &'static str
+    ensures { result.now ≡ tuple_end items.now }
+{
+    match items {
+        [_] => ",)",
+        _ => ")",
+    }
+}
+
+/// Writes the items of a container, in which so many may stand inside one another, it among them.
+#[cycle(reprs)]
+fn push_items(
+    alloc: Global,
+    heap: &Heap,
+    writer: &mut Writer,
+    path: &mut Seq<u32>,
+    items: &[Value],
+    depth: u32,
+) -> Result<(), Failure<WriteErr>>
+    ensures writes { Writes writer.old writer.new result
+        (item_pieces heap.now depth path.old items.now) }
+    ensures path { OnOk result (path.new ≡ path.old) }
+{
+    if depth == 0 {
+        return Err(Failure::Refused(WriteErr::Deep));
+    }
+    match items {
+        [] => Ok(()),
+        [first, rest @ ..] => {
+            push_value(alloc, heap, writer, path, *first, depth - 1)?;
+            for item in rest {
+                writer.push(", ")?;
+                push_value(alloc, heap, writer, path, *item, depth - 1)?;
+            }
+            Ok(())
+        }
+    }
+}
+
+/// Writes a container between its brackets.
+#[cycle(reprs)]
+fn push_container(
+    alloc: Global,
+    heap: &Heap,
+    writer: &mut Writer,
+    path: &mut Seq<u32>,
+    id: ObjId,
+    items: &[Value],
+    depth: u32,
+    before: &str,
+    behind: &str,
+) -> Result<(), Failure<WriteErr>>
+    ensures writes { Writes writer.old writer.new result
+        (around before.now (item_pieces heap.now depth (path.old ++ id.0 ∷ []) items.now) behind.now) }
+    ensures path { OnOk result (path.new ≡ path.old) }
+{
+    writer.push(before)?;
+    path.push(id.0)?;
+    push_items(alloc, heap, writer, path, items, depth)?;
+    let _ = path.pop();
+    writer.push(behind)
+}
+
+/// Writes an object.
+#[cycle(reprs)]
+fn push_object(
+    alloc: Global,
+    heap: &Heap,
+    writer: &mut Writer,
+    path: &mut Seq<u32>,
+    id: ObjId,
+    depth: u32,
+) -> Result<(), Failure<WriteErr>>
+    ensures writes { Writes writer.old writer.new result
+        (object_pieces (item_pieces heap.now depth) heap.now path.old id.0
+        (slice_get heap.now id.0)) }
+    ensures path { OnOk result (path.new ≡ path.old) }
+{
+    match object_at(heap, id) {
+        Some(Object::Str(text)) => {
+            let text = quoted(alloc, text.text().as_str())?;
+            writer.push(text.as_str())
+        }
+        Some(Object::List(_)) if is_open(path.as_slice(), id) => writer.push("[...]"),
+        Some(Object::List(items)) => {
+            push_container(
+                alloc,
+                heap,
+                writer,
+                path,
+                id,
+                items.as_slice(),
+                depth,
+                "[",
+                "]",
+            )
+        }
+        Some(Object::Tuple(_)) if is_open(path.as_slice(), id) => writer.push("(...)"),
+        Some(Object::Tuple(items)) => {
+            let items = items.as_slice();
+            push_container(
+                alloc,
+                heap,
+                writer,
+                path,
+                id,
+                items,
+                depth,
+                "(",
+                tuple_end(items),
+            )
+        }
+        Some(Object::Dict(_)) => Err(Failure::Refused(WriteErr::Feature)),
+        Some(Object::Set(_)) => Err(Failure::Refused(WriteErr::Feature)),
+        Some(Object::View(_)) => Err(Failure::Refused(WriteErr::Feature)),
+        Some(Object::Slice(_)) => Err(Failure::Refused(WriteErr::Feature)),
+        Some(Object::Error(_)) => Err(Failure::Refused(WriteErr::Feature)),
+        _ => {
+            let text = plain_text(alloc, heap, id)?;
+            writer.push(text.as_str())
+        }
+    }
+}
+
+/// Writes a value.
+#[cycle(reprs)]
+fn push_value(
+    alloc: Global,
+    heap: &Heap,
+    writer: &mut Writer,
+    path: &mut Seq<u32>,
+    value: Value,
+    depth: u32,
+) -> Result<(), Failure<WriteErr>>
+    ensures writes { Writes writer.old writer.new result
+        (value_pieces (item_pieces heap.now depth) heap.now path.old value) }
+    ensures path { OnOk result (path.new ≡ path.old) }
+{
+    match value {
+        Value::None => writer.push("None"),
+        Value::Bool(true) => writer.push("True"),
+        Value::Bool(false) => writer.push("False"),
+        Value::Int(number) => {
+            let text = number_text(alloc, number)?;
+            writer.push(text.as_str())
+        }
+        Value::Ellipsis => writer.push("Ellipsis"),
+        Value::NotImplemented => writer.push("NotImplemented"),
+        Value::Obj(id) => push_object(alloc, heap, writer, path, id, depth),
+    }
+}
+
+/// Writes what `repr` gives of a value. Deep where it comes to a container in which more than 1,000
+/// stand inside one another, Length where there is no room, whichever comes first from left to
+/// right.
+pub fn push_repr(
+    alloc: Global,
+    heap: &Heap,
+    writer: &mut Writer,
+    value: Value,
+) -> Result<(), Failure<WriteErr>>
+    ensures { Writes writer.old writer.new result (repr_pieces heap.now value) }
+{
+    let mut path = Seq::new(alloc);
+    push_value(alloc, heap, writer, &mut path, value, DEPTH_LIMIT)
+}

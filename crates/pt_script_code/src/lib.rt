@@ -1,6 +1,0 @@
-//! The code of a script, whatever values it runs over.
-#![tactic(auto)]
-
-mod laws;
-
-pub use laws::the_code_of_a_script_is_its_code;

@@ -1,6 +1,0 @@
-//! How many slots lie at each place of a script's code. Definitions and a law, without code.
-#![tactic(auto)]
-
-mod laws;
-
-pub use laws::a_script_has_its_sizes;

@@ -1,5 +1,0 @@
-use Rattle.pt_script_objects.proofs.Objects.{read_script_is_followed}
-use Rattle.pt_script_objects.proofs.laws.a_script_that_is_read_is_followed_by_its_code.Goals as goal
-
-pub returns : goal.returns
-returns g c = read_script_is_followed

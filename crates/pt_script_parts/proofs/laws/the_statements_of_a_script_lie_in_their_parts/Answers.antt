@@ -1,5 +1,0 @@
-use Rattle.pt_script_parts.proofs.Scripts.{blocks_have_parts}
-use Rattle.pt_script_parts.proofs.laws.the_statements_of_a_script_lie_in_their_parts.Goals as goal
-
-pub returns : goal.returns
-returns g c = blocks_have_parts

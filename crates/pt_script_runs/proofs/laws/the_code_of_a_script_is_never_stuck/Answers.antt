@@ -1,5 +1,0 @@
-use Rattle.pt_script_runs.proofs.Objects.{code_is_never_stuck}
-use Rattle.pt_script_runs.proofs.laws.the_code_of_a_script_is_never_stuck.Goals as goal
-
-pub returns : goal.returns
-returns g c = code_is_never_stuck

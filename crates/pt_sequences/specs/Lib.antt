@@ -1,0 +1,6 @@
+pub mod Ranges
+pub mod Lengths
+pub mod Displays
+pub mod Cursors
+pub mod Items
+pub mod Unpacking

@@ -1,0 +1,17 @@
+//! Sequences: ranges, lengths, displays of lists and tuples, iterators, items and unpacking (Language
+//! Reference 6.2.5, 6.3.2, 6.15, 7.2, 8.3; Library Reference, "Sequence Types").
+#![tactic(auto)]
+
+mod cursor;
+mod display;
+mod item;
+mod range;
+mod size;
+mod unpacking;
+
+pub use cursor::{asked_or, iterator_content, next_content};
+pub use display::{list_content, repeated_list, repeated_tuple, tuple_content};
+pub use item::item_content;
+pub use range::{has_integer, range_content};
+pub use size::{length_content, length_of};
+pub use unpacking::unpack_content;

@@ -1,6 +1,0 @@
-//! Code in which no state is far from an act or from the end. Laws, without code.
-#![tactic(auto)]
-
-mod laws;
-
-pub use laws::code_that_goes_ahead_comes_to_rest;

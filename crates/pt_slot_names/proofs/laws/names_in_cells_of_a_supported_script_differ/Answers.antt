@@ -1,5 +1,0 @@
-use Rattle.pt_slot_names.proofs.Different.{cells_are_different}
-use Rattle.pt_slot_names.proofs.laws.names_in_cells_of_a_supported_script_differ.Goals as goal
-
-pub returns : goal.returns
-returns c = cells_are_different

@@ -1,7 +1,0 @@
-//! That each instruction of a script's code may stand in a block of its kind. Definitions and a
-//! law, without code.
-#![tactic(auto)]
-
-mod laws;
-
-pub use laws::instructions_may_stand;

@@ -1,7 +1,0 @@
-//! From the starts of statements code goes on as control does, in their closed parts. A law, without
-//! code.
-#![tactic(auto)]
-
-mod laws;
-
-pub use laws::statements_start_in_nests;

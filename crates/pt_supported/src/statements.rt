@@ -1,0 +1,130 @@
+//! The first unsupported node of a statement and of a script.
+
+ghost use Rattle.std.specs.Prelude.{◌≡◌, Some, None, map, option_map};
+ghost use Rattle.pt_tree.specs.Fold.{chained, opt_exp};
+ghost use Rattle.pt_tree.specs.StatementFold.{branch_of, decorators_of, script_of, stm_of, stms_of};
+ghost use Rattle.pt_tree.specs.Syntax.{no_branches};
+ghost use Rattle.pt_supported.specs.Built.{unbuilt_branches, unbuilt_decorators, unbuilt_of, unbuilt_opt, unbuilt_stm};
+
+use crate::expressions::{unbuilt_expression, unbuilt_parameters, unbuilt_place, unbuilt_targets};
+use crate::names::{are_plain, is_plain, unless};
+use pt_base::Line;
+use pt_tree::{Branch, Decorator, Expr, Script, Stmt, StmtNode};
+
+fn unbuilt_optional(e: &Option<Expr>) -> Option<Line>
+    ensures { option_map (λ l. l.0) result ≡ unbuilt_opt (opt_exp e.now) }
+{
+    match e {
+        Some(e) => unbuilt_expression(e),
+        None => None,
+    }
+}
+
+fn unbuilt_decorators(decorators: &[Decorator]) -> Option<Line>
+    ensures { option_map (λ l. l.0) result
+        ≡ unbuilt_decorators (decorators_of decorators.now) }
+{
+    for decorator in decorators {
+        let found = unbuilt_expression(&decorator.value);
+        if found.is_some() {
+            return found;
+        }
+    }
+    None
+}
+
+#[cycle(statements)]
+#[tactic(auto, using(pt_tree::proofs::StatementFolds::statements))]
+fn unbuilt_statement(s: &Stmt) -> Option<Line>
+    ensures { option_map (λ l. l.0) result ≡ unbuilt_stm (stm_of s.now) }
+{
+    match &s.node {
+        StmtNode::Expr(value) => unbuilt_expression(value),
+        StmtNode::Assign { targets, value } => {
+            unbuilt_targets(targets.as_slice()).or(unbuilt_expression(value))
+        }
+        StmtNode::Augmented { target, value, .. } => {
+            unbuilt_place(target.line, &target.node).or(unbuilt_expression(value))
+        }
+        StmtNode::Annotated { target, value, .. } => {
+            unbuilt_place(target.line, &target.node).or(unbuilt_optional(value))
+        }
+        StmtNode::Pass | StmtNode::Break | StmtNode::Continue => None,
+        StmtNode::Del(targets) => unbuilt_targets(targets.as_slice()),
+        StmtNode::Return(value) => unbuilt_optional(value),
+        StmtNode::Global(names) | StmtNode::Nonlocal(names) => {
+            unless(are_plain(names.as_slice()), s.line)
+        }
+        StmtNode::If {
+            branches,
+            otherwise,
+        } => unbuilt_branches(branches.as_slice()).or(unbuilt_statements(otherwise.as_slice())),
+        StmtNode::While {
+            test,
+            body,
+            otherwise,
+        } => {
+            let otherwise = unbuilt_statements(otherwise.as_slice());
+            unbuilt_expression(test).or(unbuilt_statements(body.as_slice()).or(otherwise))
+        }
+        StmtNode::Def {
+            decorators,
+            name,
+            parameters,
+            body,
+            ..
+        } => {
+            let inside = unbuilt_parameters(parameters).or(unbuilt_statements(body.as_slice()));
+            let parts = unbuilt_decorators(decorators.as_slice()).or(inside);
+            unless(is_plain(name.as_str()), s.line).or(parts)
+        }
+        StmtNode::Assert { .. }
+        | StmtNode::Raise { .. }
+        | StmtNode::RaiseAgain
+        | StmtNode::Import(_)
+        | StmtNode::ImportFrom { .. }
+        | StmtNode::For { .. }
+        | StmtNode::Try { .. }
+        | StmtNode::With { .. }
+        | StmtNode::Class { .. } => Some(s.line),
+    }
+}
+
+#[cycle(statements)]
+#[tactic(auto, using(pt_tree::proofs::StatementFolds::statements))]
+fn unbuilt_statements(statements: &[Stmt]) -> Option<Line>
+    ensures { option_map (λ l. l.0) result ≡ unbuilt_of (stms_of statements.now) }
+{
+    for s in statements {
+        let found = unbuilt_statement(s);
+        if found.is_some() {
+            return found;
+        }
+    }
+    None
+}
+
+#[cycle(statements)]
+#[tactic(auto, using(pt_tree::proofs::StatementFolds::statements))]
+fn unbuilt_branches(branches: &[Branch]) -> Option<Line>
+    ensures { option_map (λ l. l.0) result
+        ≡ unbuilt_branches (chained no_branches (map branch_of branches.now)) }
+{
+    for branch in branches {
+        let test = unbuilt_expression(&branch.test);
+        let found = test.or(unbuilt_statements(branch.body.as_slice()));
+        if found.is_some() {
+            return found;
+        }
+    }
+    None
+}
+
+/// The line of the first node of a script that isn't supported, in the order of the source and a
+/// node before its parts; `None` where all of the script is supported. It takes time in proportion
+/// to the tree, and no memory but a stack that is as deep as the tree.
+pub fn first_unbuilt(script: &Script) -> Option<Line>
+    ensures { option_map (λ l. l.0) result ≡ unbuilt_of (script_of script.now) }
+{
+    unbuilt_statements(script.body.as_slice())
+}

@@ -1,5 +1,0 @@
-use Rattle.pt_text_parts.proofs.Texts.{blocks_of_texts_have_parts}
-use Rattle.pt_text_parts.proofs.laws.the_statements_of_a_text_lie_in_their_parts.Goals as goal
-
-pub returns : goal.returns
-returns g c = blocks_of_texts_have_parts

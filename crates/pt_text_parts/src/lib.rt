@@ -1,6 +1,0 @@
-//! The statements of a text that is a script lie in their closed parts. A law, without code.
-#![tactic(auto)]
-
-mod laws;
-
-pub use laws::the_statements_of_a_text_lie_in_their_parts;

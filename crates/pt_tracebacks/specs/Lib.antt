@@ -1,0 +1,5 @@
+pub mod Lines
+pub mod FirstLine
+pub mod Chain
+pub mod Summaries
+pub mod Texts

@@ -1,4 +1,0 @@
-pub mod LeaveLemmas
-pub mod ProbeLemmas
-pub mod ErrorLemmas
-pub mod LawLemmas

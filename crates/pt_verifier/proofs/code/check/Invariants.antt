@@ -1,5 +1,0 @@
-use Rattle.pt_verifier.proofs.ErrorLemmas.{FitBelow}
-use Rattle.pt_verifier.proofs.code.check.Given as goal
-
-abbrev pub invariant-loop-number : goal.invariant-loop-number
-invariant-loop-number l = FitBelow l.code l.number

@@ -1,4 +1,0 @@
-pub mod Leaves
-pub mod Probing
-pub mod Verdict
-pub mod Laws

@@ -1,7 +1,0 @@
-use Rattle.std.proofs.Common.{drop}
-use Rattle.std.specs.List.{AllByRecursion}
-use Rattle.pt_code_files.specs.Numbers.{IntegerFits}
-use Rattle.pt_write_script.proofs.numbers.check_constants.Given as goal
-
-abbrev pub invariant-loop-constant : goal.invariant-loop-constant
-invariant-loop-constant l = AllByRecursion IntegerFits (drop l.constant-index l.constants) → AllByRecursion IntegerFits l.constants

@@ -1,7 +1,0 @@
-use Rattle.std.proofs.Common.{drop}
-use Rattle.std.specs.List.{AllByRecursion}
-use Rattle.pt_code_files.specs.Numbers.{IsCounted}
-use Rattle.pt_write_script.proofs.numbers.check_lists.Given as goal
-
-abbrev pub invariant-loop-list : goal.invariant-loop-list
-invariant-loop-list l = AllByRecursion IsCounted (drop l.list-index l.lists) → AllByRecursion IsCounted l.lists

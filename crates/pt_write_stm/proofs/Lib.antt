@@ -1,3 +1,0 @@
-pub mod Starts
-pub mod Bodies
-pub mod Rules

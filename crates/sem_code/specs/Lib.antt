@@ -1,0 +1,4 @@
+pub mod slots
+pub mod silent_turns
+pub mod comp_expr
+pub mod comp

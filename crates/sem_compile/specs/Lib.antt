@@ -1,0 +1,3 @@
+pub mod emitter
+pub mod stm_pieces
+pub mod compile

@@ -1,0 +1,2 @@
+pub mod ScriptCode
+pub mod Laws

@@ -1,0 +1,3 @@
+pub mod fits
+pub mod comp_jumps
+pub mod jump_rows

@@ -1,0 +1,3 @@
+pub mod heap_rows
+pub mod unsupported_rows
+pub mod variables

@@ -1,0 +1,63 @@
+-- What code answers of an instruction, as where it leads.
+use Rattle.std.specs.Prelude.{◌≡◌, List, [], Bool, None}
+use Rattle.pt_base.specs.declared.numbers.BlockId.{BlockId}
+use Rattle.pt_heap.specs.declared.value.Value.{Value}
+use Rattle.pt_heap.specs.declared.completion.Completion.{Completion}
+use Rattle.pt_heap.specs.declared.completion.Completion.TheVariants.{Normal, Raise, Return, Leave}
+use Rattle.pt_bind.specs.declared.arguments.Locals.{Locals}
+use Rattle.pt_frames.specs.declared.slot.Slot.{Slot}
+use Rattle.pt_frames.specs.Slots.{active_in}
+use Rattle.pt_code.specs.View.{Ins}
+use Rattle.sem_code.specs.slots.Slots as S
+use Rattle.sem_code.specs.slots.Slots.{Slots, State, on, reraises}
+use Rattle.sem_code.specs.slots.CodeObject.{CodeObject}
+use Rattle.sem_code.specs.slots.Landing.{land}
+use Rattle.sem_run.specs.run.Machine as M
+use Rattle.sem_run.specs.run.Host.{Here, Opening, opens}
+use Rattle.pt_host.specs.World.{Names, Stores, Program}
+use Rattle.pt_host.specs.Errors.{raise_error, raise_saying}
+use Rattle.pt_host.specs.Calls.{arguments_of, result_of}
+use Rattle.sem_run.specs.transitions.Successors.{to, behind_print, behind_request, outside, none}
+use Rattle.sem_rows.specs.declared.heap_rows.progress.Progress.{Progress}
+use Rattle.sem_rows.specs.declared.heap_rows.progress.Progress.TheVariants as progress
+use Rattle.sem_rows.specs.heap_rows.Leads.{HeapSuccessor}
+use Rattle.sem_rows.specs.heap_rows.Leads.{by_tree, giving}
+use Rattle.sem_rows.specs.heap_rows.Views.{names_in}
+
+abbrev pub block_id : BlockId → (hidden : Bool) → M.BlockId
+block_id b hidden = record { hidden = hidden; number = b.0 }
+
+-- a block that is called begins with these names
+abbrev pub opening_of : Program → M.BlockId → Locals → Opening Names Value
+opening_of program b ls = record { block = b; iterator = None; names = names_in (program.facts b) ls.values ls.cells [] }
+
+module _ (program : Program) (code : CodeObject Value) (i : Ins) where
+  -- what leaves the place goes on where it lands
+  abbrev pub behind_leave : Completion → Slots Value → State Value
+  behind_leave Normal ss = on i.next ss
+  behind_leave (Raise v) ss = land code i.rows (S.raise v) ss
+  behind_leave (Return v) ss = land code i.rows (S.return v) ss
+  behind_leave (Leave target) ss = land code i.rows (S.jump_to target.0) ss
+
+  abbrev pub told : Here Value → Progress → Slots Value → Stores → HeapSuccessor
+  told h progress.Next ss st = to (on i.next ss) st
+  told h (progress.Goto pc) ss st = to (on pc.0 ss) st
+  told h (progress.Leaves how) ss st = to (behind_leave how ss) st
+  told h (progress.Reraises e) ss st = to (reraises e i.rows ss) st
+  told h (progress.Print t) ss st = behind_print t (to (on i.next ss) st)
+  told h (progress.Calls block hidden ls) ss st =
+      behind_request (opens (opening_of program (block_id block hidden) ls)) st (λ r st1. by_tree code i (giving code i ss) ss (result_of r.end st1))
+  told h (progress.Fails class arg) ss st = by_tree code i (giving code i ss) ss (raise_error class (arguments_of arg) h st)
+  told h (progress.FailsSaying class t) ss st = by_tree code i (giving code i ss) ss (raise_saying class t h st)
+  told h (progress.Outside what) ss st = outside what
+  told h progress.Lacks ss st = none
+
+-- where an exception may arise in the activation, the one that is active is the same as before (7.8)
+abbrev pub IfActive : Progress → Type 0 → Type 0
+IfActive (progress.Fails class arg) A = A
+IfActive (progress.FailsSaying class t) A = A
+IfActive (progress.Calls block hidden ls) A = A
+IfActive p A = Unit {0}
+
+abbrev pub KeepsActive : Progress → (old new : List Slot) → Type 0
+KeepsActive p old new = IfActive p (active_in new ≡ active_in old)

@@ -1,0 +1,68 @@
+-- Which instructions are supported, and when a run leaves the profile at one that isn't.
+use Rattle.std.specs.Prelude.{◌≡◌, ◌⊎◌, ℕ, List, Bool, true, false}
+use Rattle.pt_instr.specs.declared.Instr.{Instr}
+use Rattle.pt_instr.specs.declared.Instr.TheVariants as instr
+use Rattle.pt_heap.specs.declared.value.Value.{Value}
+use Rattle.pt_frames.specs.declared.slot.Slot.{Slot}
+use Rattle.pt_code.specs.View.{Ins}
+use Rattle.sem_code.specs.slots.CodeObject.{CodeObject}
+use Rattle.sem_run.specs.run.Host.{Here}
+use Rattle.pt_host.specs.World.{Stores, Program}
+use Rattle.pt_host.specs.HeapHost.{heap_host}
+use Rattle.sem_code_machine.specs.rows.Rows.{row_of}
+use Rattle.sem_rows.specs.declared.heap_rows.progress.Progress.{Progress}
+use Rattle.sem_rows.specs.heap_rows.Leads.{HasHeapExtras, IsStuck}
+use Rattle.sem_rows.specs.heap_rows.Told.{told}
+use Rattle.sem_rows.specs.heap_rows.Views.{slots_view}
+
+abbrev pub is_supported : Instr → Bool
+-- attributes and items (6.3.1, 6.3.2, 7.2, 7.5)
+is_supported (instr.Attr t) = false
+is_supported (instr.SetAttr t) = false
+is_supported (instr.DelAttr t) = false
+is_supported instr.Item = false
+is_supported instr.SetItem = false
+is_supported instr.DelItem = false
+is_supported instr.Slice = false
+-- displays and comprehensions (6.2.4 to 6.2.7), f-strings (2.4.3), and what is unpacked (7.2)
+is_supported (instr.Tuple n) = false
+is_supported (instr.List n) = false
+is_supported (instr.Set n) = false
+is_supported (instr.Dict n) = false
+is_supported (instr.ListAdd n) = false
+is_supported (instr.SetAdd n) = false
+is_supported (instr.DictAdd n) = false
+is_supported (instr.Format c) = false
+is_supported (instr.Join n) = false
+is_supported instr.TupleJoin = false
+is_supported instr.DictMerge = false
+is_supported (instr.Unpack n) = false
+is_supported (instr.UnpackStar n m) = false
+-- arguments that are spread (6.3.4), classes (8.8) and generators (6.2.8, 6.2.9)
+is_supported instr.Spread = false
+is_supported instr.SpreadMap = false
+is_supported instr.Super = false
+is_supported (instr.MakeClass b) = false
+is_supported (instr.MakeGenerator b) = false
+is_supported instr.Yield = false
+is_supported instr.Delegate = false
+-- iterators (8.3), what is raised (7.3, 7.8), handlers of classes (8.4.1), exits (8.5) and modules (7.11)
+is_supported instr.Iter = false
+is_supported (instr.Next t) = false
+is_supported instr.Raise = false
+is_supported instr.RaiseFrom = false
+is_supported instr.RaiseAgain = false
+is_supported (instr.AssertFail b) = false
+is_supported instr.Match = false
+is_supported instr.Enter = false
+is_supported instr.Exit = false
+is_supported (instr.Import t) = false
+is_supported (instr.ImportName t) = false
+is_supported j = true
+
+-- what an instruction comes to is its row whatever the slots and the stores are, unless a bare run is stuck there
+unfoldable pub RowsOutside : Instr → Progress → Type 0
+RowsOutside j p =
+    (program : Program) (code : CodeObject Value) (pc : ℕ) (i : Ins) (h : Here Value) (st : Stores) (slots : List Slot) → HasHeapExtras code
+    → IsStuck (row_of (heap_host program) code pc i j (slots_view slots) h st)
+    ⊎ (told program code i h p (slots_view slots) st ≡ row_of (heap_host program) code pc i j (slots_view slots) h st)

@@ -1,0 +1,12 @@
+pub mod RunLemmas
+pub mod Lines
+pub mod Relation
+pub mod Following
+pub mod Runs
+pub mod Fronts
+pub mod Showing
+pub mod Suspension
+pub mod Slowly
+pub mod Sides
+pub mod SourceMoves
+pub mod Staying
