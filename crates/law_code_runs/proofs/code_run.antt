@@ -3,3 +3,4 @@ mod States
 mod Jumps
 mod Leads
 pub mod Following
+pub mod Fronts

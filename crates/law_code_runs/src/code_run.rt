@@ -2,4 +2,4 @@
 
 mod laws;
 
-pub use laws::code_runs_as_its_script;
+pub use laws::{code_begins_as_its_script, code_of_a_script_never_halts, code_runs_as_its_script};

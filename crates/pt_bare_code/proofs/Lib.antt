@@ -1,8 +1,8 @@
 mod Successors
 mod Relation
 mod Strides
-mod Runs
+pub mod Runs
 mod Stuck
-mod Writes
+pub mod Writes
 pub mod Coded
 pub mod Plain

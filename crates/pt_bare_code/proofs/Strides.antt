@@ -20,7 +20,7 @@ use Rattle.sem_run.specs.transitions.Transitions.{transition}
 use Rattle.sem_run.specs.transitions.Successors.{Successor, successor}
 use Rattle.pt_bare_runs.specs.Strides.{Waiting, State, outside_at, Stride, goes, ends, is_full, visible_line, here_of, active_in, line_logged, behind, arise, end_by_exception, end_of_module, end_logged, lead, open_or_fail, fail_opening, close, take_turn, stride, store}
 use Rattle.pt_bare_code.specs.Alike.{Alike, alike_to, alike_arises, alike_yield, alike_print, alike_request, alike_note, both_outside, both_end, neither}
-use Rattle.pt_bare_code.specs.Turns.{AlikeTurns, alike_acts, alike_notes, alike_ends, FollowsTurns}
+use Rattle.pt_bare_code.specs.Turns.{AlikeTurns, alike_acts, alike_notes, alike_moves, alike_ends, alike_stuck, FollowsTurns}
 use Rattle.pt_bare_code.proofs.Successors.{alike_successors}
 use Rattle.pt_bare_code.proofs.Relation.{act_of, SameWaiting, none_wait, more_wait, same_depth, same_frames, same_active_in, Pair, left, right, SameState, same_state, SameStride, same_goes, same_ends, both_stuck, same_behind}
 
@@ -199,9 +199,11 @@ module _ {S R N V W : Type 0} (first : Machine S V) (second : Machine R V) (host
         (same_ends [] p.units _)
     takes p i _ _ (alike_acts None a k k' h) = asks p i a _ _ (alike_acts None a k k' h)
     takes p i _ _ (alike_notes a k k' h) = same_goes _ _ _ (same_state (record p { one = k (got tt); other = k' (got tt) }) (h (got tt)))
+    takes p i _ _ (alike_moves c t h) = same_goes _ _ _ (same_state (record p { one = c; other = t }) h)
     takes p i _ _ (alike_ends e) =
         subst (λ ws. Same (take_turn first host n (T.over e) (one p)) (behind ws (close second host e p.other_waiting (two p)))) (same_end_logged p e)
         (same_behind first second At (end_logged first host e (one p)) _ _ (closes p e p.waiting p.other_waiting p.same_waiting))
+    takes p i _ _ alike_stuck = both_stuck
 
     -- the second catches up with the first, behind silent strides
     pub data Catches (s : State S N V W) : State R N V W → Type 0 where

@@ -9,8 +9,8 @@ use Rattle.sem_run.specs.run.State.{OpenAsk}
 use Rattle.sem_run.specs.run.Follows.{Nears}
 use Rattle.sem_run.specs.transitions.Transitions.{by_answer, by_finding, of_ask, transition}
 use Rattle.sem_run.specs.transitions.Successors.{by_reply, successor}
-use Rattle.pt_bare_code.specs.Alike.{Alike, alike_to, alike_arises, alike_yield, alike_print, alike_request, alike_note, both_outside, both_end}
-use Rattle.pt_bare_code.specs.Turns.{AlikeTurns, alike_acts, alike_notes, alike_ends}
+use Rattle.pt_bare_code.specs.Alike.{Alike, alike_to, alike_arises, alike_yield, alike_print, alike_request, alike_note, both_outside, both_end, neither}
+use Rattle.pt_bare_code.specs.Turns.{AlikeTurns, alike_acts, alike_notes, alike_moves, alike_ends, alike_stuck}
 
 abbrev ask_of : {X V : Type 0} → (a : Ask V) → (Reply V (Answer V a) → X) → Bool → Option (Callee V) → OpenAsk X V
 ask_of a k i c = record { ask = a; next = k; is_act = i; callee = c }
@@ -75,4 +75,6 @@ module _ {S R N V W : Type 0} (first : Machine S V) (second : Machine R V) (At :
   alike_successors b _ _ (alike_acts (Some m) a k k' h) at st = alike_asks host _ _ _ at st a k k' h
   alike_successors b _ _ (alike_acts None a k k' h) at st = alike_asks host _ _ _ at st a k k' h
   alike_successors b _ _ (alike_notes a k k' h) at st = alike_note a k k' h
+  alike_successors b _ _ (alike_moves c t h) at st = alike_to c t st h
   alike_successors b _ _ (alike_ends e) at st = both_end e
+  alike_successors b _ _ alike_stuck at st = neither

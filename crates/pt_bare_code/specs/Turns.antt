@@ -13,13 +13,15 @@ use Rattle.pt_bare_writes.specs.Fronts.{RunWritesFirst}
 
 module _ {S R V : Type 0} (first : Machine S V) (second : Machine R V) (At : BlockId → S → R → Type 0) where
   -- the same ask with the same mark, the same note, or the same end; behind each reply the second comes, by silent moves, to a state that stands for
-  -- the first one's
+  -- the first one's. Or both move, or both are stuck
   pub data AlikeTurns (b : BlockId) : Turn S V → Turn R V → Type 0 where
     alike_acts : (m : Option Mark) (a : Ask V) (k : Reply V (Answer V a) → S) (k' : Reply V (Answer V a) → R)
         → ((r : Reply V (Answer V a)) → Nears first second At b (k r) (k' r)) → AlikeTurns b (T.act m a k) (T.act m a k')
     alike_notes : (a : Note V) (k : Reply V (Unit {0}) → S) (k' : Reply V (Unit {0}) → R)
         → ((r : Reply V (Unit {0})) → Nears first second At b (k r) (k' r)) → AlikeTurns b (T.note a k) (T.note a k')
+    alike_moves : (c : S) (t : R) → Nears first second At b c t → AlikeTurns b (T.move c) (T.move t)
     alike_ends : (e : End V) → AlikeTurns b (T.over e) (T.over e)
+    alike_stuck : AlikeTurns b T.stuck T.stuck
 
   -- At relates states whose turns are alike, and in which the same exception is active
   pub record FollowsTurns : Type 0 where

@@ -26,8 +26,11 @@ use Rattle.pt_code.proofs.OneView.{one_view}
 use Rattle.law_operands.proofs.piece_names.Script.{names_are_found}
 use Rattle.law_pieces.proofs.script_pieces.Cells.{takes_cells}
 use Rattle.law_pieces.proofs.script_pieces.Statements.{exits_in_loops}
+use Rattle.sem_run.specs.run.Machine.{BlockId}
+use Rattle.sem_run.specs.run.Source.{Source}
+use Rattle.law_code_runs.specs.code_run.CodeMachine.{CodeSource}
 use Rattle.law_code_runs.specs.code_run.Law.{Of}
-use Rattle.law_code_runs.specs.code_follows.Laws.{BlocksHaveTheirCode, HasItsFreeNames, HasObject, ScriptHasItsCode, iterates}
+use Rattle.law_code_runs.specs.code_follows.Laws.{BlocksHaveTheirCode, HasItsFreeNames, HasObject, IsOfScript, ScriptHasItsCode, iterates}
 use Rattle.law_code_runs.proofs.code_follows.Agreement.{agrees}
 use Rattle.law_code_runs.proofs.code_follows.SameStatements.{same-code}
 
@@ -168,9 +171,9 @@ object_of around object starts (B.of_class ss) null at = (refl, starts, at)
 object_of around object starts (B.of_lambda l e) null at = (refl, at)
 object_of around object starts (B.of_generator l e k t cs) null at = (refl, null, at)
 
-pub script_has_its_code : {V : Type 0} → ScriptHasItsCode V
-script_has_its_code {V} null ss source code none keeps of b =
-    let h = of b in
+pub block_has_its_code : {V : Type 0} (null : V) (ss : Stms) (source : Source V) (code : CodeSource V) (b : BlockId) → fault_of (places_script ss) ≡ None
+    → HasItsFreeNames ss → IsOfScript null ss source code b → Of (source.around b) (code.object b) (code.iterates b) (source.code b)
+block_has_its_code {V} null ss source code b none keeps h =
     let around = around_of null ss h.number in
     let object = code.object b in
     let at = has_code null ss h.number h.block object none keeps h.has_object in
@@ -179,3 +182,6 @@ script_has_its_code {V} null ss source code none keeps of b =
     subst (λ (a : Around V). Of a object (code.iterates b) (source.code b)) (sym h.same_around)
     (subst (λ (g : Bool). Of around object g (source.code b)) (sym h.same_start)
     (subst (λ (c : BlockCode). Of around object (iterates h.block.code) c) (sym h.same_code) it))
+
+pub script_has_its_code : {V : Type 0} → ScriptHasItsCode V
+script_has_its_code null ss source code none keeps of b = block_has_its_code null ss source code b none keeps (of b)

@@ -167,7 +167,7 @@ module _ {V : Type 0} (source : Source V) (code : CodeSource V) (of : IsCodeOf s
   jumps b _ _ l (follows.at_act p q h e) = from_act b p q l h e
   jumps b _ _ l (follows.at_landing p q h) = from_landing b p q l h
 
-  code_follows : Follows (Script source code) (Coded source code) (At source code) (Stands source code has) (Lands source code has)
+  pub code_follows : Follows (Script source code) (Coded source code) (At source code) (Stands source code has) (Lands source code has)
   code_follows = record {
     turns = turns source code knows;
     stands = stands;

@@ -28,7 +28,7 @@ module _ {V : Type 0} (null : V) (text : List ℕ) (script : Stms) (source : Sou
       blocks_of_texts_have_parts text script of.number of.block has.layout (code.object b) is has.is_block has.is_layout
       (shows null script of.number of.block (code.object b) has)
 
-  closed_parts : JumpsBySlots code b (own_block null script source code b of)
+  pub closed_parts : JumpsBySlots code b (own_block null script source code b of)
       → (TooDeep (own_block null script source code b of) → ⊥) → HasClosedParts source code b
   closed_parts jumps shallow =
       let has = of.has_object in

@@ -3,7 +3,6 @@ use Rattle.std.specs.Prelude.{◌≡◌, ℕ, true, Some, None}
 use Rattle.pt_tree.specs.Syntax.{Stms}
 use Rattle.pt_scopes.specs.Mentions.{places_script}
 use Rattle.pt_scopes.specs.Refusals.{fault_of}
-use Rattle.pt_instr.specs.Effects.{Kinds}
 use Rattle.sem_control.specs.control.Frames.{Control}
 use Rattle.sem_control.specs.control.Control.{turn, nest_at}
 use Rattle.sem_control.specs.control.Jump.{Part}
@@ -12,23 +11,16 @@ use Rattle.sem_code.specs.comp.Surroundings.{Surroundings}
 use Rattle.sem_code.specs.comp.Law.{Match}
 use Rattle.sem_fits.specs.comp_jumps.Parts.{Closed}
 use Rattle.sem_fits.specs.fits.Block as F
-use Rattle.sem_fits.specs.fits.Places.{Gets}
 use Rattle.sem_fits.specs.fits.Fits.{Fits}
-use Rattle.sem_fits.specs.fits.Jumps.{Answer, Jumps}
 use Rattle.sem_run.specs.run.Machine.{BlockId, is_act}
 use Rattle.sem_run.specs.run.Source.{Source}
 use Rattle.law_code_runs.specs.code_run.CodeMachine.{Place, CodeSource, place_of}
-use Rattle.law_code_runs.specs.code_run.Parts.{jump_of_answer, InParts}
+use Rattle.law_code_runs.specs.code_run.Parts.{InParts}
 use Rattle.law_code_runs.specs.code_run.Reached.{Reached}
 use Rattle.law_code_runs.specs.code_follows.Laws.{HasItsFreeNames, IsOfScript}
+pub use Rattle.law_code_jumps.specs.told_code.Laws.{JumpsBySlots}
 use Rattle.law_parts.specs.part_slots.Text.{Code_grammatical, Code_else_apart}
 use Rattle.law_jumps.specs.start_nests.Laws.{own_block, own_ending, HasOwnParts}
-
--- the machine of code jumps as is said of slots
-abbrev pub JumpsBySlots : {V : Type 0} → CodeSource V → BlockId → F.Block → Type 0
-JumpsBySlots {V = V} code b block = (p : Place V) (ks : Kinds) (line : ℕ) (a : Answer)
-    → Gets block block.size p.pc ks → Jumps block p.pc ks line a
-    → code.jump b p line ≡ jump_of_answer a p
 
 -- where an act begins, the place lies in the parts of control's nest, with what they hold
 abbrev pub ActsInParts : {V : Type 0} → Source V → CodeSource V → BlockId → (block : F.Block)

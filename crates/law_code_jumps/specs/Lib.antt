@@ -1,0 +1,3 @@
+pub mod jump_answers
+pub mod told_code
+pub mod bare_runs
