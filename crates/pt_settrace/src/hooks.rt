@@ -40,7 +40,7 @@ impl Model for Hooks {
 }
 
 /// Nothing for None (`sys.settrace(None)`, `f_trace = None`).
-fn unless_none(f: Value) -> Option<Value>
+pub fn unless_none(f: Value) -> Option<Value>
     ensures { result ≡ unless_none f }
 {
     match f {
@@ -50,7 +50,7 @@ fn unless_none(f: Value) -> Option<Value>
 }
 
 /// None for nothing.
-fn or_none(f: Option<Value>) -> Value
+pub fn or_none(f: Option<Value>) -> Value
     ensures { result ≡ or_none f }
 {
     match f {

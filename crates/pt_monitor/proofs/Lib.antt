@@ -1,0 +1,5 @@
+pub mod Bits
+pub mod Keeping
+pub mod ToolRows
+pub mod Calls
+pub mod Told

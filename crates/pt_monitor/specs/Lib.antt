@@ -1,0 +1,5 @@
+pub mod Events
+pub mod Alike
+pub mod Kept
+pub mod Answers
+pub mod Laws
