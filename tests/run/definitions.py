@@ -122,7 +122,7 @@ class Reader:
         if kind == "number":
             return ("number", int(word))
         if kind == "text":
-            return ("text", word[1:-1])
+            return ("text", re.sub(r"\\(.)", lambda m: {"n": "\n"}.get(m[1], m[1]), word[1:-1]))
         if word == "record":
             base = None if self.sees("{") else self.atom()
             self.take("{")
@@ -257,7 +257,8 @@ class Definitions:
                     bare = PREFIX.sub("", text)
                     items.append([indent, text, bare == "mutual" or bool(re.match(r"(data|record|module)\b.*where$", bare))])
                     depth = 0
-                depth += sum(text.count(c) for c in "({[") - sum(text.count(c) for c in ")}]")
+                signs = re.sub(r'"(?:[^"\\]|\\.)*"', "", text)
+                depth += sum(signs.count(c) for c in "({[") - sum(signs.count(c) for c in ")}]")
         blocks = []
         for indent, text, opens in items:
             while blocks and indent <= blocks[-1][0]:
@@ -330,7 +331,10 @@ class Definitions:
             m = self.module(path)
             if name in m.constructors:
                 return ("constructor", name, m.constructors[name])
-            return ("definition", m.definitions[name]) if name in m.definitions else None
+            if name in m.definitions:
+                return ("definition", m.definitions[name])
+            # one that it has from elsewhere
+            return self.meaning(*m.names[name]) if name in m.names else None
         if path.startswith(("Rattle.std.", "Rattle.indexmap.")):
             return ("primitive", name) if name in self.primitives else None
         if path.endswith(".TheConstants"):
@@ -520,7 +524,7 @@ class Compiler:
         elif what == ("primitive", "suc"):
             tests.append(f"if {place} == 0: break")
             self.match(inner[0], f"({place} - 1)", tests)
-        elif what and (what[0] == "constructor" or self.all.primitives[what[1]] == "constructor"):
+        elif what and (what[0] == "constructor" or self.all.primitives.get(what[1]) == "constructor"):
             tests.append(f"if {place}[0] != {what[1]!r}: break")
             for i, q in enumerate(inner):
                 self.match(q, f"{place}[{i + 1}]", tests)
@@ -734,6 +738,9 @@ STD = {
     "take": lambda n, xs: listed(items(xs)[:n]),
     "list_any": lambda f, xs: any(map(f, items(xs))),
     "filter": lambda f, xs: listed(filter(f, items(xs))),
+    "flat_map": lambda f, xs: listed(y for x in items(xs) for y in items(f(x))),
+    "slice_index_or": lambda xs, n, x: dict(enumerate(items(xs))).get(n, x),
+    "decimal": lambda n: listed(str(n).encode()),
     "bytes_eq": lambda a, b: a == b,
     "filter_map": filter_map,
     "slice_get": slice_get,
@@ -751,6 +758,12 @@ STD = {
     "option_or": lambda o, p: o if o[0] == "Some" else p,
     "nat_eq": lambda a, b: a == b,
     "int_lt": lambda a, b: number(a) < number(b),
+    "int_le": lambda a, b: number(a) <= number(b),
+    "unsigned_abs": lambda a: abs(number(a)),
+    "min": lambda a, b: min(a, b),
+    "option_to_list": lambda o: (o[1], ()) if o[0] == "Some" else (),
+    "flat_map": lambda f, xs: listed(y for x in items(xs) for y in items(f(x))),
+    "encode_utf8": lambda c: listed(chr(c).encode()),
     "neg_ℤ": lambda a: integer(-number(a)),
     "bit_and": lambda a, b: a & b,
     "bit_or": lambda a, b: a | b,
@@ -758,6 +771,12 @@ STD = {
     "bytes_eq": lambda a, b: a == b,
     "chars": lambda a: listed(map(ord, bytes(items(a)).decode())),
     "signed_decimal": lambda a: listed(str(number(a)).encode()),
+    "unsigned_abs": lambda z: abs(number(z)),
+    "int_le": lambda a, b: number(a) <= number(b),
+    "min": lambda a, b: min(a, b),
+    "option_to_list": lambda o: (o[1], ()) if o[0] == "Some" else (),
+    "flat_map": lambda f, xs: listed(y for x in items(xs) for y in items(f(x))),
+    "encode_utf8": lambda c: listed(chr(c).encode()),
 }
 
 
