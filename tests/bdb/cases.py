@@ -1,4 +1,4 @@
-"""Random cases for a debugger: lines of commands, breakpoints, views and sessions."""
+"""Random cases for a debugger: lines of commands, breakpoints, views and events."""
 import random
 
 import rules
@@ -75,19 +75,3 @@ def event():
     frame = random.randrange(3)
     kind = random.choice(["line"] * 5 + ["call", "return", "exception"])
     return rules.Event(kind, frame, frame, random.randrange(1, 7), frame == 2), frame - 1 if frame and random.random() < 0.9 else None
-
-
-SESSION = ["break 1", "break 2", "b 3, true", "b 4, false", "tbreak 2", "tbreak 3, broken", "tbreak 3, true", "b 9", "break", "clear 1", "clear 2", "clear", "condition 1",
-           "condition 2 false", "condition 1 true", "ignore 1 2", "ignore 2", "ignore 3 1", "enable 1", "disable 1", "disable 2", "enable 9", "", "hello"]
-GO = ["step", "next", "until", "until 4", "until 2", "return", "continue", "s", "n", "unt", "r", "c", ""]
-
-
-def session():
-    """Events of a run and lines of commands at them."""
-    out = []
-    for _ in range(random.randrange(1, 12)):
-        out.append(event())
-        out += [random.choice(SESSION) if random.random() < 0.97 else line() for _ in range(random.choice([0, 0, 1, 1, 2, 4]))]
-        if random.random() < 0.7:
-            out.append(random.choice(GO))
-    return out

@@ -67,60 +67,6 @@ def debug(what):
     return name
 
 
-def session_row(file, lines, items):
-    """A session as a row, and what is written of it."""
-    debugger, fields, out = rules.Debugger(file, lines), [escaped(file), ",".join(map(str, lines))], []
-    for item in items:
-        if isinstance(item, str):
-            fields.append(">" + escaped(item))
-            out.append(debugger.do(item))
-        else:
-            event, caller = item
-            words = [event.kind, event.frame, event.block, event.line, "generator" if event.generator else "function", *([] if caller is None else [caller])]
-            fields.append("!" + " ".join(map(str, words)))
-            out.append(debugger.at(event, caller))
-    return "\t".join(fields), printed("".join(out))
-
-
-def line_at(frame, line, caller=None, generator=False, kind="line", block=None):
-    return rules.Event(kind, frame, frame if block is None else block, line, generator), caller
-
-
-def told_sessions():
-    """Sessions whose answers are known from the rules, one for each."""
-    module = [line_at(0, n) for n in range(1, 7)]
-    loop = lambda n: [e for _ in range(n) for e in (line_at(0, 3), line_at(0, 4), line_at(0, 5))]
-    ret = lambda frame, line, caller=None, generator=False: line_at(frame, line, caller, generator, "return")
-    call = lambda frame, line, caller=0, generator=False: line_at(frame, line, caller, generator, "call")
-    yield [module[0], "break 5, true", "ignore 1 1", "continue", *loop(3), "break"]
-    yield [module[0], "break 5, false", "ignore 1 1", "continue", *loop(2), "condition 1 true", *loop(2), "break", "continue", *loop(1)]
-    yield [module[0], "tbreak 5, broken", "continue", *loop(1), "break", "clear 1", "continue", *loop(1)]
-    yield [module[0], "tbreak 5", "tbreak 5, true", "continue", *loop(3), "break"]
-    yield [module[0], "break 5, false", "break 5", "continue", *loop(2), "break", "disable 2", "continue", *loop(2), "break", "enable 2", "ignore 2 1", "c", *loop(3), "b"]
-    yield [module[0], "disable 1", "b 5", "ignore 1 2", "disable 1", "c", *loop(3), "b", "enable 1", *loop(3), "b"]
-    yield [module[0], "b 3", "b 3", "clear 1", "b 3", "b", "c", *loop(1), "clear", "b", "clear", "clear 3"]
-    # `until` without and with a line; at a line that isn't behind the current one it stays
-    yield [module[2], "until", *loop(1), module[5]]
-    yield [module[2], "until 5", line_at(0, 4), line_at(0, 3), line_at(0, 5)]
-    yield [module[2], "until 3", "until 2", "until 0", line_at(0, 4)]
-    yield [line_at(0, 2 ** 32 - 1), "until", line_at(0, 2 ** 32 - 2), line_at(0, 2 ** 32 - 1), ret(0, 5)]
-    yield [line_at(1, 3, 0), "until", line_at(1, 2, 0), ret(1, 2, 0), "", line_at(0, 2), "step", line_at(0, 3)]
-    # `return` in a function, at the module and in a generator
-    yield [line_at(1, 3, 0), "return", line_at(1, 4, 0), ret(1, 4, 0), "return", line_at(0, 2)]
-    yield [line_at(0, 3), "return", line_at(0, 4), ret(0, 4)]
-    yield [line_at(2, 3, 0, True), "return", line_at(2, 4, 0, True), ret(2, 4, 0, True), line_at(0, 4)]
-    # `next` over a call, at a return, in a generator
-    yield [line_at(0, 3), "next", call(1, 1), line_at(1, 2, 0), ret(1, 2, 0), line_at(0, 4)]
-    yield [line_at(1, 3, 0), "next", ret(1, 3, 0), "next", line_at(0, 1)]
-    yield [ret(1, 3, 0), "next", line_at(0, 4)]
-    yield [line_at(2, 3, 0, True), "next", ret(2, 3, 0, True), line_at(2, 4, 0, True)]
-    # any frame: calls and returns of generators stop, the call of the module doesn't
-    yield [call(2, 1, 0, True), "step", ret(2, 1, 0, True), call(0, 1, None), line_at(0, 1)]
-    yield [line_at(0, 3), "step", line_at(1, 3, 0, False, "exception"), "continue", line_at(1, 3, 0, False, "exception"), line_at(0, 4)]
-    # an empty line repeats
-    yield [module[0], "", "hello", "", "b 2", "", "b", "", "s", module[1], "", module[2]]
-
-
 def frames_row(view):
     shown, names = rules.shown_lines(view.source), lambda ns: "".join(escaped(n, " ,") + "," for n in ns)
     fields = [escaped(view.file), escaped("\n".join(shown)), str(view.chosen)]
@@ -178,13 +124,6 @@ def commands():
     plain = [line for line in cases.LINES if "\u00a0" not in line and "\u3000" not in line]
     for line in [*plain, *(cases.line() for _ in range(120))]:
         yield escaped(line), debug(rules.command(line))
-
-
-def sessions(count):
-    for items in told_sessions():
-        yield session_row("b.py", [*range(1, 7), 2 ** 32 - 1], items)
-    for _ in range(count):
-        yield session_row("b.py", range(1, 5), cases.session())
 
 
 def frames(count):

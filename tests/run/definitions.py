@@ -218,6 +218,8 @@ class Module:
 
 
 PREFIX = re.compile(r"((pub|abbrev|unfoldable)\s+)+")
+# a text keeps its hyphens
+COMMENT = re.compile(r'("(?:[^"\\]|\\.)*")|--.*')
 
 
 class Definitions:
@@ -246,7 +248,7 @@ class Definitions:
         depth = 0
         with open(name, encoding="utf-8") as f:
             for line in f:
-                line = re.sub(r"--.*", "", line).rstrip()
+                line = COMMENT.sub(r"\1", line).rstrip()
                 if not line.strip():
                     continue
                 indent = len(line) - len(line.lstrip())
@@ -762,7 +764,6 @@ STD = {
     "unsigned_abs": lambda a: abs(number(a)),
     "min": lambda a, b: min(a, b),
     "option_to_list": lambda o: (o[1], ()) if o[0] == "Some" else (),
-    "flat_map": lambda f, xs: listed(y for x in items(xs) for y in items(f(x))),
     "encode_utf8": lambda c: listed(chr(c).encode()),
     "neg_ℤ": lambda a: integer(-number(a)),
     "bit_and": lambda a, b: a & b,
@@ -771,12 +772,6 @@ STD = {
     "bytes_eq": lambda a, b: a == b,
     "chars": lambda a: listed(map(ord, bytes(items(a)).decode())),
     "signed_decimal": lambda a: listed(str(number(a)).encode()),
-    "unsigned_abs": lambda z: abs(number(z)),
-    "int_le": lambda a, b: number(a) <= number(b),
-    "min": lambda a, b: min(a, b),
-    "option_to_list": lambda o: (o[1], ()) if o[0] == "Some" else (),
-    "flat_map": lambda f, xs: listed(y for x in items(xs) for y in items(f(x))),
-    "encode_utf8": lambda c: listed(chr(c).encode()),
 }
 
 
