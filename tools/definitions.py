@@ -22,8 +22,19 @@ WORD = re.compile(r"[^\s(){}\[\];,.λ→×:]+")
 def file_of(path):
     """The file of a module, if the repository has it."""
     crate, *inner = path.split(".")
+    if not inner or inner[0] not in ("specs", "proofs"):
+        return None
     file = CRATES / crate / ("/".join(inner) + ".antt")
-    return file if inner and inner[0] in ("specs", "proofs") and file.exists() else None
+    if not file.exists() and len(inner) > 1 and (below := handed_on(crate, inner[0]).get(inner[1])):
+        return file_of(".".join([below, *inner[2:]]))
+    return file if file.exists() else None
+
+
+@lru_cache(maxsize=None)
+def handed_on(crate, part):
+    """What a crate hands on of those below it, by the names that it gives them."""
+    file = CRATES / crate / part / "Lib.antt"
+    return {own: path for path, _, own in USE.findall(file.read_text()) if own} if file.exists() else {}
 
 
 class Definition:

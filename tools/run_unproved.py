@@ -39,10 +39,17 @@ def newest_source():
     return max(ages)
 
 
+def loading():
+    """The words that load the program that is kept, wherever this folder was when it was made."""
+    with open(WORDS, encoding="utf-8") as file:
+        return [*file.read().splitlines()[:-1], KEPT]
+
+
 def is_kept():
+    """Whether it is there, and younger than the sources and than the part of the kit that loads it."""
     try:
-        return os.path.exists(KEPT) and os.stat(WORDS).st_mtime >= newest_source()
-    except OSError:
+        return os.path.exists(KEPT) and os.stat(WORDS).st_mtime >= max(newest_source(), os.stat(loading()[0]).st_ctime)
+    except (OSError, IndexError):
         return False
 
 
@@ -126,9 +133,8 @@ def main(words):
             say("the unproved program is compiled, which takes some minutes, once for these sources")
         if not made_once():
             return FAILED
-    with open(WORDS, encoding="utf-8") as file:
-        loading = file.read().splitlines()
-    os.execv(loading[0], [*loading, *words])
+    program = loading()
+    os.execv(program[0], [*program, *words])
 
 
 if __name__ == "__main__":

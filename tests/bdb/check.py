@@ -1,10 +1,12 @@
-"""Runs the definitions of pt_commands, pt_pdb and pt_bdb beside the rules of rules.py, over random lines, breakpoints, stops and texts,
-and the rules for the list of breakpoints and the words of commands beside CPython's own bdb and pdb.
+"""Runs the definitions of pt_commands, pt_pdb, pt_bdb, pt_breakpoints_text and pt_command_files beside the rules of rules.py, over
+random lines, files of commands, breakpoints, stops and texts, and the list of breakpoints and the words of commands beside CPython's
+own bdb and pdb.
 
 usage: check.py [--many N]. Run with CPython 3.12 in this folder.
 """
 import bdb
 import codecs
+import io
 import pdb
 import random
 import sys
@@ -51,6 +53,12 @@ def utf8_valid_len(xs):
     return len(data)
 
 
+def lines(file):
+    """The lines that CPython's files of bytes have, without their ends."""
+    ended = [line.removesuffix(b"\r\n").removesuffix(b"\n") if line.endswith(b"\n") else line for line in io.BytesIO(bytes(items(file)))]
+    return listed(map(listed, ended))
+
+
 WORDS = {
     **definitions.STD,
     "codes": lambda t: listed(codecs.decode(t, "unicode_escape").encode()),
@@ -61,6 +69,8 @@ WORDS = {
     "digit_value": lambda c: c - 48 if 48 <= c < 58 else 36,
     "digits_value": lambda base, xs: int(bytes(items(xs)) or b"0", base),
     "min": lambda a, b: min(a, b),
+    "repeat": lambda n, xs: listed(items(xs) * n),
+    "lines": lines,
     "find": lambda f, xs: next((("Some", x) for x in items(xs) if f(x)), ("None",)),
     "utf8_valid_len": utf8_valid_len,
     "slice_index_or": lambda xs, n, d: dict(enumerate(items(xs))).get(n, d),
@@ -118,6 +128,13 @@ def check_commands(given, count, many):
         count.see(line, command_of(command(bytes_of(line))), rules.command(line))
 
 
+def check_files(given, count, many):
+    command_lines = given.get("pt_command_files", "CommandFile", "command_lines")
+    for _ in range(many):
+        file = bytes(random.choices(b"\n\n\r\rsp \xff", k=random.randrange(9)))
+        count.see(file, [bytes(items(line)) for line in items(command_lines(listed(file)))], rules.command_lines(file))
+
+
 def breakpoint(n, row):
     condition = ("None",) if row.condition is None else ("Some", bytes_of(row.condition))
     return {"number": n, "row": {"line": {"0": row.line}, "temporary": row.temporary, "enabled": row.enabled, "condition": condition,
@@ -136,12 +153,14 @@ def bdb_line(file, n, row):
 
 def check_breakpoints(given, count, many):
     hit_in, behind = given.get("pt_bdb", "Effective", "hit_in"), given.get("pt_bdb", "Effective", "rows_behind")
+    list_text = given.get("pt_breakpoints_text", "BreakpointList", "list_text")
     verdict = {True: ("True",), False: ("False",), None: ("Broken",)}
     judge = lambda c: verdict[rules.judge(text(c))]
     for _ in range(many):
         breaks = cases.breaks()
         rows = listed(breakpoint(n, row) for n, row in sorted(breaks.rows.items()))
         listing = breaks.listing("b.py")
+        count.see(listing, text(list_text(bytes_of("b.py"), rows)), listing)
         by_bdb = "".join(bdb_line("b.py", n, row) for n, row in sorted(breaks.rows.items()))
         count.see("bdb", by_bdb, listing.partition("\n")[2])
         line = random.choice(sorted(breaks.lines))
@@ -222,6 +241,7 @@ def main():
     given, count = Given(), Count()
     check_words(count)
     check_commands(given, count, 3 * many)
+    check_files(given, count, 2 * many)
     check_breakpoints(given, count, many)
     check_stops(given, count, 4 * many)
     check_texts(given, count, many // 5)

@@ -14,10 +14,10 @@ HERE = os.path.dirname(os.path.abspath(__file__))
 sys.path[:0] = [os.path.join(HERE, ".."), os.path.join(HERE, "..", "run"), os.path.join(HERE, "..", "compare")]
 import deep  # noqa: E402
 from answers import Answer, ByProgram  # noqa: E402
-from definitions import items, load  # noqa: E402
+from definitions import load  # noqa: E402
 from expected import first_unsupported  # noqa: E402
 from forms import ROWS, SUPPORTED, UNSUPPORTED  # noqa: E402
-from objects import ByteTrees, text_of  # noqa: E402
+from objects import ByteTrees  # noqa: E402
 from programs import program  # noqa: E402
 from scripts import script  # noqa: E402
 
@@ -37,13 +37,12 @@ class Check:
     def __init__(self, crates):
         definitions = load(crates)
         self.unbuilt_of = definitions.get("Rattle.pt_supported.specs.Built", "unbuilt_of")
-        self.listed = {text_of(x) for x in items(definitions.get("Rattle.pt_tables.specs.Names", "builtin_names")())} | {"__name__"}
 
     def differs(self, text, row=...):
         """Whether the definition, the walk over ast, and the line of a row tell different lines."""
         line = self.unbuilt_of(ByteTrees(text).tree)
         line = None if line == ("None",) else line[1]
-        wanted = first_unsupported(ast.parse(text), self.listed)
+        wanted = first_unsupported(ast.parse(text))
         if line == wanted and row in (..., line):
             return line, False
         print(text, f"the definition {line}, ast {wanted}" + (f", the row {row}" if row is not ... else ""), sep="\n")
@@ -60,7 +59,7 @@ def main():
     a = p.parse_args()
     check = Check(a.crates)
     seeds = [a.show] if a.show is not None else range(a.first, a.first + a.many)
-    random = [(f(seed), ...) for seed in seeds for f in (script, program)]
+    random = [(text, ...) for seed in seeds for text in (script(seed), program(seed, containers=seed % 4 > 0))]
     by_hand = ROWS + [(text, None) for text in SUPPORTED] + [(text, ...) for text in UNSUPPORTED]
     found = [check.differs(text, row) for text, row in by_hand + random]
     if a.show is not None:

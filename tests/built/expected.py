@@ -3,9 +3,17 @@ of a node tells whether it is supported."""
 import ast
 
 SUPPORTED = (
-    ast.Module, ast.Expr, ast.Assign, ast.AugAssign, ast.AnnAssign, ast.Delete, ast.Pass, ast.Break, ast.Continue, ast.If, ast.While, ast.Return,
-    ast.Global, ast.Nonlocal, ast.FunctionDef, ast.Constant, ast.Name, ast.UnaryOp, ast.BinOp, ast.BoolOp, ast.Compare, ast.IfExp, ast.Call, ast.keyword,
-    ast.Lambda, ast.arg)
+    ast.Module, ast.Expr, ast.Assign, ast.AugAssign, ast.AnnAssign, ast.Delete, ast.Pass, ast.Break, ast.Continue, ast.If, ast.While, ast.For,
+    ast.Return, ast.Global, ast.Nonlocal, ast.FunctionDef, ast.Constant, ast.Name, ast.UnaryOp, ast.BinOp, ast.BoolOp, ast.Compare, ast.IfExp, ast.Call,
+    ast.keyword, ast.Lambda, ast.arg, ast.Tuple, ast.List, ast.Subscript)
+
+# what means something in CPython and isn't there yet: builtins that are left out, those that are functions written in Python, and the module's name
+UNAVAILABLE = frozenset("""
+    open input eval exec id hash dir vars globals locals compile bytes bytearray complex float frozenset memoryview slice property staticmethod
+    classmethod round pow format bin hex oct ascii help delattr
+    sum min max any all sorted map filter zip enumerate reversed
+    __name__
+    """.split())
 
 
 def place(node):
@@ -22,11 +30,10 @@ def parts(node):
     return sorted((x for x in found if hasattr(x, "lineno")), key=place)
 
 
-def nodes(node, calls=None):
-    """A node and those in it, each with the call that it is the callee of."""
-    yield node, calls
+def nodes(node):
+    yield node
     for part in parts(node):
-        yield from nodes(part, node if isinstance(node, ast.Call) and part is node.func else None)
+        yield from nodes(part)
 
 
 def names(node):
@@ -39,26 +46,22 @@ def names(node):
     return []
 
 
-def is_print(node, call):
-    return isinstance(node, ast.Name) and node.id == "print" and call is not None and len(call.args) == 1 and not call.keywords
-
-
-def is_supported(node, call, listed, stars):
+def is_supported(node, stars):
     match node:
-        case ast.Compare(_, operators) if any(isinstance(o, (ast.In, ast.NotIn)) for o in operators):
+        case ast.Subscript(_, _, ast.Store() | ast.Del()):
             return False
         case ast.Call(_, arguments, keywords) if any(isinstance(a, ast.Starred) for a in arguments) or any(k.arg is None for k in keywords):
             return False
         case ast.arg() if node in stars:
             return False
-    return isinstance(node, SUPPORTED) and (is_print(node, call) or not any(x in listed for x in names(node)))
+    return isinstance(node, SUPPORTED) and UNAVAILABLE.isdisjoint(names(node))
 
 
 def line_of(node):
     return node.decorator_list[0].lineno if getattr(node, "decorator_list", None) else node.lineno
 
 
-def first_unsupported(tree, listed):
-    """None where there is none; `listed` are the names that mean something by themselves."""
+def first_unsupported(tree):
+    """None where there is none."""
     stars = {p for a in ast.walk(tree) if isinstance(a, ast.arguments) for p in (a.vararg, a.kwarg)}
-    return next((line_of(n) for n, call in nodes(tree) if not is_supported(n, call, listed, stars)), None)
+    return next((line_of(n) for n in nodes(tree) if not is_supported(n, stars)), None)

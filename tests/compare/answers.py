@@ -10,7 +10,8 @@ HERE = os.path.dirname(os.path.abspath(__file__))
 TOP = os.path.join(HERE, "..", "..")
 sys.path[:0] = [os.path.join(HERE, ".."), os.path.join(HERE, "..", "run")]
 from check import RULES, Plan, of_ended_iteration, of_one_line  # noqa: E402
-from check_objects import Check, as_here  # noqa: E402
+from check_objects import Check, as_here, by_class, traceback_by_python  # noqa: E402
+from layout import compared_traceback  # noqa: E402
 from record import Recorder  # noqa: E402
 
 # `log` is the lines that it has
@@ -22,13 +23,15 @@ SECONDS = 120
 
 class ByProgram:
     def __init__(self, command=None):
-        self.command = shlex.split(command or os.environ.get("PT") or f"{os.path.join(TOP, 'pt')} --only-proved")
+        program, *options = shlex.split(command or os.environ.get("PT") or f"{os.path.join(TOP, 'pt')} --only-proved")
+        self.command = [os.path.abspath(program) if "/" in program else program, *options]
 
     def answer(self, word, text):
-        with tempfile.NamedTemporaryFile(suffix=".py") as script:
-            script.write(text.encode())
-            script.flush()
-            done = subprocess.run([*self.command, word, script.name], capture_output=True, stdin=subprocess.DEVNULL, timeout=SECONDS)
+        with tempfile.TemporaryDirectory() as folder:
+            with open(os.path.join(folder, "script.py"), "wb") as script:
+                script.write(text.encode())
+            words = [*self.command, word, "script.py"]
+            done = subprocess.run(words, cwd=folder, capture_output=True, stdin=subprocess.DEVNULL, timeout=SECONDS)
         return Answer(done.returncode, done.stdout.decode(), done.stderr.decode().splitlines())
 
 
@@ -45,8 +48,10 @@ class ByDefinitions:
                 status, last = OUTSIDE, [f"pt: outside the profile: {what.lower()} at line {line}"]
             case ("spent",):
                 status, last = SPENT, [f"pt: spent after {acts} acts"]
+            case ("done",):
+                status, last = DONE, []
             case _:
-                status, last = {"done": DONE, "raised": RAISED}[end[0]], []
+                status, last = RAISED, self.check.traceback.splitlines()
         return Answer(status, out, ([line.rstrip("\n") for line in told.log] if word == "trace" else []) + last)
 
 
@@ -81,6 +86,14 @@ def events_of(text, log):
         if kind == "return":
             open_.pop()
     return events, []
+
+
+def tracebacks(text, last):
+    """The traceback at the end of a log and CPython's, as far as they are compared. CPython's of a RecursionError is shorter."""
+    told, wanted = "\n".join(last), traceback_by_python(text)
+    if wanted.splitlines()[-1].startswith("RecursionError"):
+        return told.splitlines()[-1].split(":")[0], "RecursionError"
+    return compared_traceback(by_class(told), text), compared_traceback(by_class(wanted), text)
 
 
 def by_cpython(text):

@@ -1,5 +1,5 @@
 """Compares what the program answers to `run` and `trace` of scripts of the supported forms with what CPython 3.12.1 tells of them: output,
-ending and events, but for what docs/DECISIONS.md lists under "What CPython tells otherwise".
+ending, traceback and events, but for what docs/DECISIONS.md lists under "What CPython tells otherwise".
 
   check.py [--definitions] [--from N] [--many N] [--show SEED] [--jobs N]
 """
@@ -11,7 +11,7 @@ import os
 import sys
 import warnings
 
-from answers import DONE, HERE, OUTSIDE, RAISED, SPENT, ByDefinitions, ByProgram, by_cpython, events_of
+from answers import DONE, HERE, OUTSIDE, RAISED, SPENT, ByDefinitions, ByProgram, by_cpython, events_of, tracebacks
 import deep
 from layout import broken, compared
 from programs import program
@@ -41,7 +41,7 @@ def differences(run, trace, text):
     events, last = events_of(text, trace.log)
     if (run.status, run.out, run.log) != (trace.status, trace.out, last):
         found.append(f"run answers {run.status}, {run.log}, and trace {trace.status}, {last}")
-    if bool(last) != (trace.status in (SPENT, OUTSIDE)):
+    if bool(last) != (trace.status in (SPENT, OUTSIDE, RAISED)):
         found.append(f"the log ends with {last} at status {trace.status}")
     out, end, wanted = by_cpython(text)
     is_whole = trace.status in (DONE, RAISED)
@@ -52,6 +52,10 @@ def differences(run, trace, text):
     raised = next((e[3] for e in reversed(events) if e[0] == "exception"), None)
     if trace.status == RAISED and raised != end:
         found.append(f"raised {raised}, CPython {end}")
+    if trace.status == RAISED and not found:
+        told, traceback = tracebacks(text, last)
+        if told != traceback:
+            found.append(f"traceback {told!r}, CPython {traceback!r}")
     events, wanted = compared(events, text), compared(wanted, text)
     at = first_difference(events, wanted, is_whole)
     if at is not None:
@@ -60,8 +64,8 @@ def differences(run, trace, text):
 
 
 def random_script(seed):
-    """Every second one has line ends within parentheses."""
-    text = program(seed, supported=True)
+    """Every second one has line ends within parentheses, and most have lists, tuples and ranges."""
+    text = program(seed, containers=seed % 4 > 0)
     return broken(text, seed) if seed % 2 else text
 
 

@@ -1,6 +1,7 @@
 """Scripts with line ends within parentheses, and which of their lines are told otherwise by CPython, as docs/DECISIONS.md lists it."""
 import ast
 import random
+import re
 
 
 def broken(text, seed, often=0.2):
@@ -30,6 +31,13 @@ def is_on_lines_of_their_own(tree):
     """Whether each expression and each list of parameters stands on one line."""
     return all(n.lineno == n.end_lineno for n in ast.walk(tree) if isinstance(n, (ast.expr, ast.arg))) and not any(
         d.lineno != f.lineno for f in ast.walk(tree) if isinstance(f, (ast.FunctionDef, ast.Lambda)) for d in f.args.defaults + f.args.kw_defaults if d)
+
+
+def compared_traceback(traceback, text):
+    """What is compared of a traceback: where an expression stands on several lines, neither these nor their numbers."""
+    if is_on_lines_of_their_own(ast.parse(text)):
+        return traceback
+    return "\n".join(re.sub(r", line \d+,", ",", line) for line in traceback.splitlines() if not line.startswith("    "))
 
 
 def compared(events, text):

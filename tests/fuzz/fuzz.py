@@ -100,7 +100,7 @@ def compiled(built, folder, many):
     path = os.path.join(folder, "script.py")
     for seed in range(many):
         with open(path, "w") as script:
-            script.write(program(seed, supported=True))
+            script.write(program(seed, containers=seed % 2 > 0))
         found.append(built(path))
     return [data for data in found if data]
 

@@ -1,5 +1,5 @@
-"""Compares runs by the definitions of `sem_run.run` and `pt_host` with those of CPython 3.12.1: what is printed, the events in order, and the
-ending, over the written scripts below and over random ones.
+"""Compares runs by the definitions of `sem_run.run`, `pt_host` and `pt_prog` with those of CPython 3.12.1: what is printed, the events in order,
+the ending, and the traceback of an exception that leaves the script, over the written scripts below and over random ones.
 
   check_objects.py [--crates FOLDER] [--from N] [--many N] [--show SEED] [--bare] [--coded]
 
@@ -8,6 +8,9 @@ those with the same of the script's code, of at most 2,000 acts.
 """
 import argparse
 import collections
+import contextlib
+import io
+import os
 import re
 import sys
 import warnings
@@ -19,7 +22,10 @@ from objects import ObjectRunner, text_of
 from programs import program
 from record import CALLS, Recorder
 
-import deep  # noqa: I001
+sys.path.append(os.path.join(os.path.dirname(os.path.abspath(__file__)), "..", "tracebacks"))
+
+import deep  # noqa: E402
+from raising import exception_of, printed as traceback_of  # noqa: E402
 
 # exceptions whose texts are CPython's
 NAMED = ("<NameError>", "<UnboundLocalError>")
@@ -28,6 +34,18 @@ NAMED = ("<NameError>", "<UnboundLocalError>")
 def as_here(text):
     """What CPython prints, in which functions have no text of their own here."""
     return re.sub(r"<built-in function \w+>", "<builtin_function_or_method object>", re.sub(r"<function \S+ at 0x\w+>", "<function object>", text))
+
+
+def traceback_by_python(text):
+    """What CPython prints of the exception that leaves a script, without suggestions of other names."""
+    with contextlib.redirect_stdout(io.StringIO()):
+        return re.sub(r"\. Did you mean: '\w+'\?$", "", traceback_of(exception_of("script.py", text)), flags=re.MULTILINE)
+
+
+def by_class(traceback):
+    """A traceback in which exceptions stand by their classes alone, but for those whose texts are CPython's."""
+    lines = [re.sub(r"^(\w+): .*", lambda m: m[0] if f"<{m[1]}>" in NAMED else m[1], line) for line in traceback.splitlines()]
+    return "\n".join(lines)
 
 
 class Told:
@@ -59,6 +77,7 @@ class Check:
                 told.hear("tool", (of_ended_iteration, of_one_line, of_spread_call), (EVENTS[what[0]], *where, value, False, event["frame"]))
         told.log = [text_of(o[1]) for o in outputs if o[0] == "logs"]
         out = "".join(text_of(o[1]) for o in outputs if o[0] == "prints")
+        self.traceback = self.runner.traceback(step[1][1], step[1][2]["world"]) if step[0] == "ends" and step[1][0] == "raised" else ""
         return told, out, self.ending(step, heap), sum(o[0] == "begins" for o in outputs)
 
     def ending(self, step, heap):
@@ -91,6 +110,9 @@ class Check:
             difference = difference or ["end", recorder.end, end]
         if not left and end[:2] == ("raised", recorder.end) and recorder.end in NAMED and recorder.error != end[2]:
             difference = difference or ["text", recorder.error, end[2]]
+        if not left and difference is None and end[0] == "raised":
+            a, b = by_class(traceback_by_python(text)), by_class(self.traceback)
+            difference = None if a == b else ["traceback", a, b]
         return difference, end, acts, sum(len(e) for e in told.heard.values())
 
 
@@ -131,8 +153,47 @@ WRITTEN = [
     ("x = 170141183460469231731687303715884105727\nprint(x)\nprint(x + 1)\n", 99, "170141183460469231731687303715884105727\n", [1, 2, 3], 10,
      ("outside", "Integer", 3)),
     ("x = 1\nprint(x / 2)\n", 99, "", [1, 2], 6, ("outside", "Float", 2)),
-    ("print('a' * 2)\n", 99, "", [1], 4, ("outside", "Feature", 1)),
+    ("print('a' * 2)\n", 99, "aa\n", [1], 6, ("done",)),
+    ("print({1})\n", 99, "", [1], 3, ("outside", "Feature", 1)),
 ]
+
+
+# scripts of lists, tuples and ranges
+CONTAINERS = [
+    "for i in range(3): print([i], 'x')\n",
+    "for i in [1, 2]:\n    print(i)\nelse:\n    print('no break')\nprint(i)\n",
+    "for c in 'h\u00e9\u4e16':\n    if c == '\u4e16': break\n    print(c, end='|')\nelse:\n    print('never')\nprint()\n",
+    "for i in range(5):\n    if i % 2: continue\n    print(i, end=' ')\nprint(sep='-')\n",
+    "a, (b, c) = 1, [2, (3,)]\nprint(a, b, c, sep='; ', end='.\\n')\n",
+    "[a, b] = 'xy'\n(c,) = range(7, 8)\nprint(a + b, c)\n",
+    "for (a, b), c in [((1, 2), 3), ('pq', 'r')]: print(a, b, c)\n",
+    "a, b = [1, 2, 3]\n", "a, b = (1,)\n", "a, b = 5\n", "a, b = range(3)\n", "for a, b in [1]: pass\n", "for x in 5: pass\n", "for x in None: print(x)\n",
+    "a = [1, 2, 3]\nprint(a[0], a[-1], a[True], (4, 5)[1], 'ab\u00e9'[2], range(9)[4], range(9)[-1])\n",
+    "print([1, 2][2])\n", "print(()[0])\n", "print('abc'[-4])\n", "print([1]['a'])\n", "print(5[0])\n", "print(range(3)[3])\n",
+    "print(len([1, [2]]), len(()), len('h\u00e9'), len(range(2, 9, 3)), len(range(3, 1)))\n", "len(5)\n",
+    "print([], (), (1,), [1, (2, [3])], ['a', \"it's\"], [None, True, ...])\n", "print(range(3), range(1, 4), range(9, 1, -2), [range(2)])\n",
+    "print(str([1, 'a']), repr('a\\n'), str('a'), str(), repr(None), str(True))\n", "print(int('12'), int(), int(True), int(-3), bool([]), bool('a'), bool())\n",
+    "x = [1, 2]\ny = x\nz = [1, 2]\nprint(x is y, x is z, x == z, x != y)\n", "print(1 in [1, 2], 3 not in (1, 2), 2 in range(5), [] in [[]])\n",
+    "def f(a, b=(1, 2)):\n    for x in b:\n        a = a + x\n        if a > 3: return [a, b]\n    return a,\nprint(f(0), f(3), f(1, b=[1, 1]))\n",
+    "def total(xs):\n    t = 0\n    for x in xs: t += x\n    return t\nprint(total([1, 2, 3]), total(range(10)), total(()))\n",
+    "def f():\n    for i in (1, 2):\n        try:\n            if i == 1: continue\n            return i\n        finally:\n            print('left', i)\nprint(f())\n",
+    "for i in range(2):\n    for j in range(3):\n        if j == 1: break\n        print(i, j)\n    else:\n        print('inner')\nelse:\n    print('outer')\n",
+    "it = iter([1, 2])\nfor x in it: print(x)\nfor x in it: print('none')\nelse: print('at its end')\n",
+    "p = print\nl = len\np(l([p, l]), callable(p))\n", "print(list, range, len)\nfor f in (str, repr): print(f('a'))\n", "print(*[1, 2])\n", "print('a', sep=1)\n",
+    "print('a', end=2)\n", "print('a', 'b', sep=None, end=None)\n", "print(1, file=None)\n", "len(x=1)\n", "range('a')\n", "range(1, 2, 0)\n", "for x in range(0, 10**20, 4 * 10**19): print(x)\n",
+    "x = 1, 2\nfor i in x: x = i\nprint(x)\n", "a = b = [0]\nprint(a is b, not a, not ())\n", "print(not [], 1 if (0,) else 2)\nwhile []: pass\n", "for _ in (): print('no')\nprint(_)\n",
+]
+
+
+def containers(check):
+    """How many of those scripts differ from CPython."""
+    bad = 0
+    for text in CONTAINERS:
+        difference, end, _, _ = check.compare(text)
+        if difference:
+            bad += 1
+            print(text, *difference, sep="\n    ")
+    return bad
 
 
 def written(check):
@@ -220,17 +281,17 @@ def main():
     p.add_argument("--bare", action="store_true")
     p.add_argument("--coded", action="store_true")
     a = p.parse_args()
-    plain = CALLING + [w[:2] for w in WRITTEN] + [(program(s), 20000) for s in range(a.first, a.first + a.many)]
+    plain = CALLING + [w[:2] for w in WRITTEN] + [(t, 999) for t in CONTAINERS] + [(program(s, containers=s % 2 > 0), 20000) for s in range(a.first, a.first + a.many)]
     if a.coded:
         return by_code(a.crates, plain)
     check = Check(a.crates)
     if a.bare:
         return bare(check, plain)
-    bad = 0 if a.show is not None else written(check)
+    bad = 0 if a.show is not None else written(check) + containers(check)
     ends, acts, events = collections.Counter(), 0, 0
     seeds = [a.show] if a.show is not None else range(a.first, a.first + a.many)
-    for seed in seeds:
-        text = program(seed)
+    calling = [] if a.show is not None else sorted({(text, text) for text, _ in CALLING})
+    for seed, text in [(seed, program(seed, containers=seed % 4 > 0)) for seed in seeds] + calling:
         difference, end, taken, told = check.compare(text)
         ends[" ".join(str(e) for e in end[:2])] += 1
         acts, events = acts + taken, events + told
@@ -240,7 +301,7 @@ def main():
         if a.show is not None:
             print("\n".join(f"{i + 1:3} {line}" for i, line in enumerate(text.split("\n"))), end)
     print(", ".join(f"{k} {n}" for k, n in sorted(ends.items())))
-    print(f"{len(WRITTEN)} written scripts, {len(seeds)} random ones, {acts} acts, {events} events, {bad} with a difference")
+    print(f"{len(WRITTEN) + len(CONTAINERS) + len(calling)} written scripts, {len(seeds)} random ones, {acts} acts, {events} events, {bad} with a difference")
     return bad > 0
 
 

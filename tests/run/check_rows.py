@@ -14,7 +14,7 @@ HERE = os.path.dirname(os.path.abspath(__file__))
 sys.path[:0] = [HERE, os.path.join(HERE, ".."), os.path.join(HERE, "..", "code")]
 
 import deep  # noqa: E402
-from check_objects import WRITTEN, Check  # noqa: E402
+from check_objects import CONTAINERS, WRITTEN, Check  # noqa: E402
 from definitions import STD, integer, items, listed  # noqa: E402
 from follow import Checked  # noqa: E402
 from machines import NONE, WORDS, Pieces, Script, Specs  # noqa: E402
@@ -185,7 +185,8 @@ def main():
     a = p.parse_args()
     check = Check(a.crates)
     rows, bad, ends, acts = Rows(a.crates, check.runner), 0, collections.Counter(), 0
-    scripts = [w[:2] for w in WRITTEN] + [(program(seed), a.most) for seed in range(a.first, a.first + a.many)]
+    scripts = [w[:2] for w in WRITTEN] + [(t, a.most) for t in CONTAINERS]
+    scripts += [(program(seed, containers=seed % 4 > 0), a.most) for seed in range(a.first, a.first + a.many)]
     for text, most in scripts:
         found, wanted = rows.run(text, most), by_tree(check, text, most)
         ends[" ".join(map(str, found[2][:2]))] += 1
@@ -194,7 +195,7 @@ def main():
             bad += 1
             print(text, found, wanted, sep="\n    ")
     print(", ".join(f"{k} {n}" for k, n in sorted(ends.items())))
-    print(f"{len(WRITTEN)} written scripts, {a.many} random ones, {acts} acts, {bad} with a difference")
+    print(f"{len(WRITTEN) + len(CONTAINERS)} written scripts, {a.many} random ones, {acts} acts, {bad} with a difference")
     return bad > 0
 
 

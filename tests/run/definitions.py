@@ -122,7 +122,7 @@ class Reader:
         if kind == "number":
             return ("number", int(word))
         if kind == "text":
-            return ("text", re.sub(r"\\(.)", lambda m: {"n": "\n"}.get(m[1], m[1]), word[1:-1]))
+            return ("text", re.sub(r"\\(.)", lambda m: {"n": "\n", "r": "\r", "t": "\t"}.get(m[1], m[1]), word[1:-1]))
         if word == "record":
             base = None if self.sees("{") else self.atom()
             self.take("{")
@@ -234,8 +234,17 @@ class Definitions:
         parts = path.split(".")
         if parts[0] != "Rattle" or parts[1] == "std" or "specs" not in parts or "declared" in parts:
             return None
-        name = os.path.join(self.crates, parts[1], "specs", *parts[3:]) + ".antt"
-        return name if os.path.exists(name) else None
+        folder = os.path.join(self.crates, parts[1], "specs")
+        name = os.path.join(folder, *parts[3:]) + ".antt"
+        if os.path.exists(name):
+            return name
+        # what the crate hands on of one below it
+        handed_on = os.path.join(folder, "Lib.antt")
+        if len(parts) < 5 or not os.path.exists(handed_on):
+            return None
+        with open(handed_on, encoding="utf-8") as lib:
+            below = {own: path for path, own in re.findall(r"pub use (Rattle\.\w+\.specs) as (\w+)", lib.read())}
+        return self.file_of(".".join([below[parts[3]], *parts[4:]])) if parts[3] in below else None
 
     def module(self, path):
         if path not in self.modules:

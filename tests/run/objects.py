@@ -43,11 +43,12 @@ class ObjectRunner(Runner):
         self.start_world = self.get("pt_host", "World", "start_world")
         self.no_names = self.get("pt_host", "World", "no_names")
         self.texts_of = self.get("pt_host", "Constants", "texts_of")
-        self.class_name = self.get("pt_prims", "Classes", "class_name")
+        self.class_name = self.get("pt_content", "Classes", "class_name")
         self.writes = self.get("sem_run", "run.Run", "writes")
         self.bare_start = self.get("pt_bare_runs", "Strides", "start")
         self.first_logged = self.get("pt_bare_runs", "Strides", "logged")
         self.stride = self.get("pt_bare_runs", "Strides", "stride")
+        self.last_writes = self.get("pt_prog", "Answer", "last_writes")
 
     def around(self, blocks, block):
         plain = super().around(blocks, block)
@@ -67,8 +68,8 @@ class ObjectRunner(Runner):
         blocks = self.blocks(text)
         around = [self.around(blocks, b) for b in blocks]
         facts = [facts_of(b) for b in blocks]
-        program = {"facts": lambda b: facts[b["number"]], "texts": self.texts_of(self.trees(text).tree),
-                   "file": word("script.py"), "source": ("Some", word(text))}
+        self.program = program = {"facts": lambda b: facts[b["number"]], "texts": self.texts_of(self.trees(text).tree),
+                                  "file": word("script.py"), "source": ("Some", word(text))}
         machine = self.machine({
             "code": lambda b: blocks[b["number"]].record["code"],
             "around": lambda b: around[b["number"]],
@@ -97,7 +98,11 @@ class ObjectRunner(Runner):
                 return written, stride[2], stride[3]
             state = stride[2]
 
-    def describe(self, value, heap):
+    def traceback(self, error, world):
+        """What the log gets last of the script that began last, where this exception left it."""
+        return "".join(text_of(w["text"]) for w in items(self.last_writes(self.program, 0, ("raised", error, world))))
+
+    def describe(self, value, heap, depth=3):
         """A value, in the words of `record.describe`."""
         match value:
             case ("None",):
@@ -117,6 +122,9 @@ class ObjectRunner(Runner):
                         return "<builtin>"
                     case "Class":
                         return f"<class {text_of(thing[1]['name'])}>"
+                    case "List" | "Tuple":
+                        inner = ", ".join(self.describe(v, heap, depth - 1) for v in items(thing[1])) if depth else ""
+                        return f"{thing[0].lower()}({inner})" if depth else "..."
         return f"<{text_of(self.class_name(heap, value))}>"
 
     @staticmethod

@@ -1,5 +1,6 @@
 """Random scripts of numbers, texts, names, branches, `while` loops and functions: closures, `nonlocal` and `global`, defaults, arguments
-by name, decorators and recursion. One statement stands on a line. Loops and recursions end, and some scripts raise."""
+by name, decorators and recursion; some of lists, tuples and ranges as well, with `for` loops, unpacking and subscripts. One statement
+stands on a line. Loops and recursions end, and some scripts raise."""
 import random
 
 HEAD = """\
@@ -21,7 +22,7 @@ class Block:
 
     def __init__(self, depth, around=None):
         self.depth, self.around = depth, around
-        self.names, self.functions, self.loops = [], [], 0
+        self.names, self.functions, self.sequences, self.loops = [], [], [], 0
 
     def all(self, kind):
         block, found = self, []
@@ -32,11 +33,11 @@ class Block:
 
 
 class Program:
-    """`supported` says that `print` is called with one argument and stands nowhere else."""
+    """`containers` says that there are lists, tuples and ranges."""
 
-    def __init__(self, seed, supported=False):
+    def __init__(self, seed, containers=False):
         self.r = random.Random(seed)
-        self.lines, self.fresh, self.supported = list(HEAD), 0, supported
+        self.lines, self.fresh, self.containers = list(HEAD), 0, containers
 
     def name(self, stem):
         self.fresh += 1
@@ -52,12 +53,14 @@ class Program:
             return self.r.choice(names)
         chance = self.r.random()
         if chance < 0.006:
-            return self.r.choice(["unbound", "None", "...", "'a'", "same" if self.supported else "print"])
+            return self.r.choice(["unbound", "None", "...", "'a'", "print"])
         if chance < 0.1:
             return self.r.choice(["True", "False"])
         return str(self.r.choice([0, 1, 2, 3, 5] if chance < 0.99 else [17, 2 ** 64, 2 ** 127 - 1]))
 
     def exp(self, block, room=2):
+        if self.containers and self.r.random() < 0.2:
+            return self.of_sequence(block)
         if room <= 0 or self.r.random() < 0.25:
             return self.atom(block)
         a, b = lambda: self.exp(block, room - 1), lambda: self.atom(block)
@@ -88,6 +91,104 @@ class Program:
                 return f"('x' + {self.r.choice([repr('y'), repr('zz')])} {self.r.choice(['==', '!=', 'is'])} 'xy')"
         return self.call(block, room - 1)
 
+    # lists, tuples and ranges
+    def sequence(self, block, room=1):
+        names = block.all("sequences")
+        if names and self.r.random() < 0.4:
+            return self.r.choice(names)
+        match self.r.randrange(8):
+            case 0 | 1 | 2:
+                return f"[{', '.join(self.items(block, room))}]"
+            case 3 | 4:
+                items = self.items(block, room)
+                return f"({', '.join(items)}{',' * (len(items) == 1)})"
+            case 5:
+                return f"range({self.r.randrange(-1, 5)})"
+            case 6:
+                step = self.r.choice(["", ", 2", ", -1", ", -3", ", 0" if self.r.random() < 0.1 else ""])
+                return f"range({self.r.randrange(-2, 6)}, {self.r.randrange(-2, 6)}{step})"
+        return self.r.choice(["'abc'", "'\u00e9x'", "''"]) if self.r.random() < 0.3 else "(1, 2, 3)"
+
+    def items(self, block, room):
+        item = lambda: self.sequence(block, room - 1) if room and self.r.random() < 0.2 else self.exp(block, room)
+        return [item() for _ in range(self.r.randrange(4))]
+
+    def of_sequence(self, block):
+        """A number, a truth or an item, of a sequence."""
+        s = self.sequence(block)
+        match self.r.randrange(6):
+            case 0 | 1:
+                return f"len({s})"
+            case 2 | 3:
+                index = self.r.choice([0, 1, -1, 2, -2])
+                return f"{s}[{index}]" if self.r.random() < 0.03 else f"({s}[{index}] if len({s}) > 2 else {self.atom(block)})"
+            case 4:
+                return f"({self.atom(block)} {self.r.choice(['in', 'not in'])} {s})"
+        return self.r.choice([f"(not {s})", f"(1 if {s} else 0)", f"({s} is [1])", f"bool({s})", f"len(str({s}))"])
+
+    def fresh_target(self, block, made):
+        """A name that the statement binds, which isn't bound before."""
+        if block.names and self.r.random() < 0.5:
+            return self.r.choice(block.names)
+        made.append(self.name("v"))
+        return made[-1]
+
+    def pattern(self, block, made, room=1):
+        """A target, and a display that fits it, mostly."""
+        if not room or self.r.random() < 0.5:
+            return self.fresh_target(block, made), self.exp(block, 1)
+        inner = [self.pattern(block, made, room - 1) for _ in range(self.r.randint(1, 3))]
+        targets, values = ", ".join(t for t, _ in inner), [v for _, v in inner]
+        if self.r.random() < 0.02:
+            values.append("0")
+        return self.r.choice([f"({targets},)", f"[{targets}]"]), self.r.choice([f"[{', '.join(values)}]", f"({', '.join(values)},)"])
+
+    def for_loop(self, block, deeper, room):
+        names, made = list(block.names), []
+        if self.r.random() < 0.3:
+            target, value = self.pattern(block, made)
+            over = self.r.choice([f"[{value}]", f"({value}, {value})"])
+        else:
+            target, over = self.fresh_target(block, made), self.sequence(block)
+        self.put(block, f"for {target} in {over}:", deeper)
+        block.names += made
+        self.body(block, deeper + 1, room - 1)
+        if self.r.random() < 0.4:
+            self.put(block, f"if {self.test(block)}:", deeper + 1)
+            self.put(block, self.r.choice(["break", "continue"]), deeper + 2)
+        if self.r.random() < 0.4:
+            self.put(block, "else:", deeper)
+            self.body(block, deeper + 1, 0)
+        if self.r.random() < 0.95:
+            block.names = names
+
+    def of_containers(self, block, deeper, room):
+        put = lambda text: self.put(block, text, deeper)
+        match self.r.randrange(8):
+            case 0 | 1 if room > 0:
+                self.for_loop(block, deeper, room)
+            case 2 | 3:
+                value, name = self.sequence(block), self.name("s")
+                put(f"{name} = {value}")
+                if not deeper:
+                    block.sequences.append(name)
+            case 4 | 5:
+                made = []
+                target, value = self.pattern(block, made, 2)
+                put(f"{target} = {value}")
+                block.names += made
+            case 6:
+                made = []
+                target = f"{self.fresh_target(block, made)}, {self.fresh_target(block, made)}"
+                put(f"{target} = {self.r.choice(['1, 2', '(3, 4)', 'range(2)', '[5, True]', repr('yz')] + [self.sequence(block)] * (self.r.random() < 0.1))}")
+                block.names += made
+            case _:
+                values = [self.r.choice([self.exp, self.sequence])(block) for _ in range(self.r.randrange(4))]
+                for word in ("sep", "end"):
+                    if self.r.random() < 0.3:
+                        values.append(f"{word}={self.r.choice([repr('-'), repr(''), repr(';'), 'None'] + ['3'] * (self.r.random() < 0.05))}")
+                put(f"print({', '.join(values)})")
+
     def call(self, block, room):
         functions = block.all("functions")
         if not functions:
@@ -117,6 +218,8 @@ class Program:
 
     def statement(self, block, deeper, room):
         put = lambda text: self.put(block, text, deeper)
+        if self.containers and self.r.random() < 0.45:
+            return self.of_containers(block, deeper, room)
         match self.r.randrange(16):
             case 0 | 1 | 2:
                 value = self.exp(block)
@@ -151,7 +254,7 @@ class Program:
             case 14:
                 put(self.call(block, 1))
             case _:
-                put(f"print({', '.join(self.exp(block, 2) for _ in range(1 if self.supported else self.r.randrange(1, 3)))})")
+                put(f"print({', '.join(self.exp(block, 2) for _ in range(self.r.randrange(1, 3)))})")
 
     def body(self, block, deeper, room):
         names = list(block.names)
@@ -222,5 +325,5 @@ class Program:
         return "\n".join(self.lines) + "\n"
 
 
-def program(seed, supported=False):
-    return Program(seed, supported).text()
+def program(seed, containers=False):
+    return Program(seed, containers).text()

@@ -1,4 +1,4 @@
-"""Runs the definitions of tracebacks beside CPython, over each case of scripts.py.
+"""Runs the definitions of tracebacks beside CPython, over each case of raising.py.
 
 Run with CPython 3.12 in this folder.
 """
@@ -6,7 +6,7 @@ Run with CPython 3.12 in this folder.
 import sys
 from pathlib import Path
 
-import scripts
+import raising
 
 HERE = Path(__file__).resolve().parent
 sys.path.insert(0, str(HERE.parent / "run"))
@@ -38,7 +38,7 @@ def main():
     source_lines = everything.get("Rattle.pt_tracebacks.specs.Lines", "source_lines")
     traceback_text = everything.get("Rattle.pt_tracebacks.specs.Texts", "traceback_text")
     count = differ = 0
-    for name, text, exceptions, expected in scripts.cases():
+    for name, text, exceptions, expected in raising.cases():
         blocks = sorted({block for x in exceptions for _, block in x[5]})
         heap, first = heap_of(exceptions, blocks)
         told = summaries(lambda n: listed(blocks[n].encode()), heap, ("Obj", {"0": first}))

@@ -7,7 +7,8 @@ and the lines and blocks of the frames, the newest call first.
 
 from pathlib import Path
 
-import scripts
+import raising
+from escapes import escape_ascii
 
 CRATE = Path(__file__).resolve().parent.parent.parent / "crates" / "test_tracebacks"
 ESCAPES = {"\\": "\\\\", "\n": "\\n", "\r": "\\r", "\t": "\\t", "\f": "\\f"}
@@ -18,12 +19,6 @@ def escaped(text, blanks=False):
     return "".join(ESCAPES.get(c) or ("\\x20" if c == " " and blanks else c) for c in text) if text else "\\_"
 
 
-def printed(text):
-    """What `escape_ascii` writes of a text."""
-    special = {9: "\\t", 10: "\\n", 13: "\\r", 34: '\\"', 39: "\\'", 92: "\\\\"}
-    return "".join(special.get(b) or (chr(b) if 32 <= b < 127 else f"\\x{b:02x}") for b in text.encode())
-
-
 def without_source(text):
     """A traceback as that of a file of code, which has no source lines."""
     return "".join(line for line in text.splitlines(keepends=True) if not line.startswith("    "))
@@ -31,7 +26,7 @@ def without_source(text):
 
 def main():
     rows, answers = [], []
-    for n, (name, text, exceptions, expected) in enumerate(scripts.cases()):
+    for n, (name, text, exceptions, expected) in enumerate(raising.cases()):
         blocks = sorted({block for x in exceptions for _, block in x[5]})
         fields = []
         for class_name, argument, cause, context, hides, frames in exceptions:
@@ -41,10 +36,10 @@ def main():
                 "-" if context is None else str(context), "hides" if hides else "shows", trace or "-"]))
         rest = [",".join(blocks), *fields]
         rows.append("\t".join([name, f"run {escaped(text)}", *rest]))
-        answers.append(printed(expected))
+        answers.append(escape_ascii(expected))
         if n % 5 == 0:
             rows.append("\t".join([name, "exec", *rest]))
-            answers.append(printed(without_source(expected)))
+            answers.append(escape_ascii(without_source(expected)))
     (CRATE / "data").mkdir(exist_ok=True)
     (CRATE / "data" / "rows.txt").write_text("\n".join(rows) + "\n")
     (CRATE / "stdout").write_text("\n".join(answers) + "\n")

@@ -30,12 +30,12 @@ use Rattle.pt_bare_runs.specs.Strides as bare
 use Rattle.pt_bare_runs.specs.Strides.{Outcome, take_turn}
 use Rattle.pt_bare_writes.proofs.FrontLemmas.{outcomes_begin_so}
 use Rattle.sem_code_machine.specs.code_machine.CodeBlocks.{machine, start_of}
-use Rattle.pt_code_loader.specs.Loaded.{iterates}
+use Rattle.pt_run_code.specs.pt_code_loader.Loaded.{iterates}
 use Rattle.law_fits.proofs.Runs.{starts_sound}
-use Rattle.pt_runner.specs.Work.{Work, RunDoes}
-use Rattle.pt_runner.proofs.GoesTo.{does_one_work, runs_so}
-use Rattle.law_loading.specs.code_program.CodeProgram.{AreObjectsOf, code_blocks, iterates_by, number_in, program_of_code, the_module}
-use Rattle.law_loading.proofs.code_program.Objects.{at_number, begins}
+use Rattle.pt_run_code.specs.pt_runner.Work.{Work, RunDoes}
+use Rattle.pt_run_code.proofs.pt_runner.GoesTo.{does_one_work, runs_so}
+use Rattle.pt_run_code.specs.law_loading.code_program.CodeProgram.{AreObjectsOf, code_blocks, iterates_by, number_in, program_of_code, the_module}
+use Rattle.pt_run_code.proofs.law_loading.code_program.Objects.{at_number, begins}
 use Rattle.pt_run_code.specs.CodeRun.{nothing, of_run}
 use Rattle.law_code_ends.specs.Laws.{CodeRunsToOneOutcome, OutcomeBeginsWithFirstWrites}
 use Rattle.law_code_ends.proofs.Strides.{TurnIn}

@@ -4,3 +4,4 @@ mod Fitting
 mod Outside
 mod Runs
 pub mod Ends
+pub use Rattle.pt_run_code.proofs as pt_run_code

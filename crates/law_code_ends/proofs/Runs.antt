@@ -6,7 +6,7 @@ use Rattle.sem_run.specs.run.Machine.{BlockId, Machine}
 use Rattle.sem_run.specs.run.Events as events
 use Rattle.sem_run.specs.run.Host.{Host}
 use Rattle.pt_bare_runs.specs.Strides.{State, Stride, goes, stride, take_turn, logged, start, Outcome, outcome_behind}
-use Rattle.pt_runner.specs.Work.{Work, both, work_of, work_at, slots_next, ends_spent, Does, ends_so, goes_on, RunDoes}
+use Rattle.pt_run_code.specs.pt_runner.Work.{Work, both, work_of, work_at, slots_next, ends_spent, Does, ends_so, goes_on, RunDoes}
 use Rattle.law_code_ends.proofs.Strides.{TurnIn, Stays, stride_same, stride_stays}
 
 module _ {V N W : Type 0} (machine : Machine (slots.State V) V) (turn : BlockId → slots.State V → Turn (slots.State V) V) (host : Host N V W) (n : ℕ)

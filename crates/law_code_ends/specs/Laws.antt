@@ -7,7 +7,7 @@ use Rattle.sem_run.specs.run.Run.{Write}
 use Rattle.pt_bare_runs.specs.Strides.{Outcome}
 use Rattle.sem_fits.specs.fits.Fits.{AllFit}
 use Rattle.pt_host.specs.World.{World}
-use Rattle.pt_runner.specs.Work.{Work}
+use Rattle.pt_run_code.specs.pt_runner.Work.{Work}
 use Rattle.pt_run_code.specs.CodeRun.{CodeRunsTo, CodeWritesFirst}
 
 -- under a bound on acts it comes to one outcome at most, by one work

@@ -1,9 +1,8 @@
 -- Each answer of the host keeps the names of the activation that asks, and opens blocks with theirs.
 use Rattle.std.proofs.Common.{◌≡◌, ◌∙◌, ◌+◌, ◌-◌, ℕ, Bool, true, false, List, [], ◌∷◌, ◌++◌, length, map, drop, Option, Some, None, if◌then◌else◌, refl, sym, ap, arith}
-use Rattle.std.specs.Prelude.{Result, Ok, Err, slice_get, nat_eq}
+use Rattle.std.specs.Prelude.{Result, Ok, Err, slice_get, slice_set}
 use Rattle.std.specs.Map.{keys_of}
 use Rattle.std.proofs.lemmas.List.{length-map, length-drop, map-append}
-use Rattle.pt_heap.specs.Limits.{object_limit}
 use Rattle.pt_base.specs.declared.numbers.ObjId.{ObjId}
 use Rattle.pt_base.specs.declared.what.What.TheVariants.{Feature}
 use Rattle.sem_control.specs.control.Turn as T
@@ -11,7 +10,6 @@ use Rattle.sem_control.specs.control.Turn.{Ask, Seek, Deed, Operation, Role, Sco
 use Rattle.pt_tree.specs.Syntax.{Name}
 use Rattle.pt_heap.specs.declared.value.Value.{Value}
 use Rattle.pt_heap.specs.declared.value.Value.TheVariants as value
-use Rattle.pt_heap.specs.declared.view.Binding.{Binding}
 use Rattle.pt_heap.specs.declared.object.Function.{Function}
 use Rattle.pt_heap.specs.declared.object.Object.{Object}
 use Rattle.pt_heap.specs.declared.object.Object.TheVariants as object
@@ -20,31 +18,40 @@ use Rattle.pt_bind.specs.Binding.{names_of, binding_with}
 use Rattle.pt_bind.specs.declared.arguments.Args.{Args}
 use Rattle.pt_bind.specs.declared.arguments.BindErr.{BindErr}
 use Rattle.pt_bind.specs.declared.arguments.Locals.{Locals}
-use Rattle.pt_prims.specs.Classes.{class_name}
-use Rattle.pt_prims.specs.Operands.{operand_of}
-use Rattle.pt_prims.specs.Operations.{of_function, content_of, grown, with_text, prim_answer, prim_heap}
-use Rattle.pt_prims.specs.declared.op.Op.{Op}
-use Rattle.pt_prims.specs.declared.op.Op.TheVariants as op
-use Rattle.pt_prims.specs.declared.content.Content.{Content}
-use Rattle.pt_prims.specs.declared.content.Content.TheVariants as content
-use Rattle.pt_prims.specs.declared.operand.Operand.{Operand}
-use Rattle.pt_prims.specs.declared.operand.Operand.TheVariants as operand
-use Rattle.pt_prims.specs.declared.answer.PrimAns.{PrimAns}
-use Rattle.pt_prims.specs.declared.answer.PrimAns.TheVariants as prim
+use Rattle.pt_content.specs.Changes.{added, changed, has_kind, has_room, holding, made as new_object, replaced}
+use Rattle.pt_content.specs.Classes.{class_name}
+use Rattle.pt_content.specs.Functions.{of_function}
+use Rattle.pt_content.specs.Operands.{operand_of}
+use Rattle.pt_content.specs.declared.content.Change.{Change}
+use Rattle.pt_content.specs.declared.content.Content.{Content}
+use Rattle.pt_content.specs.declared.content.Content.TheVariants as content
+use Rattle.pt_content.specs.declared.content.Mutable.{Mutable}
+use Rattle.pt_content.specs.declared.content.Mutable.TheVariants as mutable
+use Rattle.pt_content.specs.declared.content.NewObject.{NewObject}
+use Rattle.pt_content.specs.declared.content.NewObject.TheVariants as new
+use Rattle.pt_content.specs.declared.content.Replacement.{Replacement}
+use Rattle.pt_content.specs.declared.function.Function.{Function as BuiltinFunction}
+use Rattle.pt_content.specs.declared.op.Op.{Op}
+use Rattle.pt_content.specs.declared.op.Op.TheVariants as op
+use Rattle.pt_content.specs.declared.operand.Operand.{Operand}
+use Rattle.pt_content.specs.declared.operand.Operand.TheVariants as operand
+use Rattle.pt_prims.specs.Operations.{content_of, grown, prim_heap}
 use Rattle.sem_run.specs.run.Machine.{BlockId}
 use Rattle.sem_run.specs.run.Host.{Here, BlockResult, answer, raise, print, leave, request, opens, made, beyond}
 use Rattle.pt_host.specs.World.{Names, Stores, CodeFacts, Program, Allotted, with_objects, allot}
-use Rattle.pt_host.specs.Trees.{Tree, and_then, answer_with, raise_with}
+use Rattle.pt_host.specs.Trees.{Tree, answer_with, raise_with}
 use Rattle.pt_host.specs.Builtins as B
 use Rattle.pt_host.specs.Builtins.{builtin}
-use Rattle.pt_host.specs.Errors.{error, error_saying, raise_error, raise_saying}
+use Rattle.pt_host.specs.Errors.{error_saying, raise_saying}
 use Rattle.pt_host.specs.declared.places.TheConstants.{TYPE_ERROR}
 use Rattle.pt_host.specs.Texts.{unbound_text, unbound_class, binding_text, not_callable_text}
 use Rattle.pt_host.specs.Variables.{cell_number, with_cell, put, make_anew, raise_unbound, by_builtin, unless_bound, readable_value, variable_value, load_by, delete_by}
-use Rattle.pt_host.specs.Calls.{arguments_of, not_callable, number_of, function_object, of_prim, by_prim, first_value, cells_from, cells_along, result_of, block_of, parameters_given, run_block, call_bound, is_simple, call_function, by_operation, call_other, call_object, call_value, call, has_spread, arguments}
-use Rattle.pt_host.specs.Answers.{truth, branch, deeds, operate, seeks, answers}
+use Rattle.pt_host.specs.Primitives.{Awaited, asked, one_value, done, a_truth, so_many, item_or_end}
+use Rattle.pt_host.specs.Calls.{not_callable, number_of, function_object, first_value, cells_from, cells_along, result_of, block_of, parameters_given, run_block, call_bound, is_simple, call_function, operands_of, call_with, call_builtin, class_function, call_other, call_object, call_value, call, has_spread, arguments}
+use Rattle.pt_host.specs.Answers.{change_of, by_change, unpacking, deeds, operation_of, by_operation, operate, seeks, answers}
+use Rattle.pt_host.proofs.AskedEnds.{Ends, AllotsIn, asked-ends}
 use Rattle.law_frames.specs.RunNames.{HasItsNames, TakesCells, AllTakeCells, StoresHaveNames}
-use Rattle.law_frames.proofs.Stores.{IsOneOf, put-keeps, all-push, all-get, AllotsCells, allotted, error-allotted, saying-allotted, other-objects}
+use Rattle.law_frames.proofs.Stores.{IsOneOf, put-keeps, all-both, all-set, all-get, AllotsCells, allotted, error-allotted, saying-allotted, other-objects}
 
 -- what an ask of a block's code names: a name that is written is one of the block's, and a function gets as many cells as its block has free names
 module _ (program : Program) (b : BlockId) where
@@ -117,13 +124,13 @@ module _ (program : Program) (b : BlockId) where
   abbrev Has : Stores → Type 0
   Has st = StoresHaveNames program b st
 
-  behind-tree : {A B : Type 0} (a : Tree A) (f : A → Stores → Tree B) → K a → ((x : A) (st : Stores) → Has st → K (f x st)) → K (and_then a f)
-  behind-tree (answer x st) f p q = q x st p
-  behind-tree (raise v st) f p q = p
-  behind-tree (print t k) f p q = behind-tree k f p q
-  behind-tree (leave what) f p q = tt
-  behind-tree (request (opens o) st k) f p q = (p.0, (p.1.0, λ r st1 h. behind-tree (k r st1) f (p.1.1 r st1 h) q))
-  behind-tree (request r st k) f p q = tt
+  -- what requests nothing keeps them where its stores do
+  ends-keep : {A : Type 0} (t : Tree A) → Ends Has t → K t
+  ends-keep (answer x st) e = e
+  ends-keep (raise v st) e = e
+  ends-keep (print t k) e = ends-keep k e
+  ends-keep (leave what) e = tt
+  ends-keep (request r st k) e = absurd e
 
   either-tree : {A : Type 0} (c : Bool) (x y : Tree A) → K x → K y → K (if c then x else y)
   either-tree true x y p q = p
@@ -137,10 +144,6 @@ module _ (program : Program) (b : BlockId) where
   raised A (made v h) st s m = other-objects program b st h s m
   raised A (beyond what) st s m = tt
 
-  error-keeps : (A : Type 0) (c : ObjId) (args : List Value) (h : Here Value) (st : Stores) → Has st → K (raise_error {A = A} c args h st)
-  error-keeps A c args h st s = raised A (allot (error c args None h.active) st.world.heap) st s
-      (error-allotted program c args None h.active st.world.heap s.functions)
-
   saying-keeps : (A : Type 0) (c : ObjId) (t : List ℕ) (h : Here Value) (st : Stores) → Has st → K (raise_saying {A = A} c t h st)
   saying-keeps A c t h st s = raised A (error_saying c t None h.active st.world.heap) st s (saying-allotted program c t None h.active st.world.heap s.functions)
 
@@ -150,34 +153,65 @@ module _ (program : Program) (b : BlockId) where
   not-callable-keeps : (v : Value) (h : Here Value) (st : Stores) → Has st → K (not_callable v h st)
   not-callable-keeps v h st s = saying-keeps Value TYPE_ERROR (not_callable_text (class_name st.world.heap v)) h st s
 
-  -- operations on values
-  with-text : (t : List ℕ) (h : List Object) → AllTakeCells program h → AllTakeCells program (with_text t h)
-  with-text t h all = by (nat_eq (length h) object_limit)
+  -- no change of the heap makes a function
+  new-takes : (o : NewObject) → TakesCells program (new_object o)
+  new-takes (new.Text t) = tt
+  new-takes (new.List vs) = tt
+  new-takes (new.Tuple vs) = tt
+  new-takes (new.Dict es) = tt
+  new-takes (new.Set es) = tt
+  new-takes (new.Range r) = tt
+  new-takes (new.Slice x) = tt
+  new-takes (new.Cursor c) = tt
+  new-takes (new.View v) = tt
+  new-takes (new.Method m) = tt
+
+  all-new : (os : List NewObject) → AllTakeCells program (map new_object os)
+  all-new [] = tt
+  all-new (o ∷ os) = (new-takes o, all-new os)
+
+  holding-takes : (m : Mutable) → TakesCells program (holding m)
+  holding-takes (mutable.List vs) = tt
+  holding-takes (mutable.Dict es) = tt
+  holding-takes (mutable.Set es) = tt
+  holding-takes (mutable.Cursor c) = tt
+
+  replaced-takes : (r : Option Replacement) (h : List Object) → AllTakeCells program h → AllTakeCells program (replaced r h)
+  replaced-takes None h all = all
+  replaced-takes (Some r) h all = by (has_kind r.object (slice_get h r.id.0))
     where
-      by : (c : Bool) → AllTakeCells program (if c then h else h ++ object.Str t ∷ [])
-      by true = all
-      by false = all-push (TakesCells program) h (object.Str t) all tt
+      by : (c : Bool) → AllTakeCells program (if c then slice_set h r.id.0 (holding r.object) else h)
+      by true = all-set (TakesCells program) h r.id.0 (holding r.object) all (holding-takes r.object)
+      by false = all
 
-  heap-grown : (c : Content) (h : List Object) → AllTakeCells program h → AllTakeCells program (grown c h)
-  heap-grown (content.Text t) h all = with-text t h all
-  heap-grown (content.Raise class t) h all = with-text t h all
-  heap-grown c h all = all
+  changed-takes : (c : Change) (h : List Object) → AllTakeCells program h → AllTakeCells program (changed c h)
+  changed-takes c h all = by (has_room c.objects h)
+    where
+      by : (r : Bool) → AllTakeCells program (if r then replaced c.replacement (h ++ map new_object c.objects) else h)
+      by true = replaced-takes c.replacement (h ++ map new_object c.objects) (all-both (TakesCells program) h (map new_object c.objects) all (all-new c.objects))
+      by false = all
 
-  prim-keeps : (a : PrimAns) (h : Here Value) (st : Stores) → Has st → K (of_prim a h st)
-  prim-keeps (prim.Value v) h st s = s
-  prim-keeps (prim.Raise class v) h st s = error-keeps Value class (arguments_of v) h st s
-  prim-keeps (prim.Help helper) h st s = tt
-  prim-keeps (prim.Print t) h st s = s
-  prim-keeps (prim.Outside what) h st s = tt
+  grown-takes : (c : Content) (h : List Object) → AllTakeCells program h → AllTakeCells program (grown c h)
+  grown-takes (content.Value v) h all = all
+  grown-takes (content.New o) h all = changed-takes (added (o ∷ [])) h all
+  grown-takes (content.NewValues os) h all = changed-takes (added os) h all
+  grown-takes (content.Raise class t) h all = changed-takes (added (new.Text t ∷ [])) h all
+  grown-takes (content.Help helper inverted) h all = all
+  grown-takes (content.Print t) h all = all
+  grown-takes (content.Outside what) h all = all
+  grown-takes (content.Changed c x) h all = changed-takes c h all
 
-  by-prim-keeps : (o : Op) (vs : List Value) (h : Here Value) (st : Stores) → Has st → K (by_prim o vs h st)
-  by-prim-keeps o vs h st s =
-      prim-keeps (prim_answer o vs st.world.heap) h (with_objects (prim_heap o vs st.world.heap) st)
-      (other-objects program b st (prim_heap o vs st.world.heap) s (heap-grown (content_of o vs st.world.heap) st.world.heap s.functions))
+  -- operations on values
+  allots-in : (a : Allotted) (st : Stores) → Has st → AllotsCells program a → AllotsIn Has st a
+  allots-in (made v h) st s m = other-objects program b st h s m
+  allots-in (beyond what) st s m = tt
 
-  truth-keeps : (v : Value) (st : Stores) → Has st → K (truth v st)
-  truth-keeps (value.Bool c) st s = s
-  truth-keeps v st s = tt
+  asked-keeps : {A : Type 0} (w : Awaited A) (o : Op) (vs : List Value) (h : Here Value) (st : Stores) → Has st → K (asked w o vs h st)
+  asked-keeps w o vs h st s =
+      let k : List Object = prim_heap o vs st.world.heap in
+      let has : Has (with_objects k st) = other-objects program b st k s (grown-takes (content_of o vs st.world.heap) st.world.heap s.functions) in
+      ends-keep (asked w o vs h st)
+      (asked-ends Has w h o vs st has (λ c args. allots-in _ (with_objects k st) has (error-allotted program c args None h.active k has.functions)))
 
   -- names
   by-builtin-keeps : (u : B.Builtin) (s : Scope) (x : Name) (h : Here Value) (st : Stores) → Has st → K (by_builtin u s x h st)
@@ -262,9 +296,13 @@ module _ (program : Program) (b : BlockId) where
       either-tree (is_simple facts) (call_bound facts f (binding_with facts.params f.defaults args) h st) (leave Feature)
       (bound-keeps f (binding_with facts.params f.defaults args) h st s t) tt
 
-  operation-keeps : (o : Option Op) (bs : List Binding) (vs : List Value) (h : Here Value) (st : Stores) → Has st → K (by_operation o bs vs h st)
-  operation-keeps (Some o) [] vs h st s = by-prim-keeps o vs h st s
-  operation-keeps o bs vs h st s = tt
+  with-keeps : (f : BuiltinFunction) (o : Option (List Value)) (h : Here Value) (st : Stores) → Has st → K (call_with f o h st)
+  with-keeps f (Some vs) h st s = asked-keeps one_value (op.Call f) vs h st s
+  with-keeps f None h st s = tt
+
+  builtin-keeps : (o : Option BuiltinFunction) (args : Args) (h : Here Value) (st : Stores) → Has st → K (call_builtin o args h st)
+  builtin-keeps (Some f) args h st s = with-keeps f (operands_of f args) h st s
+  builtin-keeps None args h st s = tt
 
   other-keeps : (k : Operand) (v : Value) (h : Here Value) (st : Stores) → Has st → K (call_other k v h st)
   other-keeps operand.Instance v h st s = tt
@@ -274,8 +312,8 @@ module _ (program : Program) (b : BlockId) where
       → K (call_object program o v args h st)
   object-keeps (Some (object.Function f)) i v args h st e s = function-keeps f args h st s
       (all-get (TakesCells program) st.world.heap i (object.Function f) s.functions e)
-  object-keeps (Some (object.Builtin u)) i v args h st e s = operation-keeps (of_function u.number) args.named args.plain h st s
-  object-keeps (Some (object.Class c)) i v args h st e s = tt
+  object-keeps (Some (object.Builtin u)) i v args h st e s = builtin-keeps (of_function u.number) args h st s
+  object-keeps (Some (object.Class c)) i v args h st e s = builtin-keeps (class_function v) args h st s
   object-keeps (Some (object.Method m)) i v args h st e s = tt
   object-keeps o i v args h st e s = other-keeps (operand_of st.world.heap v) v h st s
 
@@ -294,17 +332,17 @@ module _ (program : Program) (b : BlockId) where
         taken xs vs (length (program.facts (record { hidden = h.block.hidden; number = n })).frees)
         (e ∙ ap (λ (k : BlockId). length xs + length (program.facts (record { hidden = k.hidden; number = n })).frees) (sym is))
 
+    operation-keeps : (o : Option Op) (vs : List Value) → K (by_operation o vs h st)
+    operation-keeps (Some o) vs = asked-keeps one_value o vs h st s
+    operation-keeps None vs = tt
+
     operate-keeps : (o : Operation) (vs : List Value) → NamesInOperation program b o vs → K (operate program o vs h st)
-    operate-keeps (T.unary o) vs i = by-prim-keeps (op.Unary o) vs h st s
-    operate-keeps T.inverted vs i = by-prim-keeps op.Not vs h st s
-    operate-keeps (T.binary o) vs i = by-prim-keeps (op.Binary o) vs h st s
-    operate-keeps (T.in_place o) vs i = by-prim-keeps (op.InPlace o) vs h st s
-    operate-keeps (T.compare o) vs i = by-prim-keeps (op.Compare o) vs h st s
+    operate-keeps (T.call rs) [] i = tt
     operate-keeps (T.call rs) (f ∷ vs) i = call-keeps rs f vs h st s
     operate-keeps (T.function n xs) vs i =
         answered (allot (function_object n h.block.hidden xs vs) st.world.heap) st s
         (allotted program (function_object n h.block.hidden xs vs) st.world.heap s.functions (function-made n xs vs i))
-    operate-keeps o vs i = tt
+    operate-keeps o vs i = operation-keeps (operation_of o) vs
 
     seeks-keep : (a : Seek Value) → NamesInSeek program b a → K (seeks program a h st)
     seeks-keep (T.const k) i = s
@@ -313,20 +351,24 @@ module _ (program : Program) (b : BlockId) where
     seeks-keep (T.cell_of x) i = s
     seeks-keep (T.yielding v) i = tt
 
+    change-keeps : (o : Option (Op × List Value)) → K (by_change o h st)
+    change-keeps (Some p) = asked-keeps done p.0 p.1 h st s
+    change-keeps None = tt
+
     deeds-keep : (d : Deed Value) → NamesInDeed program b d → K (deeds d h st)
     deeds-keep (T.delete x) i = delete-keeps (variable_value x.scope x.name st) x.scope x.name h st s i
     deeds-keep (T.store x v) i = put-keeps-names x.scope x.name (Some v) st s i
     deeds-keep (T.discard v) i = s
     deeds-keep (T.fresh x) i = made-anew x.scope x.name st s i
     deeds-keep T.nothing i = s
-    deeds-keep d i = tt
-
-    branch-keeps : (v : Value) → K (branch v h st)
-    branch-keeps v = behind-tree (by_prim op.Truth (v ∷ []) h st) truth (by-prim-keeps op.Truth (v ∷ []) h st s) truth-keeps
+    deeds-keep d i = change-keeps (change_of d)
 
     pub answers-keep : (a : Ask Value) → NamesInAsk program b a → K (answers program a h st)
     answers-keep (T.seek a) i = seeks-keep a i
     answers-keep (T.deed d) i = deeds-keep d i
     answers-keep (T.leave l) i = s
-    answers-keep (T.test (T.branch v)) i = branch-keeps v
+    answers-keep (T.test (T.branch v)) i = asked-keeps a_truth op.Truth (v ∷ []) h st s
+    answers-keep (T.iter_of v) i = asked-keeps one_value op.Iter (v ∷ []) h st s
+    answers-keep (T.next_of v) i = asked-keeps item_or_end op.Next (v ∷ []) h st s
+    answers-keep (T.unpack v n star) i = asked-keeps (so_many n) (unpacking n star) (v ∷ []) h st s
     answers-keep a i = tt

@@ -14,7 +14,7 @@ use Rattle.pt_heap.specs.Limits.{object_limit}
 use Rattle.pt_heap.specs.declared.value.Value.{Value}
 use Rattle.pt_heap.specs.declared.object.Object.{Object}
 use Rattle.pt_heap.specs.declared.object.Object.TheVariants as object
-use Rattle.pt_prims.specs.Operations.{next_object}
+use Rattle.pt_content.specs.Changes.{next_object}
 use Rattle.sem_run.specs.run.Machine.{BlockId}
 use Rattle.sem_run.specs.run.Host.{made, beyond}
 use Rattle.pt_host.specs.World.{Stores, Program, Allotted, allot, allot_then, with_objects}
@@ -50,9 +50,9 @@ module _ {A : Type 0} where
       subst (λ y. keys_of (insert_entry bytes_eq es y v) ≡ xs) (ap (λ ks. slice_index_or ks i.0 []) e ∙ sym i.1.1)
       (put-at es i.0 v (subst (λ ks. i.0 < length ks) (sym e) i.1.0) ∙ e)
 
-pub all-push : {A : Type 0} (P : A → Type 0) (xs : List A) (x : A) → AllByRecursion P xs → P x → AllByRecursion P (xs ++ x ∷ [])
-all-push P [] x all p = (p, tt)
-all-push P (y ∷ xs) x all p = (all.0, all-push P xs x all.1 p)
+pub all-both : {A : Type 0} (P : A → Type 0) (xs ys : List A) → AllByRecursion P xs → AllByRecursion P ys → AllByRecursion P (xs ++ ys)
+all-both P [] ys all more = more
+all-both P (x ∷ xs) ys all more = (all.0, all-both P xs ys all.1 more)
 
 pub all-set : {A : Type 0} (P : A → Type 0) (xs : List A) (i : ℕ) (x : A) → AllByRecursion P xs → P x → AllByRecursion P (slice_set xs i x)
 all-set P [] i x all p = tt
@@ -75,7 +75,7 @@ module _ (program : Program) where
     where
       by : (b : Bool) → AllotsCells (if b then beyond Heap else made (next_object h) (h ++ o ∷ []))
       by true = tt
-      by false = all-push (TakesCells program) h o all t
+      by false = all-both (TakesCells program) h (o ∷ []) all (t, tt)
 
   pub error-allotted : (c : ObjId) (args : List Value) (cause active : Option Value) (h : List Object) → AllTakeCells program h
       → AllotsCells (allot (error c args cause active) h)

@@ -1,5 +1,5 @@
 -- A supported script has no classes and no comprehensions.
-use Rattle.std.proofs.Common.{◌≡◌, ℕ, Bool, true, false, if◌then◌else◌, List, [], ◌∷◌, Option, Some, None, refl}
+use Rattle.std.proofs.Common.{◌≡◌, ℕ, Bool, true, false, if◌then◌else◌, List, [], ◌∷◌, Option, Some, None}
 use Rattle.std.specs.List.{AllByRecursion}
 use Rattle.pt_scopes.specs.declared.region.Context.{Context}
 use Rattle.pt_scopes.specs.declared.region.Kind.{Kind}
@@ -15,7 +15,7 @@ use Rattle.pt_tree.specs.Syntax as S
 use Rattle.pt_tree.specs.Syntax.{Name, Exp, Exps, Opt, Links, Args, Params, Formals, Place, Tgt, Tgts, Decorators, Stm, Stms, Branches}
 use Rattle.law_files.proofs.code_files.Each.{both}
 use Rattle.std.specs.Option.{option_or}
-use Rattle.pt_supported.specs.Built.{Built, is_plain, prints_one, unless, unbuilt_all, unbuilt_args, unbuilt_branches, unbuilt_decorators, unbuilt_exp, unbuilt_formals, unbuilt_links, unbuilt_of, unbuilt_opt, unbuilt_params, unbuilt_place, unbuilt_stm, unbuilt_target, unbuilt_targets}
+use Rattle.pt_supported.specs.Built.{Built, is_available, unless, unbuilt_all, unbuilt_args, unbuilt_branches, unbuilt_decorators, unbuilt_exp, unbuilt_formals, unbuilt_links, unbuilt_of, unbuilt_opt, unbuilt_params, unbuilt_place, unbuilt_stm, unbuilt_target, unbuilt_targets}
 use Rattle.pt_supported.proofs.Never.{first, second, told}
 
 abbrev pub IsPlain : Kind → Type 0
@@ -56,12 +56,6 @@ plain_names : (r : Role) (a : Context) (c : Name) (l : ℕ) (xs : List Name) →
 plain_names r a c l [] = plain_nothing
 plain_names r a c l (x ∷ xs) = plain_then _ _ (plain_mention r a (mangled c x) l) (plain_names r a c l xs)
 
-plain_callee : (a : Context) (c : Name) (f : Exp) (args : Args) (b : Bool) → prints_one f args ≡ b → (unbuilt_exp f ≡ None → Plain (places_exp a c f))
-    → (if b then None else unbuilt_exp f) ≡ None → Plain (places_exp a c f)
-plain_callee a c f args false e q h = q h
-plain_callee a c (S.name l x) args true e q h = plain_mention Read a (mangled c x) l
-plain_callee a c f args true e q h = absurd (cc)
-
 mutual
   plain_exp : (a : Context) (c : Name) (e : Exp) → unbuilt_exp e ≡ None → Plain (places_exp a c e)
   plain_exp a c (S.constant l k) h = plain_nothing
@@ -70,27 +64,25 @@ mutual
   plain_exp a c (S.not_of l e) h = plain_exp a c e h
   plain_exp a c (S.binary l o e f) h = plain_then _ _ (plain_exp a c e (first _ _ h)) (plain_exp a c f (second _ _ h))
   plain_exp a c (S.compare l e o f r) h =
-      let parts = second _ _ h in
-      let behind = second _ _ parts in
-      plain_then _ _ (plain_exp a c e (first _ _ parts)) (plain_then _ _ (plain_exp a c f (first _ _ behind)) (plain_links a c r (second _ _ behind)))
+      let behind = second _ _ h in
+      plain_then _ _ (plain_exp a c e (first _ _ h)) (plain_then _ _ (plain_exp a c f (first _ _ behind)) (plain_links a c r (second _ _ behind)))
   plain_exp a c (S.and l e es) h = plain_then _ _ (plain_exp a c e (first _ _ h)) (plain_all a c es (second _ _ h))
   plain_exp a c (S.or l e es) h = plain_then _ _ (plain_exp a c e (first _ _ h)) (plain_all a c es (second _ _ h))
   plain_exp a c (S.conditional l t e f) h =
       let behind = second _ _ h in
       plain_then _ _ (plain_exp a c e (first _ _ h)) (plain_then _ _ (plain_exp a c t (first _ _ behind)) (plain_exp a c f (second _ _ behind)))
   plain_exp a c (S.call l f args) h =
-      plain_then _ _ (plain_callee a c f args (prints_one f args) refl (plain_exp a c f) (first _ _ (second _ _ h)))
-      (plain_args a c args (second _ _ (second _ _ h)))
+      plain_then _ _ (plain_exp a c f (first _ _ (second _ _ h))) (plain_args a c args (second _ _ (second _ _ h)))
   plain_exp a c (S.lambda l n ps e) h =
       plain_function a (λ b. places_params a b c ps ⨾ places_exp b c e)
       (λ b. plain_then _ _ (plain_params a b c ps (first _ _ h)) (plain_exp b c e (second _ _ h)))
+  plain_exp a c (S.tuple l es) h = plain_all a c es h
+  plain_exp a c (S.list l es) h = plain_all a c es h
+  plain_exp a c (S.item l e i) h = plain_then _ _ (plain_exp a c e (first _ _ h)) (plain_exp a c i (second _ _ h))
   plain_exp a c (S.joined l ps) h = told h
-  plain_exp a c (S.tuple l es) h = told h
-  plain_exp a c (S.list l es) h = told h
   plain_exp a c (S.set l es) h = told h
   plain_exp a c (S.dict l es) h = told h
   plain_exp a c (S.attribute l e x) h = told h
-  plain_exp a c (S.item l e i) h = told h
   plain_exp a c (S.slice l e f g) h = told h
   plain_exp a c (S.comprehension l m k t it cs) h = told h
   plain_exp a c (S.generator l n e k t it cs) h = told h
@@ -132,14 +124,15 @@ plain_place a c (S.name_at l x) h = plain_mention Bind a (mangled c x) l
 plain_place a c (S.attribute_at l e x) h = told h
 plain_place a c (S.item_at l e i) h = told h
 
-plain_target : (a : Context) (c : Name) (t : Tgt) → unbuilt_target t ≡ None → Plain (places_target a c t)
-plain_target a c (S.single p) h = plain_place a c p h
-plain_target a c (S.several l f ts) h = told h
-plain_target a c (S.starred l t) h = told h
+mutual
+  plain_target : (a : Context) (c : Name) (t : Tgt) → unbuilt_target t ≡ None → Plain (places_target a c t)
+  plain_target a c (S.single p) h = plain_place a c p h
+  plain_target a c (S.several l f ts) h = plain_targets a c ts h
+  plain_target a c (S.starred l t) h = told h
 
-plain_targets : (a : Context) (c : Name) (ts : Tgts) → unbuilt_targets ts ≡ None → Plain (places_targets a c ts)
-plain_targets a c S.no_targets h = plain_nothing
-plain_targets a c (S.more_targets t ts) h = plain_then _ _ (plain_target a c t (first _ _ h)) (plain_targets a c ts (second _ _ h))
+  plain_targets : (a : Context) (c : Name) (ts : Tgts) → unbuilt_targets ts ≡ None → Plain (places_targets a c ts)
+  plain_targets a c S.no_targets h = plain_nothing
+  plain_targets a c (S.more_targets t ts) h = plain_then _ _ (plain_target a c t (first _ _ h)) (plain_targets a c ts (second _ _ h))
 
 plain_decorators : (a : Context) (c : Name) (ds : Decorators) → unbuilt_decorators ds ≡ None → Plain (places_decorators a c ds)
 plain_decorators a c S.no_decorators h = plain_nothing
@@ -163,9 +156,14 @@ mutual
       let behind = second _ _ h in
       plain_then _ _ (plain_exp a c e (first _ _ h))
       (plain_then _ _ (plain_stms (loop_context a) c body (first _ _ behind)) (plain_stms a c els (second _ _ behind)))
+  plain_stm a c (S.for l t e body els) h =
+      let parts = second _ _ h in
+      let behind = second _ _ parts in
+      plain_then _ _ (plain_target a c t (first _ _ h)) (plain_then _ _ (plain_exp a c e (first _ _ parts))
+      (plain_then _ _ (plain_stms (loop_context a) c body (first _ _ behind)) (plain_stms a c els (second _ _ behind))))
   plain_stm a c (S.def l ds dl n x ps r body) h =
       let inner = option_or (unbuilt_params ps) (unbuilt_of body) in
-      let parts = second (unless (is_plain x) l) (option_or (unbuilt_decorators ds) inner) h in
+      let parts = second (unless (is_available x) l) (option_or (unbuilt_decorators ds) inner) h in
       let inside = second (unbuilt_decorators ds) inner parts in
       plain_then _ _ (plain_decorators a c ds (first (unbuilt_decorators ds) inner parts)) (plain_then _ _ (plain_mention Bind a (mangled c x) dl)
       (plain_function a (λ b. places_params a b c ps ⨾ places_stms b c body)
@@ -177,7 +175,6 @@ mutual
   plain_stm a c (S.raise_again l) h = told h
   plain_stm a c (S.import l xs) h = told h
   plain_stm a c (S.import_from l m xs) h = told h
-  plain_stm a c (S.for l t e body els) h = told h
   plain_stm a c (S.try l body hs els fin) h = told h
   plain_stm a c (S.with l is body) h = told h
   plain_stm a c (S.class l ds k n x base body) h = told h

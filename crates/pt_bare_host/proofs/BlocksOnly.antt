@@ -8,8 +8,6 @@ use Rattle.sem_control.specs.control.Turn.{Ask, Seek, Deed, Operation, Role, Sco
 use Rattle.pt_tree.specs.Syntax.{Name}
 use Rattle.pt_heap.specs.declared.value.Value.{Value}
 use Rattle.pt_heap.specs.declared.value.Value.TheVariants as value
-use Rattle.pt_heap.specs.declared.view.Binding.{Binding}
-use Rattle.pt_heap.specs.declared.object.Builtin.{Builtin}
 use Rattle.pt_heap.specs.declared.object.Function.{Function}
 use Rattle.pt_heap.specs.declared.object.Object.{Object}
 use Rattle.pt_heap.specs.declared.object.Object.TheVariants as object
@@ -17,36 +15,38 @@ use Rattle.pt_bind.specs.Binding.{binding_with}
 use Rattle.pt_bind.specs.declared.arguments.Args.{Args}
 use Rattle.pt_bind.specs.declared.arguments.BindErr.{BindErr}
 use Rattle.pt_bind.specs.declared.arguments.Locals.{Locals}
-use Rattle.pt_prims.specs.Classes.{class_name}
-use Rattle.pt_prims.specs.Operands.{operand_of}
-use Rattle.pt_prims.specs.Operations.{of_function, prim_answer, prim_heap}
-use Rattle.pt_prims.specs.declared.op.Op.{Op}
-use Rattle.pt_prims.specs.declared.op.Op.TheVariants as op
-use Rattle.pt_prims.specs.declared.operand.Operand.{Operand}
-use Rattle.pt_prims.specs.declared.operand.Operand.TheVariants as operand
-use Rattle.pt_prims.specs.declared.answer.PrimAns.{PrimAns}
-use Rattle.pt_prims.specs.declared.answer.PrimAns.TheVariants as prim
-use Rattle.sem_run.specs.run.Host.{Here, answer, raise, print, leave, request, opens, made, beyond}
+use Rattle.pt_content.specs.Classes.{class_name}
+use Rattle.pt_content.specs.Functions.{of_function}
+use Rattle.pt_content.specs.Operands.{operand_of}
+use Rattle.pt_content.specs.declared.function.Function.{Function as BuiltinFunction}
+use Rattle.pt_content.specs.declared.op.Op.{Op}
+use Rattle.pt_content.specs.declared.op.Op.TheVariants as op
+use Rattle.pt_content.specs.declared.operand.Operand.{Operand}
+use Rattle.pt_content.specs.declared.operand.Operand.TheVariants as operand
+use Rattle.pt_prims.specs.Operations.{prim_heap}
+use Rattle.sem_run.specs.run.Host.{Here, answer, raise, print, leave, request, made, beyond}
 use Rattle.pt_bare_runs.specs.Laws.{RunsOnlyBlocks, OpensOnly}
 use Rattle.pt_host.specs.World.{Stores, CodeFacts, Program, Allotted, with_objects, allot}
-use Rattle.pt_host.specs.Trees.{Tree, and_then, answer_with, raise_with}
+use Rattle.pt_host.specs.Trees.{Tree, answer_with, raise_with}
 use Rattle.pt_host.specs.Builtins as B
 use Rattle.pt_host.specs.Builtins.{builtin}
-use Rattle.pt_host.specs.Errors.{error, error_saying, raise_error, raise_saying}
+use Rattle.pt_host.specs.Errors.{error_saying, raise_saying}
 use Rattle.pt_host.specs.declared.places.TheConstants.{TYPE_ERROR}
 use Rattle.pt_host.specs.Texts.{unbound_text, unbound_class, binding_text, not_callable_text}
-use Rattle.pt_host.specs.Variables.{raise_unbound, by_builtin, unless_bound, readable_value, variable_value, load_by, load, delete_by}
-use Rattle.pt_host.specs.Calls.{arguments_of, not_callable, function_object, of_prim, by_prim, result_of, block_of, call_bound, is_simple, call_function, by_operation, call_other, call_object, call_value, call, has_spread, arguments}
-use Rattle.pt_host.specs.Answers.{truth, branch, deeds, operate, seeks, answers}
+use Rattle.pt_host.specs.Variables.{raise_unbound, by_builtin, unless_bound, readable_value, variable_value, load_by, delete_by}
+use Rattle.pt_host.specs.Primitives.{Awaited, asked, one_value, done, a_truth, so_many, item_or_end}
+use Rattle.pt_host.specs.Calls.{not_callable, function_object, result_of, block_of, call_bound, is_simple, call_function, operands_of, call_with, call_builtin, class_function, call_other, call_object, call_value, call, has_spread, arguments}
+use Rattle.pt_host.specs.Answers.{change_of, by_change, unpacking, deeds, operation_of, by_operation, operate, seeks}
 use Rattle.pt_host.specs.HeapHost.{heap_host}
+use Rattle.pt_host.proofs.AskedEnds.{Ends, AllotsIn, asked-ends}
 
-behind-blocks : {A B : Type 0} (a : Tree A) (f : A → Stores → Tree B) → RunsOnlyBlocks a → ((x : A) (st : Stores) → RunsOnlyBlocks (f x st)) → RunsOnlyBlocks (and_then a f)
-behind-blocks (answer x st) f p q = q x st
-behind-blocks (raise v st) f p q = tt
-behind-blocks (print t k) f p q = behind-blocks k f p q
-behind-blocks (leave what) f p q = tt
-behind-blocks (request (opens o) st k) f p q = λ r st1. behind-blocks (k r st1) f (p r st1) q
-behind-blocks (request r st k) f p q = absurd p
+-- what requests nothing has no block run
+ends-only : {A : Type 0} (S : Stores → Type 0) (t : Tree A) → Ends S t → RunsOnlyBlocks t
+ends-only S (answer x st) e = tt
+ends-only S (raise v st) e = tt
+ends-only S (print t k) e = ends-only S k e
+ends-only S (leave what) e = tt
+ends-only S (request r st k) e = absurd e
 
 either-tree : {A : Type 0} (b : Bool) (x y : Tree A) → RunsOnlyBlocks x → RunsOnlyBlocks y → RunsOnlyBlocks (if b then x else y)
 either-tree true x y p q = p
@@ -60,9 +60,6 @@ raised : (A : Type 0) (a : Allotted) (st : Stores) → RunsOnlyBlocks (raise_wit
 raised A (made v h) st = tt
 raised A (beyond what) st = tt
 
-error-only : (A : Type 0) (c : ObjId) (args : List Value) (h : Here Value) (st : Stores) → RunsOnlyBlocks (raise_error {A = A} c args h st)
-error-only A c args h st = raised A (allot (error c args None h.active) st.world.heap) st
-
 saying-only : (A : Type 0) (c : ObjId) (t : List ℕ) (h : Here Value) (st : Stores) → RunsOnlyBlocks (raise_saying {A = A} c t h st)
 saying-only A c t h st = raised A (error_saying c t None h.active st.world.heap) st
 
@@ -72,19 +69,16 @@ unbound-only A s x h st = saying-only A (unbound_class s) (unbound_text s x) h s
 not-callable-only : (v : Value) (h : Here Value) (st : Stores) → RunsOnlyBlocks (not_callable v h st)
 not-callable-only v h st = saying-only Value TYPE_ERROR (not_callable_text (class_name st.world.heap v)) h st
 
-prim-only : (a : PrimAns) (h : Here Value) (st : Stores) → RunsOnlyBlocks (of_prim a h st)
-prim-only (prim.Value v) h st = tt
-prim-only (prim.Raise class v) h st = error-only Value class (arguments_of v) h st
-prim-only (prim.Help helper) h st = tt
-prim-only (prim.Print t) h st = tt
-prim-only (prim.Outside what) h st = tt
+abbrev any-stores : Stores → Type 0
+any-stores st = Unit {0}
 
-by-prim-only : (o : Op) (vs : List Value) (h : Here Value) (st : Stores) → RunsOnlyBlocks (by_prim o vs h st)
-by-prim-only o vs h st = prim-only (prim_answer o vs st.world.heap) h (with_objects (prim_heap o vs st.world.heap) st)
+allots-any : (a : Allotted) (st : Stores) → AllotsIn any-stores st a
+allots-any (made v h) st = tt
+allots-any (beyond what) st = tt
 
-truth-only : (v : Value) (st : Stores) → RunsOnlyBlocks (truth v st)
-truth-only (value.Bool b) st = tt
-truth-only v st = tt
+asked-only : {A : Type 0} (w : Awaited A) (o : Op) (vs : List Value) (h : Here Value) (st : Stores) → RunsOnlyBlocks (asked w o vs h st)
+asked-only w o vs h st = ends-only any-stores (asked w o vs h st)
+    (asked-ends any-stores w h o vs st tt (λ c args. allots-any _ (with_objects (prim_heap o vs st.world.heap) st)))
 
 by-builtin-only : (b : B.Builtin) (s : Scope) (x : Name) (h : Here Value) (st : Stores) → RunsOnlyBlocks (by_builtin b s x h st)
 by-builtin-only (B.is v) s x h st = tt
@@ -115,9 +109,13 @@ bound-only facts f (Err e) h st = saying-only Value TYPE_ERROR (binding_text fac
 function-only : (facts : CodeFacts) (f : Function) (args : Args) (h : Here Value) (st : Stores) → RunsOnlyBlocks (call_function facts f args h st)
 function-only facts f args h st = either-tree (is_simple facts) (call_bound facts f (binding_with facts.params f.defaults args) h st) (leave Feature) (bound-only facts f (binding_with facts.params f.defaults args) h st) tt
 
-operation-only : (o : Option Op) (bs : List Binding) (vs : List Value) (h : Here Value) (st : Stores) → RunsOnlyBlocks (by_operation o bs vs h st)
-operation-only (Some o) [] vs h st = by-prim-only o vs h st
-operation-only o bs vs h st = tt
+with-only : (f : BuiltinFunction) (o : Option (List Value)) (h : Here Value) (st : Stores) → RunsOnlyBlocks (call_with f o h st)
+with-only f (Some vs) h st = asked-only one_value (op.Call f) vs h st
+with-only f None h st = tt
+
+builtin-only : (o : Option BuiltinFunction) (args : Args) (h : Here Value) (st : Stores) → RunsOnlyBlocks (call_builtin o args h st)
+builtin-only (Some f) args h st = with-only f (operands_of f args) h st
+builtin-only None args h st = tt
 
 other-only : (k : Operand) (v : Value) (h : Here Value) (st : Stores) → RunsOnlyBlocks (call_other k v h st)
 other-only operand.Instance v h st = tt
@@ -126,8 +124,8 @@ other-only k v h st = not-callable-only v h st
 module _ (program : Program) where
   object-only : (o : Option Object) (v : Value) (args : Args) (h : Here Value) (st : Stores) → RunsOnlyBlocks (call_object program o v args h st)
   object-only (Some (object.Function f)) v args h st = function-only (program.facts (block_of f)) f args h st
-  object-only (Some (object.Builtin b)) v args h st = operation-only (of_function b.number) args.named args.plain h st
-  object-only (Some (object.Class c)) v args h st = tt
+  object-only (Some (object.Builtin b)) v args h st = builtin-only (of_function b.number) args h st
+  object-only (Some (object.Class c)) v args h st = builtin-only (class_function v) args h st
   object-only (Some (object.Method m)) v args h st = tt
   object-only o v args h st = other-only (operand_of st.world.heap v) v h st
 
@@ -138,15 +136,15 @@ module _ (program : Program) where
   call-only : (rs : List Role) (f : Value) (vs : List Value) (h : Here Value) (st : Stores) → RunsOnlyBlocks (call program rs f vs h st)
   call-only rs f vs h st = either-tree (has_spread rs) (leave Feature) (call_value program f (arguments rs vs) h st) tt (value-only f (arguments rs vs) h st)
 
+  operation-only : (o : Option Op) (vs : List Value) (h : Here Value) (st : Stores) → RunsOnlyBlocks (by_operation o vs h st)
+  operation-only (Some o) vs h st = asked-only one_value o vs h st
+  operation-only None vs h st = tt
+
   operate-only : (o : Operation) (vs : List Value) (h : Here Value) (st : Stores) → RunsOnlyBlocks (operate program o vs h st)
-  operate-only (T.unary o) vs h st = by-prim-only (op.Unary o) vs h st
-  operate-only T.inverted vs h st = by-prim-only op.Not vs h st
-  operate-only (T.binary o) vs h st = by-prim-only (op.Binary o) vs h st
-  operate-only (T.in_place o) vs h st = by-prim-only (op.InPlace o) vs h st
-  operate-only (T.compare o) vs h st = by-prim-only (op.Compare o) vs h st
+  operate-only (T.call rs) [] h st = tt
   operate-only (T.call rs) (f ∷ vs) h st = call-only rs f vs h st
   operate-only (T.function b xs) vs h st = answered (allot (function_object b h.block.hidden xs vs) st.world.heap) st
-  operate-only o vs h st = tt
+  operate-only o vs h st = operation-only (operation_of o) vs h st
 
   seeks-only : (a : Seek Value) (h : Here Value) (st : Stores) → RunsOnlyBlocks (seeks program a h st)
   seeks-only (T.const k) h st = tt
@@ -155,20 +153,24 @@ module _ (program : Program) where
   seeks-only (T.cell_of x) h st = tt
   seeks-only (T.yielding v) h st = tt
 
+  change-only : (o : Option (Op × List Value)) (h : Here Value) (st : Stores) → RunsOnlyBlocks (by_change o h st)
+  change-only (Some p) h st = asked-only done p.0 p.1 h st
+  change-only None h st = tt
+
   deeds-only : (d : Deed Value) (h : Here Value) (st : Stores) → RunsOnlyBlocks (deeds d h st)
   deeds-only (T.delete x) h st = delete-only (variable_value x.scope x.name st) x.scope x.name h st
   deeds-only (T.store x v) h st = tt
   deeds-only (T.discard v) h st = tt
   deeds-only (T.fresh x) h st = tt
   deeds-only T.nothing h st = tt
-  deeds-only d h st = tt
-
-  branch-only : (v : Value) (h : Here Value) (st : Stores) → RunsOnlyBlocks (branch v h st)
-  branch-only v h st = behind-blocks (by_prim op.Truth (v ∷ []) h st) truth (by-prim-only op.Truth (v ∷ []) h st) truth-only
+  deeds-only d h st = change-only (change_of d) h st
 
   pub opens_only : OpensOnly (heap_host program)
   opens_only (T.seek a) h st = seeks-only a h st
   opens_only (T.deed d) h st = deeds-only d h st
   opens_only (T.leave l) h st = tt
-  opens_only (T.test (T.branch v)) h st = branch-only v h st
+  opens_only (T.test (T.branch v)) h st = asked-only a_truth op.Truth (v ∷ []) h st
+  opens_only (T.iter_of v) h st = asked-only one_value op.Iter (v ∷ []) h st
+  opens_only (T.next_of i) h st = asked-only item_or_end op.Next (i ∷ []) h st
+  opens_only (T.unpack v n star) h st = asked-only (so_many n) (unpacking n star) (v ∷ []) h st
   opens_only a h st = tt

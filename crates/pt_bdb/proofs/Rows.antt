@@ -1,5 +1,5 @@
 -- Breakpoints found by number, and the order of their numbers.
-use Rattle.std.proofs.Common.{◌≡◌, ◌==◌, ◌+◌, ◌<◌, ◌≤◌, ◌&&◌, ℕ, suc, Bool, true, false, cond, List, [], ◌∷◌, ◌++◌, nat_le, nat_lt, length, take, drop, set, get_or, remove, Option, None, Some, Result, Ok, Err, IsErrAnd, refl, sym, ap, ◌∙◌, subst, arith, eq-eqb}
+use Rattle.std.proofs.Common.{◌≡◌, ◌==◌, ◌+◌, ◌<◌, ◌≤◌, ◌&&◌, ℕ, suc, Bool, true, false, cond, List, [], ◌∷◌, ◌++◌, nat_le, nat_lt, length, take, drop, set, get_or, remove, Option, None, Some, Result, Ok, Err, IfErr, IsErrAnd, refl, sym, ap, ◌∙◌, subst, arith, eq-eqb}
 use Rattle.std.proofs.lemmas.List.{set_split, take_more, take_all, take-append-drop}
 use Rattle.std.proofs.Math.Seq.{drop-cons}
 use Rattle.std.proofs.lemmas.Bool.Decides.{nat_tests}
@@ -8,7 +8,7 @@ use Rattle.pt_bdb.specs.declared.breaks.BreakErr.{BreakErr}
 use Rattle.pt_bdb.specs.declared.breaks.BreakErr.TheVariants.{NoBreak, NoCode, Memory}
 use Rattle.pt_bdb.specs.declared.row.BreakRow.{BreakRow}
 use Rattle.pt_bdb.specs.declared.row.Breakpoint.{Breakpoint}
-use Rattle.pt_bdb.specs.Breakpoints.{Table, IsOrdered, row_of, answer_at, with_row, with_rows, without, rises, IsPlace}
+use Rattle.pt_bdb.specs.Breakpoints.{Table, IsOrdered, IsSetError, row_of, answer_at, with_row, with_rows, without, rises, IsPlace}
 
 -- behind rows of which none has the number
 behind : (n : ℕ) (front rows : List Breakpoint) → row_of n front ≡ None → row_of n (front ++ rows) ≡ row_of n rows
@@ -230,3 +230,7 @@ pub only_memory : (r : Result ℕ BreakErr) (line : Line) (t : Bool) → IsErrAn
     → (r ≡ Err (NoCode line) → t ≡ false) × (t ≡ false → r ≡ Err (NoCode line))
 only_memory (Ok n) line t h there = absurd h
 only_memory (Err e) line t h there = (λ is. cc, λ none. cc)
+
+pub set_error : (r : Result ℕ BreakErr) (line : Line) → IsErrAnd r (λ e. e ≡ Memory) → IfErr r (IsSetError line)
+set_error (Ok n) line h = tt
+set_error (Err e) line h = subst (IsSetError line) (sym h) tt

@@ -3,7 +3,7 @@ use Rattle.std.specs.Prelude.{◌≡◌, ◌==◌, ◌+◌, ◌<◌, ◌&&◌, �
 use Rattle.std.specs.List.{list_any}
 use Rattle.pt_base.specs.declared.numbers.Line.{Line}
 use Rattle.pt_bdb.specs.declared.breaks.BreakErr.{BreakErr}
-use Rattle.pt_bdb.specs.declared.breaks.BreakErr.TheVariants.{NoBreak}
+use Rattle.pt_bdb.specs.declared.breaks.BreakErr.TheVariants.{Memory, NoBreak, NoCode}
 use Rattle.pt_bdb.specs.declared.row.BreakRow.{BreakRow}
 use Rattle.pt_bdb.specs.declared.row.Breakpoint.{Breakpoint}
 
@@ -34,6 +34,12 @@ IsPlace n rows (Some at) = (at < length rows) × (row_of n (take at rows) ≡ No
 -- where no breakpoint has the number, that is the answer
 abbrev pub answer_at : (number : ℕ) → List Breakpoint → Result (Unit {0}) BreakErr
 answer_at n rows = if is_some (row_of n rows) then Ok tt else Err (NoBreak n)
+
+-- why a breakpoint isn't set: no act stands on the line, or memory has run out
+abbrev pub IsSetError : Line → BreakErr → Type 0
+IsSetError line (NoCode other) = other ≡ line
+IsSetError line Memory = Unit {0}
+IsSetError line (NoBreak n) = ⊥
 
 -- the row of a number is changed, if it has one
 abbrev pub with_row : (number : ℕ) → (BreakRow → BreakRow) → List Breakpoint → List Breakpoint

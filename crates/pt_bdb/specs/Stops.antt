@@ -1,6 +1,6 @@
 -- Where a run stops by the last command (Library Reference, "bdb": stop_here, set_step, set_next, set_until, set_return, set_continue;
 -- "pdb": step, next, until, return, continue).
-use Rattle.std.specs.Prelude.{◌==◌, ◌+◌, ◌-◌, ◌^◌, ◌&&◌, ◌||◌, ℕ, Bool, true, false, not, min, nat_le, is_some, Option, None, Some, if◌then◌else◌}
+use Rattle.std.specs.Prelude.{◌==◌, ◌+◌, ◌-◌, ◌^◌, ◌&&◌, ◌||◌, ℕ, Bool, true, false, not, min, nat_le, nat_lt, is_some, Option, None, Some, if◌then◌else◌}
 use Rattle.pt_base.specs.declared.numbers.Line.{Line}
 use Rattle.pt_base.specs.declared.numbers.FrameNo.{FrameNo}
 use Rattle.pt_bdb.specs.declared.event.Event.{Event}
@@ -77,3 +77,8 @@ returned f d = if is_one f d.frame && is_some d.line then step_data else d
 -- the line that `until` without a number goes to: the one behind, where there is one
 abbrev pub line_behind : Line → Line
 line_behind line = record { 0 = min (line.0 + 1) (2 ^ 32 - 1) }
+
+-- the line that `until` goes to: one that is asked has to stand behind the current one
+abbrev pub until_line : (current : Line) → (asked : Option Line) → Option Line
+until_line current (Some line) = if nat_lt current.0 line.0 then Some line else None
+until_line current None = Some (line_behind current)

@@ -1,9 +1,10 @@
 //! The breakpoints of a session.
 ghost use Rattle.std.specs.Prelude.{◌≡◌, ◌+◌, ◌<◌, ◌≤◌, ◌↔◌, ◌++◌, ◌∷◌, false, [], IsTrue};
-ghost use Rattle.std.specs.Prelude.{IfOk, OnOk, OnErr};
+ghost use Rattle.std.specs.Prelude.{IfOk, IfErr, OnOk, OnErr};
 ghost use Rattle.std.specs.Option.{option_copied};
 ghost use Rattle.pt_bdb.specs.Breakpoints.{answer_at, has_code, new_row, no_breakpoints};
-ghost use Rattle.pt_bdb.specs.Breakpoints.{IsPlace, row_of, with_condition, with_enabled};
+ghost use Rattle.pt_bdb.specs.Breakpoints.{IsPlace, IsSetError, row_of};
+ghost use Rattle.pt_bdb.specs.Breakpoints.{with_condition, with_enabled};
 ghost use Rattle.pt_bdb.specs.Breakpoints.{with_ignore, with_new, with_row, with_rows, without};
 ghost use Rattle.pt_bdb.specs.Effective.{BreaksOff, HasTurns, hit_in, rows_behind};
 
@@ -162,6 +163,7 @@ impl Breaks {
             (self.new ≡ with_new (new_row line temporary condition) self.old) }
         ensures no_code { (result ≡ Err (BreakErr.NoCode line))
             ↔ (has_code self.old line ≡ false) }
+        ensures only { IfErr result (IsSetError line) }
         ensures err { OnErr result (self.new ≡ self.old) }
     {
         if !self.lines.as_slice().contains(&line) {

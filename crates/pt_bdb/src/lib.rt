@@ -14,4 +14,4 @@ pub use event::{Event, EventKind};
 pub use judge::{Judge, Verdict};
 pub use laws::{breakpoints_have_their_turns, commands_stop_where_they_say};
 pub use row::{BreakRow, Breakpoint, Hit};
-pub use stops::{StopData, StopFrame, Stops, line_behind};
+pub use stops::{StopData, StopFrame, Stops, line_behind, until_line};

@@ -3,6 +3,7 @@ ghost use Rattle.std.specs.Prelude.{◌≡◌};
 ghost use Rattle.pt_bdb.specs.Stops.{counts, is_any, is_at, is_module, is_one, reaches, rule};
 ghost use Rattle.pt_bdb.specs.Stops.{caller_frame, continue_data, line_behind, next_data};
 ghost use Rattle.pt_bdb.specs.Stops.{return_data, returned, step_data, stops_at, until_data};
+ghost use Rattle.pt_bdb.specs.Stops.{until_line};
 
 use crate::{Event, EventKind};
 use pt_base::{BlockId, FrameNo, Line};
@@ -112,6 +113,17 @@ pub fn line_behind(line: Line) -> Line
     ensures { result ≡ line_behind line }
 {
     Line(line.0.saturating_add(1))
+}
+
+/// The line that `until` goes to from the current one: the asked one, where that is behind it, or the
+/// next where none is asked.
+pub fn until_line(current: Line, asked: Option<Line>) -> Option<Line>
+    ensures { result ≡ until_line current asked }
+{
+    match asked {
+        Some(line) => { if current.0 < line.0 { Some(line) } else { None } }
+        None => Some(line_behind(current)),
+    }
 }
 
 /// Where a run stops by the last command (Library Reference, "bdb"). Contracts see the stop data. No

@@ -1,5 +1,5 @@
 -- What calls come to.
-use Rattle.std.proofs.Common.{◌≡◌, ◌∙◌, ◌++◌, ℕ, Bool, true, false, List, [], ◌∷◌, length, Option, Some, None, Result, Ok, Err, refl, sym, ap}
+use Rattle.std.proofs.Common.{◌≡◌, ◌∙◌, ◌++◌, Bool, true, false, List, [], ◌∷◌, length, Option, Some, None, Result, Ok, Err, refl, sym, ap, subst}
 use Rattle.std.specs.Prelude.{slice_get, if◌then◌else◌}
 use Rattle.pt_base.specs.declared.what.What.TheVariants.{Feature}
 use Rattle.pt_heap.specs.declared.value.Value.{Value}
@@ -16,17 +16,19 @@ use Rattle.pt_bind.specs.declared.arguments.BindErr.TheVariants as refusal
 use Rattle.pt_bind.specs.declared.arguments.Locals.{Locals}
 use Rattle.pt_bind.specs.Binding.{names_of, binding_with, IsTold}
 use Rattle.pt_frames.specs.declared.slot.Slot.{Slot}
-use Rattle.pt_prims.specs.declared.op.Op.{Op}
-use Rattle.pt_prims.specs.Operations.{of_function}
-use Rattle.pt_prims.specs.declared.operand.Operand.{Operand}
-use Rattle.pt_prims.specs.declared.operand.Operand.TheVariants as operand
-use Rattle.pt_prims.specs.Operands.{operand_of, object_operand}
+use Rattle.pt_content.specs.declared.function.Function.{Function as Builtin}
+use Rattle.pt_content.specs.declared.function.Function.TheVariants as builtin
+use Rattle.pt_content.specs.declared.op.Op.TheVariants as op
+use Rattle.pt_content.specs.declared.operand.Operand.{Operand}
+use Rattle.pt_content.specs.declared.operand.Operand.TheVariants as operand
+use Rattle.pt_content.specs.Functions.{of_function}
+use Rattle.pt_content.specs.Operands.{operand_of, object_operand}
 use Rattle.pt_code.specs.View.{Ins}
 use Rattle.sem_code.specs.slots.CodeObject.{CodeObject}
 use Rattle.sem_run.specs.run.Host.{Here, BlockResult, leave, opens}
 use Rattle.pt_host.specs.World.{Names, Stores, Program, CodeFacts}
 use Rattle.pt_host.specs.Trees.{Tree}
-use Rattle.pt_host.specs.Calls.{block_of, is_simple, call_bound, call_function, by_operation, call_value, call_object, call_other, not_callable as host_not_callable, names_from, parameters_given, result_of}
+use Rattle.pt_host.specs.Calls.{block_of, is_simple, call_bound, call_function, call_builtin, call_with, call_value, call_object, call_other, class_function, are_print_names, operands_of, print_operands, unnamed_operands, not_callable as host_not_callable, names_from, parameters_given, result_of}
 use Rattle.sem_run.specs.transitions.Successors.{behind_request}
 use Rattle.sem_rows.specs.declared.heap_rows.progress.Progress.{Progress}
 use Rattle.sem_rows.specs.declared.heap_rows.progress.Progress.TheVariants as progress
@@ -37,11 +39,12 @@ use Rattle.sem_rows.specs.heap_rows.Views.{slots_view, names_in}
 use Rattle.pt_code_facts.specs.declared.facts.BlockFacts.{BlockFacts}
 use Rattle.pt_code_facts.specs.declared.facts.Blocks.{Blocks}
 use Rattle.pt_code_facts.specs.Facts.{facts_view, facts_at}
-use Rattle.pt_operators.specs.Operates.{Operates}
+use Rattle.pt_operators.specs.Operates.{Asks, Operates}
 use Rattle.pt_function_rows.specs.Openings.{first_values_of, numbers_from, given_cells}
 use Rattle.pt_call_rows.specs.CallRows.{Calls, CallsBlock, CallsFunction, CallsBuiltin, CallsValue, with_parts}
-use Rattle.pt_call_rows.specs.CallRows.{function_in, function_of, builtin_in, builtin_of, is_unsupported_in, is_unsupported, not_callable, misfit, is_memory}
+use Rattle.pt_call_rows.specs.CallRows.{function_in, function_of, builtin_in, builtin_of, is_print, is_unsupported_in, is_unsupported, not_callable, misfit, is_memory}
 use Rattle.pt_function_rows.proofs.OpeningLemmas.{names_begin}
+use Rattle.pt_call_rows.proofs.OperandLemmas.{print_is, unnamed_of}
 
 -- of a block
 
@@ -110,32 +113,52 @@ known_block blocks f args slots cells heap p changed facts e done program code i
     (knows (block_of f) ∙ sym (ap facts_view e))
 
 -- of a builtin
-module _ (number : ℕ) (args : Args) (old : List Slot) (heap : List Object) (p : Progress) (new : List Slot) (grown : List Object) where
-  pub operated : (o : Op) → of_function number ≡ Some o → args.named ≡ [] → Operates o args.plain old heap p new grown
-      → CallsBuiltin number args old heap p new grown
-  unfolding CallsBuiltin Calls Operates
-  operated o e n done cells program code i h st u =
+module _ (f : Builtin) (args : Args) (old : List Slot) (heap : List Object) (p : Progress) (new : List Slot) (grown : List Object) where
+  with_operands : (vs : List Value) → operands_of f args ≡ Some vs → Operates (op.Call f) vs old heap p new grown → CallsBuiltin (Some f) args old heap p new grown
+  unfolding CallsBuiltin Calls Operates Asks
+  with_operands vs e done cells program code i h st u =
       done program code i h (with_parts cells heap st)
-      ∙ (ap (λ bs. by_tree code i (giving code i (slots_view old)) (slots_view old) (by_operation (Some o) bs args.plain h (with_parts cells heap st))) (sym n)
-      ∙ ap (λ x. by_tree code i (giving code i (slots_view old)) (slots_view old) (by_operation x args.named args.plain h (with_parts cells heap st))) (sym e))
+      ∙ ap (λ o. by_tree code i (giving code i (slots_view old)) (slots_view old) (call_with f o h (with_parts cells heap st))) (sym e)
 
-module _ (number : ℕ) (args : Args) (slots : List Slot) (heap : List Object) where
-  pub no_operation : of_function number ≡ None → CallsBuiltin number args slots heap (progress.Outside Feature) slots heap
-  unfolding CallsBuiltin Calls
-  no_operation e cells program code i h st u =
-      ap (λ x. by_tree code i (giving code i (slots_view slots)) (slots_view slots) (by_operation x args.named args.plain h (with_parts cells heap st))) (sym e)
+  pub operated : (o : Option Builtin) → o ≡ Some f → is_print f ≡ false → args.named ≡ [] → Operates (op.Call f) args.plain old heap p new grown
+      → CallsBuiltin o args old heap p new grown
+  operated o is n e done = subst (λ x. CallsBuiltin x args old heap p new grown) (sym is)
+      (with_operands args.plain (unnamed_of f args n ∙ ap (λ bs. unnamed_operands bs args.plain) e) done)
 
-  pub named : (args.named ≡ [] → ⊥) → CallsBuiltin number args slots heap (progress.Outside Feature) slots heap
+  pub print_called : (o : Option Builtin) → o ≡ Some f → is_print f ≡ true → CallsBuiltin (Some builtin.Print) args old heap p new grown
+      → CallsBuiltin o args old heap p new grown
+  print_called o is e done = subst (λ x. CallsBuiltin x args old heap p new grown) (sym (is ∙ ap (λ x. Some x) (print_is f e))) done
+
+module _ (args : Args) (old : List Slot) (heap : List Object) (p : Progress) (new : List Slot) (grown : List Object) where
+  pub printed : (vs : List Value) → are_print_names args.named ≡ true → vs ≡ print_operands args → Operates (op.Call builtin.Print) vs old heap p new grown
+      → CallsBuiltin (Some builtin.Print) args old heap p new grown
+  printed vs e is done = with_operands builtin.Print args old heap p new grown vs
+      (ap (λ b. if b then Some (print_operands args) else None) e ∙ ap (λ l. Some l) (sym is)) done
+
+module _ (args : Args) (slots : List Slot) (heap : List Object) where
+  without_operands : (f : Builtin) → operands_of f args ≡ None → CallsBuiltin (Some f) args slots heap (progress.Outside Feature) slots heap
   unfolding CallsBuiltin Calls
-  named n cells program code i h st u = by_names (of_function number) args.named n
+  without_operands f e cells program code i h st u =
+      ap (λ o. by_tree code i (giving code i (slots_view slots)) (slots_view slots) (call_with f o h (with_parts cells heap st))) (sym e)
+
+  nothing_done : CallsBuiltin None args slots heap (progress.Outside Feature) slots heap
+  unfolding CallsBuiltin Calls
+  nothing_done cells program code i h st u = refl
+
+  pub no_operation : (o : Option Builtin) → o ≡ None → CallsBuiltin o args slots heap (progress.Outside Feature) slots heap
+  no_operation o is = subst (λ x. CallsBuiltin x args slots heap (progress.Outside Feature) slots heap) (sym is) nothing_done
+
+  pub misnamed : are_print_names args.named ≡ false → CallsBuiltin (Some builtin.Print) args slots heap (progress.Outside Feature) slots heap
+  misnamed e = without_operands builtin.Print (ap (λ b. if b then Some (print_operands args) else None) e)
+
+  pub named : (o : Option Builtin) (f : Builtin) → o ≡ Some f → is_print f ≡ false → (args.named ≡ [] → ⊥)
+      → CallsBuiltin o args slots heap (progress.Outside Feature) slots heap
+  named o f is n e = subst (λ x. CallsBuiltin x args slots heap (progress.Outside Feature) slots heap) (sym is)
+      (without_operands f (unnamed_of f args n ∙ by args.named e))
     where
-      by_names : (o : Option Op) (bs : List Binding) → (bs ≡ [] → ⊥)
-          → told program code i h (progress.Outside Feature) (slots_view slots) (with_parts cells heap st)
-          ≡ by_tree code i (giving code i (slots_view slots)) (slots_view slots) (by_operation o bs args.plain h (with_parts cells heap st))
-      by_names (Some o) [] n = absurd (n refl)
-      by_names (Some o) (b ∷ bs) n = refl
-      by_names None [] n = absurd (n refl)
-      by_names None (b ∷ bs) n = refl
+      by : (bs : List Binding) → (bs ≡ [] → ⊥) → unnamed_operands bs args.plain ≡ None
+      by [] e = absurd (e refl)
+      by (b ∷ bs) e = refl
 
 -- of a value
 module _ (program : Program) (v : Value) (args : Args) (h : Here Value) (st : Stores) where
@@ -163,29 +186,29 @@ module _ (program : Program) (v : Value) (args : Args) (h : Here Value) (st : St
   object_function (Some (object.Module m)) f e = absurd (cc)
   object_function (Some (object.Super x)) f e = absurd (cc)
 
-  object_builtin : (o : Option Object) (n : ℕ) → builtin_in o ≡ Some n
-      → ◌≡◌ {A = Tree Value} (call_object program o v args h st) (by_operation (of_function n) args.named args.plain h st)
-  object_builtin None n e = absurd (cc)
-  object_builtin (Some (object.Str s)) n e = absurd (cc)
-  object_builtin (Some (object.List l)) n e = absurd (cc)
-  object_builtin (Some (object.Tuple l)) n e = absurd (cc)
-  object_builtin (Some (object.Dict d)) n e = absurd (cc)
-  object_builtin (Some (object.Set d)) n e = absurd (cc)
-  object_builtin (Some (object.Range r)) n e = absurd (cc)
-  object_builtin (Some (object.Slice r)) n e = absurd (cc)
-  object_builtin (Some (object.Cursor r)) n e = absurd (cc)
-  object_builtin (Some (object.View r)) n e = absurd (cc)
-  object_builtin (Some (object.Function g)) n e = absurd (cc)
-  object_builtin (Some (object.Method m)) n e = absurd (cc)
-  object_builtin (Some (object.Builtin b)) n e = let q : b.number ≡ n = cc in ap (λ x. by_operation (of_function x) args.named args.plain h st) q
-  object_builtin (Some (object.Class c)) n e = absurd (cc)
-  object_builtin (Some (object.Instance x)) n e = absurd (cc)
-  object_builtin (Some (object.Error x)) n e = absurd (cc)
-  object_builtin (Some (object.Generator m)) n e = absurd (cc)
-  object_builtin (Some (object.Frame m)) n e = absurd (cc)
-  object_builtin (Some (object.CodeRef b hid)) n e = absurd (cc)
-  object_builtin (Some (object.Module m)) n e = absurd (cc)
-  object_builtin (Some (object.Super x)) n e = absurd (cc)
+  object_builtin : (o : Option Object) (f : Option Builtin) → builtin_in v o ≡ Some f
+      → ◌≡◌ {A = Tree Value} (call_object program o v args h st) (call_builtin f args h st)
+  object_builtin None f e = absurd (cc)
+  object_builtin (Some (object.Str s)) f e = absurd (cc)
+  object_builtin (Some (object.List l)) f e = absurd (cc)
+  object_builtin (Some (object.Tuple l)) f e = absurd (cc)
+  object_builtin (Some (object.Dict d)) f e = absurd (cc)
+  object_builtin (Some (object.Set d)) f e = absurd (cc)
+  object_builtin (Some (object.Range r)) f e = absurd (cc)
+  object_builtin (Some (object.Slice r)) f e = absurd (cc)
+  object_builtin (Some (object.Cursor r)) f e = absurd (cc)
+  object_builtin (Some (object.View r)) f e = absurd (cc)
+  object_builtin (Some (object.Function g)) f e = absurd (cc)
+  object_builtin (Some (object.Method m)) f e = absurd (cc)
+  object_builtin (Some (object.Builtin b)) f e = let q : of_function b.number ≡ f = cc in ap (λ x. call_builtin x args h st) q
+  object_builtin (Some (object.Class c)) f e = let q : class_function v ≡ f = cc in ap (λ x. call_builtin x args h st) q
+  object_builtin (Some (object.Instance x)) f e = absurd (cc)
+  object_builtin (Some (object.Error x)) f e = absurd (cc)
+  object_builtin (Some (object.Generator m)) f e = absurd (cc)
+  object_builtin (Some (object.Frame m)) f e = absurd (cc)
+  object_builtin (Some (object.CodeRef b hid)) f e = absurd (cc)
+  object_builtin (Some (object.Module m)) f e = absurd (cc)
+  object_builtin (Some (object.Super x)) f e = absurd (cc)
 
   -- an instance of a script's class is one for operators too
   instance_leaves : (b : Bool) (k : Operand) → b ≡ true → ◌≡◌ {A = Tree Value} (call_other (if b then operand.Instance else k) v h st) (leave Feature)
@@ -213,7 +236,7 @@ module _ (program : Program) (v : Value) (args : Args) (h : Here Value) (st : St
   object_unsupported (Some (object.Function g)) k e = absurd (cc)
   object_unsupported (Some (object.Method m)) k e = refl
   object_unsupported (Some (object.Builtin b)) k e = absurd (cc)
-  object_unsupported (Some (object.Class c)) k e = refl
+  object_unsupported (Some (object.Class c)) k e = absurd (cc)
   object_unsupported (Some (object.Instance x)) k e = ap (λ y. call_other y v h st) k
       ∙ instance_leaves (is_scripted (class_in (slice_get st.world.heap x.class.0))) operand.Plain e
   object_unsupported (Some (object.Error x)) k e = ap (λ y. call_other y v h st) k
@@ -224,7 +247,7 @@ module _ (program : Program) (v : Value) (args : Args) (h : Here Value) (st : St
   object_unsupported (Some (object.Module m)) k e = absurd (cc)
   object_unsupported (Some (object.Super x)) k e = absurd (cc)
 
-  object_other : (o : Option Object) → operand_of st.world.heap v ≡ object_operand st.world.heap o → function_in o ≡ None → builtin_in o ≡ None
+  object_other : (o : Option Object) → operand_of st.world.heap v ≡ object_operand st.world.heap o → function_in o ≡ None → builtin_in v o ≡ None
       → is_unsupported_in st.world.heap o ≡ false
       → ◌≡◌ {A = Tree Value} (call_object program o v args h st) (host_not_callable v h st)
   object_other None k f b e = ap (λ y. call_other y v h st) k
@@ -261,14 +284,14 @@ module _ (program : Program) (args : Args) (h : Here Value) (st : Stores) where
   value_function value.NotImplemented f e = absurd (cc)
   value_function (value.Obj id) f e = object_function program (value.Obj id) args h st (slice_get st.world.heap id.0) f e
 
-  value_builtin : (v : Value) (n : ℕ) → builtin_of st.world.heap v ≡ Some n
-      → ◌≡◌ {A = Tree Value} (call_value program v args h st) (by_operation (of_function n) args.named args.plain h st)
-  value_builtin value.None n e = absurd (cc)
-  value_builtin (value.Bool b) n e = absurd (cc)
-  value_builtin (value.Int z) n e = absurd (cc)
-  value_builtin value.Ellipsis n e = absurd (cc)
-  value_builtin value.NotImplemented n e = absurd (cc)
-  value_builtin (value.Obj id) n e = object_builtin program (value.Obj id) args h st (slice_get st.world.heap id.0) n e
+  value_builtin : (v : Value) (f : Option Builtin) → builtin_of st.world.heap v ≡ Some f
+      → ◌≡◌ {A = Tree Value} (call_value program v args h st) (call_builtin f args h st)
+  value_builtin value.None f e = absurd (cc)
+  value_builtin (value.Bool b) f e = absurd (cc)
+  value_builtin (value.Int z) f e = absurd (cc)
+  value_builtin value.Ellipsis f e = absurd (cc)
+  value_builtin value.NotImplemented f e = absurd (cc)
+  value_builtin (value.Obj id) f e = object_builtin program (value.Obj id) args h st (slice_get st.world.heap id.0) f e
 
   value_unsupported : (v : Value) → is_unsupported st.world.heap v ≡ true → ◌≡◌ {A = Tree Value} (call_value program v args h st) (leave Feature)
   value_unsupported value.None e = absurd (cc)
@@ -296,12 +319,12 @@ module _ (blocks : Blocks) (v : Value) (args : Args) (slots : List Slot) (cells 
       done program code i h st knows
       ∙ ap (λ t. by_tree code i (giving code i (slots_view slots)) (slots_view slots) t) (sym (value_function program args h (with_parts cells heap st) v f e))
 
-  pub builtin_called : (n : ℕ) (p : Progress) (new : List Slot) (grown : List Object) → builtin_of heap v ≡ Some n → CallsBuiltin n args slots heap p new grown
+  pub builtin_called : (f : Option Builtin) (p : Progress) (new : List Slot) (grown : List Object) → builtin_of heap v ≡ Some f → CallsBuiltin f args slots heap p new grown
       → CallsValue blocks v args slots cells heap p new cells grown
   unfolding CallsBuiltin CallsValue Calls
-  builtin_called n p new grown e done program code i h st knows =
+  builtin_called f p new grown e done program code i h st knows =
       done cells program code i h st tt
-      ∙ ap (λ t. by_tree code i (giving code i (slots_view slots)) (slots_view slots) t) (sym (value_builtin program args h (with_parts cells heap st) v n e))
+      ∙ ap (λ t. by_tree code i (giving code i (slots_view slots)) (slots_view slots) t) (sym (value_builtin program args h (with_parts cells heap st) v f e))
 
   pub unsupported_called : is_unsupported heap v ≡ true → CallsValue blocks v args slots cells heap (progress.Outside Feature) slots cells heap
   unfolding CallsValue Calls

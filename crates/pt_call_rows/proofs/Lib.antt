@@ -1,3 +1,4 @@
 mod CallLemmas
 mod RowLemmas
 mod RoleLemmas
+pub mod OperandLemmas

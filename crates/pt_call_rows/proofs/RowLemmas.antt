@@ -25,7 +25,7 @@ use Rattle.sem_rows.specs.heap_rows.Laws.{reached}
 use Rattle.sem_rows.specs.heap_rows.Leads.{by_tree, giving}
 use Rattle.sem_rows.specs.heap_rows.RowsIn.{RowsIn}
 use Rattle.sem_rows.specs.heap_rows.Views.{slots_view}
-use Rattle.sem_rows.proofs.heap_rows.RowLemmas.{operations_lead}
+use Rattle.sem_rows.proofs.heap_rows.RowLemmas.{asks_lead}
 use Rattle.pt_code_facts.specs.declared.facts.Blocks.{Blocks}
 use Rattle.pt_moves.specs.Operands.{one_value}
 use Rattle.pt_moves.proofs.MoveLemmas.{stuck_row}
@@ -42,7 +42,7 @@ module _ (program : Program) (code : CodeObject Value) (i : Ins) (h : Here Value
       → reached program code i h st (gives code i (T.operate (T.call rs) (f ∷ vs)) (slots_view below))
       ≡ by_tree code i (giving code i (slots_view below)) (slots_view below) (call_value program f args h st)
   call_leads none are =
-      operations_lead program code i h st (T.call rs) (f ∷ vs) (slots_view below)
+      asks_lead program code i h st (T.seek (T.operate (T.call rs) (f ∷ vs))) (giving code i (slots_view below)) (slots_view below) tt
       ∙ (ap (λ b. by_tree code i (giving code i (slots_view below)) (slots_view below)
       (if b then leave Feature else call_value program f (arguments rs vs) h st)) none
       ∙ ap (λ a. by_tree code i (giving code i (slots_view below)) (slots_view below) (call_value program f a h st)) are)
@@ -129,8 +129,8 @@ module _ (blocks : Blocks) (n : ℕ) (old : List Slot) (cells : List (Option Val
     unfolding RowsNamedCall RowsIn
     role_call_spread vs f e g spread st s pc i truths knows =
         sym (ap (λ t. reached s.program s.code i s.here (with_parts cells heap st) t) (turned n old vs f e g s.code i (map role_of (s.code.pool.texts l.0)))
-        ∙ (operations_lead s.program s.code i s.here (with_parts cells heap st) (T.call (map role_of (s.code.pool.texts l.0))) (f ∷ vs)
-        (slots_view (drop 1 (drop n old)))
+        ∙ (asks_lead s.program s.code i s.here (with_parts cells heap st) (T.seek (T.operate (T.call (map role_of (s.code.pool.texts l.0))) (f ∷ vs)))
+        (giving s.code i (slots_view (drop 1 (drop n old)))) (slots_view (drop 1 (drop n old))) tt
         ∙ ap (λ c. by_tree s.code i (giving s.code i (slots_view (drop 1 (drop n old)))) (slots_view (drop 1 (drop n old)))
         (if c then leave Feature else call_value s.program f (arguments (map role_of (s.code.pool.texts l.0)) vs) s.here (with_parts cells heap st)))
         (ap (λ ys. has_spread (map role_of ys)) knows.1 ∙ spread)))

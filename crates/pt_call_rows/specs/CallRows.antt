@@ -13,8 +13,10 @@ use Rattle.pt_bind.specs.declared.arguments.Args.{Args}
 use Rattle.pt_bind.specs.declared.arguments.BindErr.{BindErr}
 use Rattle.pt_bind.specs.declared.arguments.BindErr.TheVariants as refusal
 use Rattle.pt_frames.specs.declared.slot.Slot.{Slot}
-use Rattle.pt_prims.specs.Classes.{class_name}
-use Rattle.pt_prims.specs.Operations.{of_function}
+use Rattle.pt_content.specs.Classes.{class_name}
+use Rattle.pt_content.specs.Functions.{of_function}
+use Rattle.pt_content.specs.declared.function.Function.{Function as Builtin}
+use Rattle.pt_content.specs.declared.function.Function.TheVariants as builtin
 use Rattle.pt_code.specs.View.{Ins}
 use Rattle.sem_code.specs.slots.CodeObject.{CodeObject}
 use Rattle.sem_run.specs.run.Host.{Here}
@@ -22,7 +24,7 @@ use Rattle.pt_host.specs.declared.places.TheConstants.{TYPE_ERROR}
 use Rattle.pt_host.specs.World.{Stores, Program, with_objects, in_world}
 use Rattle.pt_host.specs.Texts.{binding_text, not_callable_text}
 use Rattle.pt_host.specs.Trees.{Tree}
-use Rattle.pt_host.specs.Calls.{block_of, call_function, by_operation, call_value}
+use Rattle.pt_host.specs.Calls.{block_of, call_function, call_builtin, call_value, class_function}
 use Rattle.sem_rows.specs.declared.heap_rows.progress.Progress.{Progress}
 use Rattle.sem_rows.specs.declared.heap_rows.progress.Progress.TheVariants as progress
 use Rattle.sem_rows.specs.heap_rows.Leads.{by_tree, giving}
@@ -43,17 +45,23 @@ abbrev pub function_of : List Object → Value → Option Function
 function_of heap (value.Obj id) = function_in (slice_get heap id.0)
 function_of heap v = None
 
-abbrev pub builtin_in : Option Object → Option ℕ
-builtin_in (Some (object.Builtin b)) = Some b.number
-builtin_in o = None
+-- what a builtin function or a class does where it is called, if that is an operation on values
+abbrev pub builtin_in : Value → Option Object → Option (Option Builtin)
+builtin_in v (Some (object.Builtin b)) = Some (of_function b.number)
+builtin_in v (Some (object.Class c)) = Some (class_function v)
+builtin_in v o = None
 
-abbrev pub builtin_of : List Object → Value → Option ℕ
-builtin_of heap (value.Obj id) = builtin_in (slice_get heap id.0)
+abbrev pub builtin_of : List Object → Value → Option (Option Builtin)
+builtin_of heap (value.Obj id) = builtin_in (value.Obj id) (slice_get heap id.0)
 builtin_of heap v = None
 
--- calls of classes, of methods, and of instances of a script's classes aren't supported yet
+-- `print`, which takes arguments by names
+abbrev pub is_print : Builtin → Bool
+is_print builtin.Print = true
+is_print f = false
+
+-- calls of methods, and of instances of a script's classes, aren't supported yet
 abbrev pub is_unsupported_in : List Object → Option Object → Bool
-is_unsupported_in heap (Some (object.Class c)) = true
 is_unsupported_in heap (Some (object.Method m)) = true
 is_unsupported_in heap (Some (object.Error x)) = is_scripted (class_in (slice_get heap x.class.0))
 is_unsupported_in heap (Some (object.Instance x)) = is_scripted (class_in (slice_get heap x.class.0))
@@ -89,7 +97,7 @@ Calls Where answer old cells heap p new changed grown =
     → told program code i h p (slots_view new) (with_parts changed grown st)
     ≡ by_tree code i (giving code i (slots_view old)) (slots_view old) (answer program h (with_parts cells heap st))
 
--- of a block with these facts, of a function, of a builtin's number, of a value
+-- of a block with these facts, of a function, of a builtin, of a value
 unfoldable pub CallsBlock : BlockFacts → Function → Args → List Slot → (cells : List (Option Value)) (heap : List Object) → Progress
     → (changed : List (Option Value)) → Type 0
 CallsBlock facts f args slots cells heap p changed =
@@ -101,10 +109,9 @@ unfoldable pub CallsFunction : Blocks → Function → Args → List Slot → (c
 CallsFunction blocks f args slots cells heap p changed =
     Calls (λ program. KnowsBlocks program blocks) (λ program h st. call_function (program.facts (block_of f)) f args h st) slots cells heap p slots changed heap
 
-unfoldable pub CallsBuiltin : (number : ℕ) → Args → (old : List Slot) (heap : List Object) → Progress → (new : List Slot) (grown : List Object) → Type 0
-CallsBuiltin n args old heap p new grown =
-    (cells : List (Option Value)) → Calls (λ program. Unit {0})
-    (λ program h st. by_operation (of_function n) args.named args.plain h st) old cells heap p new cells grown
+unfoldable pub CallsBuiltin : Option Builtin → Args → (old : List Slot) (heap : List Object) → Progress → (new : List Slot) (grown : List Object) → Type 0
+CallsBuiltin f args old heap p new grown =
+    (cells : List (Option Value)) → Calls (λ program. Unit {0}) (λ program h st. call_builtin f args h st) old cells heap p new cells grown
 
 unfoldable pub CallsValue : Blocks → Value → Args → (old : List Slot) (cells : List (Option Value)) (heap : List Object)
     → Progress → (new : List Slot) (changed : List (Option Value)) (grown : List Object) → Type 0

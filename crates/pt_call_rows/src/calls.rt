@@ -1,20 +1,23 @@
 //! Calls (Language Reference 6.3.4).
-ghost use Rattle.std.specs.Prelude.{◌≡◌, false, slice_get, IfOk, OnOk};
+ghost use Rattle.std.specs.Prelude.{◌≡◌, false, slice_get, Some, IfOk, OnOk};
 ghost use Rattle.std.specs.Option.{option_copied};
 ghost use Rattle.pt_attrs.specs.Store.{is_scripted};
 ghost use Rattle.pt_call_rows.specs.CallRows.{CallsBlock, CallsBuiltin, CallsFunction, CallsValue};
 ghost use Rattle.pt_call_rows.specs.CallRows.{RowsCall, RowsNamedCall, builtin_of, function_of};
-ghost use Rattle.pt_call_rows.specs.CallRows.{is_memory, is_unsupported, misfit, not_callable};
+ghost use Rattle.pt_call_rows.specs.CallRows.{is_memory, is_print, is_unsupported, misfit, not_callable};
 ghost use Rattle.pt_code_facts.specs.Facts.{facts_view};
+ghost use Rattle.pt_content.specs.declared.function.Function.TheVariants as builtin;
 ghost use Rattle.pt_dicts.specs.Chain.{class_in};
 ghost use Rattle.pt_frames.specs.Slots.{active_in};
 ghost use Rattle.pt_host.specs.Calls.{is_simple};
 ghost use Rattle.pt_instr.specs.declared.Instr.TheVariants as instr;
 
+use crate::operands::{are_print_names, print_operands};
 use crate::roles::{arguments, has_spread};
 use pt_base::{Memory, ObjId, Seq, Text, What};
 use pt_bind::{Args, BindErr, bind_with};
 use pt_code_facts::{BlockFacts, Blocks};
+use pt_content::{Function as Builtin, Op, class_name, of_class, of_function};
 use pt_dicts::{class_at, object_at};
 use pt_frames::Slots;
 use pt_function_rows::{named_last, open, take_values};
@@ -23,7 +26,6 @@ use pt_host::{TYPE_ERROR, binding_text, not_callable_text};
 use pt_instr::ListNo;
 use pt_moves::take_one;
 use pt_operators::operation;
-use pt_prims::{class_name, of_function};
 use sem_rows::heap_rows::Progress;
 use std::alloc::Global;
 
@@ -61,27 +63,28 @@ fn function_of(heap: &Heap, value: Value) -> Option<&Function>
     }
 }
 
-/// The number of the builtin function that a value is, if it is one.
-fn builtin_of(heap: &Heap, value: Value) -> Option<u32>
+/// What a value does where it is called, if it is a builtin function or a class: an operation on
+/// values, or None where it is none.
+fn builtin_of(heap: &Heap, value: Value) -> Option<Option<Builtin>>
     ensures { result ≡ builtin_of heap.now value }
 {
     match value {
         Value::Obj(id) => match object_at(heap, id) {
-            Some(Object::Builtin(builtin)) => Some(builtin.number),
+            Some(Object::Builtin(builtin)) => Some(of_function(builtin.number)),
+            Some(Object::Class(_)) => Some(of_class(id)),
             _ => None,
         },
         _ => None,
     }
 }
 
-/// Whether calls of a value aren't supported yet: of a class, a method, or an instance of a
-/// script's class.
+/// Whether calls of a value aren't supported yet: of a method, or of an instance of a script's
+/// class.
 fn is_unsupported(heap: &Heap, value: Value) -> bool
     ensures { result ≡ is_unsupported heap.now value }
 {
     match value {
         Value::Obj(id) => match object_at(heap, id) {
-            Some(Object::Class(_)) => true,
             Some(Object::Method(_)) => true,
             Some(Object::Error(error)) => is_scripted(heap, error.class),
             Some(Object::Instance(instance)) => is_scripted(heap, instance.class),
@@ -173,30 +176,76 @@ fn call_function(
     call_block(alloc, blocks.get(function.block), function, args, cells)
 }
 
-/// Calls a builtin function, which takes arguments without names.
-#[tactic(auto, using(crate::proofs::CallLemmas::operated, crate::proofs::CallLemmas::named, crate::proofs::CallLemmas::no_operation))]
-fn call_builtin(
+/// Calls `print`, which takes `sep` and `end` by name.
+#[tactic(auto, using(crate::proofs::CallLemmas::printed, crate::proofs::CallLemmas::misnamed))]
+fn call_print(
     alloc: Global,
-    number: u32,
     args: &Args,
     slots: &mut Slots,
     heap: &mut Heap,
 ) -> Result<Progress, Memory>
     ensures row { IfOk result
-        (λ p. CallsBuiltin number args.now slots.old heap.old p slots.new heap.new) }
+        (λ p. CallsBuiltin (Some builtin.Print) args.now slots.old heap.old p slots.new heap.new) }
     ensures active { OnOk result (active_in slots.new ≡ active_in slots.old) }
 {
+    if !are_print_names(args.named.as_slice()) {
+        return Ok(Progress::Outside {
+            what: What::Feature,
+        });
+    }
+    let operands = print_operands(alloc, args)?;
+    operation(
+        alloc,
+        Op::Call(Builtin::Print),
+        operands.as_slice(),
+        slots,
+        heap,
+    )
+}
+
+/// Whether it is `print`, which takes arguments by names.
+fn is_print(function: Builtin) -> bool
+    ensures { result ≡ is_print function }
+{
+    match function {
+        Builtin::Print => true,
+        _ => false,
+    }
+}
+
+/// Calls a builtin function or class, which but for `print` takes arguments without names.
+#[tactic(auto, using(crate::proofs::CallLemmas::operated, crate::proofs::CallLemmas::print_called, crate::proofs::CallLemmas::named, crate::proofs::CallLemmas::no_operation))]
+fn call_builtin(
+    alloc: Global,
+    function: Option<Builtin>,
+    args: &Args,
+    slots: &mut Slots,
+    heap: &mut Heap,
+) -> Result<Progress, Memory>
+    ensures row { IfOk result
+        (λ p. CallsBuiltin function args.now slots.old heap.old p slots.new heap.new) }
+    ensures active { OnOk result (active_in slots.new ≡ active_in slots.old) }
+{
+    let Some(function) = function else {
+        return Ok(Progress::Outside {
+            what: What::Feature,
+        });
+    };
+    if is_print(function) {
+        return call_print(alloc, args, slots, heap);
+    }
     if !args.named.is_empty() {
         return Ok(Progress::Outside {
             what: What::Feature,
         });
     }
-    match of_function(number) {
-        Some(op) => operation(alloc, op, args.plain.as_slice(), slots, heap),
-        None => Ok(Progress::Outside {
-            what: What::Feature,
-        }),
-    }
+    operation(
+        alloc,
+        Op::Call(function),
+        args.plain.as_slice(),
+        slots,
+        heap,
+    )
 }
 
 /// Calls a value.
@@ -218,8 +267,8 @@ fn call_value(
     if let Some(function) = function_of(heap, callee) {
         return call_function(alloc, blocks, function, args, cells);
     }
-    if let Some(number) = builtin_of(heap, callee) {
-        return call_builtin(alloc, number, args, slots, heap);
+    if let Some(builtin) = builtin_of(heap, callee) {
+        return call_builtin(alloc, builtin, args, slots, heap);
     }
     if is_unsupported(heap, callee) {
         return Ok(Progress::Outside {

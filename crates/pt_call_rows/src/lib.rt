@@ -2,6 +2,7 @@
 #![tactic(auto)]
 
 mod calls;
+mod operands;
 mod roles;
 
 pub use calls::{call, call_with_names, call_with_roles};

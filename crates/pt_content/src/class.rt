@@ -16,8 +16,8 @@ pub const TYPE_ERROR: ObjId = ObjId(45);
 
 pub const VALUE_ERROR: ObjId = ObjId(46);
 
-/// The name of the class that stands at a place.
-fn name_at(heap: &Heap, class: ObjId) -> &str
+/// The name of the class that stands at a place, the empty text where none does.
+pub fn name_at(heap: &Heap, class: ObjId) -> &str
     ensures { result.now ≡ name_at heap.now class }
 {
     match class_at(heap, class) {

@@ -18,7 +18,7 @@ pub use answer::{Helper, Operator, PrimAns};
 pub use changes::{add, add_values, apply};
 pub use class::{
     INDEX_ERROR, RECURSION_ERROR, TYPE_ERROR, VALUE_ERROR, ZERO_DIVISION_ERROR, class_name,
-    object_class,
+    name_at, object_class,
 };
 pub use content::{Change, Content, Mutable, NewObject, Replacement};
 pub use function::{Function, of_class, of_function};

@@ -3,6 +3,7 @@ use Rattle.std.proofs.Common.{◌≡◌, ◌∙◌, ℤ, Bool, List, [], ◌∷�
 use Rattle.std.specs.Prelude.{drop, slice_get}
 use Rattle.pt_base.specs.declared.numbers.Pc.{Pc}
 use Rattle.pt_base.specs.declared.operators.BinOp.{BinOp}
+use Rattle.pt_base.specs.declared.operators.BinOp.TheVariants as binary
 use Rattle.pt_base.specs.declared.operators.CompareOp.{CompareOp}
 use Rattle.pt_base.specs.declared.operators.CompareOp.TheVariants as compare
 use Rattle.pt_instr.specs.declared.Instr.TheVariants as instr
@@ -14,17 +15,17 @@ use Rattle.pt_frames.specs.declared.slot.Slot.TheVariants as slot
 use Rattle.pt_frames.specs.Slots.{active_in}
 use Rattle.pt_ints.specs.declared.answer.IntAns.TheVariants as integer
 use Rattle.pt_ints.specs.Answer.{binary_answer}
-use Rattle.pt_prims.specs.declared.op.Op.{Op}
-use Rattle.pt_prims.specs.declared.op.Op.TheVariants as op
-use Rattle.pt_prims.specs.declared.content.Content.TheVariants as content
-use Rattle.pt_prims.specs.declared.answer.PrimAns.TheVariants as prim
+use Rattle.pt_content.specs.declared.op.Op.{Op}
+use Rattle.pt_content.specs.declared.op.Op.TheVariants as op
+use Rattle.pt_content.specs.declared.content.Content.TheVariants as content
 use Rattle.pt_prims.specs.Arithmetic.{integer_content}
-use Rattle.pt_prims.specs.Comparisons.{comparison_content}
+use Rattle.pt_comparisons.specs.Comparisons.{comparison_content}
+use Rattle.pt_prims.specs.InPlace.{in_place_content}
 use Rattle.pt_prims.specs.Operations.{content_of, placed, grown}
 use Rattle.sem_rows.specs.declared.heap_rows.progress.Progress.TheVariants as progress
 use Rattle.pt_moves.specs.Operands.{two_values}
 use Rattle.pt_moves.proofs.TakeLemmas.{two_on, two_off}
-use Rattle.pt_operators.specs.Operates.{Operates}
+use Rattle.pt_operators.specs.Operates.{Operates, progress_of, value_given}
 use Rattle.pt_operators.proofs.OperatorLemmas.{operates, binary_values, in_place_values, compare_values}
 use Rattle.pt_fast_rows.specs.FastPaths.{FastRow, Led, integer_in, integers_compare}
 use Rattle.pt_fast_rows.proofs.ValueLemmas.{at_next}
@@ -58,13 +59,29 @@ quiet_two : (old : List Slot) (v w : Value) → two_values old ≡ Some (v, w) �
     → active_in new ≡ active_in old
 quiet_two old v w e x new f = ap active_in f ∙ sym (ap active_in (two_on old v w e))
 
+-- an augmented assignment to an integer is an operator
+integers_in_place : (o : BinOp) (a b : ℤ) (heap : List Object) → in_place_content o heap (value.Int a) (value.Int b) ≡ integer_content (binary_answer o a b)
+integers_in_place binary.Add a b heap = refl
+integers_in_place binary.Sub a b heap = refl
+integers_in_place binary.Mul a b heap = refl
+integers_in_place binary.Div a b heap = refl
+integers_in_place binary.FloorDiv a b heap = refl
+integers_in_place binary.Mod a b heap = refl
+integers_in_place binary.Pow a b heap = refl
+integers_in_place binary.BitAnd a b heap = refl
+integers_in_place binary.BitOr a b heap = refl
+integers_in_place binary.BitXor a b heap = refl
+integers_in_place binary.LeftShift a b heap = refl
+integers_in_place binary.RightShift a b heap = refl
+
 module _ (a b : ℤ) (old new : List Slot) (x : Value) (two : two_values old ≡ Some (value.Int a, value.Int b)) (is : new ≡ slot.Value x ∷ drop 2 old) where
   -- what an operation with a value does
   gives_value : (o : Op) (heap : List Object) → content_of o (value.Int a ∷ value.Int b ∷ []) heap ≡ content.Value x
       → Operates o (value.Int a ∷ value.Int b ∷ []) (drop 2 old) heap progress.Next new heap
   gives_value o heap e =
-      operates o (value.Int a ∷ value.Int b ∷ []) (drop 2 old) heap progress.Next new heap (prim.Value x)
-      (ap (λ c. placed c heap) (sym e)) (ap (λ c. grown c heap) (sym e)) refl is
+      operates o (value.Int a ∷ value.Int b ∷ []) (drop 2 old) heap progress.Next new heap (Some x)
+      (ap (λ c. value_given (placed c (value.Int a ∷ value.Int b ∷ []) heap)) (sym e)) (ap (λ c. grown c heap) (sym e))
+      (ap (λ c. progress_of (placed c (value.Int a ∷ value.Int b ∷ []) heap)) (sym e)) is
 
   row_of_compare : (o : CompareOp) → ((heap : List Object) → comparison_content o heap (value.Int a) (value.Int b) ≡ content.Value x)
       → FastRow (instr.Compare o) progress.Next old new
@@ -84,7 +101,7 @@ module _ (a b : ℤ) (old new : List Slot) (x : Value) (two : two_values old ≡
   row_of_in_place : (o : BinOp) → integer_content (binary_answer o a b) ≡ content.Value x → FastRow (instr.InPlace o) progress.Next old new
   row_of_in_place o e = (
     λ heap. in_place_values old (drop 2 old) heap progress.Next new heap o (value.Int a) (value.Int b) two refl
-        (gives_value (op.InPlace o) heap e),
+        (gives_value (op.InPlace o) heap (integers_in_place o a b heap ∙ e)),
     quiet_two old _ _ two x new is,
   )
 

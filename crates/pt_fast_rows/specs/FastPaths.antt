@@ -14,7 +14,8 @@ use Rattle.pt_names.specs.Names.{Named}
 use Rattle.pt_frames.specs.declared.slot.Slot.{Slot}
 use Rattle.pt_frames.specs.declared.slot.Slot.TheVariants as slot
 use Rattle.pt_frames.specs.Slots.{active_in}
-use Rattle.pt_prims.specs.Comparisons.{number_order, same_number}
+use Rattle.pt_comparisons.specs.Comparisons.{number_order}
+use Rattle.pt_comparisons.specs.Equalities.{same_number}
 use Rattle.sem_rows.specs.declared.heap_rows.progress.Progress.{Progress}
 use Rattle.sem_rows.specs.declared.heap_rows.progress.Progress.TheVariants as progress
 use Rattle.pt_code_facts.specs.declared.facts.BlockFacts.{BlockFacts}

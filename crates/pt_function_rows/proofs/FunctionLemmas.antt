@@ -18,7 +18,7 @@ use Rattle.pt_code.specs.View.{Ins}
 use Rattle.sem_code.specs.slots.Steps.{gives}
 use Rattle.sem_code.specs.slots.Pops as P
 use Rattle.sem_run.specs.run.Host.{made, beyond}
-use Rattle.pt_prims.specs.Operations.{next_object}
+use Rattle.pt_content.specs.Changes.{next_object}
 use Rattle.pt_host.specs.World.{Stores, Allotted, IsAllotted, allot, with_objects}
 use Rattle.pt_host.specs.Trees.{answer_with}
 use Rattle.pt_host.specs.Calls.{defaults_of, number_of, function_object}

@@ -1,5 +1,6 @@
 -- Functions that are made and called keep a store sound.
 use Rattle.std.proofs.Common.{◌≡◌, ℕ, Bool, true, false, List, [], ◌∷◌, length, map, Option, None, Some, Result, Ok, Err, slice_get, if◌then◌else◌, refl}
+use Rattle.std.specs.Prelude.{codes}
 use Rattle.std.specs.Option.{option_or}
 use Rattle.std.specs.Str.{bytes_eq}
 use Rattle.std.proofs.lemmas.List.Elements.{Contains-append_left, Contains-append_right}
@@ -21,20 +22,24 @@ use Rattle.pt_bind.specs.declared.arguments.Params.{Params}
 use Rattle.pt_bind.specs.declared.arguments.BindErr.{BindErr}
 use Rattle.pt_bind.specs.declared.arguments.BindErr.TheVariants as refusal
 use Rattle.pt_bind.specs.declared.arguments.Locals.{Locals}
-use Rattle.pt_prims.specs.Classes.{class_name}
-use Rattle.pt_prims.specs.Operands.{operand_of}
-use Rattle.pt_prims.specs.Operations.{of_function}
-use Rattle.pt_prims.specs.declared.op.Op.{Op}
-use Rattle.pt_prims.specs.declared.operand.Operand.{Operand}
-use Rattle.pt_prims.specs.declared.operand.Operand.TheVariants as operand
+use Rattle.pt_content.specs.Classes.{class_name}
+use Rattle.pt_content.specs.Operands.{operand_of}
+use Rattle.pt_content.specs.Functions.{of_function}
+use Rattle.pt_content.specs.declared.function.Function.{Function as Builtin}
+use Rattle.pt_content.specs.declared.function.Function.TheVariants as builtin
+use Rattle.pt_content.specs.declared.op.Op.TheVariants as op
+use Rattle.pt_content.specs.declared.operand.Operand.{Operand}
+use Rattle.pt_content.specs.declared.operand.Operand.TheVariants as operand
 use Rattle.sem_run.specs.run.Host.{Here}
 use Rattle.pt_host.specs.declared.places.TheConstants.{TYPE_ERROR}
 use Rattle.pt_host.specs.World.{Stores, CodeFacts, Program, allot}
 use Rattle.pt_host.specs.Texts.{binding_text, not_callable_text}
-use Rattle.pt_host.specs.Calls.{defaults_of, function_object, make_function, plain_arguments, named_arguments, arguments, has_spread, parameters_given, first_value, result_of, run_block, block_of, call_bound, is_simple, call_function, by_operation, not_callable, call_other, call_object, call_value, call}
+use Rattle.pt_host.specs.Calls.{defaults_of, function_object, make_function, plain_arguments, named_arguments, arguments, has_spread, parameters_given, first_value, result_of, run_block, block_of, call_bound, is_simple, call_function, are_print_names, or_none, print_operands, unnamed_operands, operands_of, call_with, call_builtin, class_function, not_callable, call_other, call_object, call_value, call}
 use Rattle.pt_host.specs.Sound.{IsWithinIf, AllWithin, CellsWithin, NamesWithin, IsSoundFrom, EndWithin, KeepsSound}
-use Rattle.pt_host.proofs.Within.{Below, none-below, both-below, value-below, below-value, at-least, allot-sound, given-sound, raise-text-sound}
-use Rattle.pt_host.proofs.PrimsWithin.{prim-sound}
+use Rattle.pt_prims.proofs.Places.{Below, none-below}
+use Rattle.pt_host.proofs.Within.{both-below, value-below, below-value, at-least, allot-sound, given-sound, raise-text-sound}
+use Rattle.pt_host.specs.Primitives.{one_value}
+use Rattle.pt_host.proofs.PrimsWithin.{IfGiven, one-value-fits, asked-sound}
 use Rattle.pt_host.proofs.VariablesSound.{named-within, cells-both}
 
 abbrev BindingsWithin : List Object → List Binding → Type 0
@@ -188,10 +193,35 @@ module _ (n : ℕ) (st : Stores) (r : Here Value) (s : IsSoundFrom n st) (active
         by true = bound-sound facts f (binding_with facts.params f.defaults args) (binding-within heap f.defaults args d named facts.params plain)
         by false = tt
 
-    operation-sound : (o : Option Op) (bs : List Binding) (vs : List Value) → KeepsSound IsWithin n (by_operation o bs vs r st)
-    operation-sound None bs vs = tt
-    operation-sound (Some op) (b ∷ bs) vs = tt
-    operation-sound (Some op) [] vs = prim-sound n st r s active op vs
+    print-within : (o : Option Value) → IsWithinIf heap o → IsWithin heap (or_none o)
+    print-within None w = tt
+    print-within (Some v) w = w
+
+    printed-within : AllWithin heap (print_operands args)
+    printed-within = (
+      print-within (value_of (codes "sep") args.named) (value-within heap (codes "sep") args.named named),
+      (print-within (value_of (codes "end") args.named) (value-within heap (codes "end") args.named named), plain),
+    )
+
+    unnamed-within : (bs : List Binding) → IfGiven (unnamed_operands bs args.plain) (AllWithin heap)
+    unnamed-within [] = plain
+    unnamed-within (b ∷ bs) = tt
+
+    operands-within : (f : Builtin) → IfGiven (operands_of f args) (AllWithin heap)
+    operands-within builtin.Print = by (are_print_names args.named)
+      where
+        by : (c : Bool) → IfGiven (if c then Some (print_operands args) else None) (AllWithin heap)
+        by true = printed-within
+        by false = tt
+    operands-within f = unnamed-within args.named
+
+    with-sound : (f : Builtin) (o : Option (List Value)) → IfGiven o (AllWithin heap) → KeepsSound IsWithin n (call_with f o r st)
+    with-sound f None w = tt
+    with-sound f (Some vs) w = asked-sound IsWithin n one_value one-value-fits (op.Call f) vs r st w s active
+
+    builtin-sound : (o : Option Builtin) → KeepsSound IsWithin n (call_builtin o args r st)
+    builtin-sound None = tt
+    builtin-sound (Some f) = with-sound f (operands_of f args) (operands-within f)
 
     uncallable-sound : (v : Value) → KeepsSound IsWithin n (not_callable v r st)
     uncallable-sound v = type-error (not_callable_text (class_name heap v))
@@ -204,8 +234,8 @@ module _ (n : ℕ) (st : Stores) (r : Here Value) (s : IsSoundFrom n st) (active
       object-sound : (o : Option Object) (id : ℕ) (v : Value) → slice_get heap id ≡ o → KeepsSound IsWithin n (call_object program o v args r st)
       object-sound (Some (object.Function f)) id v e =
           function-sound (program.facts (block_of f)) f (below-bindings heap f.defaults (s.heap.fits id (object.Function f) e).places)
-      object-sound (Some (object.Builtin b)) id v e = operation-sound (of_function b.number) args.named args.plain
-      object-sound (Some (object.Class c)) id v e = tt
+      object-sound (Some (object.Builtin b)) id v e = builtin-sound (of_function b.number)
+      object-sound (Some (object.Class c)) id v e = builtin-sound (class_function v)
       object-sound (Some (object.Method m)) id v e = tt
       object-sound o id v e = other-sound (operand_of heap v) v
 

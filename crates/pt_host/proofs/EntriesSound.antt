@@ -19,7 +19,8 @@ use Rattle.pt_builtin_objects.specs.Start.{object_of, start_rows, start_objects}
 use Rattle.sem_run.specs.run.Host.{Entry}
 use Rattle.pt_host.specs.Errors.{object_place, with_context, arise_while, with_entry}
 use Rattle.pt_host.specs.Sound.{IsWithinIf, ArisesSoundly, TakesEntries}
-use Rattle.pt_host.proofs.Within.{Below, one-below, both-below}
+use Rattle.pt_prims.proofs.Places.{Below, one-below}
+use Rattle.pt_host.proofs.Within.{both-below}
 
 -- no object of the start is an exception
 not-error : (name : List ℕ) (k : Kind) (x : ErrorObject) → object_of name k ≡ object.Error x → ⊥

@@ -1,4 +1,5 @@
 pub mod Within
+pub mod AskedEnds
 pub mod PrimsWithin
 pub mod VariablesSound
 pub mod CallsSound

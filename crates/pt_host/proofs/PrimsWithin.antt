@@ -1,195 +1,111 @@
--- What operations answer names objects of the heap behind them, and the classes of their exceptions are those of the start.
-use Rattle.std.proofs.Common.{◌+◌, ℕ, Bool, true, false, List, [], ◌∷◌, ◌++◌, length, Option, None, Some, nat_eq, nat_le, if◌then◌else◌, refl, arith}
-use Rattle.std.proofs.lemmas.List.{length-append}
-use Rattle.std.specs.Str.{chars}
-use Rattle.pt_base.specs.declared.operators.BinOp.{BinOp}
-use Rattle.pt_base.specs.declared.operators.BinOp.TheVariants as binary
-use Rattle.pt_base.specs.declared.operators.UnOp.{UnOp}
-use Rattle.pt_base.specs.declared.operators.CompareOp.{CompareOp}
-use Rattle.pt_base.specs.declared.operators.CompareOp.TheVariants as comparison
-use Rattle.pt_ints.specs.declared.answer.IntAns.{IntAns}
-use Rattle.pt_ints.specs.declared.answer.IntAns.TheVariants as integer
-use Rattle.pt_ints.specs.Answer.{binary_answer, unary_answer}
-use Rattle.pt_strs.specs.Answer.{length_limit}
-use Rattle.pt_dicts.specs.Keys.{truth}
+-- What operations answer keeps a store sound, whatever an ask makes of it; and what an operation's answer in the making ends with.
+use Rattle.std.proofs.Common.{◌≡◌, ◌≤◌, ℕ, zero, suc, Bool, List, [], ◌∷◌, length, Option, None, Some, slice_get, refl, arith}
+use Rattle.std.specs.Prelude.{option_map}
+use Rattle.sem_control.specs.control.Turn.{Row}
 use Rattle.pt_heap.specs.declared.value.Value.{Value}
 use Rattle.pt_heap.specs.declared.value.Value.TheVariants as value
 use Rattle.pt_heap.specs.declared.object.Object.{Object}
-use Rattle.pt_heap.specs.declared.object.Object.TheVariants.{Str}
-use Rattle.pt_heap.specs.Sound.{IsClassAt, IsWithin}
+use Rattle.pt_heap.specs.Sound.{IsSound, IsWithin}
 use Rattle.pt_builtin_objects.specs.Start.{start_objects}
-use Rattle.pt_prims.specs.declared.op.Op.{Op}
-use Rattle.pt_prims.specs.declared.op.Op.TheVariants as op
-use Rattle.pt_prims.specs.declared.operand.Operand.{Operand}
-use Rattle.pt_prims.specs.declared.operand.Operand.TheVariants as operand
-use Rattle.pt_prims.specs.declared.content.Content.{Content}
-use Rattle.pt_prims.specs.declared.content.Content.TheVariants as content
-use Rattle.pt_prims.specs.Operands.{operand_of, text_of}
-use Rattle.pt_prims.specs.Arithmetic.{integer_content, truths_binary, both_joined, texts_binary, text_beside, binary_by, truth_binary, binary_content, unary_by}
-use Rattle.pt_prims.specs.Comparisons.{turned, equality_by, order_by, comparison_content}
-use Rattle.pt_prims.specs.Truths.{truth_by}
-use Rattle.pt_prims.specs.Printing.{has_instance, has_compound, print_content, printed}
-use Rattle.pt_heap.specs.Limits.{object_limit}
-use Rattle.pt_prims.specs.Operations.{content_of, next_object, new_text, raised_with, placed, grown}
+use Rattle.pt_content.specs.declared.op.Op.{Op}
+use Rattle.pt_content.specs.declared.answer.PrimAns.{PrimAns}
+use Rattle.pt_content.specs.declared.answer.PrimAns.TheVariants as prim
+use Rattle.pt_prims.specs.Laws.{AnswerIsWithin, Stay}
+use Rattle.pt_prims.specs.Operations.{content_of, prim_answer, prim_heap}
+use Rattle.pt_prims.proofs.StayLemmas.{objects-stay as grown-stay}
+use Rattle.pt_prims.proofs.SoundLemmas.{heap-sound as grown-sound, answer-within as placed-within}
+use Rattle.pt_prims.proofs.WithinLemmas.{content-within}
 use Rattle.sem_run.specs.run.Host.{Here}
 use Rattle.pt_host.specs.World.{Stores, with_objects}
-use Rattle.pt_host.specs.Calls.{of_prim, by_prim}
-use Rattle.pt_host.specs.Sound.{IsWithinIf, IsSoundFrom, KeepsSound}
-use Rattle.pt_host.proofs.Within.{if-grows, text-fits, next-within, one-more, raise-sound}
+use Rattle.pt_host.specs.Primitives.{Awaited, answer_if, arguments_of, of_prim, asked, one_value, done, a_truth, truth_in, row_from, so_many, item_or_end}
+use Rattle.pt_host.specs.Sound.{IsWithinIf, AllWithin, IsSoundFrom, KeepsSound, ItemWithin, RowWithin}
+use Rattle.pt_prims.proofs.Places.{if-grows}
+use Rattle.pt_host.proofs.Within.{Anything, heap-grows, raise-sound}
 
--- a value that names no object
-abbrev IsData : Value → Type 0
-IsData (value.Obj id) = ⊥
-IsData v = Unit {0}
+heap-sound : (o : Op) (vs : List Value) (h : List Object) → IsSound start_objects h → AllWithin h vs → IsSound start_objects (prim_heap o vs h)
+heap-sound o vs h s w = grown-sound (content_of o vs h) h s (content-within h s o vs w)
 
-abbrev IsFit : Content → Type 0
-IsFit (content.Value v) = IsData v
-IsFit (content.Raise class t) = IsClassAt start_objects class.0
-IsFit c = Unit {0}
+answer-within : (o : Op) (vs : List Value) (h : List Object) → IsSound start_objects h → AllWithin h vs → AnswerIsWithin (prim_heap o vs h) (prim_answer o vs h)
+answer-within o vs h s w = placed-within (content_of o vs h) vs h s w (content-within h s o vs w)
 
-integer-fits : (a : IntAns) → IsFit (integer_content a)
-integer-fits (integer.Value z) = tt
-integer-fits integer.ZeroDivide = (_, refl)
-integer-fits integer.NegativeShift = (_, refl)
-integer-fits integer.Float = tt
-integer-fits integer.Range = tt
+objects-stay : (o : Op) (vs : List Value) (h : List Object) → Stay h (prim_heap o vs h)
+objects-stay o vs h = grown-stay (content_of o vs h) h
 
-truths-fit : (o : BinOp) (a b : Bool) → IsFit (truths_binary o a b)
-truths-fit binary.BitAnd a b = tt
-truths-fit binary.BitOr a b = tt
-truths-fit binary.BitXor a b = tt
-truths-fit o a b = integer-fits (binary_answer o (truth a) (truth b))
-
-joined-fits : (s t : Option (List ℕ)) → IsFit (both_joined s t)
-joined-fits None t = tt
-joined-fits (Some s) None = tt
-joined-fits (Some s) (Some t) = by (nat_le (length (chars s) + length (chars t)) length_limit)
+no-fewer : (h k : List Object) → Stay h k → length h ≤ length k
+no-fewer h k stay = by h k (λ i o e. ((stay i o e).0, (stay i o e).1))
   where
-    by : (b : Bool) → IsFit (if b then content.Text (s ++ t) else content.Outside Rattle.pt_base.specs.declared.what.What.TheVariants.Length)
-    by true = tt
-    by false = tt
+    none-there : (p : Object) → None ≡ Some p → ⊥
+    none-there p e = cc
 
-texts-fit : (o : BinOp) (h : List Object) (a b : Value) → IsFit (texts_binary o h a b)
-texts-fit binary.Add h a b = joined-fits (text_of h a) (text_of h b)
-texts-fit o h a b = tt
+    by : (h k : List Object) → ((i : ℕ) (o : Object) → slice_get h i ≡ Some o → (p : Object) × (slice_get k i ≡ Some p)) → length h ≤ length k
+    by [] k f = omega arith
+    by (x ∷ h) [] f = absurd (none-there (f 0 x refl).0 (f 0 x refl).1)
+    by (x ∷ h) (y ∷ k) f = let l : length h ≤ length k = by h k (λ i o e. f (suc i) o e) in omega (arith, l)
 
-beside-fits : (o : BinOp) (h : List Object) (a b : Value) → IsFit (text_beside o h a b)
-beside-fits binary.Add h a b = (_, refl)
-beside-fits o h a b = tt
+abbrev pub IfGiven : {A : Type 0} → Option A → (A → Type 0) → Type 0
+IfGiven None P = Unit {0}
+IfGiven (Some a) P = P a
 
-binary-by-fits : (o : BinOp) (h : List Object) (a b : Value) (k l : Operand) → IsFit (binary_by o h a b k l)
-binary-by-fits o h a b operand.Instance l = tt
-binary-by-fits o h a b k operand.Instance = tt
-binary-by-fits o h a b operand.Compound l = tt
-binary-by-fits o h a b k operand.Compound = tt
-binary-by-fits o h a b (operand.Number x) (operand.Number y) = integer-fits (binary_answer o x y)
-binary-by-fits o h a b operand.Text operand.Text = texts-fit o h a b
-binary-by-fits o h a b operand.Text l = beside-fits o h a b
-binary-by-fits o h a b k operand.Text = beside-fits o h a b
-binary-by-fits o h a b k l = (_, refl)
+-- what an ask makes of what an operation answers names objects of a heap where that does
+pub record Fitting {A : Type 0} (P : List Object → A → Type 0) (w : Awaited A) : Type 0 where
+  pub value : (h : List Object) (v : Value) → IsWithin h v → IfGiven (w.value v) (P h)
+  pub values : (h : List Object) (vs : List Value) → AllWithin h vs → IfGiven (w.values vs) (P h)
+  pub end : (h : List Object) → IfGiven w.end (P h)
 
-truth-binary-fits : (o : BinOp) (h : List Object) (a : Bool) (b : Value) → IsFit (truth_binary o h a b)
-truth-binary-fits o h a (value.Bool b) = truths-fit o a b
-truth-binary-fits o h a b = binary-by-fits o h (value.Bool a) b (operand_of h (value.Bool a)) (operand_of h b)
+pub one-value-fits : Fitting IsWithin one_value
+one-value-fits = record { value = λ h v w. w; values = λ h vs w. tt; end = λ h. tt }
 
-binary-fits : (o : BinOp) (h : List Object) (a b : Value) → IsFit (binary_content o h a b)
-binary-fits o h (value.Bool a) b = truth-binary-fits o h a b
-binary-fits o h a b = binary-by-fits o h a b (operand_of h a) (operand_of h b)
+pub done-fits : Fitting Anything done
+done-fits = record { value = λ h v w. tt; values = λ h vs w. tt; end = λ h. tt }
 
-unary-by-fits : (o : UnOp) (h : List Object) (a : Value) (k : Operand) → IsFit (unary_by o h a k)
-unary-by-fits o h a (operand.Number x) = integer-fits (unary_answer o x)
-unary-by-fits o h a operand.Text = tt
-unary-by-fits o h a operand.Instance = tt
-unary-by-fits o h a k = (_, refl)
-
-truth-by-fits : (h : List Object) (v : Value) (k : Operand) → IsFit (truth_by h v k)
-truth-by-fits h value.None k = tt
-truth-by-fits h v (operand.Number z) = tt
-truth-by-fits h v operand.Text = tt
-truth-by-fits h v operand.Instance = tt
-truth-by-fits h v operand.Compound = tt
-truth-by-fits h v operand.Plain = tt
-
-turned-fits : (c : Content) → IsFit c → IsFit (turned c)
-turned-fits (content.Value (value.Bool b)) f = tt
-turned-fits c f = f
-
-equality-by-fits : (h : List Object) (a b : Value) (k l : Operand) → IsFit (equality_by h a b k l)
-equality-by-fits h a b operand.Instance l = tt
-equality-by-fits h a b k operand.Instance = tt
-equality-by-fits h a b operand.Compound l = tt
-equality-by-fits h a b k operand.Compound = tt
-equality-by-fits h a b (operand.Number x) (operand.Number y) = tt
-equality-by-fits h a b k l = tt
-
-order-by-fits : (o : CompareOp) (h : List Object) (a b : Value) (k l : Operand) → IsFit (order_by o h a b k l)
-order-by-fits o h a b operand.Instance l = tt
-order-by-fits o h a b k operand.Instance = tt
-order-by-fits o h a b operand.Compound l = tt
-order-by-fits o h a b k operand.Compound = tt
-order-by-fits o h a b (operand.Number x) (operand.Number y) = tt
-order-by-fits o h a b operand.Text l = tt
-order-by-fits o h a b k operand.Text = tt
-order-by-fits o h a b k l = (_, refl)
-
-comparison-fits : (o : CompareOp) (h : List Object) (a b : Value) → IsFit (comparison_content o h a b)
-comparison-fits comparison.Equal h a b = equality-by-fits h a b (operand_of h a) (operand_of h b)
-comparison-fits comparison.NotEqual h a b = turned-fits (equality_by h a b (operand_of h a) (operand_of h b)) (equality-by-fits h a b (operand_of h a) (operand_of h b))
-comparison-fits comparison.In h a b = tt
-comparison-fits comparison.NotIn h a b = tt
-comparison-fits comparison.Is h a b = tt
-comparison-fits comparison.IsNot h a b = tt
-comparison-fits o h a b = order-by-fits o h a b (operand_of h a) (operand_of h b)
-
-print-fits : (h : List Object) (vs : List Value) → IsFit (print_content h vs)
-print-fits h vs = by (has_instance h vs) (has_compound h vs)
+pub truth-fits : Fitting Anything a_truth
+truth-fits = record { value = λ h v w. by h (truth_in v); values = λ h vs w. tt; end = λ h. tt }
   where
-    by : (a b : Bool) → IsFit (if a then content.Help Rattle.pt_prims.specs.declared.answer.Helper.TheVariants.PrintOf else (if b then content.Outside Rattle.pt_base.specs.declared.what.What.TheVariants.Feature else content.Print (printed h vs)))
-    by true b = tt
-    by false true = tt
-    by false false = tt
+    by : (h : List Object) (o : Option Bool) → IfGiven o (Anything h)
+    by h None = tt
+    by h (Some b) = tt
 
-content-fits : (o : Op) (vs : List Value) (h : List Object) → IsFit (content_of o vs h)
-content-fits op.Truth (a ∷ []) h = truth-by-fits h a (operand_of h a)
-content-fits op.Not (a ∷ []) h = turned-fits (truth_by h a (operand_of h a)) (truth-by-fits h a (operand_of h a))
-content-fits (op.Unary o) (a ∷ []) h = unary-by-fits o h a (operand_of h a)
-content-fits (op.Binary o) (a ∷ b ∷ []) h = binary-fits o h a b
-content-fits (op.InPlace o) (a ∷ b ∷ []) h = binary-fits o h a b
-content-fits (op.Compare o) (a ∷ b ∷ []) h = comparison-fits o h a b
-content-fits op.Print vs h = print-fits h vs
-content-fits o vs h = tt
+pub item-fits : Fitting ItemWithin item_or_end
+item-fits = record { value = λ h v w. w; values = λ h vs w. tt; end = λ h. tt }
 
-data-within : (h : List Object) (v : Value) → IsData v → IsWithin h v
-data-within h value.None d = tt
-data-within h (value.Bool b) d = tt
-data-within h (value.Int z) d = tt
-data-within h value.Ellipsis d = tt
-data-within h value.NotImplemented d = tt
-data-within h (value.Obj id) d = absurd d
+pub row-fits : (n : ℕ) → Fitting (RowWithin n) (so_many n)
+row-fits n = record { value = λ h v w. tt; values = λ h vs w. by n h vs w; end = λ h. tt }
+  where
+    more : (n : ℕ) (h : List Object) (v : Value) (o : Option (Row Value n)) → IsWithin h v → IfGiven o (RowWithin n h) → IfGiven (option_map (λ r. (v, r)) o) (RowWithin (suc n) h)
+    more n h v None w u = tt
+    more n h v (Some r) w u = (w, u)
 
-module _ (n : ℕ) (st : Stores) (r : Here Value) (s : IsSoundFrom n st) (active : IsWithinIf st.world.heap r.active) where
-  abbrev heap : List Object
-  heap = st.world.heap
+    by : (n : ℕ) (h : List Object) (vs : List Value) → AllWithin h vs → IfGiven (row_from n vs) (RowWithin n h)
+    by zero h [] w = tt
+    by zero h (v ∷ vs) w = tt
+    by (suc n) h [] w = tt
+    by (suc n) h (v ∷ vs) w = more n h v (row_from n vs) w.0 (by n h vs w.1)
 
-  text-sound : (t : List ℕ) (b : Bool)
-      → KeepsSound IsWithin n (of_prim (new_text (if b then None else Some (next_object heap))) r (with_objects (if b then heap else heap ++ Str t ∷ []) st))
-  text-sound t true = tt
-  text-sound t false = (one-more n n st (Str t) s s.objects (text-fits heap t), next-within heap (Str t))
+arguments-within : (h : List Object) (o : Option Value) → IsWithinIf h o → AllWithin h (arguments_of o)
+arguments-within h None w = tt
+arguments-within h (Some v) w = (w, tt)
 
-  raised-sound : (class : Rattle.pt_base.specs.declared.numbers.ObjId.ObjId) (t : List ℕ) → IsClassAt start_objects class.0 → (b : Bool)
-      → KeepsSound IsWithin n (of_prim (raised_with class (if b then None else Some (next_object heap))) r (with_objects (if b then heap else heap ++ Str t ∷ []) st))
-  raised-sound class t k true = tt
-  raised-sound class t k false =
-      raise-sound IsWithin n (with_objects (heap ++ Str t ∷ []) st) class (next_object heap ∷ []) r (one-more n n st (Str t) s s.objects (text-fits heap t)) k
-      (next-within heap (Str t), tt) (if-grows heap (heap ++ Str t ∷ []) r.active (omega (arith, length-append heap (Str t ∷ []))) active)
+module _ {A : Type 0} (P : List Object → A → Type 0) (n : ℕ) (w : Awaited A) (fits : Fitting P w) where
+  given-if : (o : Option A) (st : Stores) → IsSoundFrom n st → IfGiven o (P st.world.heap) → KeepsSound P n (answer_if o st)
+  given-if None st s f = tt
+  given-if (Some a) st s f = (s, f)
 
-  answer-sound : (c : Content) → IsFit c → KeepsSound IsWithin n (of_prim (placed c heap) r (with_objects (grown c heap) st))
-  answer-sound (content.Value v) f = (s, data-within heap v f)
-  answer-sound (content.Text t) f = text-sound t (nat_eq (length heap) object_limit)
-  answer-sound (content.Raise class t) f = raised-sound class t f (nat_eq (length heap) object_limit)
-  answer-sound (content.Help helper) f = tt
-  answer-sound (content.Print t) f = (s, tt)
-  answer-sound (content.Outside what) f = tt
+  answered : (a : PrimAns) (r : Here Value) (st : Stores) → IsSoundFrom n st → AnswerIsWithin st.world.heap a → IsWithinIf st.world.heap r.active → KeepsSound P n (of_prim w a r st)
+  answered (prim.Value v) r st s i active = given-if (w.value v) st s (fits.value st.world.heap v i)
+  answered (prim.Values vs) r st s i active = given-if (w.values vs) st s (fits.values st.world.heap vs i)
+  answered prim.End r st s i active = given-if w.end st s (fits.end st.world.heap)
+  answered (prim.Raise class v) r st s i active = raise-sound P n st class (arguments_of v) r s i.0 (arguments-within st.world.heap v i.1) active
+  answered (prim.Help helper vs inverted) r st s i active = tt
+  answered (prim.Print t) r st s i active = given-if (w.value value.None) st s (fits.value st.world.heap value.None tt)
+  answered (prim.Outside what) r st s i active = tt
 
-  pub prim-sound : (o : Op) (vs : List Value) → KeepsSound IsWithin n (by_prim o vs r st)
-  prim-sound o vs = answer-sound (content_of o vs heap) (content-fits o vs heap)
+  pub asked-sound : (o : Op) (vs : List Value) (r : Here Value) (st : Stores) → AllWithin st.world.heap vs → IsSoundFrom n st → IsWithinIf st.world.heap r.active
+      → KeepsSound P n (asked w o vs r st)
+  unfolding asked
+  asked-sound o vs r st all s active =
+      let h : List Object = st.world.heap in
+      let k : List Object = prim_heap o vs h in
+      let l : length h ≤ length k = no-fewer h k (objects-stay o vs h) in
+      answered (prim_answer o vs h) r (with_objects k st)
+      (heap-grows n n st k s (heap-sound o vs h s.heap all) l (omega (arith, s.objects, l)))
+      (answer-within o vs h s.heap all) (if-grows h k r.active l active)

@@ -24,10 +24,7 @@ use Rattle.pt_host.specs.Texts.{unbound_text, unbound_class}
 use Rattle.pt_host.specs.Builtins.{Builtin, is, unavailable, no_builtin, at_place, start_object, builtin}
 use Rattle.pt_host.specs.Variables.{cell_number, cell_value, variable_value, readable_value, raise_unbound, by_builtin, unless_bound, load_by, load, with_cell, put, store, delete_by, delete, make_anew, number_value, cell_of}
 use Rattle.pt_host.specs.Sound.{IsWithinIf, CellsWithin, NamesWithin, IsSoundFrom, KeepsSound}
-use Rattle.pt_host.proofs.Within.{raise-text-sound}
-
-abbrev pub Anything : {A : Type 0} → List Object → A → Type 0
-Anything h a = Unit {0}
+use Rattle.pt_host.proofs.Within.{Anything, raise-text-sound}
 
 -- what is held in lists
 pub named-within : (h : List Object) (x : Name) (es : Named) → NamesWithin h es → IsWithinIf h (name_value x es)

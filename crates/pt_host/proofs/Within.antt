@@ -1,9 +1,8 @@
 -- What names objects of a heap does so in a greater one, and what is put behind its objects.
-use Rattle.std.proofs.Common.{◌≡◌, ◌<◌, ◌≤◌, ℕ, zero, suc, Bool, true, false, List, [], ◌∷◌, ◌++◌, length, take, Option, None, Some, slice_get, Contains, nat_eq, if◌then◌else◌, refl, ap, ◌∙◌, arith, inl, inr}
-use Rattle.std.specs.Prelude.{slice_index_or, codes}
+use Rattle.std.proofs.Common.{◌≤◌, ℕ, Bool, true, false, List, [], ◌∷◌, ◌++◌, length, Option, None, Some, slice_get, nat_eq, if◌then◌else◌, refl, ap, ◌∙◌, arith, inl, inr}
+use Rattle.std.specs.Prelude.{codes}
 use Rattle.std.proofs.lemmas.List.{length-append}
 use Rattle.std.proofs.lemmas.List.Elements.{Contains-append_cases}
-use Rattle.std.proofs.lemmas.Option.{slice_get_within}
 use Rattle.pt_base.specs.declared.numbers.ObjId.{ObjId}
 use Rattle.pt_base.specs.declared.what.What.TheVariants.{Heap}
 use Rattle.pt_heap.specs.declared.value.Value.{Value}
@@ -15,7 +14,8 @@ use Rattle.pt_heap.proofs.SoundLemmas.{sound-add}
 use Rattle.pt_builtin_objects.specs.Start.{start_objects}
 use Rattle.pt_names.specs.Names.{Named}
 use Rattle.pt_heap.specs.Limits.{object_limit}
-use Rattle.pt_prims.specs.Operations.{next_object}
+use Rattle.pt_content.specs.Changes.{next_object}
+use Rattle.pt_prims.proofs.Places.{Below, none-below, one-below, values-below, of-take, class-within, if-grows}
 use Rattle.sem_run.specs.run.Host as H
 use Rattle.sem_run.specs.run.Host.{Here, made, beyond}
 use Rattle.pt_host.specs.declared.places.TheConstants.{GENERATOR_EXIT, RECURSION_ERROR, RUNTIME_ERROR, VALUE_ERROR}
@@ -24,21 +24,8 @@ use Rattle.pt_host.specs.Trees.{answer_with, raise_with}
 use Rattle.pt_host.specs.Errors.{object_place, error, error_saying, raise_error, raise_saying}
 use Rattle.pt_host.specs.Sound.{IsWithinIf, AllWithin, CellsWithin, NamesWithin, IsSoundFrom, KeepsSound, AllotsSound, MakesSoundFailures}
 
-pub within-grows : (h k : List Object) (v : Value) → length h ≤ length k → IsWithin h v → IsWithin k v
-within-grows h k value.None l w = tt
-within-grows h k (value.Bool b) l w = tt
-within-grows h k (value.Int z) l w = tt
-within-grows h k value.Ellipsis l w = tt
-within-grows h k value.NotImplemented l w = tt
-within-grows h k (value.Obj id) l w = omega (arith, l, w)
-
-pub if-grows : (h k : List Object) (o : Option Value) → length h ≤ length k → IsWithinIf h o → IsWithinIf k o
-if-grows h k None l w = tt
-if-grows h k (Some v) l w = within-grows h k v l w
-
-all-grow : (h k : List Object) (vs : List Value) → length h ≤ length k → AllWithin h vs → AllWithin k vs
-all-grow h k [] l w = tt
-all-grow h k (v ∷ vs) l w = (within-grows h k v l w.0, all-grow h k vs l w.1)
+abbrev pub Anything : {A : Type 0} → List Object → A → Type 0
+Anything h a = Unit {0}
 
 cells-grow : (h k : List Object) (os : List (Option Value)) → length h ≤ length k → CellsWithin h os → CellsWithin k os
 cells-grow h k [] l w = tt
@@ -66,20 +53,6 @@ from-here n st s = record { objects = omega arith; heap = s.heap; globals = s.gl
 pub at-least : (n m : ℕ) (st : Stores) → n ≤ m → IsSoundFrom m st → IsSoundFrom n st
 at-least n m st l s = record { objects = omega (arith, l, s.objects); heap = s.heap; globals = s.globals; cells = s.cells; names = s.names }
 
--- places below a number
-abbrev pub Below : ℕ → List ℕ → Type 0
-Below n xs = (p : ℕ) → Contains xs p → p < n
-
-pub none-below : (n : ℕ) → Below n []
-none-below n p c = absurd (omega (arith, c.1))
-
-pub one-below : (n x : ℕ) → x < n → Below n (x ∷ [])
-one-below n x l p c = by c.0 c.1 c.2
-  where
-    by : (k : ℕ) → k < 1 → slice_index_or (x ∷ []) k p ≡ p → p < n
-    by zero b e = omega (arith, l, e)
-    by (suc k) b e = absurd (omega arith)
-
 pub both-below : (n : ℕ) (xs ys : List ℕ) → Below n xs → Below n ys → Below n (xs ++ ys)
 both-below n xs ys a b p c = elim (Contains-append_cases xs ys p c) [ inl h ↦ a p h | inr h ↦ b p h ]
 
@@ -90,10 +63,6 @@ value-below h (value.Int z) w = none-below (length h)
 value-below h value.Ellipsis w = none-below (length h)
 value-below h value.NotImplemented w = none-below (length h)
 value-below h (value.Obj id) w = one-below (length h) id.0 w
-
-values-below : (h : List Object) (vs : List Value) → AllWithin h vs → Below (length h) (places_in vs)
-values-below h [] w = none-below (length h)
-values-below h (v ∷ vs) w = both-below (length h) (place_of v) (places_in vs) (value-below h v w.0) (values-below h vs w.1)
 
 pub object-below : (h : List Object) (o : Option Value) → IsWithinIf h o → Below (length h) (place_in (object_place o))
 object-below h None w = none-below (length h)
@@ -113,17 +82,8 @@ below-value h value.NotImplemented b = tt
 below-value h (value.Obj id) b = b id.0 (0, omega arith, refl)
 
 -- the classes of the start stand where they stood
-of-take : {X : Type 0} (n : ℕ) (xs : List X) (i : ℕ) (o : X) → slice_get (take n xs) i ≡ Some o → slice_get xs i ≡ Some o
-of-take zero xs i o h = cc
-of-take (suc n) [] i o h = cc
-of-take (suc n) (x ∷ xs) zero o h = h
-of-take (suc n) (x ∷ xs) (suc i) o h = of-take n xs i o h
-
 class-stays : (h : List Object) (p : ℕ) → IsSound start_objects h → IsClassAt start_objects p → IsClassAt h p
 class-stays h p s c = (c.0, of-take (length start_objects) h p (Class c.0) (ap (λ l. slice_get l p) s.begins ∙ c.1))
-
-class-within : (h : List Object) (p : ℕ) → IsClassAt h p → p < length h
-class-within h p c = slice_get_within h p (Class c.0) c.1
 
 error-fits : (h : List Object) (c : ObjId) (args : List Value) (cause active : Option Value) → IsClassAt h c.0 → AllWithin h args → IsWithinIf h cause → IsWithinIf h active
     → Fits h (length h) (error c args cause active)

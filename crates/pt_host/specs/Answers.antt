@@ -1,29 +1,39 @@
 -- What each ask of control answers (Language Reference 6, 7). An ask of a form that isn't supported
 -- yet leaves the profile.
-use Rattle.std.specs.Prelude.{ℕ, ◌+◌, Bool, List, [], ◌∷◌, length, Option, Some, None, position}
+use Rattle.std.specs.Prelude.{ℕ, suc, ◌+◌, ◌-◌, Bool, List, [], ◌∷◌, length, Option, Some, None, position}
 use Rattle.std.specs.Str.{bytes_eq}
 use Rattle.pt_base.specs.declared.what.What.TheVariants.{Feature}
 use Rattle.pt_tree.specs.declared.expression.Constant.{Constant}
 use Rattle.pt_tree.specs.declared.expression.Constant.TheVariants as constant
 use Rattle.sem_control.specs.control.Turn as T
-use Rattle.sem_control.specs.control.Turn.{Ask, Seek, Deed, Operation}
+use Rattle.sem_control.specs.control.Turn.{Ask, Seek, Deed, Operation, Row}
 use Rattle.pt_heap.specs.declared.value.Value.{Value}
 use Rattle.pt_heap.specs.declared.value.Value.TheVariants as value
 use Rattle.pt_builtin_objects.specs.Start.{start_rows}
-use Rattle.pt_prims.specs.declared.op.Op.TheVariants as op
-use Rattle.sem_run.specs.run.Host.{Here, Finding, answer, leave}
+use Rattle.pt_content.specs.declared.op.Op.{Op}
+use Rattle.pt_content.specs.declared.op.Op.TheVariants as op
+use Rattle.sem_run.specs.run.Host.{Here, Finding, Item, answer, leave}
 use Rattle.pt_host.specs.World.{Stores, Program}
-use Rattle.pt_host.specs.Trees.{Tree, and_then}
+use Rattle.pt_host.specs.Trees.{Tree}
 use Rattle.pt_host.specs.Variables.{load, store, delete, make_anew, cell_of}
-use Rattle.pt_host.specs.Calls.{by_prim, make_function, call}
-
--- the truth that an operation answered
-abbrev pub truth : Value → Stores → Tree Bool
-truth (value.Bool b) st = answer b st
-truth v st = leave Feature
+use Rattle.pt_host.specs.Primitives.{asked, by_prim, done, a_truth, item_or_end, so_many}
+use Rattle.pt_host.specs.Calls.{make_function, call}
 
 abbrev pub branch : Value → Here Value → Stores → Tree Bool
-branch v h st = and_then (by_prim op.Truth (v ∷ []) h st) truth
+branch v h st = asked a_truth op.Truth (v ∷ []) h st
+
+-- what is done by an operation on values, with the operands in the order in which they are evaluated
+abbrev pub change_of : Deed Value → Option (Op × List Value)
+change_of (T.set_item a i v) = Some (op.SetItem, v ∷ a ∷ i ∷ [])
+change_of (T.delete_item a i) = Some (op.DelItem, a ∷ i ∷ [])
+change_of (T.add_to_list made v) = Some (op.ListAdd, made ∷ v ∷ [])
+change_of (T.add_to_set made v) = Some (op.SetAdd, made ∷ v ∷ [])
+change_of (T.add_to_dict made k v) = Some (op.DictAdd, made ∷ k ∷ v ∷ [])
+change_of d = None
+
+abbrev pub by_change : Option (Op × List Value) → Here Value → Stores → Tree (Unit {0})
+by_change (Some p) h st = asked done p.0 p.1 h st
+by_change None h st = leave Feature
 
 abbrev pub deeds : Deed Value → Here Value → Stores → Tree (Unit {0})
 deeds (T.store x v) h st = store x v st
@@ -31,7 +41,43 @@ deeds (T.delete x) h st = delete x h st
 deeds (T.discard v) h st = answer tt st
 deeds (T.fresh x) h st = answer tt (make_anew x.scope x.name st)
 deeds T.nothing h st = answer tt st
-deeds d h st = leave Feature
+deeds d h st = by_change (change_of d) h st
+
+-- iterators and their items (8.3), and what is unpacked (7.2)
+abbrev pub iterator_of : Value → Here Value → Stores → Tree Value
+iterator_of v h st = by_prim op.Iter (v ∷ []) h st
+
+abbrev pub next_item : (iterator : Value) → Here Value → Stores → Tree (Item Value)
+next_item v h st = asked item_or_end op.Next (v ∷ []) h st
+
+abbrev pub unpacking : (targets : ℕ) → (star : Option ℕ) → Op
+unpacking n None = op.Unpack n
+unpacking n (Some before) = op.UnpackStar before (n - suc before)
+
+abbrev pub unpacked : Value → (n : ℕ) → (star : Option ℕ) → Here Value → Stores →
+    Tree (Row Value n)
+unpacked v n star h st = asked (so_many n) (unpacking n star) (v ∷ []) h st
+
+-- the operation on values that an operation of control is, if it is one that is there
+abbrev pub operation_of : Operation → Option Op
+operation_of T.tuple = Some op.Tuple
+operation_of T.list = Some op.List
+operation_of T.set = Some op.Set
+operation_of T.dict = Some op.Dict
+operation_of T.item = Some op.Item
+operation_of T.slice = Some op.Slice
+operation_of (T.unary o) = Some (op.Unary o)
+operation_of T.inverted = Some op.Not
+operation_of (T.binary o) = Some (op.Binary o)
+operation_of (T.in_place o) = Some (op.InPlace o)
+operation_of (T.compare o) = Some (op.Compare o)
+operation_of (T.format c) = Some (op.Format c)
+operation_of T.join = Some op.Join
+operation_of o = None
+
+abbrev pub by_operation : Option Op → List Value → Here Value → Stores → Tree Value
+by_operation (Some o) vs h st = by_prim o vs h st
+by_operation None vs h st = leave Feature
 
 module _ (program : Program) where
   -- the object of a constant's text
@@ -47,14 +93,9 @@ module _ (program : Program) where
   constant_value (constant.Str t) = text_object (position (bytes_eq t) program.texts)
 
   abbrev pub operate : Operation → List Value → Here Value → Stores → Tree Value
-  operate (T.unary o) vs h st = by_prim (op.Unary o) vs h st
-  operate T.inverted vs h st = by_prim op.Not vs h st
-  operate (T.binary o) vs h st = by_prim (op.Binary o) vs h st
-  operate (T.in_place o) vs h st = by_prim (op.InPlace o) vs h st
-  operate (T.compare o) vs h st = by_prim (op.Compare o) vs h st
   operate (T.call rs) (f ∷ vs) h st = call program rs f vs h st
   operate (T.function b xs) vs h st = make_function b xs vs h st
-  operate o vs h st = leave Feature
+  operate o vs h st = by_operation (operation_of o) vs h st
 
   abbrev pub seeks : Seek Value → Here Value → Stores → Tree Value
   seeks (T.const k) h st = answer (constant_value k) st
@@ -68,4 +109,7 @@ module _ (program : Program) where
   answers (T.deed d) h st = deeds d h st
   answers (T.leave l) h st = answer tt st
   answers (T.test (T.branch v)) h st = branch v h st
+  answers (T.iter_of v) h st = iterator_of v h st
+  answers (T.next_of i) h st = next_item i h st
+  answers (T.unpack v n star) h st = unpacked v n star h st
   answers a h st = leave Feature

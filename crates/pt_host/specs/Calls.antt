@@ -1,7 +1,8 @@
 -- How functions are made and called (Language Reference 6.3.4, 6.14, 8.7).
-use Rattle.std.specs.Prelude.{ℕ, ◌+◌, pos, Bool, true, false, ◌||◌, List, [], ◌∷◌, ◌++◌, map, drop}
-use Rattle.std.specs.Prelude.{length, Option, Some, None, Result, Ok, Err, slice_get}
+use Rattle.std.specs.Prelude.{ℕ, ◌+◌, pos, Bool, true, false, not, ◌&&◌, ◌||◌, List, [], ◌∷◌, ◌++◌, map, drop}
+use Rattle.std.specs.Prelude.{length, codes, Option, Some, None, Result, Ok, Err, slice_get}
 use Rattle.std.specs.Prelude.{if◌then◌else◌}
+use Rattle.std.specs.Str.{bytes_eq}
 use Rattle.pt_base.specs.declared.what.What.TheVariants.{Feature}
 use Rattle.pt_tree.specs.Syntax.{Name}
 use Rattle.sem_control.specs.control.Turn as T
@@ -9,50 +10,31 @@ use Rattle.sem_control.specs.control.Turn.{Role, End, gave, left_by}
 use Rattle.pt_heap.specs.declared.value.Value.{Value}
 use Rattle.pt_heap.specs.declared.value.Value.TheVariants as value
 use Rattle.pt_heap.specs.declared.view.Binding.{Binding}
-use Rattle.pt_heap.specs.declared.object.Builtin.{Builtin}
 use Rattle.pt_heap.specs.declared.object.Function.{Function}
 use Rattle.pt_heap.specs.declared.object.Object.{Object}
 use Rattle.pt_heap.specs.declared.object.Object.TheVariants as object
 use Rattle.pt_names.specs.Names.{Named, name_value}
 use Rattle.pt_bind.specs.NameSets.{is_among}
-use Rattle.pt_bind.specs.Binding.{names_of, binding_with}
+use Rattle.pt_bind.specs.Binding.{value_of, names_of, binding_with}
 use Rattle.pt_bind.specs.declared.arguments.Args.{Args}
 use Rattle.pt_bind.specs.declared.arguments.BindErr.{BindErr}
 use Rattle.pt_bind.specs.declared.arguments.Locals.{Locals}
-use Rattle.pt_prims.specs.Classes.{class_name}
-use Rattle.pt_prims.specs.Operands.{operand_of}
-use Rattle.pt_prims.specs.Operations.{of_function, prim_answer, prim_heap}
-use Rattle.pt_prims.specs.declared.op.Op.{Op}
-use Rattle.pt_prims.specs.declared.operand.Operand.{Operand}
-use Rattle.pt_prims.specs.declared.operand.Operand.TheVariants as operand
-use Rattle.pt_prims.specs.declared.answer.PrimAns.{PrimAns}
-use Rattle.pt_prims.specs.declared.answer.PrimAns.TheVariants as prim
+use Rattle.pt_content.specs.Classes.{class_name}
+use Rattle.pt_content.specs.Functions.{of_class, of_function}
+use Rattle.pt_content.specs.Operands.{operand_of}
+use Rattle.pt_content.specs.declared.function.Function.{Function as Builtin}
+use Rattle.pt_content.specs.declared.function.Function.TheVariants as builtin
+use Rattle.pt_content.specs.declared.op.Op.TheVariants as op
+use Rattle.pt_content.specs.declared.operand.Operand.{Operand}
+use Rattle.pt_content.specs.declared.operand.Operand.TheVariants as operand
 use Rattle.sem_run.specs.run.Machine.{BlockId}
-use Rattle.sem_run.specs.run.Host.{Here, Opening, answer, raise, print, leave, request}
-use Rattle.sem_run.specs.run.Host.{opens}
+use Rattle.sem_run.specs.run.Host.{Here, Opening, answer, raise, leave, request, opens}
 use Rattle.pt_host.specs.declared.places.TheConstants.{TYPE_ERROR}
-use Rattle.pt_host.specs.World.{Names, World, Stores, CodeFacts, Program, with_objects, in_world}
-use Rattle.pt_host.specs.World.{allot}
+use Rattle.pt_host.specs.World.{Names, World, Stores, CodeFacts, Program, in_world, allot}
 use Rattle.pt_host.specs.Trees.{Tree, answer_with}
 use Rattle.pt_host.specs.Texts.{binding_text, not_callable_text}
-use Rattle.pt_host.specs.Errors.{raise_error, raise_saying}
-
--- what an operation on values answers; a helper that is to be asked isn't there yet
-abbrev pub arguments_of : Option Value → List Value
-arguments_of (Some v) = v ∷ []
-arguments_of None = []
-
-abbrev pub of_prim : PrimAns → Here Value → Stores → Tree Value
-of_prim (prim.Value v) h st = answer v st
-of_prim (prim.Raise class v) h st = raise_error class (arguments_of v) h st
-of_prim (prim.Help helper) h st = leave Feature
-of_prim (prim.Print t) h st = print t (answer value.None st)
-of_prim (prim.Outside what) h st = leave what
-
-abbrev pub by_prim : Op → List Value → Here Value → Stores → Tree Value
-by_prim op vs h st =
-    of_prim (prim_answer op vs st.world.heap) h
-    (with_objects (prim_heap op vs st.world.heap) st)
+use Rattle.pt_host.specs.Errors.{raise_saying}
+pub use Rattle.pt_host.specs.Primitives.{by_prim, arguments_of}
 
 -- a function of a block, with the values of defaults and then the numbers of cells
 abbrev pub defaults_of : List Name → List Value → List Binding
@@ -160,14 +142,49 @@ call_function facts f args h st =
     if is_simple facts then call_bound facts f (binding_with facts.params f.defaults args) h st
     else leave Feature
 
--- a builtin function takes arguments without names
-abbrev pub by_operation : Option Op → (named : List Binding) → List Value → Here Value → Stores →
-    Tree Value
-by_operation (Some op) [] vs h st = by_prim op vs h st
-by_operation _ _ vs h st = leave Feature
+-- `print` takes `sep` and `end` by name, each once (Library Reference, "Built-in Functions")
+abbrev pub is_print_name : Name → Bool
+is_print_name x = bytes_eq x (codes "sep") || bytes_eq x (codes "end")
 
-abbrev pub call_builtin : Builtin → Args → Here Value → Stores → Tree Value
-call_builtin b args h st = by_operation (of_function b.number) args.named args.plain h st
+abbrev pub are_print_names : List Binding → Bool
+are_print_names [] = true
+are_print_names (b ∷ []) = is_print_name b.name
+are_print_names (b ∷ c ∷ []) =
+    (is_print_name b.name && is_print_name c.name) && not (bytes_eq b.name c.name)
+are_print_names bs = false
+
+abbrev pub or_none : Option Value → Value
+or_none (Some v) = v
+or_none None = value.None
+
+abbrev pub print_operands : Args → List Value
+print_operands args =
+    or_none (value_of (codes "sep") args.named) ∷ or_none (value_of (codes "end") args.named)
+    ∷ args.plain
+
+abbrev pub unnamed_operands : (named : List Binding) → List Value → Option (List Value)
+unnamed_operands [] vs = Some vs
+unnamed_operands bs vs = None
+
+-- the operands of a builtin function, which takes arguments without names but for `print`
+abbrev pub operands_of : Builtin → Args → Option (List Value)
+operands_of builtin.Print args =
+    if are_print_names args.named then Some (print_operands args) else None
+operands_of f args = unnamed_operands args.named args.plain
+
+abbrev pub call_with : Builtin → Option (List Value) → Here Value → Stores → Tree Value
+call_with f (Some vs) h st = by_prim (op.Call f) vs h st
+call_with f None h st = leave Feature
+
+-- functions of `sys`, and calls of lists, tuples, sets, dictionaries and exceptions, aren't there yet
+abbrev pub call_builtin : Option Builtin → Args → Here Value → Stores → Tree Value
+call_builtin (Some f) args h st = call_with f (operands_of f args) h st
+call_builtin None args h st = leave Feature
+
+-- the builtin class that a value is
+abbrev pub class_function : Value → Option Builtin
+class_function (value.Obj id) = of_class id
+class_function v = None
 
 abbrev pub not_callable : Value → Here Value → Stores → Tree Value
 not_callable v h st = raise_saying TYPE_ERROR (not_callable_text (class_name st.world.heap v)) h st
@@ -181,8 +198,8 @@ module _ (program : Program) where
   abbrev pub call_object : Option Object → Value → Args → Here Value → Stores → Tree Value
   call_object (Some (object.Function f)) v args h st =
       call_function (program.facts (block_of f)) f args h st
-  call_object (Some (object.Builtin b)) v args h st = call_builtin b args h st
-  call_object (Some (object.Class c)) v args h st = leave Feature
+  call_object (Some (object.Builtin b)) v args h st = call_builtin (of_function b.number) args h st
+  call_object (Some (object.Class c)) v args h st = call_builtin (class_function v) args h st
   call_object (Some (object.Method m)) v args h st = leave Feature
   call_object o v args h st = call_other (operand_of st.world.heap v) v h st
 

@@ -1,5 +1,5 @@
 -- The host of runs over the objects of a heap.
-use Rattle.std.specs.Prelude.{◌==◌, Bool, true, false, not, List, [], ◌∷◌, Option, Some, None}
+use Rattle.std.specs.Prelude.{◌==◌, Bool, true, false, not, List, ◌∷◌, Option, Some, None}
 use Rattle.std.specs.Prelude.{slice_get}
 use Rattle.pt_base.specs.declared.what.What.TheVariants.{Feature}
 use Rattle.sem_control.specs.control.Turn as T

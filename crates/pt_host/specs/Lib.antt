@@ -5,6 +5,7 @@ pub mod Texts
 pub mod Errors
 pub mod Builtins
 pub mod Variables
+pub mod Primitives
 pub mod Calls
 pub mod Answers
 pub mod Leaving

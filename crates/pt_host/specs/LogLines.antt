@@ -5,8 +5,8 @@ use Rattle.std.specs.Fmt.{signed_decimal}
 use Rattle.pt_tree.specs.Syntax.{Name}
 use Rattle.pt_heap.specs.declared.value.Value.{Value}
 use Rattle.pt_heap.specs.declared.object.Object.{Object}
-use Rattle.pt_prims.specs.Classes.{class_name}
-use Rattle.pt_prims.specs.TypeErrors.{sentence}
+use Rattle.pt_content.specs.Classes.{class_name}
+use Rattle.pt_content.specs.TypeErrors.{sentence}
 use Rattle.sem_run.specs.run.Events.{Happening, raises, Event, TraceKind, a_call, a_line, a_return}
 use Rattle.sem_run.specs.run.Events.{an_exception, trace_kind}
 use Rattle.pt_host.specs.World.{World, Program}

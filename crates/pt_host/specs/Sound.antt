@@ -1,27 +1,22 @@
 -- When the names and the world of a run are sound: so is the heap, and each value that is held
 -- names an object of it.
-use Rattle.std.specs.Prelude.{ℕ, ◌≤◌, ◌+◌, List, [], ◌∷◌, length, Option, Some, None}
+use Rattle.std.specs.Prelude.{ℕ, zero, suc, ◌≤◌, ◌+◌, List, [], ◌∷◌, length, Option, Some, None}
 use Rattle.sem_control.specs.control.Turn as T
-use Rattle.sem_control.specs.control.Turn.{Ask, Seek, Deed, End, gave, left_by}
+use Rattle.sem_control.specs.control.Turn.{Ask, Seek, Deed, Row, End, gave, left_by}
 use Rattle.pt_heap.specs.declared.value.Value.{Value}
 use Rattle.pt_heap.specs.declared.object.Object.{Object}
 use Rattle.pt_heap.specs.Sound.{IsSound, IsWithin}
 use Rattle.pt_builtin_objects.specs.Start.{start_objects}
+use Rattle.pt_content.specs.declared.op.Op.{Op}
+pub use Rattle.pt_prims.specs.Laws.{AllWithin, IsWithinIf}
 use Rattle.pt_names.specs.Names.{Named}
 use Rattle.sem_run.specs.run.Host.{Request, Response, opens, answer, raise, print, leave, request}
-use Rattle.sem_run.specs.run.Host.{Finding, Here, Entry, Failure, stop_iteration, made, beyond}
+use Rattle.sem_run.specs.run.Host.{Finding, Item, an_item, no_item, Here, Entry, Failure}
+use Rattle.sem_run.specs.run.Host.{stop_iteration, made, beyond}
 use Rattle.pt_host.specs.World.{Names, World, Stores, Program, Allotted}
 use Rattle.pt_host.specs.Trees.{Tree}
 use Rattle.pt_host.specs.Errors.{failure, arises, enters}
-use Rattle.pt_host.specs.Answers.{answers}
-
-abbrev pub IsWithinIf : List Object → Option Value → Type 0
-IsWithinIf h None = Unit {0}
-IsWithinIf h (Some v) = IsWithin h v
-
-abbrev pub AllWithin : List Object → List Value → Type 0
-AllWithin h [] = Unit {0}
-AllWithin h (v ∷ vs) = IsWithin h v × AllWithin h vs
+use Rattle.pt_host.specs.Answers.{change_of, answers}
 
 abbrev pub CellsWithin : List Object → List (Option Value) → Type 0
 CellsWithin h [] = Unit {0}
@@ -74,17 +69,36 @@ abbrev pub SeekWithin : List Object → Seek Value → Type 0
 SeekWithin h (T.operate op vs) = AllWithin h vs
 SeekWithin h s = Unit {0}
 
+abbrev pub ChangeWithin : List Object → Option (Op × List Value) → Type 0
+ChangeWithin h (Some p) = AllWithin h p.1
+ChangeWithin h None = Unit {0}
+
 abbrev pub DeedWithin : List Object → Deed Value → Type 0
 DeedWithin h (T.store x v) = IsWithin h v
-DeedWithin h d = Unit {0}
+DeedWithin h d = ChangeWithin h (change_of d)
 
 abbrev pub AskWithin : List Object → Ask Value → Type 0
 AskWithin h (T.seek s) = SeekWithin h s
 AskWithin h (T.deed d) = DeedWithin h d
+AskWithin h (T.test (T.branch v)) = IsWithin h v
+AskWithin h (T.iter_of v) = IsWithin h v
+AskWithin h (T.next_of i) = IsWithin h i
+AskWithin h (T.unpack v n star) = IsWithin h v
 AskWithin h a = Unit {0}
+
+abbrev pub ItemWithin : List Object → Item Value → Type 0
+ItemWithin h (an_item v) = IsWithin h v
+ItemWithin h (no_item stop) = IsWithinIf h stop
+
+abbrev pub RowWithin : (n : ℕ) → List Object → Row Value n → Type 0
+RowWithin zero h u = Unit {0}
+RowWithin (suc n) h (v, vs) = IsWithin h v × RowWithin n h vs
 
 abbrev pub FindingWithin : (a : Ask Value) → List Object → Finding Value a → Type 0
 FindingWithin (T.seek s) h v = IsWithin h v
+FindingWithin (T.iter_of v) h it = IsWithin h it
+FindingWithin (T.next_of i) h x = ItemWithin h x
+FindingWithin (T.unpack v n star) h vs = RowWithin n h vs
 FindingWithin a h x = Unit {0}
 
 -- the objects as a run begins

@@ -1,18 +1,10 @@
 -- Answers in the making, over the names and the world of a run.
 use Rattle.pt_heap.specs.declared.value.Value.{Value}
-use Rattle.sem_run.specs.run.Host.{Answering, answer, raise, print, leave, request, made, beyond}
+use Rattle.sem_run.specs.run.Host.{Answering, answer, raise, leave, made, beyond}
 use Rattle.pt_host.specs.World.{Names, World, Stores, Allotted, with_objects}
 
 abbrev pub Tree : Type 0 → Type 0
 Tree A = Answering Names Value World A
-
--- an answer goes on by what it gives
-abbrev pub and_then : {A B : Type 0} → Tree A → (A → Stores → Tree B) → Tree B
-and_then (answer a st) f = f a st
-and_then (raise v st) f = raise v st
-and_then (print t k) f = print t (and_then k f)
-and_then (leave what) f = leave what
-and_then (request r st k) f = request r st (λ x st1. and_then (k x st1) f)
 
 -- an object that was made is the answer, or it is raised
 abbrev pub answer_with : Allotted → Stores → Tree Value

@@ -14,7 +14,7 @@ use Rattle.pt_builtin_objects.specs.Start.{start_objects}
 use Rattle.pt_names.specs.Names.{Named}
 use Rattle.pt_bind.specs.declared.arguments.Params.{Params}
 use Rattle.pt_heap.specs.Limits.{object_limit}
-use Rattle.pt_prims.specs.Operations.{next_object}
+use Rattle.pt_content.specs.Changes.{next_object}
 use Rattle.sem_run.specs.run.Machine.{BlockId}
 use Rattle.sem_run.specs.run.Host.{Store, Made, made, beyond}
 

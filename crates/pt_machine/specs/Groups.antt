@@ -35,6 +35,27 @@ operates (instr.JumpIfKeep t) = true
 operates (instr.JumpUnlessKeep t) = true
 operates j = false
 
+-- the same with containers, iterators and texts
+abbrev pub uses_containers : Instr → Bool
+uses_containers instr.Item = true
+uses_containers instr.SetItem = true
+uses_containers instr.DelItem = true
+uses_containers instr.Slice = true
+uses_containers (instr.Tuple n) = true
+uses_containers (instr.List n) = true
+uses_containers (instr.Set n) = true
+uses_containers (instr.Dict n) = true
+uses_containers (instr.ListAdd n) = true
+uses_containers (instr.SetAdd n) = true
+uses_containers (instr.DictAdd n) = true
+uses_containers (instr.Format c) = true
+uses_containers (instr.Join n) = true
+uses_containers (instr.Unpack n) = true
+uses_containers (instr.UnpackStar n m) = true
+uses_containers instr.Iter = true
+uses_containers (instr.Next t) = true
+uses_containers j = false
+
 -- names
 abbrev pub names_local : Instr → Bool
 names_local (instr.Local x) = true

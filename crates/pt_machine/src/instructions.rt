@@ -5,6 +5,7 @@ ghost use Rattle.pt_machine.specs.Performing.{Performs};
 use crate::bodies::perform_body;
 use crate::calls::perform_call;
 use crate::cells::perform_cell;
+use crate::containers::perform_container;
 use crate::globals::perform_global;
 use crate::locals::perform_local;
 use crate::moves::perform_move;
@@ -53,6 +54,23 @@ pub fn perform(tables: &CodeTables, machine: &mut Machine, instr: Instr) -> Resu
         | Instr::JumpUnless(_)
         | Instr::JumpIfKeep(_)
         | Instr::JumpUnlessKeep(_) => perform_operation(tables, machine, instr),
+        Instr::Item
+        | Instr::SetItem
+        | Instr::DelItem
+        | Instr::Slice
+        | Instr::Tuple(_)
+        | Instr::List(_)
+        | Instr::Set(_)
+        | Instr::Dict(_)
+        | Instr::ListAdd(_)
+        | Instr::SetAdd(_)
+        | Instr::DictAdd(_)
+        | Instr::Format(_)
+        | Instr::Join(_)
+        | Instr::Unpack(_)
+        | Instr::UnpackStar(_, _)
+        | Instr::Iter
+        | Instr::Next(_) => perform_container(tables, machine, instr),
         Instr::Global(_) | Instr::SetGlobal(_) | Instr::DelGlobal(_) => {
             perform_global(tables, machine, instr)
         }

@@ -5,6 +5,7 @@
 mod bodies;
 mod calls;
 mod cells;
+mod containers;
 mod fast;
 mod fast_strides;
 mod globals;

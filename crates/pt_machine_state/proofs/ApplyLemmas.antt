@@ -21,7 +21,7 @@ use Rattle.sem_run.specs.run.Views.{line_or}
 use Rattle.sem_run.specs.run.Run as run
 use Rattle.pt_host.specs.World.{Names, World, Program}
 use Rattle.pt_host.specs.Errors.{enters}
-use Rattle.pt_prims.specs.Classes.{class_name}
+use Rattle.pt_content.specs.Classes.{class_name}
 use Rattle.pt_host.specs.HeapHost.{heap_host}
 use Rattle.sem_run.specs.transitions.Successors as leads
 use Rattle.pt_bare_runs.specs.Strides as bare

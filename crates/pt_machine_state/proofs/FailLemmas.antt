@@ -22,7 +22,7 @@ use Rattle.sem_run.specs.run.Host.{made, beyond}
 use Rattle.pt_host.specs.World.{Program, Allotted, allot, allot_then, IsAllotted}
 use Rattle.pt_host.specs.Errors.{error, error_saying}
 use Rattle.pt_host.specs.HeapHost.{heap_host}
-use Rattle.pt_prims.specs.Operations.{next_object}
+use Rattle.pt_content.specs.Changes.{next_object}
 use Rattle.pt_host.specs.Trees.{raise_with}
 use Rattle.pt_host.specs.Calls.{arguments_of}
 use Rattle.sem_run.specs.transitions.Successors as leads

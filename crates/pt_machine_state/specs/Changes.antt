@@ -16,7 +16,7 @@ use Rattle.pt_frames.specs.declared.purpose.Purpose.TheVariants.{Result}
 use Rattle.pt_frames.specs.Activations.{next_activation, with_activation, with_next_number}
 use Rattle.pt_frames.specs.declared.slot.Slot.{Slot}
 use Rattle.pt_frames.specs.declared.slot.Slot.TheVariants as slot
-use Rattle.pt_prims.specs.Classes.{class_name}
+use Rattle.pt_content.specs.Classes.{class_name}
 use Rattle.pt_unwind.specs.declared.Landing.{Landing}
 use Rattle.pt_unwind.specs.declared.Landing.TheVariants.{Enter, Jump, Out}
 use Rattle.pt_unwind.specs.Landings.{landing_of}

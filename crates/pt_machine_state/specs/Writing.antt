@@ -1,7 +1,7 @@
 -- What a run has to write, as a run writes it: texts that are printed and, where events have lines in the log, these lines.
 use Rattle.std.specs.Prelude.{◌≡◌, ℕ, pos, List, [], ◌∷◌, ◌++◌, map, Bool, true, false, codes}
 use Rattle.std.specs.Fmt.{signed_decimal}
-use Rattle.pt_prims.specs.TypeErrors.{sentence}
+use Rattle.pt_content.specs.TypeErrors.{sentence}
 use Rattle.sem_run.specs.run.Run as run
 use Rattle.sem_run.specs.run.Run.{to_out, to_log}
 use Rattle.pt_machine_state.specs.declared.writes.Write.{Write}

@@ -1,6 +1,6 @@
 -- Rows of tests that decide where code goes on.
 use Rattle.std.proofs.Common.{◌≡◌, ◌∙◌, ℕ, [], ◌∷◌, List, Bool, true, false, Option, Some, None, Result, Ok, Err, refl, sym, ap, subst}
-use Rattle.std.specs.Prelude.{drop, option_map}
+use Rattle.std.specs.Prelude.{drop}
 use Rattle.pt_base.specs.declared.numbers.Pc.{Pc}
 use Rattle.pt_ranges.specs.declared.lines.ActMark.{ActMark}
 use Rattle.pt_instr.specs.declared.Instr.{Instr}
@@ -14,30 +14,29 @@ use Rattle.pt_code.specs.View.{Ins}
 use Rattle.sem_control.specs.control.Turn as T
 use Rattle.sem_code.specs.slots.Slots.{Slots, State}
 use Rattle.sem_code.specs.slots.CodeObject.{CodeObject}
-use Rattle.sem_code.specs.slots.Steps.{mark_of, unmarked, after, decided, dropped, kept, branches}
-use Rattle.sem_run.specs.run.Host.{Here, made, beyond}
-use Rattle.pt_prims.specs.declared.op.Op.TheVariants.{Truth}
-use Rattle.pt_prims.specs.declared.operand.Operand.{Operand}
-use Rattle.pt_prims.specs.declared.operand.Operand.TheVariants as operand
-use Rattle.pt_prims.specs.declared.answer.PrimAns.{PrimAns}
-use Rattle.pt_prims.specs.declared.answer.PrimAns.TheVariants as prim
-use Rattle.pt_prims.specs.Operands.{operand_of}
+use Rattle.sem_code.specs.slots.Steps.{asks as ask_in, unmarked, decided, dropped, kept, branches}
+use Rattle.sem_run.specs.run.Host.{Here}
+use Rattle.pt_content.specs.declared.op.Op.TheVariants.{Truth}
+use Rattle.pt_content.specs.declared.operand.Operand.{Operand}
+use Rattle.pt_content.specs.declared.operand.Operand.TheVariants as operand
+use Rattle.pt_content.specs.declared.answer.PrimAns.{PrimAns}
+use Rattle.pt_content.specs.declared.answer.PrimAns.TheVariants as prim
+use Rattle.pt_content.specs.Operands.{operand_of}
 use Rattle.pt_prims.specs.Operations.{prim_answer, prim_heap, placed}
-use Rattle.pt_prims.specs.Truths.{truth_by}
-use Rattle.pt_host.specs.World.{Stores, Program, Allotted, with_objects, allot}
-use Rattle.pt_host.specs.Answers.{branch as answered, truth as host_truth}
-use Rattle.pt_host.specs.Calls.{of_prim, arguments_of}
+use Rattle.pt_comparisons.specs.Truths.{truth_by}
+use Rattle.pt_host.specs.World.{Stores, Program, with_objects, allot}
+use Rattle.pt_host.specs.Answers.{branch as answered}
+use Rattle.pt_host.specs.Primitives.{a_truth, arguments_of, asked, of_prim}
 use Rattle.pt_host.specs.Errors.{error}
-use Rattle.pt_host.specs.Trees.{and_then, raise_with}
 use Rattle.sem_run.specs.transitions.Successors.{to}
 use Rattle.sem_rows.specs.declared.heap_rows.progress.Progress.{Progress}
 use Rattle.sem_rows.specs.declared.heap_rows.progress.Progress.TheVariants as progress
 use Rattle.sem_rows.specs.heap_rows.Leads.{HeapSuccessor}
-use Rattle.sem_rows.specs.heap_rows.Leads.{by_tree, giving, HasHeapTruths, known_truth}
+use Rattle.sem_rows.specs.heap_rows.Leads.{by_tree, HasHeapTruths, known_truth}
 use Rattle.sem_rows.specs.heap_rows.Laws.{reached}
 use Rattle.sem_rows.specs.heap_rows.Told.{told}
 use Rattle.sem_rows.specs.heap_rows.Views.{slots_view}
-use Rattle.sem_rows.proofs.heap_rows.RowLemmas.{test_leads}
+use Rattle.sem_rows.proofs.heap_rows.RowLemmas.{asks_lead, raises_alike}
 use Rattle.pt_moves.specs.Operands.{one_value, RowsHeap}
 use Rattle.pt_moves.specs.Truth.{branch, truth_in, truth, tested}
 use Rattle.pt_moves.proofs.TakeLemmas.{one_on}
@@ -45,8 +44,8 @@ use Rattle.pt_moves.proofs.TruthLemmas.{known_truth as known_is, known_tested}
 use Rattle.pt_moves.proofs.MoveLemmas.{lacks_one, stuck_row}
 
 -- the test of a value prints nothing
-module _ (heap : List Object) where
-  silent : (v : Value) (k : Operand) (t : List ℕ) → placed (truth_by heap v k) heap ≡ prim.Print t → ⊥
+module _ (heap : List Object) (vs : List Value) where
+  silent : (v : Value) (k : Operand) (t : List ℕ) → placed (truth_by heap v k) vs heap ≡ prim.Print t → ⊥
   silent value.None k t e = absurd (cc)
   silent (value.Bool b) (operand.Number y) t e = absurd (cc)
   silent (value.Bool b) operand.Text t e = absurd (cc)
@@ -80,39 +79,38 @@ module _ (program : Program) (code : CodeObject Value) (i : Ins) (h : Here Value
   led (Ok b) s = to (next b) s
   led (Err p) s = told program code i h p ss s
 
-  raised : (o : Allotted) (s : Stores) → by_tree code i next ss (and_then (raise_with {A = Value} o s) host_truth) ≡ by_tree code i (giving code i ss) ss (raise_with {A = Value} o s)
-  raised (made v k) s = refl
-  raised (beyond what) s = refl
-
-  by_answer : (a : PrimAns) (s : Stores) → ((t : List ℕ) → a ≡ prim.Print t → ⊥) → by_tree code i next ss (and_then (of_prim a h s) host_truth) ≡ led (truth_in a) s
+  by_answer : (a : PrimAns) (s : Stores) → ((t : List ℕ) → a ≡ prim.Print t → ⊥) → by_tree code i next ss (of_prim a_truth a h s) ≡ led (truth_in a) s
   by_answer (prim.Value value.None) s n = refl
   by_answer (prim.Value (value.Bool b)) s n = refl
   by_answer (prim.Value (value.Int z)) s n = refl
   by_answer (prim.Value value.Ellipsis) s n = refl
   by_answer (prim.Value value.NotImplemented) s n = refl
   by_answer (prim.Value (value.Obj id)) s n = refl
-  by_answer (prim.Raise class arg) s n = raised (allot (error class (arguments_of arg) None h.active) s.world.heap) s
-  by_answer (prim.Help helper) s n = refl
+  by_answer (prim.Values vs) s n = refl
+  by_answer prim.End s n = refl
+  by_answer (prim.Raise class arg) s n = sym (raises_alike code i next ss (allot (error class (arguments_of arg) None h.active) s.world.heap) s)
+  by_answer (prim.Help helper vs inverted) s n = refl
   by_answer (prim.Print t) s n = absurd (n t refl)
   by_answer (prim.Outside what) s n = refl
 
   module _ (v : Value) (heap : List Object) (st : Stores) where
     answer_leads : by_tree code i next ss (answered v h (with_objects heap st)) ≡ led (truth v heap) (with_objects (tested v heap) st)
-    unfolding truth tested
-    answer_leads = by_answer (prim_answer Truth (v ∷ []) heap) (with_objects (prim_heap Truth (v ∷ []) heap) st) (λ t e. silent heap v (operand_of heap v) t e)
+    unfolding truth tested asked
+    answer_leads = by_answer (prim_answer Truth (v ∷ []) heap) (with_objects (prim_heap Truth (v ∷ []) heap) st) (λ t e. silent heap (v ∷ []) v (operand_of heap v) t e)
 
-    asked : (m : Option ActMark) → reached program code i h (with_objects heap st) (T.act (option_map mark_of m) (T.test (T.branch v)) (after code i ss next)) ≡ led (truth v heap) (with_objects (tested v heap) st)
-    asked m = test_leads program code i h (with_objects heap st) m v next ss ∙ answer_leads
+    asks_truth : reached program code i h (with_objects heap st) (ask_in code i (T.test (T.branch v)) ss next) ≡ led (truth v heap) (with_objects (tested v heap) st)
+    asks_truth = asks_lead program code i h (with_objects heap st) (T.test (T.branch v)) next ss tt ∙ answer_leads
 
   module _ (b : Bool) (heap : List Object) (st : Stores) where
     known_led : to (next b) (with_objects heap st) ≡ led (truth (value.Bool b) heap) (with_objects (tested (value.Bool b) heap) st)
     known_led = ap (λ g. to (next b) (with_objects g st)) (known_tested b heap) ∙ ap (λ r. led r (with_objects (tested (value.Bool b) heap) st)) (known_is b heap)
 
+    -- with a mark it is asked for
     known_asked : (m : Option ActMark)
-        → reached program code i h (with_objects heap st) (unmarked m (next b) (T.act (option_map mark_of m) (T.test (T.branch (value.Bool b))) (after code i ss next)))
+        → reached program code i h (with_objects heap st) (unmarked m (next b) (ask_in code i (T.test (T.branch (value.Bool b))) ss next))
         ≡ led (truth (value.Bool b) heap) (with_objects (tested (value.Bool b) heap) st)
     known_asked None = known_led
-    known_asked (Some m) = asked (value.Bool b) heap st (Some m)
+    known_asked (Some m) = asks_truth (value.Bool b) heap st
 
 module _ (program : Program) (code : CodeObject Value) (i : Ins) (h : Here Value) (ss : Slots Value) (on_true on_false : Value → Slots Value → State Value)
     (known : HasHeapTruths code) (heap : List Object) (st : Stores) where
@@ -122,7 +120,7 @@ module _ (program : Program) (code : CodeObject Value) (i : Ins) (h : Here Value
   unknown : (v : Value) → known_truth v ≡ None → reached program code i h (with_objects heap st) (branches code i (code.is_truth v) on_true on_false v ss)
       ≡ led program code i h ss (next_of v) (truth v heap) (with_objects (tested v heap) st)
   unknown v e = ap (λ o. reached program code i h (with_objects heap st) (branches code i o on_true on_false v ss)) (known.is_truth v ∙ e)
-      ∙ asked program code i h ss (next_of v) v heap st i.mark
+      ∙ asks_truth program code i h ss (next_of v) v heap st
 
   branch_leads : (v : Value) → reached program code i h (with_objects heap st) (branches code i (code.is_truth v) on_true on_false v ss)
       ≡ led program code i h ss (next_of v) (truth v heap) (with_objects (tested v heap) st)

@@ -3,8 +3,8 @@ use Rattle.std.proofs.Common.{◌≡◌, ◌∙◌, [], ◌∷◌, List, Bool, t
 use Rattle.pt_heap.specs.declared.value.Value.{Value}
 use Rattle.pt_heap.specs.declared.value.Value.TheVariants as value
 use Rattle.pt_heap.specs.declared.object.Object.{Object}
-use Rattle.pt_prims.specs.declared.op.Op.TheVariants.{Truth}
-use Rattle.pt_prims.specs.declared.answer.PrimAns.{PrimAns}
+use Rattle.pt_content.specs.declared.op.Op.TheVariants.{Truth}
+use Rattle.pt_content.specs.declared.answer.PrimAns.{PrimAns}
 use Rattle.pt_prims.specs.Operations.{prim_answer, prim_heap}
 use Rattle.sem_rows.specs.declared.heap_rows.progress.Progress.{Progress}
 use Rattle.pt_moves.specs.Truth.{truth_in, truth, tested}

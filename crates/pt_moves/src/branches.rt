@@ -7,9 +7,10 @@ ghost use Rattle.pt_moves.specs.Truth.{branch, tested, truth, truth_in};
 
 use crate::taking::take_one;
 use pt_base::{Memory, Pc, What};
+use pt_content::{Op, PrimAns};
 use pt_frames::{Slot, Slots};
 use pt_heap::{Heap, Value};
-use pt_prims::{Op, PrimAns, prim};
+use pt_prims::prim;
 use sem_rows::heap_rows::Progress;
 use std::alloc::Global;
 
@@ -19,8 +20,13 @@ fn truth_in(answer: PrimAns) -> Result<bool, Progress>
     match answer {
         PrimAns::Value(Value::Bool(truth)) => Ok(truth),
         PrimAns::Raise { class, arg } => Err(Progress::Fails { class, arg }),
+        PrimAns::Help {
+            helper: _,
+            operands: _,
+            inverted: _,
+        } => Err(Progress::Outside { what: What::Helper }),
         PrimAns::Outside { what } => Err(Progress::Outside { what }),
-        PrimAns::Value(_) | PrimAns::Help { helper: _ } | PrimAns::Print { text: _ } => {
+        PrimAns::Value(_) | PrimAns::Values(_) | PrimAns::End | PrimAns::Print { text: _ } => {
             Err(Progress::Outside {
                 what: What::Feature,
             })

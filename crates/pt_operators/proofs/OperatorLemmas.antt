@@ -1,5 +1,5 @@
 -- Rows of operators.
-use Rattle.std.proofs.Common.{◌≡◌, ◌∙◌, List, [], ◌∷◌, Some, None, refl, sym, ap, subst}
+use Rattle.std.proofs.Common.{◌≡◌, ◌∙◌, List, [], ◌∷◌, Option, Some, None, refl, sym, ap, subst}
 use Rattle.std.specs.Prelude.{drop}
 use Rattle.pt_base.specs.declared.operators.BinOp.{BinOp}
 use Rattle.pt_base.specs.declared.operators.UnOp.{UnOp}
@@ -15,74 +15,88 @@ use Rattle.sem_control.specs.control.Turn.{stuck}
 use Rattle.sem_code.specs.slots.CodeObject.{CodeObject}
 use Rattle.sem_code.specs.slots.Pops.{Next, values}
 use Rattle.sem_run.specs.run.Host.{Here}
-use Rattle.pt_prims.specs.declared.op.Op.{Op}
-use Rattle.pt_prims.specs.declared.op.Op.TheVariants as op
-use Rattle.pt_prims.specs.declared.answer.PrimAns.{PrimAns}
-use Rattle.pt_prims.specs.declared.answer.PrimAns.TheVariants as prim
+use Rattle.pt_content.specs.declared.op.Op.{Op}
+use Rattle.pt_content.specs.declared.op.Op.TheVariants as op
+use Rattle.pt_content.specs.declared.answer.PrimAns.{PrimAns}
+use Rattle.pt_content.specs.declared.answer.PrimAns.TheVariants as prim
 use Rattle.pt_prims.specs.Operations.{prim_answer, prim_heap}
 use Rattle.pt_host.specs.World.{Program, Stores, with_objects}
-use Rattle.pt_host.specs.Calls.{of_prim}
+use Rattle.pt_host.specs.Primitives.{Awaited, asked, of_prim, one_value}
 use Rattle.sem_rows.specs.declared.heap_rows.progress.Progress.{Progress}
 use Rattle.sem_rows.specs.declared.heap_rows.progress.Progress.TheVariants as progress
 use Rattle.sem_rows.specs.heap_rows.Leads.{by_tree, giving}
 use Rattle.sem_rows.specs.heap_rows.Told.{told}
 use Rattle.sem_rows.specs.heap_rows.Views.{slots_view}
-use Rattle.sem_rows.proofs.heap_rows.RowLemmas.{operations_lead}
-use Rattle.pt_moves.specs.Operands.{one_value, two_values, RowsHeap}
+use Rattle.sem_rows.proofs.heap_rows.RowLemmas.{asks_lead}
+use Rattle.pt_moves.specs.Operands.{one_value as value_on_top, two_values, RowsHeap}
 use Rattle.pt_moves.proofs.TakeLemmas.{one_on, two_on}
 use Rattle.pt_moves.proofs.MoveLemmas.{stuck_row}
-use Rattle.pt_operators.specs.Operates.{Operates, progress_of, slots_behind}
+use Rattle.pt_operators.specs.Operates.{Continuation, Asks, Operates, over_value, progress_of, value_given}
 
-answer_told : (a : PrimAns) (program : Program) (code : CodeObject Value) (i : Ins) (h : Here Value) (st : Stores) (slots : List Slot)
-    → told program code i h (progress_of a) (slots_view (slots_behind a slots)) st ≡ by_tree code i (giving code i (slots_view slots)) (slots_view slots) (of_prim a h st)
+-- what is done with the answer of an operation is what the host's answer leads to, if what that answer comes to is told so
+module _ {A : Type 0} (w : Awaited A) (next : Continuation A) (as_progress : PrimAns → Progress) (over : PrimAns → List Slot → List Slot) where
+  abbrev pub Tells : PrimAns → Type 0
+  Tells a = (program : Program) (code : CodeObject Value) (i : Ins) (h : Here Value) (st : Stores) (slots : List Slot)
+      → told program code i h (as_progress a) (slots_view (over a slots)) st ≡ by_tree code i (next code i (slots_view slots)) (slots_view slots) (of_prim w a h st)
+
+  asks_of : (o : Op) (args : List Value) (old : List Slot) (heap : List Object) → Tells (prim_answer o args heap)
+      → Asks w next o args old heap (as_progress (prim_answer o args heap)) (over (prim_answer o args heap) old) (prim_heap o args heap)
+  unfolding Asks asked
+  asks_of o args old heap tells program code i h st = tells program code i h (with_objects (prim_heap o args heap) st) old
+
+  pub asks : (o : Op) (args : List Value) (old : List Slot) (heap : List Object) (p : Progress) (new : List Slot) (grown : List Object) → Tells (prim_answer o args heap)
+      → grown ≡ prim_heap o args heap → p ≡ as_progress (prim_answer o args heap) → new ≡ over (prim_answer o args heap) old → Asks w next o args old heap p new grown
+  asks o args old heap p new grown tells grows progresses stands =
+      subst (λ x. Asks w next o args old heap x new grown) (sym progresses)
+      (subst (λ x. Asks w next o args old heap (as_progress (prim_answer o args heap)) x grown) (sym stands)
+      (subst (λ x. Asks w next o args old heap (as_progress (prim_answer o args heap)) (over (prim_answer o args heap) old) x) (sym grows) (asks_of o args old heap tells)))
+
+answer_told : (a : PrimAns) → Tells one_value (λ code i ss. giving code i ss) progress_of (λ b slots. over_value (value_given b) slots) a
 answer_told (prim.Value v) program code i h st slots = refl
+answer_told (prim.Values vs) program code i h st slots = refl
+answer_told prim.End program code i h st slots = refl
 answer_told (prim.Raise class arg) program code i h st slots = refl
-answer_told (prim.Help helper) program code i h st slots = refl
+answer_told (prim.Help helper vs inverted) program code i h st slots = refl
 answer_told (prim.Print t) program code i h st slots = refl
 answer_told (prim.Outside what) program code i h st slots = refl
 
-operates_of : (o : Op) (args : List Value) (old : List Slot) (heap : List Object)
-    → Operates o args old heap (progress_of (prim_answer o args heap)) (slots_behind (prim_answer o args heap) old) (prim_heap o args heap)
+pub operates : (o : Op) (args : List Value) (old : List Slot) (heap : List Object) (p : Progress) (new : List Slot) (grown : List Object) (v : Option Value)
+    → v ≡ value_given (prim_answer o args heap) → grown ≡ prim_heap o args heap → p ≡ progress_of (prim_answer o args heap) → new ≡ over_value v old
+    → Operates o args old heap p new grown
 unfolding Operates
-operates_of o args old heap program code i h st = answer_told (prim_answer o args heap) program code i h (with_objects (prim_heap o args heap) st) old
-
--- what is done with the answer of an operation is what the host's answer leads to
-pub operates : (o : Op) (args : List Value) (old : List Slot) (heap : List Object) (p : Progress) (new : List Slot) (grown : List Object) (a : PrimAns)
-    → a ≡ prim_answer o args heap → grown ≡ prim_heap o args heap → p ≡ progress_of a → new ≡ slots_behind a old → Operates o args old heap p new grown
-operates o args old heap p new grown a is grows progresses stands =
-    subst (λ x. Operates o args old heap x new grown) (sym progresses)
-    (subst (λ x. Operates o args old heap (progress_of a) x grown) (sym stands)
-    (subst (λ x. Operates o args old heap (progress_of a) (slots_behind a old) x) (sym grows)
-    (subst (λ x. Operates o args old heap (progress_of x) (slots_behind x old) (prim_heap o args heap)) (sym is) (operates_of o args old heap))))
+operates o args old heap p new grown v is grows progresses stands =
+    asks one_value (λ code i ss. giving code i ss) progress_of (λ b slots. over_value (value_given b) slots) o args old heap p new grown
+    (answer_told (prim_answer o args heap)) grows progresses
+    (stands ∙ ap (λ x. over_value x old) is)
 
 module _ (below : List Slot) (heap : List Object) (p : Progress) (new : List Slot) (grown : List Object) where
   unary_of : (o : UnOp) (v : Value) → Operates (op.Unary o) (v ∷ []) below heap p new grown → RowsHeap (instr.Unary o) (slot.Value v ∷ below) heap p new grown
-  unfolding Operates RowsHeap
-  unary_of o v done program code pc i h st known = done program code i h st ∙ sym (operations_lead program code i h (with_objects heap st) (T.unary o) (v ∷ []) (slots_view below))
+  unfolding Operates Asks RowsHeap
+  unary_of o v done program code pc i h st known = done program code i h st ∙ sym (asks_lead program code i h (with_objects heap st) (T.seek (T.operate (T.unary o) (v ∷ []))) (giving code i (slots_view below)) (slots_view below) tt)
 
   not_of : (v : Value) → Operates op.Not (v ∷ []) below heap p new grown → RowsHeap instr.Not (slot.Value v ∷ below) heap p new grown
-  unfolding Operates RowsHeap
-  not_of v done program code pc i h st known = done program code i h st ∙ sym (operations_lead program code i h (with_objects heap st) T.inverted (v ∷ []) (slots_view below))
+  unfolding Operates Asks RowsHeap
+  not_of v done program code pc i h st known = done program code i h st ∙ sym (asks_lead program code i h (with_objects heap st) (T.seek (T.operate T.inverted (v ∷ []))) (giving code i (slots_view below)) (slots_view below) tt)
 
   binary_of : (o : BinOp) (v w : Value) → Operates (op.Binary o) (v ∷ w ∷ []) below heap p new grown → RowsHeap (instr.Binary o) (slot.Value w ∷ (slot.Value v ∷ below)) heap p new grown
-  unfolding Operates RowsHeap
-  binary_of o v w done program code pc i h st known = done program code i h st ∙ sym (operations_lead program code i h (with_objects heap st) (T.binary o) (v ∷ w ∷ []) (slots_view below))
+  unfolding Operates Asks RowsHeap
+  binary_of o v w done program code pc i h st known = done program code i h st ∙ sym (asks_lead program code i h (with_objects heap st) (T.seek (T.operate (T.binary o) (v ∷ w ∷ []))) (giving code i (slots_view below)) (slots_view below) tt)
 
   in_place_of : (o : BinOp) (v w : Value) → Operates (op.InPlace o) (v ∷ w ∷ []) below heap p new grown → RowsHeap (instr.InPlace o) (slot.Value w ∷ (slot.Value v ∷ below)) heap p new grown
-  unfolding Operates RowsHeap
-  in_place_of o v w done program code pc i h st known = done program code i h st ∙ sym (operations_lead program code i h (with_objects heap st) (T.in_place o) (v ∷ w ∷ []) (slots_view below))
+  unfolding Operates Asks RowsHeap
+  in_place_of o v w done program code pc i h st known = done program code i h st ∙ sym (asks_lead program code i h (with_objects heap st) (T.seek (T.operate (T.in_place o) (v ∷ w ∷ []))) (giving code i (slots_view below)) (slots_view below) tt)
 
   compare_of : (o : CompareOp) (v w : Value) → Operates (op.Compare o) (v ∷ w ∷ []) below heap p new grown → RowsHeap (instr.Compare o) (slot.Value w ∷ (slot.Value v ∷ below)) heap p new grown
-  unfolding Operates RowsHeap
-  compare_of o v w done program code pc i h st known = done program code i h st ∙ sym (operations_lead program code i h (with_objects heap st) (T.compare o) (v ∷ w ∷ []) (slots_view below))
+  unfolding Operates Asks RowsHeap
+  compare_of o v w done program code pc i h st known = done program code i h st ∙ sym (asks_lead program code i h (with_objects heap st) (T.seek (T.operate (T.compare o) (v ∷ w ∷ []))) (giving code i (slots_view below)) (slots_view below) tt)
 
 -- the same by what was taken, for code
 
 module _ (old below : List Slot) (heap : List Object) (p : Progress) (new : List Slot) (grown : List Object) where
-  pub unary_row : (o : UnOp) (v : Value) → one_value old ≡ Some v → below ≡ drop 1 old → Operates (op.Unary o) (v ∷ []) below heap p new grown → RowsHeap (instr.Unary o) old heap p new grown
+  pub unary_row : (o : UnOp) (v : Value) → value_on_top old ≡ Some v → below ≡ drop 1 old → Operates (op.Unary o) (v ∷ []) below heap p new grown → RowsHeap (instr.Unary o) old heap p new grown
   unary_row o v e f done = subst (λ x. RowsHeap (instr.Unary o) x heap p new grown) (sym (one_on old v e ∙ ap (λ ss. slot.Value v ∷ ss) (sym f))) (unary_of below heap p new grown o v done)
 
-  pub not_row : (v : Value) → one_value old ≡ Some v → below ≡ drop 1 old → Operates op.Not (v ∷ []) below heap p new grown → RowsHeap instr.Not old heap p new grown
+  pub not_row : (v : Value) → value_on_top old ≡ Some v → below ≡ drop 1 old → Operates op.Not (v ∷ []) below heap p new grown → RowsHeap instr.Not old heap p new grown
   not_row v e f done = subst (λ x. RowsHeap instr.Not x heap p new grown) (sym (one_on old v e ∙ ap (λ ss. slot.Value v ∷ ss) (sym f))) (not_of below heap p new grown v done)
 
   module _ (q : Value × Value) (e : two_values old ≡ Some q) (f : below ≡ drop 2 old) where
@@ -109,7 +123,7 @@ module _ (old below : List Slot) (heap : List Object) (p : Progress) (new : List
 
 -- where values are missing
 
-lacks_one_of : (slots : List Slot) → one_value slots ≡ None → (vs : List Value) (next : Next Value (List Value)) → values 1 vs (slots_view slots) next ≡ stuck
+lacks_one_of : (slots : List Slot) → value_on_top slots ≡ None → (vs : List Value) (next : Next Value (List Value)) → values 1 vs (slots_view slots) next ≡ stuck
 lacks_one_of [] e vs next = refl
 lacks_one_of (slot.Value v ∷ slots) e vs next = absurd (cc)
 lacks_one_of (slot.Cell n ∷ slots) e vs next = refl
@@ -134,11 +148,11 @@ lacks_two_of (slot.Value w ∷ slot.Pending c ∷ slots) e vs next = refl
 lacks_two_of (slot.Value w ∷ slot.With v ∷ slots) e vs next = refl
 
 module _ (old : List Slot) (heap : List Object) (new : List Slot) (grown : List Object) where
-  pub unary_lacks : (o : UnOp) → one_value old ≡ None → RowsHeap (instr.Unary o) old heap progress.Lacks new grown
+  pub unary_lacks : (o : UnOp) → value_on_top old ≡ None → RowsHeap (instr.Unary o) old heap progress.Lacks new grown
   unfolding RowsHeap
   unary_lacks o e program code pc i h st known = stuck_row program h (with_objects heap st) _ (lacks_one_of old e [] _)
 
-  pub not_lacks : one_value old ≡ None → RowsHeap instr.Not old heap progress.Lacks new grown
+  pub not_lacks : value_on_top old ≡ None → RowsHeap instr.Not old heap progress.Lacks new grown
   unfolding RowsHeap
   not_lacks e program code pc i h st known = stuck_row program h (with_objects heap st) _ (lacks_one_of old e [] _)
 

@@ -1,6 +1,6 @@
 -- When code does with the answer of an operation what the host does with it.
-use Rattle.std.specs.Prelude.{◌≡◌, ◌∷◌, List}
-use Rattle.pt_base.specs.declared.what.What.TheVariants.{Feature}
+use Rattle.std.specs.Prelude.{◌≡◌, ◌∷◌, List, Option, Some, None}
+use Rattle.pt_base.specs.declared.what.What.TheVariants.{Feature, Helper}
 use Rattle.pt_heap.specs.declared.value.Value.{Value}
 use Rattle.pt_heap.specs.declared.value.Value.TheVariants as value
 use Rattle.pt_heap.specs.declared.object.Object.{Object}
@@ -8,11 +8,12 @@ use Rattle.pt_frames.specs.declared.slot.Slot.{Slot}
 use Rattle.pt_frames.specs.declared.slot.Slot.TheVariants as slot
 use Rattle.pt_code.specs.View.{Ins}
 use Rattle.sem_code.specs.slots.CodeObject.{CodeObject}
+use Rattle.sem_code.specs.slots.Slots.{Slots, State}
 use Rattle.sem_run.specs.run.Host.{Here}
-use Rattle.pt_prims.specs.declared.op.Op.{Op}
-use Rattle.pt_prims.specs.declared.answer.PrimAns.{PrimAns}
-use Rattle.pt_prims.specs.declared.answer.PrimAns.TheVariants as prim
-use Rattle.pt_host.specs.Calls.{by_prim}
+use Rattle.pt_content.specs.declared.op.Op.{Op}
+use Rattle.pt_content.specs.declared.answer.PrimAns.{PrimAns}
+use Rattle.pt_content.specs.declared.answer.PrimAns.TheVariants as prim
+use Rattle.pt_host.specs.Primitives.{Awaited, asked, one_value}
 use Rattle.pt_host.specs.World.{Program, Stores, with_objects}
 use Rattle.sem_rows.specs.declared.heap_rows.progress.Progress.{Progress}
 use Rattle.sem_rows.specs.declared.heap_rows.progress.Progress.TheVariants as progress
@@ -20,22 +21,39 @@ use Rattle.sem_rows.specs.heap_rows.Leads.{by_tree, giving}
 use Rattle.sem_rows.specs.heap_rows.Told.{told}
 use Rattle.sem_rows.specs.heap_rows.Views.{slots_view}
 
--- what an operation answers as progress, and the slots behind it
+-- the value that an answer gives where one is awaited, if it does: what prints gives None
+abbrev pub value_given : PrimAns → Option Value
+value_given (prim.Value v) = Some v
+value_given (prim.Print t) = Some value.None
+value_given answer = None
+
+-- how the instruction goes on then
 abbrev pub progress_of : PrimAns → Progress
 progress_of (prim.Value v) = progress.Next
+progress_of (prim.Values vs) = progress.Outside Feature
+progress_of prim.End = progress.Outside Feature
 progress_of (prim.Raise class arg) = progress.Fails class arg
-progress_of (prim.Help helper) = progress.Outside Feature
+progress_of (prim.Help helper vs inverted) = progress.Outside Helper
 progress_of (prim.Print t) = progress.Print t
 progress_of (prim.Outside what) = progress.Outside what
 
-abbrev pub slots_behind : PrimAns → List Slot → List Slot
-slots_behind (prim.Value v) slots = slot.Value v ∷ slots
-slots_behind (prim.Print t) slots = slot.Value value.None ∷ slots
-slots_behind answer slots = slots
+-- a value that is given lies above the slots
+abbrev pub over_value : Option Value → List Slot → List Slot
+over_value (Some v) slots = slot.Value v ∷ slots
+over_value None slots = slots
 
--- what was given for an operation on values is what the host's answer leads to
-unfoldable pub Operates : Op → List Value → (old : List Slot) (heap : List Object) → Progress → (new : List Slot) (grown : List Object) → Type 0
-Operates o args old heap p new grown =
+-- where an instruction goes on with what it has asked for, and with the slots below what it has taken
+abbrev pub Continuation : Type 0 → Type 0
+Continuation A = CodeObject Value → Ins → Slots Value → A → State Value
+
+-- what was done for an operation on values is what the host's answer to that leads to
+unfoldable pub Asks : {A : Type 0} → Awaited A → Continuation A → Op → List Value
+    → (old : List Slot) (heap : List Object) → Progress → (new : List Slot) (grown : List Object) → Type 0
+Asks w next o args old heap p new grown =
     (program : Program) (code : CodeObject Value) (i : Ins) (h : Here Value) (st : Stores)
     → told program code i h p (slots_view new) (with_objects grown st)
-    ≡ by_tree code i (giving code i (slots_view old)) (slots_view old) (by_prim o args h (with_objects heap st))
+    ≡ by_tree code i (next code i (slots_view old)) (slots_view old) (asked w o args h (with_objects heap st))
+
+-- the same where a value is given
+unfoldable pub Operates : Op → List Value → (old : List Slot) (heap : List Object) → Progress → (new : List Slot) (grown : List Object) → Type 0
+Operates o args old heap p new grown = Asks one_value (λ code i ss. giving code i ss) o args old heap p new grown

@@ -3,4 +3,4 @@
 
 mod operators;
 
-pub use operators::{binary, compare, in_place, not, operation, unary};
+pub use operators::{Outcome, ask, binary, compare, in_place, not, operation, outcome_of, unary};

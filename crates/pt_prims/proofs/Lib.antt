@@ -1,2 +1,5 @@
-pub mod LawLemmas
+pub mod SequenceLemmas
+pub mod Places
+pub mod StayLemmas
 pub mod SoundLemmas
+pub mod WithinLemmas

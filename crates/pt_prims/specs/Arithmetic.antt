@@ -1,26 +1,26 @@
--- What unary and binary operators give (Language Reference 6.5 to 6.9, 7.2.1).
-use Rattle.std.specs.Prelude.{ℕ, ◌+◌, Bool, not, ◌&&◌, ◌||◌, List, ◌++◌, Option, Some, length, codes, nat_le, if◌then◌else◌}
-use Rattle.std.specs.Str.{chars}
+-- What unary and binary operators give of numbers, and of operands that they don't take (Language Reference 6.5 to 6.9).
+use Rattle.std.specs.Prelude.{Bool, false, not, ◌&&◌, ◌||◌, List, codes, if◌then◌else◌}
 use Rattle.pt_base.specs.declared.operators.BinOp.{BinOp}
-use Rattle.pt_base.specs.declared.operators.BinOp.TheVariants.{Add, BitAnd, BitOr, BitXor}
+use Rattle.pt_base.specs.declared.operators.BinOp.TheVariants.{BitAnd, BitOr, BitXor}
 use Rattle.pt_base.specs.declared.operators.UnOp.{UnOp}
-use Rattle.pt_base.specs.declared.what.What.TheVariants.{Integer, Length, Feature, Float}
+use Rattle.pt_base.specs.declared.what.What.TheVariants.{Integer, Feature, Float}
 use Rattle.pt_heap.specs.declared.value.Value.{Value}
 use Rattle.pt_heap.specs.declared.value.Value.TheVariants as value
 use Rattle.pt_heap.specs.declared.object.Object.{Object}
 use Rattle.pt_ints.specs.declared.answer.IntAns.{IntAns}
 use Rattle.pt_ints.specs.declared.answer.IntAns.TheVariants as integer
 use Rattle.pt_ints.specs.Answer.{binary_answer, unary_answer}
-use Rattle.pt_strs.specs.Answer.{length_limit}
 use Rattle.pt_dicts.specs.Keys.{truth}
-use Rattle.pt_prims.specs.declared.operand.Operand.{Operand}
-use Rattle.pt_prims.specs.declared.operand.Operand.TheVariants as operand
-use Rattle.pt_prims.specs.declared.answer.Helper.TheVariants.{BinaryOf}
-use Rattle.pt_prims.specs.declared.content.Content.{Content}
-use Rattle.pt_prims.specs.declared.content.Content.TheVariants as content
-use Rattle.pt_prims.specs.declared.class.TheConstants.{ZERO_DIVISION_ERROR, VALUE_ERROR}
-use Rattle.pt_prims.specs.Operands.{operand_of, text_of}
-use Rattle.pt_prims.specs.TypeErrors.{binary_type_error, unary_type_error}
+use Rattle.pt_content.specs.declared.operand.Operand.{Operand}
+use Rattle.pt_content.specs.declared.operand.Operand.TheVariants as operand
+use Rattle.pt_content.specs.declared.answer.Helper.TheVariants.{BinaryOf}
+use Rattle.pt_content.specs.declared.answer.Operator.TheVariants.{Binary}
+use Rattle.pt_content.specs.declared.content.Content.{Content}
+use Rattle.pt_content.specs.declared.content.Content.TheVariants as content
+use Rattle.pt_content.specs.declared.class.TheConstants.{ZERO_DIVISION_ERROR, VALUE_ERROR}
+use Rattle.pt_content.specs.Operands.{operand_of}
+use Rattle.pt_content.specs.TypeErrors.{unary_type_error}
+use Rattle.pt_prims.specs.Sequences.{sequences_binary}
 
 -- an exact result, an error, or what integers of 128 bits don't have
 abbrev pub integer_content : IntAns → Content
@@ -37,34 +37,12 @@ truths_binary BitOr a b = content.Value (value.Bool (a || b))
 truths_binary BitXor a b = content.Value (value.Bool (if a then not b else b))
 truths_binary op a b = integer_content (binary_answer op (truth a) (truth b))
 
--- one text behind another, where that isn't too long
-abbrev pub joined : List ℕ → List ℕ → Content
-joined s t = if nat_le (length (chars s) + length (chars t)) length_limit then content.Text (s ++ t) else content.Outside Length
-
-abbrev pub both_joined : Option (List ℕ) → Option (List ℕ) → Content
-both_joined (Some s) (Some t) = joined s t
-both_joined _ _ = content.Outside Feature
-
--- texts have `+` alone, and that not beside another operand
-abbrev pub texts_binary : BinOp → List Object → Value → Value → Content
-texts_binary Add h a b = both_joined (text_of h a) (text_of h b)
-texts_binary op h a b = content.Outside Feature
-
-abbrev pub text_beside : BinOp → List Object → Value → Value → Content
-text_beside Add h a b = binary_type_error Add h a b
-text_beside op h a b = content.Outside Feature
-
 -- by what the operands are
 abbrev pub binary_by : BinOp → List Object → Value → Value → Operand → Operand → Content
-binary_by op h a b operand.Instance k = content.Help BinaryOf
-binary_by op h a b k operand.Instance = content.Help BinaryOf
-binary_by op h a b operand.Compound k = content.Outside Feature
-binary_by op h a b k operand.Compound = content.Outside Feature
+binary_by op h a b operand.Instance k = content.Help (BinaryOf (Binary op)) false
+binary_by op h a b k operand.Instance = content.Help (BinaryOf (Binary op)) false
 binary_by op h a b (operand.Number x) (operand.Number y) = integer_content (binary_answer op x y)
-binary_by op h a b operand.Text operand.Text = texts_binary op h a b
-binary_by op h a b operand.Text k = text_beside op h a b
-binary_by op h a b k operand.Text = text_beside op h a b
-binary_by op h a b k l = binary_type_error op h a b
+binary_by op h a b k l = sequences_binary op h a b
 
 abbrev pub operands_binary : BinOp → List Object → Value → Value → Content
 operands_binary op h a b = binary_by op h a b (operand_of h a) (operand_of h b)
@@ -78,9 +56,9 @@ abbrev pub binary_content : BinOp → List Object → Value → Value → Conten
 binary_content op h (value.Bool a) b = truth_binary op h a b
 binary_content op h a b = operands_binary op h a b
 
+-- the method of an instance isn't asked yet
 abbrev pub unary_by : UnOp → List Object → Value → Operand → Content
 unary_by op h a (operand.Number x) = integer_content (unary_answer op x)
-unary_by op h a operand.Text = content.Outside Feature
 unary_by op h a operand.Instance = content.Outside Feature
 unary_by op h a k = unary_type_error op h a
 

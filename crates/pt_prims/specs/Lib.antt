@@ -1,9 +1,6 @@
-pub mod Operands
-pub mod Classes
-pub mod TypeErrors
+pub mod Sequences
 pub mod Arithmetic
-pub mod Comparisons
-pub mod Truths
-pub mod Printing
+pub mod InPlace
+pub mod Calls
 pub mod Operations
 pub mod Laws

@@ -1,31 +1,20 @@
-ghost use Rattle.std.specs.Prelude.{◌≡◌, IfOk, OnOk};
-ghost use Rattle.std.specs.Option.{option_copied};
+ghost use Rattle.std.specs.Prelude.{◌≡◌, IfOk};
 ghost use Rattle.pt_prims.specs.Arithmetic.{binary_content, integer_content, operands_binary};
-ghost use Rattle.pt_prims.specs.Arithmetic.{text_beside, texts_binary, truth_binary};
-ghost use Rattle.pt_prims.specs.Arithmetic.{truths_binary, unary_content};
-ghost use Rattle.pt_prims.specs.declared.content.Content.TheVariants.{Raise};
+ghost use Rattle.pt_prims.specs.Arithmetic.{truth_binary, truths_binary, unary_content};
 
-use crate::Helper;
-use crate::class::{VALUE_ERROR, ZERO_DIVISION_ERROR};
-use crate::content::Content;
-use crate::operand::{Operand, operand_of, text_of};
-use crate::texts::concatenation;
-use crate::type_error::{binary_type_error, unary_type_error};
-use pt_base::{BinOp, Memory, ObjId, Text, UnOp, What};
+use crate::sequences::sequences_binary;
+use pt_base::{BinOp, Memory, UnOp, What};
+use pt_comparisons::asked;
+use pt_content::{
+    Content, Helper, Operand, Operator, VALUE_ERROR, ZERO_DIVISION_ERROR, operand_of, raise,
+    unary_type_error,
+};
 use pt_heap::{Heap, Value};
 use pt_ints::IntAns;
 use std::alloc::Global;
 
-/// An exception of a class with this text.
-fn raise(alloc: Global, class: ObjId, text: &str) -> Result<Content, Memory>
-    ensures { IfOk result (λ content. content ≡ Raise class text.now) }
-{
-    let text = Text::from_str(alloc, text)?;
-    Ok(Content::Raise { class, text })
-}
-
 /// What an operator answers at integers.
-fn integer_content(alloc: Global, answer: IntAns) -> Result<Content, Memory>
+pub fn integer_content(alloc: Global, answer: IntAns) -> Result<Content, Memory>
     ensures { IfOk result (λ content. content ≡ integer_content answer) }
 {
     match answer {
@@ -49,35 +38,6 @@ fn truths_binary(alloc: Global, op: BinOp, a: bool, b: bool) -> Result<Content, 
     }
 }
 
-/// A binary operator at two texts.
-fn texts_binary(
-    alloc: Global,
-    op: BinOp,
-    heap: &Heap,
-    a: Value,
-    b: Value,
-) -> Result<Content, Memory>
-    ensures { IfOk result (λ content. content ≡ texts_binary op heap.now a b) }
-{
-    match op {
-        BinOp::Add => match (text_of(heap, a), text_of(heap, b)) {
-            (Some(a), Some(b)) => concatenation(alloc, a, b),
-            _ => Ok(Content::Outside(What::Feature)),
-        },
-        _ => Ok(Content::Outside(What::Feature)),
-    }
-}
-
-/// A binary operator at a text and another operand.
-fn text_beside(alloc: Global, op: BinOp, heap: &Heap, a: Value, b: Value) -> Result<Content, Memory>
-    ensures { IfOk result (λ content. content ≡ text_beside op heap.now a b) }
-{
-    match op {
-        BinOp::Add => binary_type_error(alloc, op, heap, a, b),
-        _ => Ok(Content::Outside(What::Feature)),
-    }
-}
-
 /// A binary operator, by what the operands are.
 fn operands_binary(
     alloc: Global,
@@ -93,11 +53,10 @@ fn operands_binary(
             let answer = pt_ints::binary(op, a, b);
             integer_content(alloc, answer)
         }
-        (Operand::Instance, _) | (_, Operand::Instance) => Ok(Content::Help(Helper::BinaryOf)),
-        (Operand::Compound, _) | (_, Operand::Compound) => Ok(Content::Outside(What::Feature)),
-        (Operand::Text, Operand::Text) => texts_binary(alloc, op, heap, a, b),
-        (Operand::Text, _) | (_, Operand::Text) => text_beside(alloc, op, heap, a, b),
-        _ => binary_type_error(alloc, op, heap, a, b),
+        (Operand::Instance, _) | (_, Operand::Instance) => {
+            Ok(asked(Helper::BinaryOf(Operator::Binary(op))))
+        }
+        _ => sequences_binary(alloc, op, heap, a, b),
     }
 }
 
@@ -133,7 +92,7 @@ pub fn unary_content(alloc: Global, op: UnOp, heap: &Heap, a: Value) -> Result<C
 {
     match operand_of(heap, a) {
         Operand::Number(a) => integer_content(alloc, pt_ints::unary(op, a)),
-        Operand::Text | Operand::Instance => Ok(Content::Outside(What::Feature)),
-        Operand::Compound | Operand::Plain => unary_type_error(alloc, op, heap, a),
+        Operand::Instance => Ok(Content::Outside(What::Feature)),
+        Operand::Text | Operand::Compound | Operand::Plain => unary_type_error(alloc, op, heap, a),
     }
 }

@@ -1,24 +1,15 @@
-//! Operations on values: operators, truth, comparisons, and builtin functions (Language Reference
-//! 6; Library Reference, "Built-in Functions", "Truth Value Testing").
+//! Operations on values: operators, truth, comparisons, displays, iteration, and calls of builtin
+//! functions (Language Reference 6 to 8; Library Reference, "Built-in Functions", "Truth Value
+//! Testing").
 #![tactic(auto)]
 
-mod answer;
 mod arithmetic;
-mod class;
-mod comparison;
-mod content;
+mod calls;
+mod in_place;
 mod laws;
-mod op;
-mod operand;
 mod operation;
-mod printing;
-mod texts;
-mod truth;
-mod type_error;
+mod sequences;
 
-pub use answer::{Helper, PrimAns};
-pub use class::{TYPE_ERROR, VALUE_ERROR, ZERO_DIVISION_ERROR, class_name, name_at};
-pub use laws::{errors_are_of_their_classes, objects_stay};
-pub use op::{Op, of_function};
+pub use calls::STOP_ITERATION;
+pub use laws::{answers_lie_within, errors_are_of_their_classes, keeps_sound, objects_stay};
 pub use operation::prim;
-pub use printing::text_content;

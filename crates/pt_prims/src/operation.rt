@@ -1,82 +1,144 @@
-ghost use Rattle.std.specs.Prelude.{◌≡◌, IfOk, OnOk, OnErr};
-ghost use Rattle.pt_heap.specs.Sound.{StaysSound};
+ghost use Rattle.std.specs.Prelude.{◌≡◌, [], IfOk, OnOk, OnErr};
+ghost use Rattle.pt_heap.specs.Sound.{IsSound};
+ghost use Rattle.pt_builtin_objects.specs.Start.{start_objects};
+ghost use Rattle.pt_prims.specs.Laws.{AllWithin};
 ghost use Rattle.pt_prims.specs.Operations.{content_of, grown, placed, prim_answer, prim_heap};
-ghost use Rattle.pt_prims.specs.Operations.{text_place, with_text};
 
 use crate::arithmetic::{binary_content, unary_content};
-use crate::comparison::{comparison_content, turned};
-use crate::content::Content;
-use crate::printing::print_content;
-use crate::truth::truth_content;
-use crate::{Op, PrimAns};
-use pt_base::{Memory, Text, What};
-use pt_heap::{Heap, HeapErr, Object, Str, Value};
+use crate::calls::call_content;
+use crate::in_place::in_place_content;
+use pt_base::{Memory, ObjId, Seq, Text, What};
+use pt_comparisons::{comparison_content, inverse_content, truth_content};
+use pt_content::{Change, Content, NewObject, Op, PrimAns, add, add_values, apply};
+use pt_heap::{Heap, Value};
+use pt_sequences::{
+    item_content, iterator_content, list_content, next_content, tuple_content, unpack_content,
+};
 use std::alloc::Global;
 
-/// What an operation answers, with texts that are no objects yet.
+/// What an operation answers, with new objects that aren't in the heap yet.
 fn content_of(alloc: Global, op: Op, args: &[Value], heap: &Heap) -> Result<Content, Memory>
     ensures { IfOk result (λ content. content ≡ content_of op args.now heap.now) }
 {
     match (op, args) {
         (Op::Truth, [a]) => Ok(truth_content(heap, *a)),
-        (Op::Not, [a]) => Ok(turned(truth_content(heap, *a))),
+        (Op::Not, [a]) => Ok(inverse_content(heap, *a)),
         (Op::Unary(op), [a]) => unary_content(alloc, op, heap, *a),
         (Op::Binary(op), [a, b]) => binary_content(alloc, op, heap, *a, *b),
-        (Op::InPlace(op), [a, b]) => binary_content(alloc, op, heap, *a, *b),
+        (Op::InPlace(op), [a, b]) => in_place_content(alloc, op, heap, *a, *b),
         (Op::Compare(op), [a, b]) => comparison_content(alloc, op, heap, *a, *b),
-        (Op::Print, values) => print_content(alloc, heap, values),
+        (Op::Tuple, items) => Ok(tuple_content(Seq::from_slice(alloc, items)?)),
+        (Op::List, items) => Ok(list_content(Seq::from_slice(alloc, items)?)),
+        (Op::Item, [a, index]) => item_content(alloc, heap, *a, *index),
+        (Op::Iter, [a]) => iterator_content(alloc, heap, *a),
+        (Op::Next, [a]) => next_content(alloc, heap, *a),
+        (Op::Unpack { count }, [a]) => unpack_content(alloc, heap, count, *a),
+        (Op::Call(function), args) => call_content(alloc, function, args, heap),
         _ => Ok(Content::Outside(What::Feature)),
     }
 }
 
-/// Puts a text behind the objects of a heap. A full heap takes none.
-fn add_text(heap: &mut Heap, text: Text) -> Result<Option<Value>, Memory>
-    ensures value { IfOk result (λ v. v ≡ text_place heap.old) }
-    ensures ok { OnOk result (heap.new ≡ with_text text heap.old) }
+/// A new object that is the value, if the heap has room for it.
+fn place_new(new: NewObject, heap: &mut Heap) -> Result<PrimAns, Memory>
+    ensures answer { IfOk result (λ answer. answer ≡ placed (Content.New new) [] heap.old) }
+    ensures ok { OnOk result (heap.new ≡ grown (Content.New new) heap.old) }
     ensures err { OnErr result (heap.new ≡ heap.old) }
 {
-    match heap.add(Object::Str(Str::new(text))) {
-        Ok(id) => Ok(Some(Value::Obj(id))),
-        Err(HeapErr::HeapFull) => Ok(None),
-        Err(HeapErr::Memory) => Err(Memory),
+    match add(heap, new)? {
+        Some(value) => Ok(PrimAns::Value(value)),
+        None => Ok(PrimAns::Outside { what: What::Heap }),
     }
 }
 
-/// Puts the text of an answer into the heap, if it has one that is to be an object.
-fn place(content: Content, heap: &mut Heap) -> Result<PrimAns, Memory>
-    ensures answer { IfOk result (λ answer. answer ≡ placed content heap.old) }
+/// New objects that are values, if the heap has room for them.
+fn place_values(alloc: Global, objects: Seq<NewObject>, heap: &mut Heap) -> Result<PrimAns, Memory>
+    ensures answer { IfOk result
+        (λ answer. answer ≡ placed (Content.NewValues objects) [] heap.old) }
+    ensures ok { OnOk result (heap.new ≡ grown (Content.NewValues objects) heap.old) }
+    ensures err { OnErr result (heap.new ≡ heap.old) }
+{
+    match add_values(alloc, heap, objects)? {
+        Some(values) => Ok(PrimAns::Values(values)),
+        None => Ok(PrimAns::Outside { what: What::Heap }),
+    }
+}
+
+/// An exception with its text, if the heap has room for that.
+fn place_raise(class: ObjId, text: Text, heap: &mut Heap) -> Result<PrimAns, Memory>
+    ensures answer { IfOk result
+        (λ answer. answer ≡ placed (Content.Raise class text) [] heap.old) }
+    ensures ok { OnOk result (heap.new ≡ grown (Content.Raise class text) heap.old) }
+    ensures err { OnErr result (heap.new ≡ heap.old) }
+{
+    match add(heap, NewObject::Text(text))? {
+        Some(value) => Ok(PrimAns::Raise {
+            class,
+            arg: Some(value),
+        }),
+        None => Ok(PrimAns::Outside { what: What::Heap }),
+    }
+}
+
+/// A change with its answer, if the heap has room for its objects.
+fn place_change(
+    alloc: Global,
+    change: Change,
+    answer: PrimAns,
+    heap: &mut Heap,
+) -> Result<PrimAns, Memory>
+    ensures answer { IfOk result
+        (λ r. r ≡ placed (Content.Changed change answer) [] heap.old) }
+    ensures ok { OnOk result (heap.new ≡ grown (Content.Changed change answer) heap.old) }
+    ensures err { OnErr result (heap.new ≡ heap.old) }
+{
+    if apply(alloc, change, heap)? {
+        return Ok(answer);
+    }
+    Ok(PrimAns::Outside { what: What::Heap })
+}
+
+/// Changes the heap as a content says, and answers as it does, of an operation on these operands.
+fn place(
+    alloc: Global,
+    content: Content,
+    args: &[Value],
+    heap: &mut Heap,
+) -> Result<PrimAns, Memory>
+    ensures answer { IfOk result (λ answer. answer ≡ placed content args.now heap.old) }
     ensures ok { OnOk result (heap.new ≡ grown content heap.old) }
     ensures err { OnErr result (heap.new ≡ heap.old) }
 {
     match content {
         Content::Value(value) => Ok(PrimAns::Value(value)),
-        Content::Text(text) => match add_text(heap, text)? {
-            Some(value) => Ok(PrimAns::Value(value)),
-            None => Ok(PrimAns::Outside { what: What::Heap }),
-        },
-        Content::Raise { class, text } => match add_text(heap, text)? {
-            Some(value) => Ok(PrimAns::Raise {
-                class,
-                arg: Some(value),
-            }),
-            None => Ok(PrimAns::Outside { what: What::Heap }),
-        },
-        Content::Help(helper) => Ok(PrimAns::Help { helper }),
+        Content::New(new) => place_new(new, heap),
+        Content::NewValues(objects) => place_values(alloc, objects, heap),
+        Content::Raise { class, text } => place_raise(class, text, heap),
+        Content::Help { helper, inverted } => {
+            let operands = Seq::from_slice(alloc, args)?;
+            Ok(PrimAns::Help {
+                helper,
+                operands,
+                inverted,
+            })
+        }
         Content::Print(text) => Ok(PrimAns::Print { text }),
         Content::Outside(what) => Ok(PrimAns::Outside { what }),
+        Content::Changed { change, answer } => place_change(alloc, change, answer, heap),
     }
 }
 
-/// What an operation on values answers. A new text, and that of an exception, is an object of the
-/// heap behind the others, which stay as they are; Outside with the cause Heap where it is full.
-/// Outside with the cause Feature for operands, and for a number of them, that the operation isn't
-/// supported for. After Memory the heap is as before.
+/// What an operation on values answers. A new object, and the text of an exception, stand in the
+/// heap behind the others; a list, dictionary, set or cursor may hold something else. Outside with
+/// the cause Heap, with nothing changed, where it is full. Outside with the cause Feature for
+/// operands, and for a number of them, that the operation isn't supported for. After Memory the
+/// heap is as before.
 pub fn prim(alloc: Global, op: Op, args: &[Value], heap: &mut Heap) -> Result<PrimAns, Memory>
     ensures answer { IfOk result (λ answer. answer ≡ prim_answer op args.now heap.old) }
     ensures heap { OnOk result (heap.new ≡ prim_heap op args.now heap.old) }
     ensures memory { OnErr result (heap.new ≡ heap.old) }
-    ensures sound { StaysSound heap.old heap.new (λ _. Unit {0}) }
+    ensures sound { IsSound start_objects heap.old → AllWithin heap.old args.now →
+        IsSound start_objects heap.new }
 {
     let content = content_of(alloc, op, args, heap)?;
-    place(content, heap)
+    place(alloc, content, args, heap)
 }

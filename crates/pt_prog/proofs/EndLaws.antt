@@ -14,10 +14,10 @@ use Rattle.pt_bare_runs.proofs.BareRuns.{bare_runs_once}
 use Rattle.pt_machine_state.specs.Writing.{kept}
 use Rattle.pt_sinks.specs.Writing.{outs}
 use Rattle.pt_sinks.proofs.WritingLemmas.{outs_append}
-use Rattle.law_loading.specs.script_program.ScriptProgram.{program_of}
+use Rattle.pt_run_code.specs.law_loading.script_program.ScriptProgram.{program_of}
 use Rattle.law_compile.specs.script_runs.Blocks.{the_module}
 use Rattle.law_compile.specs.script_runs.Laws.{tree_machine}
-use Rattle.pt_runner.specs.Work.{Work}
+use Rattle.pt_run_code.specs.pt_runner.Work.{Work}
 use Rattle.pt_run_script.specs.ScriptRun.{RunsTo}
 use Rattle.pt_supported.specs.Built.{Built, unbuilt_of}
 use Rattle.pt_front.proofs.Once.{one_script, one_refusal, never_both}
@@ -27,8 +27,8 @@ use Rattle.pt_words.specs.declared.line.Command.TheVariants as command
 use Rattle.pt_prog.specs.Limits.{reads_code}
 use Rattle.pt_prog.specs.declared.end.End.{End}
 use Rattle.pt_prog.specs.declared.end.End.TheVariants as end
-use Rattle.pt_prog.specs.LogText.{Text, final, line_of, totals}
-use Rattle.pt_prog.specs.Answer.{IsAnswerFor, IsEndFor, IsUnbuilt, IsBuilt, end_of, is_run, last_text, run_writes, tells_events, of_code, refused, unbuilt, ran, wrote_code}
+use Rattle.pt_prog.specs.LogText.{Text, final, totals}
+use Rattle.pt_prog.specs.Answer.{IsAnswerFor, IsEndFor, IsUnbuilt, IsBuilt, end_of, is_run, last_writes, run_writes, script_read, tells_events, of_code, refused, unbuilt, ran, wrote_code}
 
 one_ending : (ss : Stms) (n : ℕ) (o p : Outcome Value World) → RunsTo ss n o → RunsTo ss n p → o ≡ p
 one_ending ss n o p a b = bare_runs_once (tree_machine value.None ss) (heap_host (program_of ss)) n the_module no_names (start_world (program_of ss)) o p a b
@@ -93,23 +93,27 @@ module _ (a : Asked) (text : Text) where
   no_prints true acts instructions depth = refl
   no_prints false acts instructions depth = refl
 
-  prints : (o : Outcome Value World) → Pieces
-  prints o = outs (kept (tells_events a) o.written) ++ outs (line_of (last_text a.steps o.ending))
+  last_of : Stms → Outcome Value World → List Write
+  last_of ss o = last_writes (script_read a text ss) a.steps o.ending
 
-  are_prints : (o : Outcome Value World) (w : Work) → outs (run_writes a o w) ≡ prints o
-  unfolding prints
-  are_prints o w =
+  prints : Stms → Outcome Value World → Pieces
+  prints ss o = outs (kept (tells_events a) o.written) ++ outs (last_of ss o)
+
+  are_prints : (ss : Stms) (o : Outcome Value World) (w : Work) → outs (run_writes (script_read a text ss) a o w) ≡ prints ss o
+  unfolding prints last_of
+  are_prints ss o w =
       let told : List Write = totals a.stats o.units (min w.instructions (2 ^ 64 - 1)) w.depth in
-      outs_append (kept (tells_events a) o.written) (told ++ line_of (last_text a.steps o.ending))
+      outs_append (kept (tells_events a) o.written) (told ++ last_of ss o)
       ∙ ap (λ q. outs (kept (tells_events a) o.written) ++ q)
-      (outs_append told (line_of (last_text a.steps o.ending))
-      ∙ ap (λ q. q ++ outs (line_of (last_text a.steps o.ending))) (no_prints a.stats o.units (min w.instructions (2 ^ 64 - 1)) w.depth))
+      (outs_append told (last_of ss o)
+      ∙ ap (λ q. q ++ outs (last_of ss o)) (no_prints a.stats o.units (min w.instructions (2 ^ 64 - 1)) w.depth))
 
   one_output : (ss zz : Stms) (o p : Outcome Value World) (w v : Work) → IsBuilt text ss → IsBuilt text zz → RunsTo ss a.steps o → RunsTo zz a.steps p
-      → outs (run_writes a o w) ≡ outs (run_writes a p v)
+      → outs (run_writes (script_read a text ss) a o w) ≡ outs (run_writes (script_read a text zz) a p v)
   one_output ss zz o p w v b c r q =
       let same : ss ≡ zz = one_script text ss zz b.is_script c.is_script in
-      are_prints o w ∙ ap prints (one_ending zz a.steps o p (subst (λ s. RunsTo s a.steps o) same r) q) ∙ sym (are_prints p v)
+      let ending : o ≡ p = one_ending zz a.steps o p (subst (λ s. RunsTo s a.steps o) same r) q in
+      are_prints ss o w ∙ (λ i. prints (same i) (ending i)) ∙ sym (are_prints zz p v)
 
   same_final : (e f : End) (ws vs : List Write) → e ≡ f → ws ≡ final e → vs ≡ final f → outs ws ≡ outs vs
   same_final e f ws vs same u v = ap outs (u ∙ ap final same ∙ sym v)

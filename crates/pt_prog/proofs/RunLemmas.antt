@@ -6,18 +6,18 @@ use Rattle.pt_tree.specs.Syntax.{Stms}
 use Rattle.sem_run.specs.run.Run.{Write}
 use Rattle.pt_heap.specs.declared.value.Value.{Value}
 use Rattle.sem_fits.specs.fits.Fits.{AllFit}
-use Rattle.pt_host.specs.World.{World}
+use Rattle.pt_host.specs.World.{Program, World}
 use Rattle.pt_bare_runs.specs.Strides as bare
 use Rattle.pt_bare_runs.specs.Strides.{Ending}
 use Rattle.pt_machine_state.specs.Writing.{kept}
-use Rattle.pt_runner.specs.Ends.{IsEnding}
-use Rattle.pt_runner.proofs.AdvanceLemmas.{if_err}
-use Rattle.pt_runner.specs.declared.ending.Ended.{Ended}
-use Rattle.pt_runner.specs.declared.ending.RunEnd.{RunEnd}
-use Rattle.pt_runner.specs.declared.ending.RunEnd.TheVariants as run
+use Rattle.pt_run_code.specs.pt_runner.Ends.{IsEnding, block_name}
+use Rattle.pt_run_code.proofs.pt_runner.AdvanceLemmas.{if_err}
+use Rattle.pt_run_code.specs.pt_runner.declared.ending.Ended.{Ended}
+use Rattle.pt_run_code.specs.pt_runner.declared.ending.RunEnd.{RunEnd}
+use Rattle.pt_run_code.specs.pt_runner.declared.ending.RunEnd.TheVariants as run
 use Rattle.pt_bare_runs.specs.Strides.{Outcome}
 use Rattle.pt_code.specs.declared.Code.{Code}
-use Rattle.pt_runner.specs.Work.{Work}
+use Rattle.pt_run_code.specs.pt_runner.Work.{Work}
 use Rattle.pt_base.specs.declared.numbers.Line.{Line}
 use Rattle.pt_supported_code.specs.Built.{BuiltCode, IsUnbuiltCode}
 use Rattle.pt_run_code.specs.CodeRun.{CodeBrokeOff, CodeFinished}
@@ -29,65 +29,67 @@ use Rattle.pt_sinks.proofs.WritingLemmas.{took_behind, front_behind, front_befor
 use Rattle.pt_words.specs.Words.{Asked}
 use Rattle.pt_prog.specs.declared.end.End.{End}
 use Rattle.pt_prog.specs.declared.end.End.TheVariants as end
-use Rattle.pt_prog.specs.LogText.{Text, final_text, line_of, totals}
+use Rattle.pt_prog.specs.LogText.{Text, final, line_of, totals, traced}
 use Rattle.pt_prog.specs.RunEnds.{end_of_run, last_of_run}
 use Rattle.pt_prog.specs.Limits.{reads_code}
-use Rattle.pt_prog.specs.Answer.{BrokeOffFor, IsAnswerFor, IsBuilt, IsFileOf, IsRunnableFile, IsUnbuiltFile, WroteAllFor, WroteFrontFor, end_of, is_run, last_text, of_answer, of_code, of_code_run, of_run, ran, ran_code, run_writes, tells_events}
+use Rattle.pt_prog.specs.Answer.{BrokeOffFor, IsAnswerFor, IsBuilt, IsFileOf, IsRunnableFile, IsUnbuiltFile, WroteAllFor, WroteFrontFor, code_read, end_of, is_run, last_writes, of_answer, of_code, of_code_run, of_run, ran, ran_code, run_writes, script_read, tells_events}
 
--- the end of a run is that of its outcome, and so is the log's last text
-pub same_end : (n : ℕ) (x : RunEnd) (e : Ending Value World) → IsEnding x e → end_of_run n x ≡ end_of n e
-same_end n run.Done bare.done i = refl
-same_end n run.Done (bare.exited k t) i = absurd i
-same_end n run.Done (bare.raised v w) i = absurd i
-same_end n run.Done bare.spent i = absurd i
-same_end n run.Done (bare.outside_at w l) i = absurd i
-same_end n (run.Exited status text) bare.done i = absurd i
-same_end n (run.Exited status text) (bare.exited k t) i = ap (λ s. end.Exited s) (sym i.0)
-same_end n (run.Exited status text) (bare.raised v w) i = absurd i
-same_end n (run.Exited status text) bare.spent i = absurd i
-same_end n (run.Exited status text) (bare.outside_at w l) i = absurd i
-same_end n run.Raised bare.done i = absurd i
-same_end n run.Raised (bare.exited k t) i = absurd i
-same_end n run.Raised (bare.raised v w) i = refl
-same_end n run.Raised bare.spent i = absurd i
-same_end n run.Raised (bare.outside_at w l) i = absurd i
-same_end n run.Spent bare.done i = absurd i
-same_end n run.Spent (bare.exited k t) i = absurd i
-same_end n run.Spent (bare.raised v w) i = absurd i
-same_end n run.Spent bare.spent i = refl
-same_end n run.Spent (bare.outside_at w l) i = absurd i
-same_end n (run.Outside what line) bare.done i = absurd i
-same_end n (run.Outside what line) (bare.exited k t) i = absurd i
-same_end n (run.Outside what line) (bare.raised v w) i = absurd i
-same_end n (run.Outside what line) bare.spent i = absurd i
-same_end n (run.Outside what line) (bare.outside_at w l) i = λ k. end.Outside (sym i.0 k) (record { 0 = sym i.1 k })
+-- the end of a run is that of its outcome
+pub same_end : (name : ℕ → List ℕ) (n : ℕ) (x : RunEnd) (e : Ending Value World) → IsEnding name x e → end_of_run n x ≡ end_of n e
+same_end name n run.Done bare.done i = refl
+same_end name n run.Done (bare.exited k t) i = absurd i
+same_end name n run.Done (bare.raised v w) i = absurd i
+same_end name n run.Done bare.spent i = absurd i
+same_end name n run.Done (bare.outside_at w l) i = absurd i
+same_end name n (run.Exited status text) bare.done i = absurd i
+same_end name n (run.Exited status text) (bare.exited k t) i = ap (λ s. end.Exited s) (sym i.0)
+same_end name n (run.Exited status text) (bare.raised v w) i = absurd i
+same_end name n (run.Exited status text) bare.spent i = absurd i
+same_end name n (run.Exited status text) (bare.outside_at w l) i = absurd i
+same_end name n (run.Raised told) bare.done i = absurd i
+same_end name n (run.Raised told) (bare.exited k t) i = absurd i
+same_end name n (run.Raised told) (bare.raised v w) i = refl
+same_end name n (run.Raised told) bare.spent i = absurd i
+same_end name n (run.Raised told) (bare.outside_at w l) i = absurd i
+same_end name n run.Spent bare.done i = absurd i
+same_end name n run.Spent (bare.exited k t) i = absurd i
+same_end name n run.Spent (bare.raised v w) i = absurd i
+same_end name n run.Spent bare.spent i = refl
+same_end name n run.Spent (bare.outside_at w l) i = absurd i
+same_end name n (run.Outside what line) bare.done i = absurd i
+same_end name n (run.Outside what line) (bare.exited k t) i = absurd i
+same_end name n (run.Outside what line) (bare.raised v w) i = absurd i
+same_end name n (run.Outside what line) bare.spent i = absurd i
+same_end name n (run.Outside what line) (bare.outside_at w l) i = λ k. end.Outside (sym i.0 k) (record { 0 = sym i.1 k })
 
-pub same_last : (n : ℕ) (x : RunEnd) (e : Ending Value World) → IsEnding x e → last_of_run n x ≡ last_text n e
-same_last n run.Done bare.done i = refl
-same_last n run.Done (bare.exited k t) i = absurd i
-same_last n run.Done (bare.raised v w) i = absurd i
-same_last n run.Done bare.spent i = absurd i
-same_last n run.Done (bare.outside_at w l) i = absurd i
-same_last n (run.Exited status text) bare.done i = absurd i
-same_last n (run.Exited status text) (bare.exited k t) i = sym i.1
-same_last n (run.Exited status text) (bare.raised v w) i = absurd i
-same_last n (run.Exited status text) bare.spent i = absurd i
-same_last n (run.Exited status text) (bare.outside_at w l) i = absurd i
-same_last n run.Raised bare.done i = absurd i
-same_last n run.Raised (bare.exited k t) i = absurd i
-same_last n run.Raised (bare.raised v w) i = refl
-same_last n run.Raised bare.spent i = absurd i
-same_last n run.Raised (bare.outside_at w l) i = absurd i
-same_last n run.Spent bare.done i = absurd i
-same_last n run.Spent (bare.exited k t) i = absurd i
-same_last n run.Spent (bare.raised v w) i = absurd i
-same_last n run.Spent bare.spent i = refl
-same_last n run.Spent (bare.outside_at w l) i = absurd i
-same_last n (run.Outside what line) bare.done i = absurd i
-same_last n (run.Outside what line) (bare.exited k t) i = absurd i
-same_last n (run.Outside what line) (bare.raised v w) i = absurd i
-same_last n (run.Outside what line) bare.spent i = absurd i
-same_last n (run.Outside what line) (bare.outside_at w l) i = let same : end.Outside what line ≡ end.Outside w (record { 0 = l }) = λ k. end.Outside (sym i.0 k) (record { 0 = sym i.1 k }) in ap final_text same
+-- and so is the log's last write
+module _ (p : Program) where
+  pub same_last : (n : ℕ) (x : RunEnd) (e : Ending Value World) → IsEnding (block_name p) x e → last_of_run p.file p.source n x ≡ last_writes p n e
+  same_last n run.Done bare.done i = refl
+  same_last n run.Done (bare.exited k t) i = absurd i
+  same_last n run.Done (bare.raised v w) i = absurd i
+  same_last n run.Done bare.spent i = absurd i
+  same_last n run.Done (bare.outside_at w l) i = absurd i
+  same_last n (run.Exited status text) bare.done i = absurd i
+  same_last n (run.Exited status text) (bare.exited k t) i = ap line_of (sym i.1)
+  same_last n (run.Exited status text) (bare.raised v w) i = absurd i
+  same_last n (run.Exited status text) bare.spent i = absurd i
+  same_last n (run.Exited status text) (bare.outside_at w l) i = absurd i
+  same_last n (run.Raised told) bare.done i = absurd i
+  same_last n (run.Raised told) (bare.exited k t) i = absurd i
+  same_last n (run.Raised told) (bare.raised v w) i = ap (traced p.file p.source) i
+  same_last n (run.Raised told) bare.spent i = absurd i
+  same_last n (run.Raised told) (bare.outside_at w l) i = absurd i
+  same_last n run.Spent bare.done i = absurd i
+  same_last n run.Spent (bare.exited k t) i = absurd i
+  same_last n run.Spent (bare.raised v w) i = absurd i
+  same_last n run.Spent bare.spent i = refl
+  same_last n run.Spent (bare.outside_at w l) i = absurd i
+  same_last n (run.Outside what line) bare.done i = absurd i
+  same_last n (run.Outside what line) (bare.exited k t) i = absurd i
+  same_last n (run.Outside what line) (bare.raised v w) i = absurd i
+  same_last n (run.Outside what line) bare.spent i = absurd i
+  same_last n (run.Outside what line) (bare.outside_at w l) i = λ k. final (end.Outside (sym i.0 k) (record { 0 = sym i.1 k }))
 
 module _ (a : Asked) (text : Text) (out_old out_new log_old log_new : Pieces → Pieces → Type 0) where
   abbrev Front : WriteErr → Type 0
@@ -117,36 +119,36 @@ module _ (a : Asked) (text : Text) (out_old out_new log_old log_new : Pieces →
   every_ok_of (Err x) ws e i f = tt
 
 -- what a run took that came to an outcome by this work
-pub record RunTaken (a : Asked) (x : Ended) (o : Outcome Value World) (w : Work) (out_old out_ran log_old log_ran : Pieces → Pieces → Type 0) : Type 0 where
+pub record RunTaken (a : Asked) (p : Program) (x : Ended) (o : Outcome Value World) (w : Work) (out_old out_ran log_old log_ran : Pieces → Pieces → Type 0) : Type 0 where
   units : o.units ≡ x.totals.acts
   instructions : x.totals.instructions ≡ min w.instructions (2 ^ 64 - 1)
   depth : x.totals.depth ≡ w.depth
-  ends : IsEnding x.end o.ending
+  ends : IsEnding (block_name p) x.end o.ending
   took : Took out_old out_ran log_old log_ran (kept (tells_events a) o.written)
 
 -- the answer of a run, for a text of a script or for the bytes of code
-abbrev pub Says : Asked → Text → Outcome Value World → Work → Type 0
-Says a text o w = (e : End) (ws : List Write) → e ≡ end_of a.steps o.ending → ws ≡ run_writes a o w → IsAnswerFor a text e ws
+abbrev pub Says : Asked → Text → Program → Outcome Value World → Work → Type 0
+Says a text p o w = (e : End) (ws : List Write) → e ≡ end_of a.steps o.ending → ws ≡ run_writes p a o w → IsAnswerFor a text e ws
 
 module _ (a : Asked) (text : Text) (ss : Stms) (is : IsBuilt text ss) (runs : is_run a.command ≡ true) (x : Ended) (out_old out_ran log_old log_ran : Pieces → Pieces → Type 0)
     (f : ScriptFinished ss a.steps (tells_events a) out_old out_ran log_old log_ran x) where
-  pub script_taken : RunTaken a x f.outcome f.work out_old out_ran log_old log_ran
+  pub script_taken : RunTaken a (script_read a text ss) x f.outcome f.work out_old out_ran log_old log_ran
   script_taken = record { units = f.units; instructions = f.instructions; depth = f.depth; ends = f.ends; took = f.took }
 
-  pub script_says : Says a text f.outcome f.work
+  pub script_says : Says a text (script_read a text ss) f.outcome f.work
   script_says e ws is_end are = ran ss f.outcome f.work runs is f.runs f.code_runs is_end are
 
 module _ (a : Asked) (text : Text) (c : Code) (is : IsRunnableFile text c) (reads : reads_code a.command ≡ true) (x : Ended)
     (out_old out_ran log_old log_ran : Pieces → Pieces → Type 0) (f : CodeFinished c a.steps (tells_events a) out_old out_ran log_old log_ran x) where
-  pub code_taken : RunTaken a x f.outcome f.work out_old out_ran log_old log_ran
+  pub code_taken : RunTaken a (code_read a c) x f.outcome f.work out_old out_ran log_old log_ran
   code_taken = record { units = f.units; instructions = f.instructions; depth = f.depth; ends = f.ends; took = f.took }
 
-  pub code_says : Says a text f.outcome f.work
+  pub code_says : Says a text (code_read a c) f.outcome f.work
   code_says e ws is_end are = of_code reads (ran_code c f.outcome f.work is f.runs is_end are)
 
 -- a run that came to its outcome, and what the log got behind it
-module _ (a : Asked) (text : Text) (x : Ended) (o : Outcome Value World) (w : Work) (says : Says a text o w) (out_old out_ran log_old log_ran : Pieces → Pieces → Type 0)
-    (f : RunTaken a x o w out_old out_ran log_old log_ran) where
+module _ (a : Asked) (text : Text) (p : Program) (x : Ended) (o : Outcome Value World) (w : Work) (says : Says a text p o w)
+    (out_old out_ran log_old log_ran : Pieces → Pieces → Type 0) (f : RunTaken a p x o w out_old out_ran log_old log_ran) where
   abbrev written : List Write
   written = kept (tells_events a) o.written
 
@@ -154,7 +156,7 @@ module _ (a : Asked) (text : Text) (x : Ended) (o : Outcome Value World) (w : Wo
   totals_written = totals a.stats x.totals.acts x.totals.instructions x.totals.depth
 
   abbrev last_written : List Write
-  last_written = line_of (last_of_run a.steps x.end)
+  last_written = last_of_run p.file p.source a.steps x.end
 
   abbrev all_written : List Write
   all_written = written ++ (totals_written ++ last_written)
@@ -162,14 +164,14 @@ module _ (a : Asked) (text : Text) (x : Ended) (o : Outcome Value World) (w : Wo
   same_totals : totals_written ≡ totals a.stats o.units (min w.instructions (2 ^ 64 - 1)) w.depth
   same_totals = λ i. totals a.stats (sym f.units i) (f.instructions i) (f.depth i)
 
-  is_all : all_written ≡ run_writes a o w
+  is_all : all_written ≡ run_writes p a o w
   is_all =
       ap (λ ts. written ++ (ts ++ last_written)) same_totals
-      ∙ ap (λ t. written ++ (totals a.stats o.units (min w.instructions (2 ^ 64 - 1)) w.depth ++ line_of t))
-      (same_last a.steps x.end o.ending f.ends)
+      ∙ ap (λ l. written ++ (totals a.stats o.units (min w.instructions (2 ^ 64 - 1)) w.depth ++ l))
+      (same_last p a.steps x.end o.ending f.ends)
 
   pub answer : IsAnswerFor a text (end_of_run a.steps x.end) all_written
-  answer = says (end_of_run a.steps x.end) all_written (same_end a.steps x.end o.ending f.ends) is_all
+  answer = says (end_of_run a.steps x.end) all_written (same_end (block_name p) a.steps x.end o.ending f.ends) is_all
 
   module _ (out_new log_new : Pieces → Pieces → Type 0) where
     pub front_of_totals : (why : WriteErr) → TookFront out_ran out_new log_ran log_new why totals_written

@@ -15,9 +15,11 @@ use Rattle.pt_bare_runs.specs.Strides as bare
 use Rattle.pt_bare_runs.specs.Strides.{Ending, Outcome}
 use Rattle.pt_heap.specs.declared.value.Value.{Value}
 use Rattle.sem_fits.specs.fits.Fits.{AllFit}
-use Rattle.pt_host.specs.World.{World}
+use Rattle.pt_host.specs.World.{Program, World, read_from}
 use Rattle.pt_machine_state.specs.Writing.{kept}
-use Rattle.pt_runner.specs.Work.{Work}
+use Rattle.pt_tracebacks.specs.Summaries.{summaries}
+use Rattle.pt_run_code.specs.pt_runner.Ends.{block_name}
+use Rattle.pt_run_code.specs.pt_runner.Work.{Work}
 use Rattle.pt_run_script.specs.ScriptRun.{CodeRunsBy, RunsTo, ScriptWritesFirst}
 use Rattle.pt_supported.specs.Built.{Built, unbuilt_of}
 use Rattle.pt_front.specs.Text.{IsScript, IsRefused}
@@ -31,7 +33,9 @@ use Rattle.pt_verify.specs.Verdict.{IsRefused as IsRefusedCode}
 use Rattle.pt_verify.specs.declared.error.VerifyErr.{VerifyErr}
 use Rattle.pt_verify.specs.declared.error.VerifyErr.TheVariants as misfit
 use Rattle.pt_supported_code.specs.Built.{IsUnbuiltCode}
-use Rattle.law_loading.specs.code_program.Laws.{IsRunnable}
+use Rattle.pt_run_code.specs.law_loading.script_program.ScriptProgram.{program_of}
+use Rattle.pt_run_code.specs.law_loading.code_program.CodeProgram.{program_of_code}
+use Rattle.pt_run_code.specs.law_loading.code_program.Laws.{IsRunnable}
 use Rattle.pt_run_code.specs.CodeRun.{CodeRunsTo, CodeWritesFirst}
 use Rattle.sem_compile.specs.compile.ScriptCode.{code_of}
 use Rattle.pt_listing.specs.Listing.{IsListing}
@@ -44,7 +48,7 @@ use Rattle.pt_prog.specs.declared.end.File.TheVariants as file
 use Rattle.pt_prog.specs.declared.end.CodeRefusal.{CodeRefusal}
 use Rattle.pt_prog.specs.declared.end.CodeRefusal.TheVariants as refusal
 use Rattle.pt_prog.specs.Limits.{limit_of, reads_code}
-use Rattle.pt_prog.specs.LogText.{Text, final_text, line_of, final, totals}
+use Rattle.pt_prog.specs.LogText.{Text, final, line_of, totals, traced}
 
 -- P holds of what is there
 abbrev pub OfSome : {A : Type 0} → Option A → (A → Type 0) → Type 0
@@ -111,15 +115,24 @@ end_of n (bare.raised v w) = end.Raised
 end_of n bare.spent = end.Spent n
 end_of n (bare.outside_at what line) = end.Outside what (record { 0 = line })
 
--- the log's last text: that of a SystemExit, which the script gives, or that of the end
-abbrev pub last_text : (n : ℕ) → Ending Value World → Option Text
-last_text n (bare.exited status text) = text
-last_text n e = final_text (end_of n e)
+-- what is run, as it is read from the file that the words name: a script with its text, and a code without a source
+abbrev pub script_read : Asked → Text → Stms → Program
+script_read a text script = read_from a.script (Some text) (program_of script)
 
--- all that a run writes that comes to an outcome: what is printed and its events, the totals, and the last text. Of the totals of a script the acts are
--- the script's, the others those of its code; the count of instructions stands still at the greatest u64
-abbrev pub run_writes : Asked → Outcome Value World → Work → List Write
-run_writes a o w = kept (tells_events a) o.written ++ (totals a.stats o.units (min w.instructions (2 ^ 64 - 1)) w.depth ++ line_of (last_text a.steps o.ending))
+abbrev pub code_read : Asked → Code → Program
+code_read a code = read_from a.script None (program_of_code code)
+
+-- the log's last write: the text of a SystemExit, which the script gives, the traceback of another exception that left it, or the text of the end
+abbrev pub last_writes : Program → (n : ℕ) → Ending Value World → List Write
+last_writes p n (bare.exited status text) = line_of text
+last_writes p n (bare.raised v w) = traced p.file p.source (summaries (block_name p) w.heap v)
+last_writes p n e = final (end_of n e)
+
+-- all that a run of this program writes that comes to an outcome: what is printed and its events, the totals, and the last write. Of the totals of a
+-- script the acts are the script's, the others those of its code; the count of instructions stands still at the greatest u64
+abbrev pub run_writes : Program → Asked → Outcome Value World → Work → List Write
+run_writes p a o w =
+    kept (tells_events a) o.written ++ (totals a.stats o.units (min w.instructions (2 ^ 64 - 1)) w.depth ++ last_writes p a.steps o.ending)
 
 -- the bytes are no code file, for this reason
 pub record IsNoFile (bytes : Text) (error : CodeErr) : Type 0 where
@@ -168,7 +181,7 @@ pub data IsCodeAnswer (a : Asked) (bytes : Text) (e : End) (ws : List Write) : T
   bad_code : (error : CodeRefusal) → IsBadFile bytes error → e ≡ end.BadCode error → ws ≡ final e → IsCodeAnswer a bytes e ws
   unbuilt_code : (line : Line) → IsUnbuiltFile bytes line → e ≡ end.Unbuilt line → ws ≡ final e → IsCodeAnswer a bytes e ws
   ran_code : (c : Code) (o : Outcome Value World) (w : Work) → IsRunnableFile bytes c → CodeRunsTo c a.steps o w → e ≡ end_of a.steps o.ending
-      → ws ≡ run_writes a o w → IsCodeAnswer a bytes e ws
+      → ws ≡ run_writes (code_read a c) a o w → IsCodeAnswer a bytes e ws
 
 -- the answer for a text: the end, and all that is written
 pub data IsAnswerFor (a : Asked) (text : Text) (e : End) (ws : List Write) : Type 0 where
@@ -176,7 +189,7 @@ pub data IsAnswerFor (a : Asked) (text : Text) (e : End) (ws : List Write) : Typ
   refused : (error : Refusal) → reads_code a.command ≡ false → IsRefused text error → e ≡ end.Refused error → ws ≡ final e → IsAnswerFor a text e ws
   unbuilt : (line : Line) → is_run a.command ≡ true → IsUnbuilt text line → e ≡ end.Unbuilt line → ws ≡ final e → IsAnswerFor a text e ws
   ran : (script : Stms) (o : Outcome Value World) (w : Work) → is_run a.command ≡ true → IsBuilt text script → RunsTo script a.steps o
-      → CodeRunsBy script a.steps o w → e ≡ end_of a.steps o.ending → ws ≡ run_writes a o w → IsAnswerFor a text e ws
+      → CodeRunsBy script a.steps o w → e ≡ end_of a.steps o.ending → ws ≡ run_writes (script_read a text script) a o w → IsAnswerFor a text e ws
   wrote_code : (bytes : Text) → is_run a.command ≡ false → IsCodeBy a.command text bytes → e ≡ end.Done → ws ≡ write to_out bytes ∷ [] → IsAnswerFor a text e ws
 
 -- the end is the one that the text says

@@ -4,3 +4,4 @@ pub mod Status
 pub mod LogText
 pub mod RunEnds
 pub mod Answer
+pub use Rattle.pt_run_script.specs as pt_run_script

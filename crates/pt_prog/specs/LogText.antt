@@ -3,6 +3,9 @@ use Rattle.std.specs.Prelude.{ℕ, List, [], ◌∷◌, ◌++◌, codes, Bool, t
 use Rattle.std.specs.Fmt.{decimal}
 use Rattle.pt_base.specs.Words.{word_of}
 use Rattle.sem_run.specs.run.Run.{Write, write, to_log}
+use Rattle.pt_tracebacks.specs.Lines.{source_lines}
+use Rattle.pt_tracebacks.specs.Texts.{traceback_text}
+use Rattle.pt_tracebacks.specs.declared.summary.ExceptionSummary.{ExceptionSummary}
 use Rattle.pt_front.specs.Refusals.{number_of, place_of}
 use Rattle.pt_prog.specs.CodeRefusals as code
 use Rattle.pt_prog.specs.declared.end.End.{End}
@@ -33,6 +36,10 @@ line_of None = []
 
 abbrev pub final : End → List Write
 final e = line_of (final_text e)
+
+-- a traceback is one write, over the name of the file and its source, if there is one
+abbrev pub traced : (file : Text) → (source : Option Text) → List ExceptionSummary → List Write
+traced file source told = write to_log (traceback_text file (source_lines source) told) ∷ []
 
 -- a run's totals, as one write
 abbrev pub total : (word : Text) → ℕ → Text

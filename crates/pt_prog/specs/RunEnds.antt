@@ -1,23 +1,26 @@
--- The program's end, and the log's last text, for the end of a run as the run of code tells it.
-use Rattle.std.specs.Prelude.{ℕ, Option, Result, Ok, Err, option_map}
-use Rattle.pt_runner.specs.declared.ending.RunEnd.{RunEnd}
-use Rattle.pt_runner.specs.declared.ending.RunEnd.TheVariants as run
+-- The program's end, and the log's last write, for the end of a run as the run of code tells it.
+use Rattle.std.specs.Prelude.{ℕ, List, Option, Result, Ok, Err}
+use Rattle.pt_run_code.specs.pt_runner.declared.ending.RunEnd.{RunEnd}
+use Rattle.pt_run_code.specs.pt_runner.declared.ending.RunEnd.TheVariants as run
 use Rattle.pt_sinks.specs.declared.writing.WriteErr.{WriteErr}
 use Rattle.pt_sinks.specs.declared.writing.WriteErr.TheVariants as error
 use Rattle.pt_prog.specs.declared.end.End.{End}
 use Rattle.pt_prog.specs.declared.end.End.TheVariants as end
-use Rattle.pt_prog.specs.LogText.{Text, final_text}
+use Rattle.sem_run.specs.run.Run.{Write}
+use Rattle.pt_prog.specs.LogText.{Text, final, line_of, traced}
 
 abbrev pub end_of_run : (n : ℕ) → RunEnd → End
 end_of_run n run.Done = end.Done
 end_of_run n (run.Exited status text) = end.Exited status
-end_of_run n run.Raised = end.Raised
+end_of_run n (run.Raised told) = end.Raised
 end_of_run n run.Spent = end.Spent n
 end_of_run n (run.Outside what line) = end.Outside what line
 
-abbrev pub last_of_run : (n : ℕ) → RunEnd → Option Text
-last_of_run n (run.Exited status text) = text
-last_of_run n e = final_text (end_of_run n e)
+-- over the name of the file that was run, and its source, if there is one
+abbrev pub last_of_run : (file : Text) → (source : Option Text) → (n : ℕ) → RunEnd → List Write
+last_of_run file source n (run.Exited status text) = line_of text
+last_of_run file source n (run.Raised told) = traced file source told
+last_of_run file source n e = final (end_of_run n e)
 
 -- a write that failed, and want of memory, are ends
 abbrev pub ended : Result End WriteErr → End

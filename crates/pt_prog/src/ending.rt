@@ -1,8 +1,9 @@
 //! The last writes of a call, which go to the log.
 
 ghost use Rattle.std.specs.Prelude.{◌≡◌, ◌≢◌, ◌≤◌, ◌∷◌, ◌++◌, [], Err, Some, IfOk, OnOk, IfErr};
+ghost use Rattle.std.specs.Option.{option_map};
 ghost use Rattle.pt_base.specs.Faults.{Rose};
-ghost use Rattle.pt_prog.specs.LogText.{final, line_of, totals};
+ghost use Rattle.pt_prog.specs.LogText.{final, line_of, totals, traced};
 ghost use Rattle.pt_prog.specs.RunEnds.{end_of_run, last_of_run};
 ghost use Rattle.pt_sinks.specs.Writing.{Took, TookFront};
 ghost use Rattle.pt_sinks.specs.declared.writing.Out.TheVariants as stream;
@@ -10,8 +11,9 @@ ghost use Rattle.pt_sinks.specs.declared.writing.Out.TheVariants as stream;
 use crate::end::End;
 use crate::log_text::{final_text, totals_text};
 use pt_base::Sink;
-use pt_runner::{RunEnd, Totals};
+use pt_run_code::{RunEnd, Totals};
 use pt_sinks::{Out, WriteErr, put};
+use pt_tracebacks::{ExceptionSummary, traceback_text};
 use std::alloc::Global;
 
 /// Writes a text and a newline to the log, in one write.
@@ -77,20 +79,54 @@ pub fn write_final<O: Sink, L: Sink>(
     Ok(end)
 }
 
-/// Writes the last text of a run, that of a SystemExit or that of the end, and gives the end.
+/// Writes the traceback of exceptions to the log, in one write.
+fn write_traceback<O: Sink, L: Sink>(
+    alloc: Global,
+    file: &str,
+    source: Option<&[u8]>,
+    exceptions: &[ExceptionSummary],
+    out: &mut O,
+    log: &mut L,
+) -> Result<(), WriteErr>
+    ensures ok { OnOk result
+        (Took (O.taken out.old) (O.taken out.new) (L.taken log.old) (L.taken log.new)
+        (traced file.now (option_map (λ s. s.now) source.entry) exceptions.now)) }
+    ensures err { IfErr result (λ why.
+        TookFront (O.taken out.old) (O.taken out.new) (L.taken log.old) (L.taken log.new)
+        why (traced file.now (option_map (λ s. s.now) source.entry) exceptions.now)) }
+    ensures log_only { result ≢ Err (WriteErr.Failed stream.Out) }
+    ensures out_failed { result ≡ Err (WriteErr.Failed stream.Out)
+        → Rose (O.faults out.old) (O.faults out.new) × (O.faults out.new ≤ O.most out.new) }
+    ensures log_failed { result ≡ Err (WriteErr.Failed stream.Log)
+        → Rose (L.faults log.old) (L.faults log.new) × (L.faults log.new ≤ L.most log.new) }
+    ensures most { (O.most out.new ≡ O.most out.old) × (L.most log.new ≡ L.most log.old) }
+    ensures later { (O.faults out.old ≤ O.faults out.new)
+        × (L.faults log.old ≤ L.faults log.new) }
+{
+    let Ok(text) = traceback_text(alloc, file, source, exceptions) else {
+        return Err(WriteErr::Memory);
+    };
+    put(Out::Log, text.as_slice(), out, log)
+}
+
+/// Writes what the log gets last of a run, the text of a SystemExit, the traceback of another
+/// exception or the text of the end, and gives the end. The file is the one that was run; its lines
+/// are shown where it has a source.
 pub fn write_last<O: Sink, L: Sink>(
     alloc: Global,
-    end: RunEnd,
+    file: &str,
+    source: Option<&[u8]>,
+    end: &RunEnd,
     bound: u64,
     out: &mut O,
     log: &mut L,
 ) -> Result<End, WriteErr>
-    ensures ok { IfOk result (λ e. (e ≡ end_of_run bound end)
+    ensures ok { IfOk result (λ e. (e ≡ end_of_run bound end.now)
         × Took (O.taken out.old) (O.taken out.new) (L.taken log.old) (L.taken log.new)
-        (line_of (last_of_run bound end))) }
+        (last_of_run file.now (option_map (λ s. s.now) source.entry) bound end.now)) }
     ensures err { IfErr result (λ why.
         TookFront (O.taken out.old) (O.taken out.new) (L.taken log.old) (L.taken log.new)
-        why (line_of (last_of_run bound end))) }
+        why (last_of_run file.now (option_map (λ s. s.now) source.entry) bound end.now)) }
     ensures log_only { result ≢ Err (WriteErr.Failed stream.Out) }
     ensures out_failed { result ≡ Err (WriteErr.Failed stream.Out)
         → Rose (O.faults out.old) (O.faults out.new) × (O.faults out.new ≤ O.most out.new) }
@@ -105,12 +141,18 @@ pub fn write_last<O: Sink, L: Sink>(
             if let Some(last) = text {
                 write_line(alloc, last.as_str(), out, log)?;
             }
-            return Ok(End::Exited { code: status });
+            return Ok(End::Exited { code: *status });
+        }
+        RunEnd::Raised { exceptions } => {
+            write_traceback(alloc, file, source, exceptions.as_slice(), out, log)?;
+            return Ok(End::Raised);
         }
         RunEnd::Done => End::Done,
-        RunEnd::Raised => End::Raised,
         RunEnd::Spent => End::Spent { acts: bound },
-        RunEnd::Outside { what, line } => End::Outside { what, line },
+        RunEnd::Outside { what, line } => End::Outside {
+            what: *what,
+            line: *line,
+        },
     };
     write_final(alloc, end, out, log)
 }

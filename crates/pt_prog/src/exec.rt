@@ -59,7 +59,7 @@ fn run_verified<O: Sink, L: Sink>(
     let events = tells_events(line);
     let ended = run_code(alloc, seed, code, line.steps, events, out, log)?;
     write_totals(alloc, line.stats, &ended.totals, out, log)?;
-    write_last(alloc, ended.end, line.steps, out, log)
+    write_last(alloc, line.script, None, &ended.end, line.steps, out, log)
 }
 
 /// A code that fits, or why it doesn't.

@@ -140,7 +140,8 @@ fn ended(answer: Result<End, WriteErr>) -> End
 ///
 /// The order of answers is Usage, ReadFault, TooLong, Refused or BadCode, for a run Unbuilt, and
 /// then those of the run. Behind what a run writes the log gets the totals, where they are asked
-/// for, and the text of the end. After a write that failed nothing more is written.
+/// for, and in one write the traceback of an exception that left the script or the text of the end.
+/// After a write that failed nothing more is written.
 pub fn top<F: Shelf, O: Sink, L: Sink>(
     alloc: Global,
     words: &[String],

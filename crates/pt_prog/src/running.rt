@@ -66,5 +66,6 @@ pub fn run_built<O: Sink, L: Sink>(
     let events = tells_events(line);
     let ended = run_script(alloc, seed, script, line.steps, events, out, log)?;
     write_totals(alloc, line.stats, &ended.totals, out, log)?;
-    write_last(alloc, ended.end, line.steps, out, log)
+    let source = Some(text);
+    write_last(alloc, line.script, source, &ended.end, line.steps, out, log)
 }

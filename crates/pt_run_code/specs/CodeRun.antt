@@ -13,7 +13,7 @@ use Rattle.pt_host.specs.HeapHost.{heap_host}
 use Rattle.pt_host.specs.World.{World, no_names, start_world}
 use Rattle.sem_code_machine.specs.code_machine.CodeBlocks.{machine}
 use Rattle.pt_machine_state.specs.Writing.{kept}
-use Rattle.pt_runner.specs.Ends.{IsEnding}
+use Rattle.pt_runner.specs.Ends.{IsEnding, block_name}
 use Rattle.pt_runner.specs.Work.{Work, RunDoes}
 use Rattle.pt_runner.specs.declared.ending.Ended.{Ended}
 use Rattle.law_loading.specs.code_program.CodeProgram.{AreObjectsOf, code_blocks, program_of_code, the_module}
@@ -46,7 +46,7 @@ module _ (c : Code) (n : ℕ) (events : Bool) (out_old out_new log_old log_new :
     pub units : outcome.units ≡ x.totals.acts
     pub instructions : x.totals.instructions ≡ min work.instructions (2 ^ 64 - 1)
     pub depth : x.totals.depth ≡ work.depth
-    pub ends : IsEnding x.end outcome.ending
+    pub ends : IsEnding (block_name (program_of_code c)) x.end outcome.ending
     pub took : Took out_old out_new log_old log_new (kept events outcome.written)
 
   -- it was broken off, and a front of what it writes was written

@@ -5,4 +5,5 @@
 mod run;
 mod texts;
 
+pub use pt_runner::{RunEnd, Totals};
 pub use run::run_code;

@@ -17,7 +17,7 @@ use Rattle.pt_host.specs.HeapHost.{heap_host}
 use Rattle.pt_host.specs.World.{World, no_names, start_world}
 use Rattle.sem_rows.specs.heap_rows.Leads.{HasHeapTruths, HasHeapExtras}
 use Rattle.pt_machine_state.specs.Writing.{kept}
-use Rattle.pt_runner.specs.Ends.{IsEnding}
+use Rattle.pt_runner.specs.Ends.{IsEnding, block_name}
 use Rattle.pt_runner.specs.Work.{Work, RunDoes}
 use Rattle.pt_runner.specs.declared.ending.Ended.{Ended}
 use Rattle.law_compile.specs.script_objects.Laws.{HasCode}
@@ -60,7 +60,7 @@ module _ (ss : Stms) (n : ℕ) (events : Bool) (out_old out_new log_old log_new 
     pub units : outcome.units ≡ x.totals.acts
     pub instructions : x.totals.instructions ≡ min work.instructions (2 ^ 64 - 1)
     pub depth : x.totals.depth ≡ work.depth
-    pub ends : IsEnding x.end outcome.ending
+    pub ends : IsEnding (block_name (program_of ss)) x.end outcome.ending
     pub took : Took out_old out_new log_old log_new (kept events outcome.written)
 
   -- it was broken off, and a front of what it writes was written

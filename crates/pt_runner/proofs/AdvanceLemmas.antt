@@ -1,5 +1,5 @@
 -- What a stride of the machine says of the run.
-use Rattle.std.proofs.Common.{◌≡◌, ℕ, List, [], ◌++◌, Result, Ok, Err, refl, sym, ap, ◌∙◌, subst, append-nil}
+use Rattle.std.proofs.Common.{◌≡◌, ℕ, List, [], ◌++◌, false, Result, Ok, Err, refl, sym, ap, ◌∙◌, subst, append-nil}
 use Rattle.std.specs.Prelude.{OnOk, IfErr, IsErr, IsErrAnd, codes}
 use Rattle.pt_base.specs.declared.numbers.Line.{Line}
 use Rattle.pt_base.specs.Taken.{Pieces}
@@ -8,16 +8,18 @@ use Rattle.sem_code.specs.slots.Slots.{State}
 use Rattle.sem_run.specs.run.Host as H
 use Rattle.sem_run.specs.run.Host.{Leaving}
 use Rattle.sem_run.specs.run.Run.{Write}
-use Rattle.pt_host.specs.World.{Names, World}
+use Rattle.pt_host.specs.World.{Names, Program, World}
 use Rattle.pt_host.specs.Leaving.{leaving}
 use Rattle.pt_bare_runs.specs.Strides as bare
 use Rattle.pt_bare_runs.specs.Strides.{goes, ends, is_stuck}
 use Rattle.pt_bare_writes.specs.Fronts.{written_by, within}
+use Rattle.pt_tracebacks.specs.Summaries.{summaries}
 use Rattle.pt_sinks.specs.Writing.{Took, TookFront}
 use Rattle.pt_sinks.specs.declared.writing.WriteErr.{WriteErr}
 use Rattle.pt_sinks.specs.declared.writing.WriteErr.TheVariants as error
 use Rattle.pt_sinks.proofs.WritingLemmas.{took_nothing, front_of_all, front_before}
 use Rattle.sem_rows.specs.heap_rows.Views.{world_view}
+use Rattle.sem_code_machine.specs.code_machine.CodeBlocks.{CodeBlocks}
 use Rattle.pt_machine_state.specs.declared.blocks.BlockCode.{BlockCode}
 use Rattle.pt_machine_state.specs.declared.machine.Machine.{Machine}
 use Rattle.pt_machine_state.specs.declared.machine.MachineEnd.{MachineEnd}
@@ -29,9 +31,10 @@ use Rattle.pt_machine_state.specs.Changes.{events_of}
 use Rattle.pt_machine_state.specs.Strode.{Strode, left, ending_of}
 use Rattle.pt_machine_state.specs.Writing.{Adds, kept, pieces_of}
 use Rattle.pt_code_tables.specs.declared.tables.CodeTables.{CodeTables}
+use Rattle.pt_code_tables.specs.Tables.{AreTablesOf}
 use Rattle.pt_machine.specs.Strides.{Strides}
 use Rattle.pt_runner.specs.declared.ending.RunEnd.{RunEnd}
-use Rattle.pt_runner.specs.Ends.{end_by, end_of, IsEnding}
+use Rattle.pt_runner.specs.Ends.{IsEnding, block_name, end_by, end_of, table_name}
 use Rattle.pt_runner.specs.Advancing.{Point, stride_at, StandsAt, WentOn, CameToEnd, BrokeOffAt}
 
 -- what the exit of a `?` returns
@@ -39,17 +42,22 @@ pub if_err : {T E : Type 0} (P : E → Type 0) (r : Result T E) (e : E) → IsEr
 if_err P (Ok x) e from p = tt
 if_err P (Err f) e from p = subst P (sym from.1) p
 
--- the end that is told is that of the run
-left_so : (line : Line) (l : Leaving) (v : Value) (w : World) → IsEnding (end_by line l) (left l v line.0 w)
-left_so line (H.exits n x) v w = (refl, refl)
-left_so line H.exits_oddly v w = (refl, refl)
-left_so line (H.fails es) v w = tt
+-- the end that is told is that of the run, over the names of blocks
+module _ (name : ℕ → List ℕ) where
+  left_so : (line : Line) (l : Leaving) (v : Value) (w : World) → IsEnding name (end_by line (summaries name w.heap v) l) (left l v line.0 w)
+  left_so line (H.exits n x) v w = (refl, refl)
+  left_so line H.exits_oddly v w = (refl, refl)
+  left_so line (H.fails es) v w = refl
 
-ended_so : (e : MachineEnd) (m : Machine) → IsEnding (end_of e m) (ending_of e m)
-ended_so ended.Done m = tt
-ended_so (ended.Left v line) m = left_so line (leaving v (world_view m.frames m.heap)) v (world_view m.frames m.heap)
-ended_so ended.Spent m = tt
-ended_so (ended.Outside what line) m = (refl, refl)
+  ended_so : (e : MachineEnd) (m : Machine) → IsEnding name (end_of name e m) (ending_of e m)
+  ended_so ended.Done m = tt
+  ended_so (ended.Left v line) m = left_so line (leaving v (world_view m.frames m.heap)) v (world_view m.frames m.heap)
+  ended_so ended.Spent m = tt
+  ended_so (ended.Outside what line) m = (refl, refl)
+
+-- tables name blocks as their program does
+same_names : (program : Program) (code : CodeBlocks Value) (tables : CodeTables) → AreTablesOf program code tables → table_name tables ≡ block_name program
+same_names program code tables are = λ i n. (are.blocks (record { hidden = false; number = n })).name i
 
 -- what is put into an empty list is all that is there
 all_new : (w w1 : Writes) (ws : List Write) → pieces_of w ≡ [] → Adds w w1 ws → pieces_of w1 ≡ kept w.events ws
@@ -122,9 +130,10 @@ module _ (tables : CodeTables) (n : ℕ) (old : Machine) (w : Writes) (empty : p
       went is_stuck e some goes_on done took = absurd (some refl)
 
       came : (s : Bare) → stride_at n p old ≡ s → (s ≡ is_stuck → ⊥) → (x : MachineEnd) → r ≡ stride.Ends x → Turned s r new w1
-          → Took oo on lo ln (pieces_of w1) → CameToEnd n w.events p old new oo on lo ln (end_of x new)
-      came (goes ws t) e some x is_end (is, rest) took = let no : stride.Ends x ≡ stride.Goes = sym is_end ∙ is in absurd cc
-      came (ends ws u f) e some x is_end (y, (is, (adds, (units, ending)))) took =
+          → Took oo on lo ln (pieces_of w1) → (names : table_name tables ≡ block_name p.program)
+          → CameToEnd n w.events p old new oo on lo ln (end_of (table_name tables) x new)
+      came (goes ws t) e some x is_end (is, rest) took names = let no : stride.Ends x ≡ stride.Goes = sym is_end ∙ is in absurd cc
+      came (ends ws u f) e some x is_end (y, (is, (adds, (units, ending)))) took names =
           let same : stride.Ends x ≡ stride.Ends y = sym is_end ∙ is in
           let is_x : x ≡ y = cc in
           record {
@@ -133,10 +142,12 @@ module _ (tables : CodeTables) (n : ℕ) (old : Machine) (w : Writes) (empty : p
             ending = f;
             is_end = e;
             units_are = units;
-            ends_so = subst (IsEnding (end_of x new)) (sym (ending ∙ ap (λ k. ending_of k new) (sym is_x))) (ended_so x new);
+            ends_so = subst (λ name. IsEnding name (end_of (table_name tables) x new) f) names
+                (subst (IsEnding (table_name tables) (end_of (table_name tables) x new)) (sym (ending ∙ ap (λ k. ending_of k new) (sym is_x)))
+                (ended_so (table_name tables) x new));
             took = subst (Took oo on lo ln) (all_new w w1 ws empty adds) took;
           }
-      came is_stuck e some x is_end done took = absurd (some refl)
+      came is_stuck e some x is_end done took names = absurd (some refl)
 
     same_events : (s : Bare) → (s ≡ is_stuck → ⊥) → (r : Stride) (new : Machine) (w1 : Writes) → Turned s r new w1 → w1.events ≡ w.events
     same_events (goes ws t) some r new w1 (is, (adds, rest)) = adds.events
@@ -168,11 +179,12 @@ module _ (tables : CodeTables) (n : ℕ) (old : Machine) (w : Writes) (empty : p
           → WentOn n w.events p old new oo on lo ln
       went_on is took p at = went p oo on lo ln r new w1 (stride_at n p old) refl at.not_stuck is (strode p at r new w1 all) took
 
-      pub came_to_end : (x : MachineEnd) → r ≡ stride.Ends x → (e : RunEnd) → e ≡ end_of x new → Took oo on lo ln (pieces_of w1)
+      pub came_to_end : (x : MachineEnd) → r ≡ stride.Ends x → (e : RunEnd) → e ≡ end_of (table_name tables) x new → Took oo on lo ln (pieces_of w1)
           → (p : Point) → StandsAt tables n old p → CameToEnd n w.events p old new oo on lo ln e
       came_to_end x is e same took p at =
           subst (CameToEnd n w.events p old new oo on lo ln) (sym same)
-          (came p oo on lo ln r new w1 (stride_at n p old) refl at.not_stuck x is (strode p at r new w1 all) took)
+          (came p oo on lo ln r new w1 (stride_at n p old) refl at.not_stuck x is (strode p at r new w1 all) took
+          (same_names p.program p.code tables at.tables_are))
 
     pub events_stay : (p : Point) × StandsAt tables n old p → w1.events ≡ w.events
     events_stay (p, at) = same_events p (stride_at n p old) at.not_stuck r new w1 (strode p at r new w1 all)

@@ -1,5 +1,5 @@
 -- What the run of code counts is the work of its strides.
-use Rattle.std.proofs.Common.{arith, ◌≡◌, ℕ, ◌-◌, ◌^◌, min, max, Bool, Option, Some, refl, sym, ap}
+use Rattle.std.proofs.Common.{arith, ◌≡◌, ℕ, ◌-◌, ◌^◌, min, max, Bool, List, Option, Some, refl, sym, ap}
 use Rattle.std.proofs.lemmas.List.{length-map}
 use Rattle.pt_heap.specs.declared.value.Value.{Value}
 use Rattle.pt_frames.specs.declared.activation.Activation.{Activation}
@@ -23,32 +23,32 @@ same_next standing.AtPlace a = ap (λ n. Some n) (sym (length-map a.slots slot_v
 same_next (standing.Returns v) a = refl
 same_next (standing.Raises v) a = refl
 
-pub same_spent : (x : RunEnd) (e : Ending Value World) → IsEnding x e → is_spent e ≡ stopped_spent (Some x)
-same_spent end.Done bare.done i = refl
-same_spent end.Done (bare.exited k t) i = absurd i
-same_spent end.Done (bare.raised v w) i = absurd i
-same_spent end.Done bare.spent i = absurd i
-same_spent end.Done (bare.outside_at w l) i = absurd i
-same_spent (end.Exited status text) bare.done i = absurd i
-same_spent (end.Exited status text) (bare.exited k t) i = refl
-same_spent (end.Exited status text) (bare.raised v w) i = absurd i
-same_spent (end.Exited status text) bare.spent i = absurd i
-same_spent (end.Exited status text) (bare.outside_at w l) i = absurd i
-same_spent end.Raised bare.done i = absurd i
-same_spent end.Raised (bare.exited k t) i = absurd i
-same_spent end.Raised (bare.raised v w) i = refl
-same_spent end.Raised bare.spent i = absurd i
-same_spent end.Raised (bare.outside_at w l) i = absurd i
-same_spent end.Spent bare.done i = absurd i
-same_spent end.Spent (bare.exited k t) i = absurd i
-same_spent end.Spent (bare.raised v w) i = absurd i
-same_spent end.Spent bare.spent i = refl
-same_spent end.Spent (bare.outside_at w l) i = absurd i
-same_spent (end.Outside what line) bare.done i = absurd i
-same_spent (end.Outside what line) (bare.exited k t) i = absurd i
-same_spent (end.Outside what line) (bare.raised v w) i = absurd i
-same_spent (end.Outside what line) bare.spent i = absurd i
-same_spent (end.Outside what line) (bare.outside_at w l) i = refl
+pub same_spent : (name : ℕ → List ℕ) (x : RunEnd) (e : Ending Value World) → IsEnding name x e → is_spent e ≡ stopped_spent (Some x)
+same_spent name end.Done bare.done i = refl
+same_spent name end.Done (bare.exited k t) i = absurd i
+same_spent name end.Done (bare.raised v w) i = absurd i
+same_spent name end.Done bare.spent i = absurd i
+same_spent name end.Done (bare.outside_at w l) i = absurd i
+same_spent name (end.Exited status text) bare.done i = absurd i
+same_spent name (end.Exited status text) (bare.exited k t) i = refl
+same_spent name (end.Exited status text) (bare.raised v w) i = absurd i
+same_spent name (end.Exited status text) bare.spent i = absurd i
+same_spent name (end.Exited status text) (bare.outside_at w l) i = absurd i
+same_spent name (end.Raised told) bare.done i = absurd i
+same_spent name (end.Raised told) (bare.exited k t) i = absurd i
+same_spent name (end.Raised told) (bare.raised v w) i = refl
+same_spent name (end.Raised told) bare.spent i = absurd i
+same_spent name (end.Raised told) (bare.outside_at w l) i = absurd i
+same_spent name end.Spent bare.done i = absurd i
+same_spent name end.Spent (bare.exited k t) i = absurd i
+same_spent name end.Spent (bare.raised v w) i = absurd i
+same_spent name end.Spent bare.spent i = refl
+same_spent name end.Spent (bare.outside_at w l) i = absurd i
+same_spent name (end.Outside what line) bare.done i = absurd i
+same_spent name (end.Outside what line) (bare.exited k t) i = absurd i
+same_spent name (end.Outside what line) (bare.raised v w) i = absurd i
+same_spent name (end.Outside what line) bare.spent i = absurd i
+same_spent name (end.Outside what line) (bare.outside_at w l) i = refl
 
 -- totals that tell of work, whose count of instructions stands still at the greatest u64
 pub record TellsOf (t : Totals) (w : Work) : Type 0 where

@@ -32,6 +32,7 @@ use Rattle.law_frames.proofs.Runs.{reached_has_names}
 use Rattle.pt_runner.specs.declared.ending.Ended.{Ended}
 use Rattle.pt_runner.specs.declared.ending.RunEnd.{RunEnd}
 use Rattle.pt_runner.specs.declared.ending.Totals.{Totals}
+use Rattle.pt_runner.specs.Ends.{block_name}
 use Rattle.pt_runner.specs.Runs.{ModuleRun, IsReady, Finished, BrokeOff}
 use Rattle.pt_runner.specs.Work.{Work, no_work, both, work_at, slots_next, ends_spent, work_of, Does, ends_so}
 use Rattle.pt_runner.specs.Advancing.{Point, StandsAt, WentOn, CameToEnd, Advanced, BrokeOffAt, counted, next_over, stopped_spent}
@@ -187,7 +188,7 @@ module _ (r : ModuleRun) (n : ℕ) (events : Bool) where
             = does_behind (machine r.code) (heap_host r.program) n begun reached.written state reached.work reached.goes o no_work own in
             let tells : TellsOf x.totals (both reached.work (stride_work state)) =
             subst (λ t. TellsOf t (both reached.work (stride_work state))) (sym are)
-            (tells_on (stopped_spent (Some x.end)) new.units (ap ends_spent e.is_end ∙ same_spent x.end e.ending e.ends_so)) in
+            (tells_on (stopped_spent (Some x.end)) new.units (ap ends_spent e.is_end ∙ same_spent (block_name r.program) x.end e.ending e.ends_so)) in
             record {
               outcome = record { written = reached.written ++ e.written; units = e.units; ending = e.ending };
               work = both reached.work (stride_work state);

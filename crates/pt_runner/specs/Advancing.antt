@@ -25,7 +25,7 @@ use Rattle.pt_machine.specs.Strides.{MachineHasNames}
 use Rattle.pt_runner.specs.declared.ending.RunEnd.{RunEnd}
 use Rattle.pt_runner.specs.declared.ending.RunEnd.TheVariants as end
 use Rattle.pt_runner.specs.declared.ending.Totals.{Totals}
-use Rattle.pt_runner.specs.Ends.{IsEnding}
+use Rattle.pt_runner.specs.Ends.{IsEnding, block_name}
 use Rattle.pt_runner.specs.Work.{work_at}
 
 -- a place of a run: its program and code, and what it keeps beside the machine
@@ -64,7 +64,7 @@ module _ (n : ℕ) (events : Bool) (p : Point) (old : Machine) where
       pub ending : Ending Value World
       pub is_end : stride_at n p old ≡ ends written units ending
       pub units_are : units ≡ new.units
-      pub ends_so : IsEnding e ending
+      pub ends_so : IsEnding (block_name p.program) e ending
       pub took : Took out_old out_new log_old log_new (kept events written)
 
     abbrev pub Advanced : Option RunEnd → Type 0

@@ -21,7 +21,7 @@ use Rattle.pt_code_tables.specs.Tables.{AreTablesOf}
 use Rattle.pt_runner.specs.declared.ending.Ended.{Ended}
 use Rattle.law_frames.specs.RunNames.{StoresHaveNames}
 use Rattle.law_frames.specs.Operands.{CodeNamesItsBlocks}
-use Rattle.pt_runner.specs.Ends.{IsEnding}
+use Rattle.pt_runner.specs.Ends.{IsEnding, block_name}
 use Rattle.pt_runner.specs.Work.{Work, RunDoes}
 
 -- a block that is run as the module's, over code of a program, with these names and in this world
@@ -54,7 +54,7 @@ module _ (r : ModuleRun) (n : ℕ) (events : Bool) where
       pub units : outcome.units ≡ x.totals.acts
       pub instructions : x.totals.instructions ≡ min work.instructions (2 ^ 64 - 1)
       pub depth : x.totals.depth ≡ work.depth
-      pub ends : IsEnding x.end outcome.ending
+      pub ends : IsEnding (block_name r.program) x.end outcome.ending
       pub took : Took out_old out_new log_old log_new (kept events outcome.written)
 
   module _ (out_old out_new log_old log_new : Pieces → Pieces → Type 0) where

@@ -5,7 +5,7 @@ ghost use Rattle.pt_base.specs.Faults.{Rose};
 ghost use Rattle.pt_machine_state.specs.Writing.{pieces_of};
 ghost use Rattle.pt_sinks.specs.declared.writing.Out.TheVariants as stream;
 ghost use Rattle.pt_runner.specs.Advancing.{Advanced, BrokeOffAt, Point, StandsAt};
-ghost use Rattle.pt_runner.specs.Ends.{end_of};
+ghost use Rattle.pt_runner.specs.Ends.{end_of, table_name};
 
 use crate::draining::drain;
 use crate::ending::RunEnd;
@@ -17,13 +17,13 @@ use pt_machine_state::{Machine, MachineEnd, Stride, Writes};
 use pt_sinks::WriteErr;
 
 /// The end of a run that the machine came to.
-fn end_of(end: MachineEnd, machine: &Machine) -> Result<RunEnd, Memory>
-    ensures { IfOk result (λ e. e ≡ end_of end machine.now) }
+fn end_of(tables: &CodeTables, end: MachineEnd, machine: &Machine) -> Result<RunEnd, Memory>
+    ensures { IfOk result (λ e. e ≡ end_of (table_name tables.now) end machine.now) }
 {
     match end {
         MachineEnd::Done => Ok(RunEnd::Done),
         MachineEnd::Left { exception, line } => {
-            leaving(machine.alloc, &machine.heap, exception, line)
+            leaving(machine.alloc, &machine.heap, tables, exception, line)
         }
         MachineEnd::Spent => Ok(RunEnd::Spent),
         MachineEnd::Outside { what, line } => Ok(RunEnd::Outside { what, line }),
@@ -66,7 +66,7 @@ fn advance_in_full<O: Sink, L: Sink>(
     match stride {
         Stride::Goes => Ok(None),
         Stride::Ends(end) => {
-            let end = end_of(end, machine)?;
+            let end = end_of(tables, end, machine)?;
             Ok(Some(end))
         }
         Stride::Lacks => unreachable!(),

@@ -1,4 +1,5 @@
-use pt_base::{Line, Text, What};
+use pt_base::{Line, Seq, Text, What};
+use pt_tracebacks::ExceptionSummary;
 
 /// How a run ends that is not broken off.
 #[derive(Debug, Drop)]
@@ -7,8 +8,8 @@ pub enum RunEnd {
     Done,
     /// A SystemExit left the module, with this text for the log, if it has one.
     Exited { status: u8, text: Option<Text> },
-    /// Another exception left the module.
-    Raised,
+    /// Another exception left the module: it stands last, behind those that are reported with it.
+    Raised { exceptions: Seq<ExceptionSummary> },
     /// All units are taken, and another act would begin.
     Spent,
     /// The run left the profile of the language, where this line stands in the newest frame.

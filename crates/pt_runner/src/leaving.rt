@@ -2,13 +2,17 @@ ghost use Rattle.std.specs.Prelude.{◌≡◌, [], ◌∷◌, slice_get, IfOk};
 ghost use Rattle.std.specs.Option.{option_copied};
 ghost use Rattle.pt_host.specs.Leaving.{derives, error_at, exits_with, exits_with_object};
 ghost use Rattle.pt_host.specs.Leaving.{leaves_by, status_of};
-ghost use Rattle.pt_runner.specs.Ends.{end_by};
+ghost use Rattle.pt_runner.specs.Ends.{end_by, table_name};
+ghost use Rattle.pt_tracebacks.specs.Summaries.{summaries};
 
 use crate::ending::RunEnd;
+use crate::naming::TableNames;
 use pt_base::{Dup, Line, Memory, ObjId, What};
+use pt_code_tables::CodeTables;
 use pt_dicts::{class_at, object_at};
 use pt_heap::{Error, Heap, Object, Value};
 use pt_host::SYSTEM_EXIT;
+use pt_tracebacks::summaries;
 use std::alloc::Global;
 
 /// Whether a class is another one or has it among its bases.
@@ -53,8 +57,8 @@ fn status(number: i128) -> u8
 
 /// An exit with an object: a text is told, and the status is 1.
 fn exit_with_object(alloc: Global, heap: &Heap, id: ObjId, line: Line) -> Result<RunEnd, Memory>
-    ensures { IfOk result
-        (λ end. end ≡ end_by line (exits_with_object (slice_get heap.now id.0))) }
+    ensures { IfOk result (λ end. (told : _)
+        → end ≡ end_by line told (exits_with_object (slice_get heap.now id.0))) }
 {
     match object_at(heap, id) {
         Some(Object::Str(text)) => Ok(RunEnd::Exited {
@@ -70,7 +74,8 @@ fn exit_with_object(alloc: Global, heap: &Heap, id: ObjId, line: Line) -> Result
 
 /// An exit with one argument of a SystemExit.
 fn exit_with_value(alloc: Global, heap: &Heap, value: Value, line: Line) -> Result<RunEnd, Memory>
-    ensures { IfOk result (λ end. end ≡ end_by line (exits_with heap.now (value ∷ []))) }
+    ensures { IfOk result (λ end. (told : _)
+        → end ≡ end_by line told (exits_with heap.now (value ∷ []))) }
 {
     match value {
         Value::None => Ok(RunEnd::Exited {
@@ -96,7 +101,8 @@ fn exit_with_value(alloc: Global, heap: &Heap, value: Value, line: Line) -> Resu
 /// An exit by a SystemExit with these arguments (Library Reference, `sys.exit`,
 /// "Built-in Exceptions").
 fn exit_with(alloc: Global, heap: &Heap, args: &[Value], line: Line) -> Result<RunEnd, Memory>
-    ensures { IfOk result (λ end. end ≡ end_by line (exits_with heap.now args.now)) }
+    ensures { IfOk result (λ end. (told : _)
+        → end ≡ end_by line told (exits_with heap.now args.now)) }
 {
     match args.len() {
         0 => Ok(RunEnd::Exited {
@@ -111,24 +117,40 @@ fn exit_with(alloc: Global, heap: &Heap, args: &[Value], line: Line) -> Result<R
     }
 }
 
+/// An end by an exception that leaves the module and is no SystemExit.
+fn raised(
+    alloc: Global,
+    heap: &Heap,
+    tables: &CodeTables,
+    exception: Value,
+) -> Result<RunEnd, Memory>
+    ensures { IfOk result
+        (λ end. end ≡ RunEnd.Raised (summaries (table_name tables.now) heap.now exception)) }
+{
+    let exceptions = summaries(alloc, heap, &TableNames { tables }, exception)?;
+    Ok(RunEnd::Raised { exceptions })
+}
+
 /// What becomes of an exception that leaves the module, in whose frame this line stands.
 pub(crate) fn leaving(
     alloc: Global,
     heap: &Heap,
+    tables: &CodeTables,
     exception: Value,
     line: Line,
 ) -> Result<RunEnd, Memory>
     ensures { IfOk result
-        (λ end. end ≡ end_by line (leaves_by heap.now (error_at heap.now exception))) }
+        (λ end. end ≡ end_by line (summaries (table_name tables.now) heap.now exception)
+        (leaves_by heap.now (error_at heap.now exception))) }
 {
     match error_at(heap, exception) {
         Some(error) => {
             if derives(heap, SYSTEM_EXIT, error.class) {
                 exit_with(alloc, heap, error.args.as_slice(), line)
             } else {
-                Ok(RunEnd::Raised)
+                raised(alloc, heap, tables, exception)
             }
         }
-        None => Ok(RunEnd::Raised),
+        None => raised(alloc, heap, tables, exception),
     }
 }

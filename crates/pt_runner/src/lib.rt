@@ -7,6 +7,7 @@ mod draining;
 mod ending;
 mod laws;
 mod leaving;
+mod naming;
 mod runner;
 
 pub use ending::{Ended, RunEnd, Totals};

@@ -12,6 +12,6 @@ mod unpacking;
 pub use cursor::{asked_or, iterator_content, next_content};
 pub use display::{list_content, repeated_list, repeated_tuple, tuple_content};
 pub use item::item_content;
-pub use range::{has_integer, range_content};
+pub use range::{has_integer, range_content, range_length};
 pub use size::{length_content, length_of};
 pub use unpacking::unpack_content;

@@ -1,4 +1,3 @@
-pub mod Callees
 pub mod Never
 pub mod Quiet
 pub mod Silent

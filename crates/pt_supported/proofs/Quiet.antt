@@ -1,13 +1,12 @@
 -- Acts of supported parts give is value on.
 use Rattle.std.proofs.Common.{◌≡◌, ℕ, List, [], ◌∷◌, Bool, true, false, None, refl}
-use Rattle.std.specs.Prelude.{if◌then◌else◌}
 use Rattle.pt_tree.specs.declared.act.ActKind.{ActKind}
 use Rattle.pt_tree.specs.declared.act.ActKind.TheVariants as A
 use Rattle.pt_tree.specs.declared.act.ActRow.{ActRow}
-use Rattle.pt_tree.specs.Acts.{again, acts_exp, acts_operands, acts_opt, acts_links, acts_args, acts_params, acts_formals, acts_place, acts_target, acts_targets, acts_got, acts_put, acts_deleted, acts_all_deleted, acts_decorators, acts_decorator_calls, acts_annotated, acts_stm, acts_stms, acts_branches}
+use Rattle.pt_tree.specs.Acts.{again, acts_exp, acts_all, acts_operands, acts_opt, acts_links, acts_args, acts_params, acts_formals, acts_place, acts_target, acts_targets, acts_got, acts_put, acts_deleted, acts_all_deleted, acts_decorators, acts_decorator_calls, acts_annotated, acts_stm, acts_stms, acts_branches}
 use Rattle.pt_tree.specs.Syntax as S
 use Rattle.pt_tree.specs.Syntax.{Exp, Exps, Opt, Links, Args, Params, Formals, Place, Tgt, Tgts, Decorators, Stm, Stms, Branches}
-use Rattle.pt_supported.specs.Built.{prints_one, unbuilt_all, unbuilt_args, unbuilt_branches, unbuilt_decorators, unbuilt_exp, unbuilt_formals, unbuilt_links, unbuilt_of, unbuilt_opt, unbuilt_params, unbuilt_place, unbuilt_stm, unbuilt_target, unbuilt_targets}
+use Rattle.pt_supported.specs.Built.{unbuilt_all, unbuilt_args, unbuilt_branches, unbuilt_decorators, unbuilt_exp, unbuilt_formals, unbuilt_links, unbuilt_of, unbuilt_opt, unbuilt_params, unbuilt_place, unbuilt_stm, unbuilt_target, unbuilt_targets}
 use Rattle.pt_supported.proofs.Never.{Never, nothing, item, both, first, second, told}
 
 -- the kinds of acts by which a block gives values on, as `yields` has them
@@ -27,13 +26,6 @@ quiet_again : {rows : List ActRow} → Quiet rows → Quiet (again rows)
 quiet_again nothing = nothing
 quiet_again (item is p) = item is p
 
--- what is called: `print` is a name, which is loaded
-quiet_callee : (f : Exp) (args : Args) (b : Bool) → prints_one f args ≡ b → (unbuilt_exp f ≡ None → Quiet (acts_exp f))
-    → (if b then None else unbuilt_exp f) ≡ None → Quiet (acts_exp f)
-quiet_callee f args false e q h = q h
-quiet_callee (S.name l x) args true e q h = row refl
-quiet_callee f args true e q h = absurd (cc)
-
 mutual
   pub quiet_exp : (e : Exp) → unbuilt_exp e ≡ None → Quiet (acts_exp e)
   quiet_exp (S.constant l k) h = row refl
@@ -42,9 +34,8 @@ mutual
   quiet_exp (S.not_of l a) h = both (quiet_exp a h) (row refl)
   quiet_exp (S.binary l o a b) h = both (both (quiet_exp a (first _ _ h)) (quiet_exp b (second _ _ h))) (row refl)
   quiet_exp (S.compare l a o b r) h =
-      let parts = second _ _ h in
-      let behind = second _ _ parts in
-      both (both (both (quiet_exp a (first _ _ parts)) (quiet_exp b (first _ _ behind))) (row refl)) (quiet_links l r (second _ _ behind))
+      let behind = second _ _ h in
+      both (both (both (quiet_exp a (first _ _ h)) (quiet_exp b (first _ _ behind))) (row refl)) (quiet_links l r (second _ _ behind))
   quiet_exp (S.and l a es) h = both (quiet_exp a (first _ _ h)) (quiet_operands l es (second _ _ h))
   quiet_exp (S.or l a es) h = both (quiet_exp a (first _ _ h)) (quiet_operands l es (second _ _ h))
   quiet_exp (S.conditional l c a b) h =
@@ -52,20 +43,24 @@ mutual
       both (both (both (quiet_exp c (first _ _ behind)) (row refl)) (quiet_exp a (first _ _ h))) (quiet_exp b (second _ _ behind))
   quiet_exp (S.call l f args) h =
       let parts = second _ _ h in
-      both (both (quiet_callee f args (prints_one f args) refl (quiet_exp f) (first _ _ parts)) (quiet_args l args (second _ _ parts))) (row refl)
+      both (both (quiet_exp f (first _ _ parts)) (quiet_args l args (second _ _ parts))) (row refl)
   quiet_exp (S.lambda l n ps e) h = both (quiet_params ps (first _ _ h)) (row refl)
+  quiet_exp (S.tuple l es) h = both (quiet_all es h) (row refl)
+  quiet_exp (S.list l es) h = both (quiet_all es h) (row refl)
+  quiet_exp (S.item l a i) h = both (both (quiet_exp a (first _ _ h)) (quiet_exp i (second _ _ h))) (row refl)
   quiet_exp (S.joined l ps) h = told h
-  quiet_exp (S.tuple l es) h = told h
-  quiet_exp (S.list l es) h = told h
   quiet_exp (S.set l es) h = told h
   quiet_exp (S.dict l es) h = told h
   quiet_exp (S.attribute l a x) h = told h
-  quiet_exp (S.item l a i) h = told h
   quiet_exp (S.slice l a b c) h = told h
   quiet_exp (S.comprehension l m k t it cs) h = told h
   quiet_exp (S.generator l n e k t it cs) h = told h
   quiet_exp (S.yield l v) h = told h
   quiet_exp (S.yield_from l e) h = told h
+
+  quiet_all : (es : Exps) → unbuilt_all es ≡ None → Quiet (acts_all es)
+  quiet_all S.no_exps h = nothing
+  quiet_all (S.more_exps e es) h = both (quiet_exp e (first _ _ h)) (quiet_all es (second _ _ h))
 
   quiet_operands : (l : ℕ) (es : Exps) → unbuilt_all es ≡ None → Quiet (acts_operands l es)
   quiet_operands l S.no_exps h = nothing
@@ -108,25 +103,27 @@ quiet_put (S.name_at l x) = row refl
 quiet_put (S.attribute_at l a x) = row refl
 quiet_put (S.item_at l a i) = row refl
 
-quiet_target : (t : Tgt) → unbuilt_target t ≡ None → Quiet (acts_target t)
-quiet_target (S.single p) h = quiet_place p h
-quiet_target (S.several l f ts) h = told h
-quiet_target (S.starred l t) h = told h
+mutual
+  quiet_target : (t : Tgt) → unbuilt_target t ≡ None → Quiet (acts_target t)
+  quiet_target (S.single p) h = quiet_place p h
+  quiet_target (S.several l f ts) h = both (row refl) (quiet_targets ts h)
+  quiet_target (S.starred l t) h = told h
 
-quiet_targets : (ts : Tgts) → unbuilt_targets ts ≡ None → Quiet (acts_targets ts)
-quiet_targets S.no_targets h = nothing
-quiet_targets (S.more_targets t ts) h = both (quiet_target t (first _ _ h)) (quiet_targets ts (second _ _ h))
+  quiet_targets : (ts : Tgts) → unbuilt_targets ts ≡ None → Quiet (acts_targets ts)
+  quiet_targets S.no_targets h = nothing
+  quiet_targets (S.more_targets t ts) h = both (quiet_target t (first _ _ h)) (quiet_targets ts (second _ _ h))
 
-quiet_deleted : (t : Tgt) → unbuilt_target t ≡ None → Quiet (acts_deleted t)
-quiet_deleted (S.single (S.name_at l x)) h = row refl
-quiet_deleted (S.single (S.attribute_at l a x)) h = told h
-quiet_deleted (S.single (S.item_at l a i)) h = told h
-quiet_deleted (S.several l f ts) h = told h
-quiet_deleted (S.starred l t) h = told h
+mutual
+  quiet_deleted : (t : Tgt) → unbuilt_target t ≡ None → Quiet (acts_deleted t)
+  quiet_deleted (S.single (S.name_at l x)) h = row refl
+  quiet_deleted (S.single (S.attribute_at l a x)) h = told h
+  quiet_deleted (S.single (S.item_at l a i)) h = told h
+  quiet_deleted (S.several l f ts) h = quiet_all_deleted ts h
+  quiet_deleted (S.starred l t) h = told h
 
-quiet_all_deleted : (ts : Tgts) → unbuilt_targets ts ≡ None → Quiet (acts_all_deleted ts)
-quiet_all_deleted S.no_targets h = nothing
-quiet_all_deleted (S.more_targets t ts) h = both (quiet_deleted t (first _ _ h)) (quiet_all_deleted ts (second _ _ h))
+  quiet_all_deleted : (ts : Tgts) → unbuilt_targets ts ≡ None → Quiet (acts_all_deleted ts)
+  quiet_all_deleted S.no_targets h = nothing
+  quiet_all_deleted (S.more_targets t ts) h = both (quiet_deleted t (first _ _ h)) (quiet_all_deleted ts (second _ _ h))
 
 quiet_decorators : (ds : Decorators) → unbuilt_decorators ds ≡ None → Quiet (acts_decorators ds)
 quiet_decorators S.no_decorators h = nothing
@@ -157,6 +154,11 @@ mutual
   quiet_stm (S.while l c body els) h =
       let behind = second _ _ h in
       both (both (both (quiet_again (quiet_exp c (first _ _ h))) (row refl)) (quiet_stms body (first _ _ behind))) (quiet_stms els (second _ _ behind))
+  quiet_stm (S.for l t e body els) h =
+      let parts = second _ _ h in
+      let behind = second _ _ parts in
+      both (both (both (both (both (quiet_exp e (first _ _ parts)) (row refl)) (row refl)) (quiet_target t (first _ _ h)))
+      (quiet_stms body (first _ _ behind))) (quiet_stms els (second _ _ behind))
   quiet_stm (S.def l ds k n x ps r body) h =
       let parts = second _ _ h in
       both (both (both (both (quiet_decorators ds (first _ _ parts)) (quiet_params ps (first _ _ (second _ _ parts)))) (row refl)) (quiet_calls ds)) (row refl)
@@ -166,7 +168,6 @@ mutual
   quiet_stm (S.raise_again l) h = told h
   quiet_stm (S.import l xs) h = told h
   quiet_stm (S.import_from l m xs) h = told h
-  quiet_stm (S.for l t e body els) h = told h
   quiet_stm (S.try l body hs els fin) h = told h
   quiet_stm (S.with l is body) h = told h
   quiet_stm (S.class l ds k n x base body) h = told h

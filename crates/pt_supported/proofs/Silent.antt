@@ -1,11 +1,11 @@
 -- The blocks of supported parts give no value on, and none is the body of a class.
 use Rattle.std.proofs.Common.{◌≡◌, ◌++◌, ℕ, List, Bool, true, false, Some, None, refl}
-use Rattle.std.specs.Prelude.{if◌then◌else◌, cond, ◌||◌, slice_get}
+use Rattle.std.specs.Prelude.{cond, ◌||◌, slice_get}
 use Rattle.pt_tree.specs.Blocks.{Block, function_body, is_string, yields, blocks_exp, blocks_all, blocks_opt, blocks_links, blocks_args, blocks_params, blocks_formals, blocks_place, blocks_target, blocks_targets, blocks_decorators, blocks_stm, blocks_stms, blocks_branches, blocks_script}
 use Rattle.pt_tree.specs.Acts.{acts_stm, acts_stms}
 use Rattle.pt_tree.specs.Syntax as S
 use Rattle.pt_tree.specs.Syntax.{Exp, Exps, Opt, Links, Args, Params, Formals, Place, Tgt, Tgts, Decorators, Stm, Stms, Branches}
-use Rattle.pt_supported.specs.Built.{prints_one, unbuilt_all, unbuilt_args, unbuilt_branches, unbuilt_decorators, unbuilt_exp, unbuilt_formals, unbuilt_links, unbuilt_of, unbuilt_opt, unbuilt_params, unbuilt_place, unbuilt_stm, unbuilt_target, unbuilt_targets}
+use Rattle.pt_supported.specs.Built.{unbuilt_all, unbuilt_args, unbuilt_branches, unbuilt_decorators, unbuilt_exp, unbuilt_formals, unbuilt_links, unbuilt_of, unbuilt_opt, unbuilt_params, unbuilt_place, unbuilt_stm, unbuilt_target, unbuilt_targets}
 use Rattle.pt_supported.specs.Laws.{is_class_code, BuiltBlocksAreNoClasses, BuiltBlocksGiveNothingOn}
 use Rattle.pt_supported.proofs.Never.{Never, nothing, item, both, none_passes, at_its_place, first, second, told}
 use Rattle.pt_supported.proofs.Quiet.{Quiet, quiet_exp, quiet_stm, quiet_stms}
@@ -32,12 +32,6 @@ quiet_body S.none h = nothing
 quiet_body (S.more (S.expr l e) ss) h = quiet_first (is_string e) l e ss (quiet_stm (S.expr l e) (first _ _ h)) (quiet_stms ss (second _ _ h))
 quiet_body (S.more s ss) h = quiet_stms (S.more s ss) h
 
-silent_callee : (f : Exp) (args : Args) (b : Bool) → prints_one f args ≡ b → (unbuilt_exp f ≡ None → Silent (blocks_exp f))
-    → (if b then None else unbuilt_exp f) ≡ None → Silent (blocks_exp f)
-silent_callee f args false e q h = q h
-silent_callee (S.name l x) args true e q h = nothing
-silent_callee f args true e q h = absurd (cc)
-
 mutual
   silent_exp : (e : Exp) → unbuilt_exp e ≡ None → Silent (blocks_exp e)
   silent_exp (S.constant l k) h = nothing
@@ -46,23 +40,22 @@ mutual
   silent_exp (S.not_of l a) h = silent_exp a h
   silent_exp (S.binary l o a b) h = both (silent_exp a (first _ _ h)) (silent_exp b (second _ _ h))
   silent_exp (S.compare l a o b r) h =
-      let parts = second _ _ h in
-      let behind = second _ _ parts in both (both (silent_exp a (first _ _ parts)) (silent_exp b (first _ _ behind))) (silent_links r (second _ _ behind))
+      let behind = second _ _ h in both (both (silent_exp a (first _ _ h)) (silent_exp b (first _ _ behind))) (silent_links r (second _ _ behind))
   silent_exp (S.and l a es) h = both (silent_exp a (first _ _ h)) (silent_all es (second _ _ h))
   silent_exp (S.or l a es) h = both (silent_exp a (first _ _ h)) (silent_all es (second _ _ h))
   silent_exp (S.conditional l c a b) h =
       let behind = second _ _ h in both (both (silent_exp a (first _ _ h)) (silent_exp c (first _ _ behind))) (silent_exp b (second _ _ behind))
   silent_exp (S.call l f args) h =
-      both (silent_callee f args (prints_one f args) refl (silent_exp f) (first _ _ (second _ _ h))) (silent_args args (second _ _ (second _ _ h)))
+      both (silent_exp f (first _ _ (second _ _ h))) (silent_args args (second _ _ (second _ _ h)))
   silent_exp (S.lambda l n ps e) h =
       item (none_passes (both (quiet_exp e (second _ _ h)) (item refl nothing))) (both (silent_params ps (first _ _ h)) (silent_exp e (second _ _ h)))
+  silent_exp (S.tuple l es) h = silent_all es h
+  silent_exp (S.list l es) h = silent_all es h
+  silent_exp (S.item l a i) h = both (silent_exp a (first _ _ h)) (silent_exp i (second _ _ h))
   silent_exp (S.joined l ps) h = told h
-  silent_exp (S.tuple l es) h = told h
-  silent_exp (S.list l es) h = told h
   silent_exp (S.set l es) h = told h
   silent_exp (S.dict l es) h = told h
   silent_exp (S.attribute l a x) h = told h
-  silent_exp (S.item l a i) h = told h
   silent_exp (S.slice l a b c) h = told h
   silent_exp (S.comprehension l m k t it cs) h = told h
   silent_exp (S.generator l n e k t it cs) h = told h
@@ -100,14 +93,15 @@ silent_place (S.name_at l x) h = nothing
 silent_place (S.attribute_at l a x) h = told h
 silent_place (S.item_at l a i) h = told h
 
-silent_target : (t : Tgt) → unbuilt_target t ≡ None → Silent (blocks_target t)
-silent_target (S.single p) h = silent_place p h
-silent_target (S.several l f ts) h = told h
-silent_target (S.starred l t) h = told h
+mutual
+  silent_target : (t : Tgt) → unbuilt_target t ≡ None → Silent (blocks_target t)
+  silent_target (S.single p) h = silent_place p h
+  silent_target (S.several l f ts) h = silent_targets ts h
+  silent_target (S.starred l t) h = told h
 
-silent_targets : (ts : Tgts) → unbuilt_targets ts ≡ None → Silent (blocks_targets ts)
-silent_targets S.no_targets h = nothing
-silent_targets (S.more_targets t ts) h = both (silent_target t (first _ _ h)) (silent_targets ts (second _ _ h))
+  silent_targets : (ts : Tgts) → unbuilt_targets ts ≡ None → Silent (blocks_targets ts)
+  silent_targets S.no_targets h = nothing
+  silent_targets (S.more_targets t ts) h = both (silent_target t (first _ _ h)) (silent_targets ts (second _ _ h))
 
 silent_decorators : (ds : Decorators) → unbuilt_decorators ds ≡ None → Silent (blocks_decorators ds)
 silent_decorators S.no_decorators h = nothing
@@ -129,6 +123,10 @@ mutual
   silent_stm (S.choice l bs els) h = both (silent_branches bs (first _ _ h)) (silent_stms els (second _ _ h))
   silent_stm (S.while l c body els) h =
       let behind = second _ _ h in both (both (silent_exp c (first _ _ h)) (silent_stms body (first _ _ behind))) (silent_stms els (second _ _ behind))
+  silent_stm (S.for l t e body els) h =
+      let parts = second _ _ h in
+      let behind = second _ _ parts in
+      both (both (both (silent_target t (first _ _ h)) (silent_exp e (first _ _ parts))) (silent_stms body (first _ _ behind))) (silent_stms els (second _ _ behind))
   silent_stm (S.def l ds k n x ps r body) h =
       let parts = second _ _ h in
       let inside = second _ _ parts in
@@ -140,7 +138,6 @@ mutual
   silent_stm (S.raise_again l) h = told h
   silent_stm (S.import l xs) h = told h
   silent_stm (S.import_from l m xs) h = told h
-  silent_stm (S.for l t e body els) h = told h
   silent_stm (S.try l body hs els fin) h = told h
   silent_stm (S.with l is body) h = told h
   silent_stm (S.class l ds k n x base body) h = told h

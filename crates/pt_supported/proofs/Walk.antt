@@ -1,5 +1,5 @@
 -- The first node that isn't supported, of the parts of lists as code walks them.
-use Rattle.std.proofs.Common.{◌≡◌, ◌≤◌, ℕ, List, [], ◌∷◌, false, Option, Some, None, length, map, refl, ap, arith}
+use Rattle.std.proofs.Common.{◌≡◌, ℕ, Option, Some, None, refl, ap}
 use Rattle.std.specs.Prelude.{◌||◌}
 use Rattle.std.specs.Option.{option_or}
 use Rattle.pt_tree.specs.declared.expression.Argument.{Argument}
@@ -8,9 +8,9 @@ use Rattle.pt_tree.specs.declared.expression.Comparison.{Comparison}
 use Rattle.pt_tree.specs.declared.expression.Parameter.{Parameter}
 use Rattle.pt_tree.specs.Syntax as S
 use Rattle.pt_tree.specs.Syntax.{Args, Links, Formals}
-use Rattle.pt_tree.specs.Fold.{Argument-P, argument_of, argument_plain, chained, exp_of, formal_of, link_of}
+use Rattle.pt_tree.specs.Fold.{Argument-P, argument_of, argument_plain, exp_of, formal_of, link_of}
 use Rattle.pt_tree.proofs.Folds.{argument_of-is, opened-Argument, formal_of-parts, link_of-parts}
-use Rattle.pt_supported.specs.Built.{has_membership, is_membership, is_one_plain, is_starred, unbuilt_args, unbuilt_exp, unbuilt_formals, unbuilt_links}
+use Rattle.pt_supported.specs.Built.{is_starred, unbuilt_args, unbuilt_exp, unbuilt_formals, unbuilt_links}
 
 pub or-assoc : (a b c : Option ℕ) → option_or (option_or a b) c ≡ option_or a (option_or b c)
 or-assoc None b c = refl
@@ -32,9 +32,6 @@ arguments-first a r = rw (argument_of-is a) (argument-first (opened-Argument a) 
 pub links-first : (c : Comparison) (r : Links) → unbuilt_links (link_of c r) ≡ option_or (unbuilt_exp (exp_of c.right)) (unbuilt_links r)
 links-first c r = ap unbuilt_links (link_of-parts c r)
 
-pub membership-first : (c : Comparison) (r : Links) → has_membership (link_of c r) ≡ (is_membership c.operator || has_membership r)
-membership-first c r = ap has_membership (link_of-parts c r)
-
 pub formals-first : (p : Parameter) (r : Formals) → unbuilt_formals (formal_of p r) ≡ option_or (unbuilt_formals (formal_of p S.no_formals)) (unbuilt_formals r)
 formals-first p r = simp (formal_of-parts p, or-assoc, or-none)
 
@@ -46,19 +43,3 @@ starred-plain (node.SpreadNamed e) r = refl
 
 pub starred-first : (a : Argument) (r : Args) → is_starred (argument_of a r) ≡ (is_starred (argument_of a S.no_args) || is_starred r)
 starred-first a r = rw (argument_of-is a) (starred-plain (opened-Argument a) r)
-
-two-plain : (a b : Argument-P) (r : Args) → is_one_plain (argument_plain a (argument_plain b r)) ≡ false
-two-plain (node.Positional e) (node.Positional f) r = refl
-two-plain (node.Positional e) (node.Named x f) r = refl
-two-plain (node.Positional e) (node.Spread f) r = refl
-two-plain (node.Positional e) (node.SpreadNamed f) r = refl
-two-plain (node.Named x e) b r = refl
-two-plain (node.Spread e) b r = refl
-two-plain (node.SpreadNamed e) b r = refl
-
--- an argument of several isn't the only one
-pub several-plain : (values : List Argument) → 2 ≤ length values → is_one_plain (chained S.no_args (map argument_of values)) ≡ false
-several-plain [] h = refl
-several-plain (a ∷ []) h = absurd (omega (arith, h))
-several-plain (a ∷ b ∷ vs) h =
-    rw (argument_of-is a, argument_of-is b) (two-plain (opened-Argument a) (opened-Argument b) (chained S.no_args (map argument_of vs)))

@@ -1,38 +1,27 @@
 -- Which forms of the language are supported, and the line of the first node of a script that isn't: a node comes before its parts, and parts
 -- come in the order of the source. Annotations aren't looked at, since they never run. A part without a line of its own, as an argument, a link
 -- of a comparison or a declared name, is told with the node that it belongs to.
-use Rattle.std.specs.Prelude.{◌≡◌, ℕ, List, codes, Bool, true, false, ◌&&◌, ◌||◌, not, Option, Some, None, if◌then◌else◌}
+use Rattle.std.specs.Prelude.{◌≡◌, ℕ, List, Bool, true, false, not, Option, Some, None, if◌then◌else◌}
 use Rattle.std.specs.List.{list_any}
 use Rattle.std.specs.Option.{option_or}
-use Rattle.std.specs.Str.{bytes_eq}
-use Rattle.pt_base.specs.declared.operators.CompareOp.{CompareOp}
-use Rattle.pt_base.specs.declared.operators.CompareOp.TheVariants as comparison
 use Rattle.pt_tree.specs.declared.expression.NamedParameter.{NamedParameter}
 use Rattle.pt_tree.specs.Syntax as S
 use Rattle.pt_tree.specs.Syntax.{Name, Exp, Exps, Opt, Links, Args, Place, Tgt, Tgts, Params, Formals, Decorators, Stm, Stms, Branches}
 use Rattle.pt_host.specs.Builtins as builtins
 use Rattle.pt_host.specs.Builtins.{Builtin, builtin}
 
-abbrev pub is_no_builtin : Builtin → Bool
-is_no_builtin (builtins.is v) = false
-is_no_builtin builtins.unavailable = false
-is_no_builtin builtins.no_builtin = true
+-- whether a run has what a name means by itself, if it means something
+abbrev pub is_there : Builtin → Bool
+is_there (builtins.is v) = true
+is_there builtins.unavailable = false
+is_there builtins.no_builtin = true
 
--- a name that means nothing by itself; another one is supported as `print` called with one plain argument alone
-unfoldable pub is_plain : Name → Bool
-is_plain x = is_no_builtin (builtin x)
+-- a name that isn't available is unsupported wherever it stands, also where it is bound
+unfoldable pub is_available : Name → Bool
+is_available x = is_there (builtin x)
 
-abbrev pub are_plain : List Name → Bool
-are_plain xs = not (list_any (λ x. not (is_plain x)) xs)
-
-abbrev pub is_one_plain : Args → Bool
-is_one_plain (S.positional e S.no_args) = true
-is_one_plain args = false
-
--- `print` called with one plain argument
-abbrev pub prints_one : (callee : Exp) → Args → Bool
-prints_one (S.name l x) args = bytes_eq x (codes "print") && is_one_plain args
-prints_one f args = false
+abbrev pub are_available : List Name → Bool
+are_available xs = not (list_any (λ x. not (is_available x)) xs)
 
 -- `*e` or `**e` among arguments
 abbrev pub is_starred : Args → Bool
@@ -41,16 +30,6 @@ is_starred (S.positional e r) = is_starred r
 is_starred (S.named x e r) = is_starred r
 is_starred (S.spread e r) = true
 is_starred (S.spread_named e r) = true
-
--- `in` and `not in`
-abbrev pub is_membership : CompareOp → Bool
-is_membership comparison.In = true
-is_membership comparison.NotIn = true
-is_membership o = false
-
-abbrev pub has_membership : Links → Bool
-has_membership S.no_links = false
-has_membership (S.link o b r) = is_membership o || has_membership r
 
 -- the line of a node that isn't supported
 abbrev pub unless : (is_built : Bool) → (line : ℕ) → Option ℕ
@@ -63,25 +42,23 @@ unbuilt_star (Some p) = Some p.line.0
 abbrev mutual
   pub unbuilt_exp : Exp → Option ℕ
   unbuilt_exp (S.constant l k) = None
-  unbuilt_exp (S.name l x) = unless (is_plain x) l
+  unbuilt_exp (S.name l x) = unless (is_available x) l
   unbuilt_exp (S.unary l o a) = unbuilt_exp a
   unbuilt_exp (S.not_of l a) = unbuilt_exp a
   unbuilt_exp (S.binary l o a b) = option_or (unbuilt_exp a) (unbuilt_exp b)
-  unbuilt_exp (S.compare l a o b r) =
-      option_or (unless (not (is_membership o || has_membership r)) l) (option_or (unbuilt_exp a) (option_or (unbuilt_exp b) (unbuilt_links r)))
+  unbuilt_exp (S.compare l a o b r) = option_or (unbuilt_exp a) (option_or (unbuilt_exp b) (unbuilt_links r))
   unbuilt_exp (S.and l a es) = option_or (unbuilt_exp a) (unbuilt_all es)
   unbuilt_exp (S.or l a es) = option_or (unbuilt_exp a) (unbuilt_all es)
   unbuilt_exp (S.conditional l c a b) = option_or (unbuilt_exp a) (option_or (unbuilt_exp c) (unbuilt_exp b))
-  unbuilt_exp (S.call l f args) =
-      option_or (unless (not (is_starred args)) l) (option_or (if prints_one f args then None else unbuilt_exp f) (unbuilt_args args))
+  unbuilt_exp (S.call l f args) = option_or (unless (not (is_starred args)) l) (option_or (unbuilt_exp f) (unbuilt_args args))
   unbuilt_exp (S.lambda l n ps e) = option_or (unbuilt_params ps) (unbuilt_exp e)
+  unbuilt_exp (S.tuple l es) = unbuilt_all es
+  unbuilt_exp (S.list l es) = unbuilt_all es
+  unbuilt_exp (S.item l a i) = option_or (unbuilt_exp a) (unbuilt_exp i)
   unbuilt_exp (S.joined l ps) = Some l
-  unbuilt_exp (S.tuple l es) = Some l
-  unbuilt_exp (S.list l es) = Some l
   unbuilt_exp (S.set l es) = Some l
   unbuilt_exp (S.dict l es) = Some l
   unbuilt_exp (S.attribute l a x) = Some l
-  unbuilt_exp (S.item l a i) = Some l
   unbuilt_exp (S.slice l a b c) = Some l
   unbuilt_exp (S.comprehension l m k t it cs) = Some l
   unbuilt_exp (S.generator l n e k t it cs) = Some l
@@ -113,21 +90,22 @@ abbrev mutual
 
   pub unbuilt_formals : Formals → Option ℕ
   unbuilt_formals S.no_formals = None
-  unbuilt_formals (S.formal l x a d r) = option_or (unless (is_plain x) l) (option_or (unbuilt_opt d) (unbuilt_formals r))
+  unbuilt_formals (S.formal l x a d r) = option_or (unless (is_available x) l) (option_or (unbuilt_opt d) (unbuilt_formals r))
 
 abbrev pub unbuilt_place : Place → Option ℕ
-unbuilt_place (S.name_at l x) = unless (is_plain x) l
+unbuilt_place (S.name_at l x) = unless (is_available x) l
 unbuilt_place (S.attribute_at l a x) = Some l
 unbuilt_place (S.item_at l a i) = Some l
 
-abbrev pub unbuilt_target : Tgt → Option ℕ
-unbuilt_target (S.single p) = unbuilt_place p
-unbuilt_target (S.several l f ts) = Some l
-unbuilt_target (S.starred l t) = Some l
+abbrev mutual
+  pub unbuilt_target : Tgt → Option ℕ
+  unbuilt_target (S.single p) = unbuilt_place p
+  unbuilt_target (S.several l f ts) = unbuilt_targets ts
+  unbuilt_target (S.starred l t) = Some l
 
-abbrev pub unbuilt_targets : Tgts → Option ℕ
-unbuilt_targets S.no_targets = None
-unbuilt_targets (S.more_targets t ts) = option_or (unbuilt_target t) (unbuilt_targets ts)
+  pub unbuilt_targets : Tgts → Option ℕ
+  unbuilt_targets S.no_targets = None
+  unbuilt_targets (S.more_targets t ts) = option_or (unbuilt_target t) (unbuilt_targets ts)
 
 abbrev pub unbuilt_decorators : Decorators → Option ℕ
 unbuilt_decorators S.no_decorators = None
@@ -144,19 +122,19 @@ abbrev mutual
   unbuilt_stm (S.return l v) = unbuilt_opt v
   unbuilt_stm (S.break l) = None
   unbuilt_stm (S.continue l) = None
-  unbuilt_stm (S.global l xs) = unless (are_plain xs) l
-  unbuilt_stm (S.nonlocal l xs) = unless (are_plain xs) l
+  unbuilt_stm (S.global l xs) = unless (are_available xs) l
+  unbuilt_stm (S.nonlocal l xs) = unless (are_available xs) l
   unbuilt_stm (S.choice l bs els) = option_or (unbuilt_branches bs) (unbuilt_of els)
   unbuilt_stm (S.while l c body els) = option_or (unbuilt_exp c) (option_or (unbuilt_of body) (unbuilt_of els))
+  unbuilt_stm (S.for l t e body els) = option_or (unbuilt_target t) (option_or (unbuilt_exp e) (option_or (unbuilt_of body) (unbuilt_of els)))
   unbuilt_stm (S.def l ds k n x ps r body) =
-      option_or (unless (is_plain x) l) (option_or (unbuilt_decorators ds) (option_or (unbuilt_params ps) (unbuilt_of body)))
+      option_or (unless (is_available x) l) (option_or (unbuilt_decorators ds) (option_or (unbuilt_params ps) (unbuilt_of body)))
   unbuilt_stm (S.docstring l) = None
   unbuilt_stm (S.assert l c m) = Some l
   unbuilt_stm (S.raise l e c) = Some l
   unbuilt_stm (S.raise_again l) = Some l
   unbuilt_stm (S.import l xs) = Some l
   unbuilt_stm (S.import_from l m xs) = Some l
-  unbuilt_stm (S.for l t e body els) = Some l
   unbuilt_stm (S.try l body hs els fin) = Some l
   unbuilt_stm (S.with l is body) = Some l
   unbuilt_stm (S.class l ds k n x base body) = Some l

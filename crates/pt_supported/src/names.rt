@@ -1,29 +1,29 @@
 ghost use Rattle.std.specs.Prelude.{◌≡◌, Some, None, map, option_map, not};
 ghost use Rattle.std.specs.List.{list_any};
-ghost use Rattle.pt_supported.specs.Built.{are_plain, is_plain, unbuilt_star, unless};
+ghost use Rattle.pt_supported.specs.Built.{are_available, is_available, unbuilt_star, unless};
 
 use pt_base::{Line, Text};
 use pt_builtins::{BuiltinLookup, builtin};
 use pt_tree::NamedParameter;
 
-/// Whether a name means nothing by itself.
-#[tactic(auto, unfolding(crate::specs::Built::is_plain))]
-pub fn is_plain(name: &str) -> bool
-    ensures { result ≡ is_plain name.now }
+/// Whether a run has what a name means by itself, if it means something.
+#[tactic(auto, unfolding(crate::specs::Built::is_available))]
+pub fn is_available(name: &str) -> bool
+    ensures { result ≡ is_available name.now }
 {
     match builtin(name) {
         BuiltinLookup::Unbound => true,
-        BuiltinLookup::Found(_) => false,
+        BuiltinLookup::Found(_) => true,
         BuiltinLookup::Unavailable => false,
     }
 }
 
-/// Whether all names mean nothing by themselves.
-pub fn are_plain(names: &[Text]) -> bool
-    ensures { result ≡ are_plain names.now }
+/// Whether a run has what each of these names means by itself.
+pub fn are_available(names: &[Text]) -> bool
+    ensures { result ≡ are_available names.now }
 {
     for name in names {
-        if !is_plain(name.as_str()) {
+        if !is_available(name.as_str()) {
             return false;
         }
     }

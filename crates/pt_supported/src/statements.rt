@@ -6,8 +6,9 @@ ghost use Rattle.pt_tree.specs.StatementFold.{branch_of, decorators_of, script_o
 ghost use Rattle.pt_tree.specs.Syntax.{no_branches};
 ghost use Rattle.pt_supported.specs.Built.{unbuilt_branches, unbuilt_decorators, unbuilt_of, unbuilt_opt, unbuilt_stm};
 
-use crate::expressions::{unbuilt_expression, unbuilt_parameters, unbuilt_place, unbuilt_targets};
-use crate::names::{are_plain, is_plain, unless};
+use crate::expressions::{unbuilt_expression, unbuilt_parameters};
+use crate::names::{are_available, is_available, unless};
+use crate::targets::{unbuilt_place, unbuilt_target, unbuilt_targets};
 use pt_base::Line;
 use pt_tree::{Branch, Decorator, Expr, Script, Stmt, StmtNode};
 
@@ -53,7 +54,7 @@ fn unbuilt_statement(s: &Stmt) -> Option<Line>
         StmtNode::Del(targets) => unbuilt_targets(targets.as_slice()),
         StmtNode::Return(value) => unbuilt_optional(value),
         StmtNode::Global(names) | StmtNode::Nonlocal(names) => {
-            unless(are_plain(names.as_slice()), s.line)
+            unless(are_available(names.as_slice()), s.line)
         }
         StmtNode::If {
             branches,
@@ -67,6 +68,16 @@ fn unbuilt_statement(s: &Stmt) -> Option<Line>
             let otherwise = unbuilt_statements(otherwise.as_slice());
             unbuilt_expression(test).or(unbuilt_statements(body.as_slice()).or(otherwise))
         }
+        StmtNode::For {
+            target,
+            iterable,
+            body,
+            otherwise,
+        } => {
+            let otherwise = unbuilt_statements(otherwise.as_slice());
+            let inside = unbuilt_statements(body.as_slice()).or(otherwise);
+            unbuilt_target(target).or(unbuilt_expression(iterable).or(inside))
+        }
         StmtNode::Def {
             decorators,
             name,
@@ -76,14 +87,13 @@ fn unbuilt_statement(s: &Stmt) -> Option<Line>
         } => {
             let inside = unbuilt_parameters(parameters).or(unbuilt_statements(body.as_slice()));
             let parts = unbuilt_decorators(decorators.as_slice()).or(inside);
-            unless(is_plain(name.as_str()), s.line).or(parts)
+            unless(is_available(name.as_str()), s.line).or(parts)
         }
         StmtNode::Assert { .. }
         | StmtNode::Raise { .. }
         | StmtNode::RaiseAgain
         | StmtNode::Import(_)
         | StmtNode::ImportFrom { .. }
-        | StmtNode::For { .. }
         | StmtNode::Try { .. }
         | StmtNode::With { .. }
         | StmtNode::Class { .. } => Some(s.line),

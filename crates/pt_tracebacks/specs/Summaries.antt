@@ -1,20 +1,34 @@
 -- What a traceback tells of the exceptions of a chain, the most recent one last (Library Reference, "traceback", `TracebackException`, `FrameSummary`).
-use Rattle.std.specs.Prelude.{ℕ, List, [], ◌∷◌, map, reverse}
+use Rattle.std.specs.Prelude.{ℕ, List, [], ◌∷◌, Option, Some, None, map, reverse}
 use Rattle.pt_base.specs.declared.numbers.ObjId.{ObjId}
 use Rattle.pt_heap.specs.declared.value.Value.{Value}
 use Rattle.pt_heap.specs.declared.value.Value.TheVariants.{Obj}
 use Rattle.pt_heap.specs.declared.object.Object.{Object}
 use Rattle.pt_heap.specs.declared.object.TraceEntry.{TraceEntry}
-use Rattle.pt_prims.specs.Classes.{name_at}
-use Rattle.pt_prims.specs.Printing.{text_content}
+use Rattle.pt_content.specs.declared.content.Content.{Content}
+use Rattle.pt_content.specs.declared.content.Content.TheVariants as content
+use Rattle.pt_content.specs.declared.content.NewObject.TheVariants as new
+use Rattle.pt_content.specs.Classes.{name_at}
+use Rattle.pt_content.specs.Operands.{text_of}
+use Rattle.pt_reprs.specs.Texts.{str_content}
 use Rattle.pt_tracebacks.specs.declared.summary.FrameSummary.{FrameSummary}
 use Rattle.pt_tracebacks.specs.declared.summary.ExceptionSummary.{ExceptionSummary}
 use Rattle.pt_tracebacks.specs.Chain.{Link, chain}
 
+abbrev pub text_or_none : Option (List ℕ) → List ℕ
+text_or_none (Some t) = t
+text_or_none None = []
+
+-- the text that is given, none where a method of a script would be asked or no text is there
+abbrev pub given_text : List Object → Content → List ℕ
+given_text h (content.Value v) = text_or_none (text_of h v)
+given_text h (content.New (new.Text t)) = t
+given_text h c = []
+
 -- what `str` gives of an exception with these arguments (Library Reference, `BaseException.args`). With several it is that of their tuple, which is no text
 -- of an object yet
 abbrev pub error_text : List Object → (args : List Value) → List ℕ
-error_text h (v ∷ []) = text_content h v
+error_text h (v ∷ []) = given_text h (str_content h v)
 error_text h vs = []
 
 -- over the names of blocks

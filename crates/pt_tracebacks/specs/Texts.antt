@@ -2,7 +2,7 @@
 use Rattle.std.specs.Prelude.{ℕ, List, [], ◌∷◌, ◌++◌, codes}
 use Rattle.std.specs.List.{flat_map}
 use Rattle.std.specs.Fmt.{decimal}
-use Rattle.pt_prims.specs.TypeErrors.{sentence}
+use Rattle.pt_content.specs.TypeErrors.{sentence}
 use Rattle.pt_tracebacks.specs.declared.summary.Role.{Role}
 use Rattle.pt_tracebacks.specs.declared.summary.Role.TheVariants.{Last, Cause, Context}
 use Rattle.pt_tracebacks.specs.declared.summary.FrameSummary.{FrameSummary}

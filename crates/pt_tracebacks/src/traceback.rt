@@ -1,21 +1,40 @@
 //! What is told of the exceptions of a chain.
 
 ghost use Rattle.std.specs.Prelude.{◌≡◌, IfOk, map, reverse};
-ghost use Rattle.pt_tracebacks.specs.Summaries.{error_text, frame_summary, summaries, summary};
+ghost use Rattle.pt_tracebacks.specs.Summaries.{error_text, frame_summary, given_text};
+ghost use Rattle.pt_tracebacks.specs.Summaries.{summaries, summary};
 
 use crate::chain::{Link, chain};
 use crate::{BlockNames, ExceptionSummary, FrameSummary};
 use pt_base::{Memory, Seq, Text};
+use pt_content::{Content, NewObject, name_at, text_of};
 use pt_heap::{Heap, TraceEntry, Value};
-use pt_prims::{name_at, text_content};
+use pt_reprs::str_content;
 use std::alloc::{AllocError, Global};
+
+/// The text that is given, the empty one where there is none.
+fn given_text(alloc: Global, heap: &Heap, content: Content) -> Result<Text, Memory>
+    ensures { IfOk result (λ text. text ≡ given_text heap.now content) }
+{
+    match content {
+        Content::Value(value) => match text_of(heap, value) {
+            Some(text) => Text::from_str(alloc, text.text().as_str()),
+            None => Ok(Text::new(alloc)),
+        },
+        Content::New(NewObject::Text(text)) => Ok(text),
+        _ => Ok(Text::new(alloc)),
+    }
+}
 
 /// What `str` gives of an exception with these arguments.
 fn error_text(alloc: Global, heap: &Heap, args: &[Value]) -> Result<Text, Memory>
     ensures { IfOk result (λ text. text ≡ error_text heap.now args.now) }
 {
     match args {
-        [arg] => text_content(alloc, heap, *arg),
+        [arg] => {
+            let content = str_content(alloc, heap, *arg)?;
+            given_text(alloc, heap, content)
+        }
         _ => Ok(Text::new(alloc)),
     }
 }

@@ -6,9 +6,9 @@ ghost use Rattle.pt_machine_state.specs.Writing.{Adds};
 use crate::lines::line;
 use crate::writing::event;
 use pt_base::{Memory, Text};
+use pt_content::class_name;
 use pt_heap::Value;
 use pt_machine_state::{BlockCode, Machine, Writes};
-use pt_prims::class_name;
 
 /// Tells an event of the newest activation, unless its block is hidden.
 ///

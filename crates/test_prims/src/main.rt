@@ -6,30 +6,47 @@ mod no_row;
 mod objects;
 mod signs;
 
-use answers::write_answer;
+use answers::{Row, write_answer};
 use no_row::NoRow;
 use objects::{heap_of_objects, value_of};
 use pt_base::Seq;
+use pt_heap::{Heap, Value};
 use pt_prims::prim;
 use signs::operation_of;
 use std::alloc::Global;
 use std::process::ExitCode;
 use test_notation::{Kind, Printed, answer_tables};
 
+/// The operands of a row, each in the heap.
+fn operands_of(alloc: Global, heap: &mut Heap, words: &str) -> Result<Seq<Value>, NoRow> {
+    let mut operands = Seq::new(alloc);
+    if words.is_empty() {
+        return Ok(operands);
+    }
+    for word in words.split(" ") {
+        operands.push(value_of(alloc, heap, word)?)?;
+    }
+    Ok(operands)
+}
+
 /// Writes what an operation answers to operands.
 fn write_row(line: &mut String, alloc: Global, row: &str) -> Result<(), NoRow> {
-    let Some((first, rest)) = row.split_once(" ") else {
-        return Err(NoRow);
+    let (first, words) = match row.split_once(" ") {
+        Some(parts) => parts,
+        None => (row, ""),
     };
     let op = operation_of(first)?;
     let mut heap = heap_of_objects(alloc)?;
-    let mut operands = Seq::new(alloc);
-    for word in rest.split(" ") {
-        operands.push(value_of(alloc, &mut heap, word)?)?;
-    }
+    let operands = operands_of(alloc, &mut heap, words)?;
     let count = heap.len();
     let answer = prim(alloc, op, operands.as_slice(), &mut heap)?;
-    write_answer(line, &heap, count, &answer)
+    let row = Row {
+        words,
+        operands: operands.as_slice(),
+        heap: &heap,
+        count,
+    };
+    write_answer(line, row, op, &answer)
 }
 
 /// Rows of an operation and its operands.

@@ -16,8 +16,8 @@ use Rattle.pt_verify.specs.declared.error.VerifyErr.{VerifyErr}
 use Rattle.pt_verify.specs.Verdict.{IsRefused}
 use Rattle.pt_verify.proofs.LawLemmas.{fitting_is_unrefused}
 use Rattle.pt_supported_code.specs.Built.{BuiltCode, IsUnbuiltCode}
-use Rattle.pt_runner.specs.Work.{Work}
-use Rattle.pt_run_code.specs.CodeRun.{CodeRunsTo}
+use Rattle.law_code_ends.specs.pt_run_code.pt_runner.Work.{Work}
+use Rattle.law_code_ends.specs.pt_run_code.CodeRun.{CodeRunsTo}
 use Rattle.law_code_ends.proofs.Ends.{runs_to_one_outcome}
 use Rattle.pt_words.specs.Words.{Asked}
 use Rattle.pt_prog.specs.declared.end.CodeRefusal.{CodeRefusal}
@@ -26,7 +26,7 @@ use Rattle.pt_prog.specs.declared.end.End.{End}
 use Rattle.pt_prog.specs.declared.end.End.TheVariants as end
 use Rattle.pt_prog.specs.LogText.{Text, final}
 use Rattle.pt_prog.specs.Answer.{IsBadFile, IsCodeAnswer, IsFileOf, IsMisfit, IsNoFile, IsRunnableFile, IsUnbuiltFile}
-use Rattle.pt_prog.specs.Answer.{bad_code, end_of, misfits, no_file, ran_code, run_writes, unbuilt_code}
+use Rattle.pt_prog.specs.Answer.{bad_code, code_read, end_of, misfits, no_file, ran_code, run_writes, unbuilt_code}
 use Rattle.law_exec.specs.exec_answers.Laws.{CodeFileHasOneAnswer}
 use Rattle.law_exec.proofs.exec_answers.CodeRefusals.{one_line, one_refusal}
 
@@ -102,9 +102,10 @@ module _ (bytes : Text) where
     answers_once e f ws vs (ran_code c o k x r i u) (bad_code q y j v) = absurd (fits_or_bad c (its_file c x) x.is_runnable.fit q y)
     answers_once e f ws vs (ran_code c o k x r i u) (unbuilt_code l y j v) = absurd (built_or_unbuilt c (its_file c x) x.is_runnable.built l y)
     answers_once e f ws vs (ran_code c o k x r i u) (ran_code d p l y q j v) =
-        let same = one_run c d o p k l x y r q in (
+        let same = one_run c d o p k l x y r q in
+        let read : c ≡ d = one_code c d (its_file c x) (its_file d y) in (
           i ∙ (ap (λ z. end_of a.steps z.ending) same.0 ∙ sym j),
-          u ∙ (ap (λ z. run_writes a z k) same.0 ∙ (ap (λ z. run_writes a p z) same.1 ∙ sym v)),
+          u ∙ ((λ m. run_writes (code_read a (read m)) a (same.0 m) (same.1 m)) ∙ sym v),
         )
 
 pub code_file_has_one_answer : CodeFileHasOneAnswer

@@ -28,8 +28,8 @@ use Rattle.law_compile.proofs.read_forms.Texts.{scripts_of_texts_are_formed}
 use Rattle.law_front.proofs.script_numbers.Scripts.{numbered}
 use Rattle.law_supported.proofs.Different.{cells_are_different}
 use Rattle.law_supported.proofs.Written.{blocks_have_names}
-use Rattle.law_loading.specs.script_program.Laws.{HasItsNames}
-use Rattle.law_loading.proofs.loaded_scripts.Lists.{same_some}
+use Rattle.law_code_ends.specs.pt_run_code.law_loading.script_program.Laws.{HasItsNames}
+use Rattle.law_code_ends.proofs.pt_run_code.law_loading.loaded_scripts.Lists.{same_some}
 use Rattle.law_exec.specs.script_files.Laws.{HasCodeFile}
 use Rattle.law_exec.proofs.script_files.Numbers.{numbers_fit}
 

@@ -13,11 +13,11 @@ use Rattle.pt_code.specs.declared.CodeBlock.{CodeBlock}
 use Rattle.sem_compile.specs.compile.ScriptCode.{BlockLayout, code_block, code_of, script_layouts}
 use Rattle.sem_compile.proofs.compile.Blocks.{as_many_blocks}
 use Rattle.law_compile.specs.script_runs.Blocks as script
-use Rattle.law_loading.specs.script_program.ScriptProgram.{block_or_module, facts_at, facts_with, the_module_block}
-use Rattle.law_loading.proofs.script_program.Facts.{code_tells}
-use Rattle.pt_code_loader.specs.Texts.{constant_texts}
-use Rattle.law_loading.proofs.loaded_scripts.Lists.{mapped_at, none_there, there}
-use Rattle.law_loading.specs.code_program.CodeProgram.{facts_by, number_in, number_or_module, program_of_code}
+use Rattle.law_code_ends.specs.pt_run_code.law_loading.script_program.ScriptProgram.{block_or_module, facts_at, facts_with, the_module_block}
+use Rattle.law_code_ends.proofs.pt_run_code.law_loading.script_program.Facts.{code_tells}
+use Rattle.law_code_ends.specs.pt_run_code.pt_code_loader.Texts.{constant_texts}
+use Rattle.law_code_ends.proofs.pt_run_code.law_loading.loaded_scripts.Lists.{mapped_at, none_there, there}
+use Rattle.law_code_ends.specs.pt_run_code.law_loading.code_program.CodeProgram.{facts_by, number_in, number_or_module, program_of_code}
 use Rattle.law_exec.specs.script_files.Laws.{CodeHasOneProgram, HasCodeFile}
 use Rattle.law_exec.proofs.script_files.Named.{names}
 

@@ -22,9 +22,9 @@ use Rattle.law_code_runs.specs.code_follows.Laws as follows
 use Rattle.pt_host.specs.HeapHost.{heap_host}
 use Rattle.pt_host.specs.World.{Program, World, no_names, start_world}
 use Rattle.sem_rows.specs.heap_rows.Leads.{HasHeapExtras, HasHeapTruths, known_truth}
-use Rattle.pt_code_loader.specs.Loaded.{iterates}
-use Rattle.pt_runner.specs.Work.{Work, RunDoes}
-use Rattle.pt_runner.proofs.GoesTo.{runs_so}
+use Rattle.law_code_ends.specs.pt_run_code.pt_code_loader.Loaded.{iterates}
+use Rattle.law_code_ends.specs.pt_run_code.pt_runner.Work.{Work, RunDoes}
+use Rattle.law_code_ends.proofs.pt_run_code.pt_runner.GoesTo.{runs_so}
 use Rattle.law_operands.proofs.free_pieces.Script.{blocks_have_free_names}
 use Rattle.law_compile.proofs.read_forms.Texts.{scripts_of_texts_are_formed}
 use Rattle.law_compile.proofs.formed_scripts.Statements.{scripts_are_formed}
@@ -34,13 +34,13 @@ use Rattle.law_compile.specs.script_runs.Blocks as script
 use Rattle.law_compile.specs.script_runs.Blocks.{script_code, the_module}
 use Rattle.law_compile.specs.script_runs.Laws.{AreItsObjects, code_machine}
 use Rattle.law_compile.proofs.script_runs.Objects.{code_of_script_writes_nothing_else, script_has_its_bare_runs}
-use Rattle.law_loading.specs.script_program.ScriptProgram.{program_of, the_module_block}
-use Rattle.law_loading.proofs.loaded_scripts.Lists.{same_some}
-use Rattle.law_loading.proofs.loaded_scripts.Loading.{kind_iterates}
-use Rattle.law_loading.specs.code_program.CodeProgram.{AreObjectsOf, code_blocks, iterates_by, number_in, number_or_module, program_of_code}
-use Rattle.law_loading.proofs.code_program.Operands.{module_number}
-use Rattle.pt_run_code.specs.CodeRun.{CodeRunsTo, CodeWritesFirst, nothing, of_run}
-use Rattle.pt_run_script.specs.ScriptRun.{AreCodeOf, CodeRunsBy, RunsTo, ScriptWritesFirst}
+use Rattle.law_code_ends.specs.pt_run_code.law_loading.script_program.ScriptProgram.{program_of, the_module_block}
+use Rattle.law_code_ends.proofs.pt_run_code.law_loading.loaded_scripts.Lists.{same_some}
+use Rattle.law_code_ends.proofs.pt_run_code.law_loading.loaded_scripts.Loading.{kind_iterates}
+use Rattle.law_code_ends.specs.pt_run_code.law_loading.code_program.CodeProgram.{AreObjectsOf, code_blocks, iterates_by, number_in, number_or_module, program_of_code}
+use Rattle.law_code_ends.proofs.pt_run_code.law_loading.code_program.Operands.{module_number}
+use Rattle.law_code_ends.specs.pt_run_code.CodeRun.{CodeRunsTo, CodeWritesFirst, nothing, of_run}
+use Rattle.pt_prog.specs.pt_run_script.ScriptRun.{AreCodeOf, CodeRunsBy, RunsTo, ScriptWritesFirst}
 use Rattle.law_exec.specs.script_files.Laws.{CodeRunsAsScript, HasCodeFile, ScriptRunsAsCode, ScriptWritesAsCode}
 use Rattle.law_exec.proofs.script_files.Named.{cells_fit, in_script, numbered_blocks, numbers, unused}
 use Rattle.law_exec.proofs.script_files.Programs.{code_has_one_program, laid_out, number_by, one_number}

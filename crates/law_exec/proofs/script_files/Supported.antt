@@ -35,9 +35,9 @@ use Rattle.pt_supported.specs.Laws.{is_class_code}
 use Rattle.pt_supported.proofs.Quiet.{gives_on}
 use Rattle.pt_supported.proofs.Silent.{built_blocks_are_no_classes, built_blocks_give_nothing_on}
 use Rattle.pt_supported_code.specs.Built.{IsBuiltBlock, TakesAsListed, has_slots_by_kind, is_plain_kind}
-use Rattle.law_loading.proofs.script_program.Facts.{locals_are_different}
-use Rattle.law_loading.proofs.code_names.Instructions.{TakesAsNamed, all-take, laid-is}
-use Rattle.law_loading.proofs.code_names.Module.{module_has_no_cells, module_has_no_locals}
+use Rattle.law_code_ends.proofs.pt_run_code.law_loading.script_program.Facts.{locals_are_different}
+use Rattle.law_code_ends.proofs.pt_run_code.law_loading.code_names.Instructions.{TakesAsNamed, all-take, laid-is}
+use Rattle.law_code_ends.proofs.pt_run_code.law_loading.code_names.Module.{module_has_no_cells, module_has_no_locals}
 use Rattle.law_compile.proofs.fitting_scripts.Fitting.{code_of_texts_fits}
 use Rattle.law_exec.specs.script_files.Laws.{CodeIsSupported, HasCodeFile, ShallowCodeIsRunnable}
 use Rattle.law_exec.proofs.script_files.Named.{cells_fit, different_cells, in_script, names, numbered_blocks, numbers}

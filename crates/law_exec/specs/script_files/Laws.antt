@@ -15,13 +15,13 @@ use Rattle.pt_code.specs.View.{Ins, IsView}
 use Rattle.sem_compile.specs.compile.ScriptCode.{code_of}
 use Rattle.sem_fits.specs.fits.Block.{block_of}
 use Rattle.pt_supported_code.specs.Built.{BuiltCode}
-use Rattle.pt_runner.specs.Work.{Work}
-use Rattle.pt_code_loader.specs.Loaded.{IsShallow}
-use Rattle.law_loading.specs.script_program.ScriptProgram.{program_of}
-use Rattle.law_loading.specs.code_program.CodeProgram.{program_of_code}
-use Rattle.law_loading.specs.code_program.Laws.{IsRunnable}
-use Rattle.pt_run_code.specs.CodeRun.{CodeRunsTo, CodeWritesFirst}
-use Rattle.pt_run_script.specs.ScriptRun.{CodeRunsBy, RunsTo, ScriptWritesFirst}
+use Rattle.law_code_ends.specs.pt_run_code.pt_runner.Work.{Work}
+use Rattle.law_code_ends.specs.pt_run_code.pt_code_loader.Loaded.{IsShallow}
+use Rattle.law_code_ends.specs.pt_run_code.law_loading.script_program.ScriptProgram.{program_of}
+use Rattle.law_code_ends.specs.pt_run_code.law_loading.code_program.CodeProgram.{program_of_code}
+use Rattle.law_code_ends.specs.pt_run_code.law_loading.code_program.Laws.{IsRunnable}
+use Rattle.law_code_ends.specs.pt_run_code.CodeRun.{CodeRunsTo, CodeWritesFirst}
+use Rattle.pt_prog.specs.pt_run_script.ScriptRun.{CodeRunsBy, RunsTo, ScriptWritesFirst}
 
 -- the text is this script, which is supported, and its code has a file
 pub record HasCodeFile (text : List ℕ) (ss : Stms) : Type 0 where

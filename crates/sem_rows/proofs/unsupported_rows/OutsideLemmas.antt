@@ -1,6 +1,6 @@
 -- A run leaves the profile at instructions that aren't supported yet.
 use Rattle.std.proofs.Common.{◌≡◌, ◌∙◌, ◌⊎◌, inl, inr, ℕ, zero, suc, true, false, List, [], ◌∷◌, Option, Some, None, refl, sym, ap}
-use Rattle.std.specs.Prelude.{◌+◌, option_map}
+use Rattle.std.specs.Prelude.{option_map}
 use Rattle.pt_base.specs.declared.what.What.TheVariants.{Feature}
 use Rattle.pt_ranges.specs.declared.lines.ActMark.{ActMark}
 use Rattle.pt_instr.specs.declared.Instr.{Instr}
@@ -13,18 +13,18 @@ use Rattle.sem_code.specs.slots.Slots as S
 use Rattle.sem_code.specs.slots.Slots.{Slots, State}
 use Rattle.sem_code.specs.slots.CodeObject.{CodeObject}
 use Rattle.sem_code.specs.slots.Instructions.{perform}
-use Rattle.sem_code.specs.slots.Pops.{Next, values, cells, one, two, three, an_iterator, an_exception, a_completion, an_exit, the_value}
-use Rattle.sem_code.specs.slots.Steps.{mark_of, after, asks, gives, does, throws}
+use Rattle.sem_code.specs.slots.Pops.{Next, values, cells, one, two, an_iterator, an_exception, a_completion, an_exit}
+use Rattle.sem_code.specs.slots.Steps.{mark_of, after, asks, gives, does, throws, delegated, delegates}
 use Rattle.sem_run.specs.run.Host as H
 use Rattle.sem_run.specs.run.Host.{Here}
 use Rattle.pt_host.specs.World.{Stores, Program}
-use Rattle.pt_host.specs.Answers.{deeds, operate}
+use Rattle.pt_host.specs.Answers.{answers, deeds, operate}
 use Rattle.sem_run.specs.transitions.Successors.{outside}
 use Rattle.sem_rows.specs.declared.heap_rows.progress.Progress.TheVariants as progress
-use Rattle.sem_rows.specs.heap_rows.Leads.{HasHeapExtras, IsStuck, by_tree, giving, behind}
+use Rattle.sem_rows.specs.heap_rows.Leads.{HasHeapExtras, IsAnswered, IsStuck, by_tree, found, giving, behind}
 use Rattle.sem_rows.specs.heap_rows.Laws.{reached}
 use Rattle.sem_rows.specs.heap_rows.Views.{slots_view}
-use Rattle.sem_rows.proofs.heap_rows.RowLemmas.{operations_lead, deeds_lead}
+use Rattle.sem_rows.proofs.heap_rows.RowLemmas.{asks_lead, operations_lead, deeds_lead}
 use Rattle.sem_rows.specs.unsupported_rows.Unsupported.{RowsOutside, is_supported}
 
 module _ (program : Program) (code : CodeObject Value) (i : Ins) (h : Here Value) (st : Stores) where
@@ -79,32 +79,6 @@ module _ (program : Program) (code : CodeObject Value) (i : Ins) (h : Here Value
   two-out (S.pending c ∷ ss) next f = inl tt
   two-out (S.exit v ∷ ss) next f = inl tt
 
-  third-out : (w v : Value) (ss : Slots Value) (next : Value → Value → Next Value Value) → ((u x y : Value) (below : Slots Value) → Outside (next u x y below))
-      → Outside (three (S.value w ∷ S.value v ∷ ss) next)
-  third-out w v [] next f = inl tt
-  third-out w v (S.value u ∷ ss) next f = f u v w ss
-  third-out w v (S.cell u ∷ ss) next f = inl tt
-  third-out w v (S.iterator u ∷ ss) next f = inl tt
-  third-out w v (S.exception u ∷ ss) next f = inl tt
-  third-out w v (S.pending c ∷ ss) next f = inl tt
-  third-out w v (S.exit u ∷ ss) next f = inl tt
-
-  three-out : (ss : Slots Value) (next : Value → Value → Next Value Value) → ((u v w : Value) (below : Slots Value) → Outside (next u v w below))
-      → Outside (three ss next)
-  three-out [] next f = inl tt
-  three-out (S.value w ∷ []) next f = inl tt
-  three-out (S.value w ∷ S.value v ∷ ss) next f = third-out w v ss next f
-  three-out (S.value w ∷ S.cell v ∷ ss) next f = inl tt
-  three-out (S.value w ∷ S.iterator v ∷ ss) next f = inl tt
-  three-out (S.value w ∷ S.exception v ∷ ss) next f = inl tt
-  three-out (S.value w ∷ S.pending c ∷ ss) next f = inl tt
-  three-out (S.value w ∷ S.exit v ∷ ss) next f = inl tt
-  three-out (S.cell v ∷ ss) next f = inl tt
-  three-out (S.iterator v ∷ ss) next f = inl tt
-  three-out (S.exception v ∷ ss) next f = inl tt
-  three-out (S.pending c ∷ ss) next f = inl tt
-  three-out (S.exit v ∷ ss) next f = inl tt
-
   iterator-out : (ss : Slots Value) (next : Next Value Value) → ((v : Value) (below : Slots Value) → Outside (next v below)) → Outside (an_iterator ss next)
   iterator-out [] next f = inl tt
   iterator-out (S.value v ∷ ss) next f = inl tt
@@ -142,18 +116,6 @@ module _ (program : Program) (code : CodeObject Value) (i : Ins) (h : Here Value
   exit-out (S.pending c ∷ ss) next f = inl tt
   exit-out (S.exit v ∷ ss) next f = f v ss
 
-  below-out : (n : ℕ) (ss : Slots Value) (next : Value → Turn (State Value) Value) → ((v : Value) → Outside (next v)) → Outside (the_value n ss next)
-  below-out zero ss next f = inl tt
-  below-out (suc zero) [] next f = inl tt
-  below-out (suc zero) (S.value v ∷ ss) next f = f v
-  below-out (suc zero) (S.cell v ∷ ss) next f = inl tt
-  below-out (suc zero) (S.iterator v ∷ ss) next f = inl tt
-  below-out (suc zero) (S.exception v ∷ ss) next f = inl tt
-  below-out (suc zero) (S.pending c ∷ ss) next f = inl tt
-  below-out (suc zero) (S.exit v ∷ ss) next f = inl tt
-  below-out (suc (suc n)) [] next f = inl tt
-  below-out (suc (suc n)) (s ∷ ss) next f = below-out (suc n) ss next f
-
   -- and with a mark or without
 
   gives-out : (o : Operation) (vs : List Value) (ss : Slots Value) → operate program o vs h st ≡ H.leave Feature → Outside (gives code i (T.operate o vs) ss)
@@ -166,12 +128,13 @@ module _ (program : Program) (code : CodeObject Value) (i : Ins) (h : Here Value
   does-out : (d : Deed Value) (ss : Slots Value) → deeds d h st ≡ H.leave Feature → Outside (does code i d ss)
   does-out d ss e = inr (sym (deeds_lead program code i h st d ss ∙ ap (by_tree code i (behind code i ss) ss) e))
 
+  -- an ask that the host doesn't answer yet
+  asks-out : (a : Ask Value) (ss : Slots Value) (next : Answer Value a → State Value) → IsAnswered a → answers program a h st ≡ H.leave Feature
+      → Outside (asks code i a ss next)
+  asks-out a ss next w e = inr (sym (asks_lead program code i h st a next ss w ∙ ap (by_tree code i (found a next) ss) e))
+
   throws-out : (t : Throw Value) (ss : Slots Value) → Outside (throws code i t ss)
-  throws-out t ss = by_mark i.mark
-    where
-      by_mark : (m : Option ActMark) → Outside (T.act (option_map mark_of m) (T.throw t) (after code i ss (λ x. elim x [ ])))
-      by_mark None = inr refl
-      by_mark (Some m) = inr refl
+  throws-out t ss = asks-out (T.throw t) ss _ tt refl
 
   yields-out : (v : Value) (ss : Slots Value) → Outside (gives code i (T.yielding v) ss)
   yields-out v ss = by_mark i.mark
@@ -180,60 +143,19 @@ module _ (program : Program) (code : CodeObject Value) (i : Ins) (h : Here Value
       by_mark None = inl tt
       by_mark (Some m) = inl tt
 
-  -- an ask that the host doesn't answer yet
-  data Unanswered : Ask Value → Type 0 where
-    matching : (e c : Value) → Unanswered (T.test (T.matches e c))
-    exiting : (w : Value) (r : Option Value) → Unanswered (T.test (T.exit_of w r))
-    iterating : (v : Value) → Unanswered (T.iter_of v)
-    next : (v : Value) → Unanswered (T.next_of v)
-    entering : (v : Value) → Unanswered (T.enter v)
-    unpacking : (v : Value) (n : ℕ) (star : Option ℕ) → Unanswered (T.unpack v n star)
-    delegating : (v : Value) (r : T.Reply Value Value) → Unanswered (T.delegate v r)
-    importing : (x : List ℕ) (m : Value) → Unanswered (T.seek (T.operate (T.import_name x) (m ∷ [])))
-
-  asks-out : (a : Ask Value) (ss : Slots Value) (goes : Answer Value a → State Value) → Unanswered a → Outside (asks code i a ss goes)
-  asks-out a ss goes u = by_mark i.mark a goes u
+  delegates-out : (pc : ℕ) (r : T.Reply Value Value) (v u : Value) (ss : Slots Value) → Outside (delegates code pc i r v u ss)
+  delegates-out pc r v u ss = by_mark i.mark
     where
-      by_mark : (m : Option ActMark) (b : Ask Value) (k : Answer Value b → State Value) → Unanswered b
-          → Outside (T.act (option_map mark_of m) b (after code i ss k))
-      by_mark None _ k (matching e c) = inr refl
-      by_mark (Some m) _ k (matching e c) = inr refl
-      by_mark None _ k (exiting w r) = inr refl
-      by_mark (Some m) _ k (exiting w r) = inr refl
-      by_mark None _ k (iterating v) = inr refl
-      by_mark (Some m) _ k (iterating v) = inr refl
-      by_mark None _ k (next v) = inr refl
-      by_mark (Some m) _ k (next v) = inr refl
-      by_mark None _ k (entering v) = inr refl
-      by_mark (Some m) _ k (entering v) = inr refl
-      by_mark None _ k (unpacking v n star) = inr refl
-      by_mark (Some m) _ k (unpacking v n star) = inr refl
-      by_mark None _ k (delegating v r) = inr refl
-      by_mark (Some m) _ k (delegating v r) = inr refl
-      by_mark None _ k (importing x v) = inr refl
-      by_mark (Some m) _ k (importing x v) = inr refl
+      by_mark : (m : Option ActMark) → Outside (T.act (option_map mark_of m) (T.delegate v r) (after code i ss (delegated code pc i v u ss)))
+      by_mark None = inr refl
+      by_mark (Some m) = inr refl
 
   performs-out : (pc : ℕ) (j : Instr) (ss : Slots Value) → HasHeapExtras code → is_supported j ≡ false → Outside (perform code pc i j ss)
   performs-out pc (instr.Attr t) ss x e = operates-out _ 1 ss (λ vs. refl)
   performs-out pc (instr.SetAttr t) ss x e = two-out ss _ (λ v a below. does-out _ below refl)
   performs-out pc (instr.DelAttr t) ss x e = one-out ss _ (λ a below. does-out _ below refl)
-  performs-out pc instr.Item ss x e = operates-out _ 2 ss (λ vs. refl)
-  performs-out pc instr.SetItem ss x e = three-out ss _ (λ v a k below. does-out _ below refl)
-  performs-out pc instr.DelItem ss x e = two-out ss _ (λ a k below. does-out _ below refl)
-  performs-out pc instr.Slice ss x e = operates-out _ 3 ss (λ vs. refl)
-  performs-out pc (instr.Tuple n) ss x e = operates-out _ n ss (λ vs. refl)
-  performs-out pc (instr.List n) ss x e = operates-out _ n ss (λ vs. refl)
-  performs-out pc (instr.Set n) ss x e = operates-out _ n ss (λ vs. refl)
-  performs-out pc (instr.Dict n) ss x e = operates-out _ (n + n) ss (λ vs. refl)
-  performs-out pc (instr.ListAdd n) ss x e = one-out ss _ (λ v below. below-out n below _ (λ made. does-out _ below refl))
-  performs-out pc (instr.SetAdd n) ss x e = one-out ss _ (λ v below. below-out n below _ (λ made. does-out _ below refl))
-  performs-out pc (instr.DictAdd n) ss x e = two-out ss _ (λ k v below. below-out n below _ (λ made. does-out _ below refl))
-  performs-out pc (instr.Format c) ss x e = operates-out _ 2 ss (λ vs. refl)
-  performs-out pc (instr.Join n) ss x e = operates-out _ n ss (λ vs. refl)
   performs-out pc instr.TupleJoin ss x e = operates-out _ 2 ss (λ vs. x.tuple_join program vs h st)
   performs-out pc instr.DictMerge ss x e = operates-out _ 2 ss (λ vs. x.dict_merge program vs h st)
-  performs-out pc (instr.Unpack n) ss x e = one-out ss _ (λ v below. asks-out _ below _ (unpacking v n None))
-  performs-out pc (instr.UnpackStar n m) ss x e = one-out ss _ (λ v below. asks-out _ below _ (unpacking v (n + 1 + m) (Some n)))
   performs-out pc instr.Spread ss x e = operates-out _ 1 ss (λ vs. refl)
   performs-out pc instr.SpreadMap ss x e = operates-out _ 1 ss (λ vs. refl)
   performs-out pc instr.Super ss x e = operates-out _ 2 ss (λ vs. x.super program vs h st)
@@ -241,21 +163,36 @@ module _ (program : Program) (code : CodeObject Value) (i : Ins) (h : Here Value
       (λ cs below. one-out below _ (λ base under. gives-out _ (base ∷ cs) under refl))
   performs-out pc (instr.MakeGenerator b) ss x e = cells-out (code.pool.captures b.0) [] ss _
       (λ cs below. iterator-out below _ (λ it under. gives-out _ (it ∷ cs) under refl))
-  performs-out pc instr.Iter ss x e = one-out ss _ (λ v below. asks-out _ below _ (iterating v))
-  performs-out pc (instr.Next t) ss x e = iterator-out ss _ (λ it below. asks-out _ below _ (next it))
   performs-out pc instr.Yield ss x e = one-out ss _ (λ v below. yields-out v below)
-  performs-out pc instr.Delegate ss x e = one-out ss _ (λ v below. iterator-out below _ (λ it under. asks-out _ under _ (delegating it (T.got v))))
+  performs-out pc instr.Delegate ss x e = one-out ss _ (λ v below. iterator-out below _ (λ it under. delegates-out pc (T.got v) it v under))
   performs-out pc instr.Raise ss x e = one-out ss _ (λ v below. throws-out _ below)
   performs-out pc instr.RaiseFrom ss x e = two-out ss _ (λ v c below. throws-out _ below)
   performs-out pc instr.RaiseAgain ss x e = throws-out _ ss
   performs-out pc (instr.AssertFail false) ss x e = throws-out _ ss
   performs-out pc (instr.AssertFail true) ss x e = one-out ss _ (λ m below. throws-out _ below)
-  performs-out pc instr.Match ss x e = one-out ss _ (λ c below. exception-out below _ (λ v under. asks-out _ below _ (matching v c)))
-  performs-out pc instr.Enter ss x e = one-out ss _ (λ v below. asks-out _ below _ (entering v))
-  performs-out pc instr.Exit ss x e = completion-out ss _ (λ c below. exit-out below _ (λ w under. asks-out _ under _ (exiting w (S.raise_of c))))
+  performs-out pc instr.Match ss x e = one-out ss _ (λ c below. exception-out below _ (λ v under. asks-out (T.test (T.matches v c)) below _ tt refl))
+  performs-out pc instr.Enter ss x e = one-out ss _ (λ v below. asks-out (T.enter v) below _ tt refl)
+  performs-out pc instr.Exit ss x e = completion-out ss _ (λ c below. exit-out below _ (λ w under. asks-out (T.test (T.exit_of w (S.raise_of c))) under _ tt refl))
   performs-out pc (instr.Import t) ss x e = operates-out _ 0 ss (λ vs. refl)
-  performs-out pc (instr.ImportName t) ss x e = one-out ss _ (λ m below. asks-out _ ss _ (importing (code.pool.text t.0) m))
+  performs-out pc (instr.ImportName t) ss x e = one-out ss _ (λ m below. asks-out (T.seek (T.operate (T.import_name (code.pool.text t.0)) (m ∷ []))) ss _ tt refl)
   performs-out pc instr.Nop ss x e = absurd (cc)
+  performs-out pc (instr.Next t) ss x e = absurd (cc)
+  performs-out pc instr.Iter ss x e = absurd (cc)
+  performs-out pc (instr.UnpackStar n m) ss x e = absurd (cc)
+  performs-out pc (instr.Unpack n) ss x e = absurd (cc)
+  performs-out pc (instr.Join n) ss x e = absurd (cc)
+  performs-out pc (instr.Format c) ss x e = absurd (cc)
+  performs-out pc (instr.DictAdd n) ss x e = absurd (cc)
+  performs-out pc (instr.SetAdd n) ss x e = absurd (cc)
+  performs-out pc (instr.ListAdd n) ss x e = absurd (cc)
+  performs-out pc (instr.Dict n) ss x e = absurd (cc)
+  performs-out pc (instr.Set n) ss x e = absurd (cc)
+  performs-out pc (instr.List n) ss x e = absurd (cc)
+  performs-out pc (instr.Tuple n) ss x e = absurd (cc)
+  performs-out pc instr.Slice ss x e = absurd (cc)
+  performs-out pc instr.DelItem ss x e = absurd (cc)
+  performs-out pc instr.SetItem ss x e = absurd (cc)
+  performs-out pc instr.Item ss x e = absurd (cc)
   performs-out pc (instr.Const k) ss x e = absurd (cc)
   performs-out pc (instr.Local k) ss x e = absurd (cc)
   performs-out pc (instr.SetLocal k) ss x e = absurd (cc)

@@ -1,7 +1,8 @@
 -- Where an instruction leads by the host's answer to what it asks.
 use Rattle.std.specs.Prelude.{◌≡◌, ◌∷◌, List, Bool, Option, Some, None}
 use Rattle.pt_base.specs.declared.what.What.TheVariants.{Feature}
-use Rattle.sem_control.specs.control.Turn.{Operation}
+use Rattle.sem_control.specs.control.Turn as T
+use Rattle.sem_control.specs.control.Turn.{Ask, Answer, Operation}
 use Rattle.pt_heap.specs.declared.value.Value.{Value}
 use Rattle.pt_heap.specs.declared.value.Value.TheVariants as value
 use Rattle.pt_code.specs.View.{Ins}
@@ -10,7 +11,7 @@ use Rattle.sem_code.specs.slots.Slots.{Slots, State, on}
 use Rattle.sem_code.specs.slots.CodeObject.{CodeObject}
 use Rattle.sem_code.specs.slots.Landing.{land}
 use Rattle.sem_run.specs.run.Host as H
-use Rattle.sem_run.specs.run.Host.{Here}
+use Rattle.sem_run.specs.run.Host.{Here, Finding}
 use Rattle.pt_host.specs.World.{Names, World, Stores, Program}
 use Rattle.pt_host.specs.Trees.{Tree}
 use Rattle.pt_host.specs.Answers.{operate}
@@ -18,6 +19,27 @@ use Rattle.sem_run.specs.transitions.Successors.{Successor, to, arises, behind_y
 
 abbrev pub HeapSuccessor : Type 0
 HeapSuccessor = Successor (State Value) Names Value World
+
+-- what a host found is the answer; an item is there, or there is none
+abbrev pub found : (a : Ask Value) → (Answer Value a → State Value) → Finding Value a → State Value
+found (T.next_of i) next (H.an_item v) = next (Some v)
+found (T.next_of i) next (H.no_item e) = next None
+found (T.delegate i r) next (H.passes_on v) = next (T.resumed (T.got v))
+found (T.delegate i r) next (H.ends_with v) = next (T.returned v)
+found (T.seek a) next v = next v
+found (T.deed a) next v = next v
+found (T.leave a) next v = next v
+found (T.throw a) next v = next v
+found (T.test a) next v = next v
+found (T.iter_of a) next v = next v
+found (T.enter a) next v = next v
+found (T.unpack a n s) next v = next v
+
+-- all but those that give a value on (6.2.9)
+abbrev pub IsAnswered : Ask Value → Type 0
+IsAnswered (T.seek (T.yielding v)) = ⊥
+IsAnswered (T.delegate i r) = ⊥
+IsAnswered a = Unit {0}
 
 module _ (code : CodeObject Value) (i : Ins) where
   -- to where the reply does; a raise lands by the rows that cover the place, with the slots below what was taken

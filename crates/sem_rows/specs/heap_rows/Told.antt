@@ -16,7 +16,8 @@ use Rattle.sem_run.specs.run.Machine as M
 use Rattle.sem_run.specs.run.Host.{Here, Opening, opens}
 use Rattle.pt_host.specs.World.{Names, Stores, Program}
 use Rattle.pt_host.specs.Errors.{raise_error, raise_saying}
-use Rattle.pt_host.specs.Calls.{arguments_of, result_of}
+use Rattle.pt_host.specs.Primitives.{arguments_of}
+use Rattle.pt_host.specs.Calls.{result_of}
 use Rattle.sem_run.specs.transitions.Successors.{to, behind_print, behind_request, outside, none}
 use Rattle.sem_rows.specs.declared.heap_rows.progress.Progress.{Progress}
 use Rattle.sem_rows.specs.declared.heap_rows.progress.Progress.TheVariants as progress

@@ -16,29 +16,13 @@ use Rattle.sem_rows.specs.heap_rows.Told.{told}
 use Rattle.sem_rows.specs.heap_rows.Views.{slots_view}
 
 abbrev pub is_supported : Instr → Bool
--- attributes and items (6.3.1, 6.3.2, 7.2, 7.5)
+-- attributes (6.3.1, 7.2, 7.5)
 is_supported (instr.Attr t) = false
 is_supported (instr.SetAttr t) = false
 is_supported (instr.DelAttr t) = false
-is_supported instr.Item = false
-is_supported instr.SetItem = false
-is_supported instr.DelItem = false
-is_supported instr.Slice = false
--- displays and comprehensions (6.2.4 to 6.2.7), f-strings (2.4.3), and what is unpacked (7.2)
-is_supported (instr.Tuple n) = false
-is_supported (instr.List n) = false
-is_supported (instr.Set n) = false
-is_supported (instr.Dict n) = false
-is_supported (instr.ListAdd n) = false
-is_supported (instr.SetAdd n) = false
-is_supported (instr.DictAdd n) = false
-is_supported (instr.Format c) = false
-is_supported (instr.Join n) = false
+-- arguments that are spread (6.3.4), classes (8.8) and generators (6.2.8, 6.2.9)
 is_supported instr.TupleJoin = false
 is_supported instr.DictMerge = false
-is_supported (instr.Unpack n) = false
-is_supported (instr.UnpackStar n m) = false
--- arguments that are spread (6.3.4), classes (8.8) and generators (6.2.8, 6.2.9)
 is_supported instr.Spread = false
 is_supported instr.SpreadMap = false
 is_supported instr.Super = false
@@ -46,9 +30,7 @@ is_supported (instr.MakeClass b) = false
 is_supported (instr.MakeGenerator b) = false
 is_supported instr.Yield = false
 is_supported instr.Delegate = false
--- iterators (8.3), what is raised (7.3, 7.8), handlers of classes (8.4.1), exits (8.5) and modules (7.11)
-is_supported instr.Iter = false
-is_supported (instr.Next t) = false
+-- what is raised (7.3, 7.8), handlers of classes (8.4.1), exits (8.5) and modules (7.11)
 is_supported instr.Raise = false
 is_supported instr.RaiseFrom = false
 is_supported instr.RaiseAgain = false

@@ -3,25 +3,17 @@
 ghost use Rattle.pt_code.specs.View.{Ins};
 ghost use Rattle.pt_heap.specs.declared.value.Value.{Value};
 ghost use Rattle.pt_host.specs.World.{Program, Stores};
-ghost use Rattle.sem_rows.specs.heap_rows.Laws.{BranchesLead, CellsLead, DeedsLead, DiscardsLead, LeavesLead};
-ghost use Rattle.sem_rows.specs.heap_rows.Laws.{LoadsLead, MovesLead, OperationsLead};
+ghost use Rattle.sem_rows.specs.heap_rows.Laws.{AsksLead, DiscardsLead, LeavesLead, MovesLead};
 ghost use Rattle.sem_run.specs.run.Host.{Here};
 ghost use Rattle.sem_code.specs.slots.CodeObject.{CodeObject};
 
-/// Where an instruction asks the host it leads where the answer does, with a mark or without: to
-/// what its reply gives, or to where a raise lands. Where it asks for nothing it leads on.
-#[tactic(auto, using(crate::proofs::heap_rows::RowLemmas::operations_lead, crate::proofs::heap_rows::RowLemmas::cells_lead, crate::proofs::heap_rows::RowLemmas::deeds_lead, crate::proofs::heap_rows::RowLemmas::branches_lead, crate::proofs::heap_rows::RowLemmas::moves_lead, crate::proofs::heap_rows::RowLemmas::leaves_lead, crate::proofs::heap_rows::RowLemmas::discards_lead))]
+/// Where an instruction asks the host it leads where the answer does, whatever it asks, with a mark
+/// or without: to what its reply gives, or to where a raise lands. Where it asks for nothing it
+/// leads on.
+#[tactic(auto, using(crate::proofs::heap_rows::RowLemmas::asks_lead, crate::proofs::heap_rows::RowLemmas::moves_lead, crate::proofs::heap_rows::RowLemmas::leaves_lead, crate::proofs::heap_rows::RowLemmas::discards_lead))]
 pub fn instructions_lead_where_answers_do()
-    ensures operations { (program : Program) (code : CodeObject Value) (i : Ins) (h : Here Value)
-        (st : Stores) → OperationsLead program code i h st }
-    ensures loads { (program : Program) (code : CodeObject Value) (i : Ins) (h : Here Value)
-        (st : Stores) → LoadsLead program code i h st }
-    ensures cells { (program : Program) (code : CodeObject Value) (i : Ins) (h : Here Value)
-        (st : Stores) → CellsLead program code i h st }
-    ensures deeds { (program : Program) (code : CodeObject Value) (i : Ins) (h : Here Value)
-        (st : Stores) → DeedsLead program code i h st }
-    ensures branches { (program : Program) (code : CodeObject Value) (i : Ins) (h : Here Value)
-        (st : Stores) → BranchesLead program code i h st }
+    ensures asks { (program : Program) (code : CodeObject Value) (i : Ins) (h : Here Value)
+        (st : Stores) → AsksLead program code i h st }
     ensures moves { (program : Program) (code : CodeObject Value) (i : Ins) (h : Here Value)
         (st : Stores) → MovesLead program code i h st }
     ensures leaves { (program : Program) (code : CodeObject Value) (i : Ins) (h : Here Value)

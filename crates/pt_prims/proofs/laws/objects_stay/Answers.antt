@@ -1,5 +1,5 @@
 use Rattle.pt_prims.specs.Operations.{content_of}
-use Rattle.pt_prims.proofs.LawLemmas.{objects-stay}
+use Rattle.pt_prims.proofs.StayLemmas.{objects-stay}
 use Rattle.pt_prims.proofs.laws.objects_stay.Goals as goal
 
 pub returns : goal.returns

@@ -2,7 +2,7 @@ use Rattle.std.proofs.Common.{◌≡◌, refl, subst}
 use Rattle.pt_run_code.specs.CodeRun.{CodeBrokeOff, CodeFinished}
 use Rattle.pt_words.specs.Asked.{asked}
 use Rattle.pt_prog.specs.LogText.{final}
-use Rattle.pt_prog.specs.Answer.{IsRunnableFile, of_code, unbuilt_code}
+use Rattle.pt_prog.specs.Answer.{IsRunnableFile, code_read, of_code, unbuilt_code}
 use Rattle.pt_prog.specs.declared.end.End.TheVariants as end
 use Rattle.pt_prog.proofs.RunLemmas.{code_says, code_taken, every_err, every_err_of, every_ok_of, front_of_code_run, front_of_totals, ok_behind, err_behind, runnable, unbuilt_file}
 use Rattle.pt_prog.proofs.exec.run_verified.Goals as goal
@@ -41,7 +41,7 @@ returns-in_err-write_totals-clause-err g c =
     let done = subst (λ b. CodeFinished c.args.code.now c.args.line.now.steps b (g.O.Sink.taken c.args.out.now) (g.O.Sink.taken c.run_code.new.out)
     (g.L.Sink.taken c.args.log.now) (g.L.Sink.taken c.run_code.new.log) c.in_ok-ended.ended) c.tells_events-events.ensures c.in_ok-ended.ensures.ok in
     every_err a c.args.bytes.now _ _ _ _ c.from_residual-in_err-write_totals.result _ c.from_residual-in_err-write_totals.ensures
-    (front_of_totals a c.args.bytes.now c.in_ok-ended.ended done.outcome done.work
+    (front_of_totals a c.args.bytes.now (code_read a c.args.code.now) c.in_ok-ended.ended done.outcome done.work
     (code_says a c.args.bytes.now c.args.code.now is c.requires.reads c.in_ok-ended.ended _ _ _ _ done) _ _ _ _
     (code_taken a c.args.bytes.now c.args.code.now is c.requires.reads c.in_ok-ended.ended _ _ _ _ done) _ _ _ c.in_err-write_totals.ensures.err)
 
@@ -51,7 +51,7 @@ returns-clause-ok g c =
     let is = runnable c.args.bytes.now c.args.code.now c.requires.verified.is_file c.requires.verified.fits c.in_ok-found.found c.in_ok-found.ensures c.in_default.is in
     let done = subst (λ b. CodeFinished c.args.code.now c.args.line.now.steps b (g.O.Sink.taken c.args.out.now) (g.O.Sink.taken c.run_code.new.out)
     (g.L.Sink.taken c.args.log.now) (g.L.Sink.taken c.run_code.new.log) c.in_ok-ended.ended) c.tells_events-events.ensures c.in_ok-ended.ensures.ok in
-    ok_behind a c.args.bytes.now c.in_ok-ended.ended done.outcome done.work
+    ok_behind a c.args.bytes.now (code_read a c.args.code.now) c.in_ok-ended.ended done.outcome done.work
     (code_says a c.args.bytes.now c.args.code.now is c.requires.reads c.in_ok-ended.ended _ _ _ _ done) _ _ _ _
     (code_taken a c.args.bytes.now c.args.code.now is c.requires.reads c.in_ok-ended.ended _ _ _ _ done) _ _ _ _
     c.in_ok-write_totals.ensures.ok c.write_last.result c.write_last.ensures.ok
@@ -62,7 +62,7 @@ returns-clause-err g c =
     let is = runnable c.args.bytes.now c.args.code.now c.requires.verified.is_file c.requires.verified.fits c.in_ok-found.found c.in_ok-found.ensures c.in_default.is in
     let done = subst (λ b. CodeFinished c.args.code.now c.args.line.now.steps b (g.O.Sink.taken c.args.out.now) (g.O.Sink.taken c.run_code.new.out)
     (g.L.Sink.taken c.args.log.now) (g.L.Sink.taken c.run_code.new.log) c.in_ok-ended.ended) c.tells_events-events.ensures c.in_ok-ended.ensures.ok in
-    err_behind a c.args.bytes.now c.in_ok-ended.ended done.outcome done.work
+    err_behind a c.args.bytes.now (code_read a c.args.code.now) c.in_ok-ended.ended done.outcome done.work
     (code_says a c.args.bytes.now c.args.code.now is c.requires.reads c.in_ok-ended.ended _ _ _ _ done) _ _ _ _
     (code_taken a c.args.bytes.now c.args.code.now is c.requires.reads c.in_ok-ended.ended _ _ _ _ done) _ _ _ _
     c.in_ok-write_totals.ensures.ok c.write_last.result c.write_last.ensures.err

@@ -1,6 +1,6 @@
 use Rattle.std.proofs.Common.{sym, ap, inl, inr, arith}
 use Rattle.std.proofs.lemmas.Grind.{common_steps}
-use Rattle.pt_tree.proofs.StatementFolds.{branch_of-parts, stm_of-Annotated, stm_of-Assert, stm_of-Raise, stm_of-RaiseAgain, stm_of-Import, stm_of-ImportFrom, stm_of-For, stm_of-Try, stm_of-With, stm_of-Class}
+use Rattle.pt_tree.proofs.StatementFolds.{branch_of-parts, stm_of-Annotated, stm_of-Assert, stm_of-Raise, stm_of-RaiseAgain, stm_of-Import, stm_of-ImportFrom, stm_of-Try, stm_of-With, stm_of-Class}
 use Rattle.pt_supported.specs.Built.{unbuilt_stm}
 use Rattle.pt_supported.proofs.Walk.{or-assoc}
 use Rattle.pt_supported.proofs.statements.+statements.Goals as goal
@@ -21,8 +21,7 @@ unbuilt_statement-returns-in-Assert t c = elim c.in-Assert.is [
   | inr (inr (inl is)) ↦ sym (ap unbuilt_stm (stm_of-RaiseAgain c.args.s.now is))
   | inr (inr (inr (inl (x0, is)))) ↦ sym (ap unbuilt_stm (stm_of-Import c.args.s.now x0 is))
   | inr (inr (inr (inr (inl (x0, x1, is))))) ↦ sym (ap unbuilt_stm (stm_of-ImportFrom c.args.s.now x0 x1 is))
-  | inr (inr (inr (inr (inr (inl (x0, x1, x2, x3, is)))))) ↦ sym (ap unbuilt_stm (stm_of-For c.args.s.now x0 x1 x2 x3 is))
-  | inr (inr (inr (inr (inr (inr (inl (x0, x1, x2, x3, is))))))) ↦ sym (ap unbuilt_stm (stm_of-Try c.args.s.now x0 x1 x2 x3 is))
-  | inr (inr (inr (inr (inr (inr (inr (inl (x0, x1, is)))))))) ↦ sym (ap unbuilt_stm (stm_of-With c.args.s.now x0 x1 is))
-  | inr (inr (inr (inr (inr (inr (inr (inr (x0, x1, x2, x3, x4, x5, is)))))))) ↦ sym (ap unbuilt_stm (stm_of-Class c.args.s.now x0 x1 x2 x3 x4 x5 is))
+  | inr (inr (inr (inr (inr (inl (x0, x1, x2, x3, is)))))) ↦ sym (ap unbuilt_stm (stm_of-Try c.args.s.now x0 x1 x2 x3 is))
+  | inr (inr (inr (inr (inr (inr (inl (x0, x1, is))))))) ↦ sym (ap unbuilt_stm (stm_of-With c.args.s.now x0 x1 is))
+  | inr (inr (inr (inr (inr (inr (inr (x0, x1, x2, x3, x4, x5, is))))))) ↦ sym (ap unbuilt_stm (stm_of-Class c.args.s.now x0 x1 x2 x3 x4 x5 is))
 ]

@@ -2,7 +2,7 @@ use Rattle.std.proofs.Common.{rules, ◌≡◌, ◌==◌, ◌+◌, ◌∙◌, tr
 use Rattle.std.specs.List.{list_any}
 use Rattle.pt_base.specs.declared.numbers.Line.{Line}
 use Rattle.pt_bdb.specs.Breakpoints.{Table, has_code, rises}
-use Rattle.pt_bdb.proofs.Rows.{only_memory, rises-new}
+use Rattle.pt_bdb.proofs.Rows.{only_memory, rises-new, set_error}
 use Rattle.pt_bdb.proofs.breaks.Breaks.set.Goals as goal
 
 pub invariant_of-self-2 : goal.invariant_of-self-2
@@ -24,3 +24,6 @@ returns-in_err-push-clause-no_code c =
     ap (λ (t : Table). has_code t c.args.line) (sym c.self.view_is)
     ∙ ap (list_any (λ (l : Line). l.0 == c.args.line.0)) (sym c.as_slice.ensures) ∙ sym c.contains.ensures.value ∙ found in
     only_memory c.from_residual.result c.args.line (has_code c.args.self.now c.args.line) c.from_residual.ensures.1 there
+
+pub returns-in_err-push-clause-only : goal.returns-in_err-push-clause-only
+returns-in_err-push-clause-only c = set_error c.from_residual.result c.args.line c.from_residual.ensures.1

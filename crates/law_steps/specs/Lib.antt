@@ -1,0 +1,4 @@
+pub mod leads
+pub mod returns
+pub mod sessions
+pub mod waiting

@@ -1,0 +1,4 @@
+pub mod Truths
+pub mod Equalities
+pub mod Membership
+pub mod Comparisons

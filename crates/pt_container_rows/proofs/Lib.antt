@@ -1,0 +1,6 @@
+pub mod TakeLemmas
+pub mod DisplayLemmas
+pub mod ItemLemmas
+pub mod ChangeLemmas
+pub mod IteratorLemmas
+pub mod UnpackLemmas

@@ -1,0 +1,4 @@
+pub mod Keyed
+pub mod Entering
+pub mod Items
+pub mod Methods

@@ -1,0 +1,4 @@
+pub mod Pendings
+pub mod Views
+pub mod Stands
+pub mod Laws

@@ -1,0 +1,181 @@
+-- What calls of builtin functions and classes give (Library Reference, "Built-in Functions"; "Built-in Types").
+use Rattle.std.specs.Prelude.{ℕ, ℤ, pos, negsuc, ◌&&◌, true, false, List, [], ◌∷◌, Option, Some, None, nat_lt, nat_le, slice_get, if◌then◌else◌}
+use Rattle.std.specs.Char.{encode_utf8}
+use Rattle.std.specs.Str.{chars}
+use Rattle.pt_base.specs.declared.operators.BinOp.TheVariants.{FloorDiv, Mod}
+use Rattle.pt_base.specs.declared.operators.UnOp.TheVariants.{Plus, Minus}
+use Rattle.pt_base.specs.declared.what.What.TheVariants.{Feature, Surrogate}
+use Rattle.pt_heap.specs.declared.value.Value.{Value}
+use Rattle.pt_heap.specs.declared.value.Value.TheVariants as value
+use Rattle.pt_heap.specs.declared.object.Object.{Object}
+use Rattle.pt_heap.specs.declared.object.Object.TheVariants as object
+use Rattle.pt_heap.specs.declared.object.Part.{Part}
+use Rattle.pt_heap.specs.declared.object.Part.TheVariants.{Keys, Values, Items}
+use Rattle.pt_ints.specs.declared.answer.IntAns.{IntAns}
+use Rattle.pt_ints.specs.declared.answer.IntAns.TheVariants as integer
+use Rattle.pt_ints.specs.Answer.{binary_answer, unary_answer}
+use Rattle.pt_attrs.specs.Look.{object_of}
+use Rattle.pt_content.specs.declared.answer.Helper.TheVariants.{NextOf, NextOrOf}
+use Rattle.pt_content.specs.declared.answer.PrimAns.TheVariants as answer
+use Rattle.pt_content.specs.declared.class.TheConstants.{TYPE_ERROR, VALUE_ERROR}
+use Rattle.pt_content.specs.declared.content.Content.{Content}
+use Rattle.pt_content.specs.declared.content.Content.TheVariants as content
+use Rattle.pt_content.specs.declared.function.Function.{Function}
+use Rattle.pt_content.specs.declared.function.Function.TheVariants as function
+use Rattle.pt_content.specs.declared.operand.Operand.{Operand}
+use Rattle.pt_content.specs.declared.operand.Operand.TheVariants.{Number, Text, Instance}
+use Rattle.pt_content.specs.Operands.{operand_of, text_of}
+use Rattle.pt_content.specs.TypeErrors.{bad_argument}
+use Rattle.pt_sequences.specs.Cursors.{iterator_content, next_content}
+use Rattle.pt_sequences.specs.Displays.{tuple_content}
+use Rattle.pt_sequences.specs.Lengths.{length_content}
+use Rattle.pt_sequences.specs.Ranges.{range_content}
+use Rattle.pt_reprs.specs.Texts.{new_text, print_content, repr_content, str_content}
+use Rattle.pt_prims.specs.declared.calls.TheConstants.{STOP_ITERATION}
+use Rattle.pt_prims.specs.Arithmetic.{integer_content}
+use Rattle.pt_comparisons.specs.Truths.{truth_content, truth_value}
+
+-- `abs`
+abbrev pub magnitude : ℤ → IntAns
+magnitude (pos n) = unary_answer Plus (pos n)
+magnitude (negsuc n) = unary_answer Minus (negsuc n)
+
+abbrev pub magnitude_by : Operand → Content
+magnitude_by (Number z) = integer_content (magnitude z)
+magnitude_by k = bad_argument TYPE_ERROR
+
+-- `divmod`: a quotient and a remainder, or what keeps the quotient from being there
+abbrev pub quotient_and_remainder : IntAns → IntAns → Content
+quotient_and_remainder (integer.Value q) (integer.Value r) = tuple_content (value.Int q ∷ value.Int r ∷ [])
+quotient_and_remainder (integer.Value q) r = integer_content r
+quotient_and_remainder q r = integer_content q
+
+abbrev pub division_by : Operand → Operand → Content
+division_by (Number a) (Number b) = quotient_and_remainder (binary_answer FloorDiv a b) (binary_answer Mod a b)
+division_by k l = bad_argument TYPE_ERROR
+
+-- `ord`: of a text with one character
+abbrev pub code_of : List ℕ → Content
+code_of (c ∷ []) = content.Value (value.Int (pos c))
+code_of cs = bad_argument VALUE_ERROR
+
+abbrev pub code_by : Option (List ℕ) → Content
+code_by (Some t) = code_of (chars t)
+code_by None = bad_argument TYPE_ERROR
+
+-- `chr`: below 0x110000; a half of a surrogate pair, from 0xd800 and below 0xe000, is no character of a text
+abbrev pub char_of : ℕ → Content
+char_of n =
+    if nat_le 1114112 n then bad_argument VALUE_ERROR
+    else (if nat_le 55296 n && nat_lt n 57344 then content.Outside Surrogate else new_text (encode_utf8 n))
+
+abbrev pub char_by : Operand → Content
+char_by (Number (pos n)) = char_of n
+char_by (Number (negsuc n)) = bad_argument VALUE_ERROR
+char_by k = bad_argument TYPE_ERROR
+
+-- `int`: of a number; of a text that isn't there yet
+abbrev pub integer_by : Operand → Content
+integer_by (Number z) = content.Value (value.Int z)
+integer_by Text = content.Outside Feature
+integer_by k = bad_argument TYPE_ERROR
+
+-- `callable`: the method of an instance isn't asked yet
+abbrev pub callable_by : Operand → Option Object → Content
+callable_by Instance o = content.Outside Feature
+callable_by k (Some (object.Function f)) = truth_value true
+callable_by k (Some (object.Method m)) = truth_value true
+callable_by k (Some (object.Builtin b)) = truth_value true
+callable_by k (Some (object.Class c)) = truth_value true
+callable_by k o = truth_value false
+
+-- the place of a class of builtin values
+abbrev pub builtin_class : (place : ℕ) → Value
+builtin_class n = value.Obj (record { 0 = n })
+
+abbrev pub view_class : Part → Value
+view_class Keys = builtin_class 22
+view_class Values = builtin_class 23
+view_class Items = builtin_class 24
+
+abbrev pub class_of_object : Option Object → Value
+class_of_object (Some (object.Str t)) = builtin_class 4
+class_of_object (Some (object.List vs)) = builtin_class 5
+class_of_object (Some (object.Tuple vs)) = builtin_class 6
+class_of_object (Some (object.Set es)) = builtin_class 7
+class_of_object (Some (object.Dict es)) = builtin_class 8
+class_of_object (Some (object.Range r)) = builtin_class 9
+class_of_object (Some (object.Slice s)) = builtin_class 10
+class_of_object (Some (object.Function f)) = builtin_class 14
+class_of_object (Some (object.Method m)) = builtin_class 15
+class_of_object (Some (object.Builtin b)) = builtin_class 16
+class_of_object (Some (object.Generator n)) = builtin_class 17
+class_of_object (Some (object.Frame f)) = builtin_class 18
+class_of_object (Some (object.CodeRef b g)) = builtin_class 19
+class_of_object (Some (object.Module m)) = builtin_class 20
+class_of_object (Some (object.Super s)) = builtin_class 21
+class_of_object (Some (object.View v)) = view_class v.part
+class_of_object (Some (object.Cursor c)) = builtin_class 25
+class_of_object (Some (object.Class c)) = builtin_class 1
+class_of_object (Some (object.Instance x)) = value.Obj x.class
+class_of_object (Some (object.Error x)) = value.Obj x.class
+class_of_object None = builtin_class 0
+
+-- `type` of one value
+abbrev pub class_of : List Object → Value → Value
+class_of h (value.Bool b) = builtin_class 3
+class_of h (value.Int z) = builtin_class 2
+class_of h value.None = builtin_class 11
+class_of h value.Ellipsis = builtin_class 12
+class_of h value.NotImplemented = builtin_class 13
+class_of h (value.Obj id) = class_of_object (slice_get h id.0)
+
+-- `next` raises where there is no item, or gives another value
+abbrev pub or_raise : Content → Content
+or_raise (content.Changed c answer.End) = content.Changed c (answer.Raise STOP_ITERATION None)
+or_raise c = c
+
+abbrev pub or_default : (default : Value) → Content → Content
+or_default v (content.Changed c answer.End) = content.Changed c (answer.Value v)
+or_default v (content.Help NextOf inverted) = content.Help NextOrOf inverted
+or_default v c = c
+
+-- those that take an argument or none, and those that take one or two
+abbrev pub call_next : List Value → List Object → Content
+call_next (a ∷ []) h = or_raise (next_content h a)
+call_next (a ∷ default ∷ []) h = or_default default (next_content h a)
+call_next vs h = content.Outside Feature
+
+abbrev pub call_int : List Value → List Object → Content
+call_int [] h = content.Value (value.Int (pos 0))
+call_int (a ∷ []) h = integer_by (operand_of h a)
+call_int vs h = content.Outside Feature
+
+abbrev pub call_bool : List Value → List Object → Content
+call_bool [] h = truth_value false
+call_bool (a ∷ []) h = truth_content h a
+call_bool vs h = content.Outside Feature
+
+abbrev pub call_str : List Value → List Object → Content
+call_str [] h = new_text []
+call_str (a ∷ []) h = str_content h a
+call_str vs h = content.Outside Feature
+
+-- a row for each function; of other numbers of arguments there is none
+abbrev pub call_content : Function → List Value → List Object → Content
+call_content function.Print (separator ∷ end ∷ vs) h = print_content h separator end vs
+call_content function.Len (a ∷ []) h = length_content h a
+call_content function.Repr (a ∷ []) h = repr_content h a
+call_content function.Iter (a ∷ []) h = iterator_content h a
+call_content function.Next vs h = call_next vs h
+call_content function.Abs (a ∷ []) h = magnitude_by (operand_of h a)
+call_content function.Divmod (a ∷ b ∷ []) h = division_by (operand_of h a) (operand_of h b)
+call_content function.Ord (a ∷ []) h = code_by (text_of h a)
+call_content function.Chr (a ∷ []) h = char_by (operand_of h a)
+call_content function.Callable (a ∷ []) h = callable_by (operand_of h a) (object_of h a)
+call_content function.Type (a ∷ []) h = content.Value (class_of h a)
+call_content function.Int vs h = call_int vs h
+call_content function.Bool vs h = call_bool vs h
+call_content function.Str vs h = call_str vs h
+call_content function.Range vs h = range_content h vs
+call_content f vs h = content.Outside Feature

@@ -1,0 +1,104 @@
+ghost use Rattle.std.specs.Prelude.{◌≡◌, IfOk};
+ghost use Rattle.pt_attrs.specs.Look.{object_of};
+ghost use Rattle.pt_content.specs.Operands.{operand_of};
+ghost use Rattle.pt_prims.specs.InPlace.{extended, in_place, in_place_content, list_repeated};
+
+use crate::arithmetic::binary_content;
+use crate::sequences::concatenation;
+use pt_attrs::object_of;
+use pt_base::{BinOp, Memory, Seq, What};
+use pt_content::{
+    Change, Content, Helper, Mutable, NewObject, Operand, PrimAns, Replacement, operand_of,
+};
+use pt_heap::{Heap, Object, Value};
+use pt_sequences::{asked_or, list_content, repeated_list};
+use std::alloc::Global;
+
+/// A list takes the items of one that would be new.
+fn in_place(alloc: Global, list: Value, content: Content) -> Content
+    ensures { result ≡ in_place list content }
+{
+    match (list, content) {
+        (Value::Obj(id), Content::New(NewObject::List(items))) => Content::Changed {
+            change: Change {
+                replacement: Some(Replacement {
+                    id,
+                    object: Mutable::List(items),
+                }),
+                objects: Seq::new(alloc),
+            },
+            answer: PrimAns::Value(list),
+        },
+        (_, content) => content,
+    }
+}
+
+/// `+=` of a list, of the items of another value.
+fn extended(
+    alloc: Global,
+    heap: &Heap,
+    list: Value,
+    items: &[Value],
+    other: Value,
+) -> Result<Content, Memory>
+    ensures { IfOk result (λ content. content
+        ≡ extended heap.now list items.now other (object_of heap.now other)) }
+{
+    match object_of(heap, other) {
+        Some(Object::List(more)) => {
+            let items = concatenation(alloc, items, more.as_slice())?;
+            Ok(in_place(alloc, list, list_content(items)))
+        }
+        Some(Object::Tuple(more)) => {
+            let items = concatenation(alloc, items, more.as_slice())?;
+            Ok(in_place(alloc, list, list_content(items)))
+        }
+        Some(Object::Str(_)) => Ok(Content::Outside(What::Feature)),
+        Some(Object::Range(_)) => Ok(Content::Outside(What::Feature)),
+        Some(Object::Cursor(_)) => Ok(Content::Outside(What::Feature)),
+        Some(Object::Dict(_)) => Ok(Content::Outside(What::Feature)),
+        Some(Object::Set(_)) => Ok(Content::Outside(What::Feature)),
+        Some(Object::View(_)) => Ok(Content::Outside(What::Feature)),
+        Some(Object::Generator(_)) => Ok(Content::Outside(What::Feature)),
+        _ => asked_or(alloc, Helper::ExtendOf, "iterable", heap, other),
+    }
+}
+
+/// `*=` of a list.
+fn list_repeated(
+    alloc: Global,
+    heap: &Heap,
+    list: Value,
+    items: &[Value],
+    other: Value,
+) -> Result<Content, Memory>
+    ensures { IfOk result (λ content. content
+        ≡ list_repeated heap.now list items.now other (operand_of heap.now other)) }
+{
+    match operand_of(heap, other) {
+        Operand::Number(number) => {
+            let content = repeated_list(alloc, number, items)?;
+            Ok(in_place(alloc, list, content))
+        }
+        _ => binary_content(alloc, BinOp::Mul, heap, list, other),
+    }
+}
+
+/// `a OP= b` (Language Reference 7.2.1). A list changes in place.
+pub fn in_place_content(
+    alloc: Global,
+    op: BinOp,
+    heap: &Heap,
+    a: Value,
+    b: Value,
+) -> Result<Content, Memory>
+    ensures { IfOk result (λ content. content ≡ in_place_content op heap.now a b) }
+{
+    match (op, object_of(heap, a)) {
+        (BinOp::Add, Some(Object::List(items))) => extended(alloc, heap, a, items.as_slice(), b),
+        (BinOp::Mul, Some(Object::List(items))) => {
+            list_repeated(alloc, heap, a, items.as_slice(), b)
+        }
+        _ => binary_content(alloc, op, heap, a, b),
+    }
+}

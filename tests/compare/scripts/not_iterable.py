@@ -1,0 +1,5 @@
+def each(xs):
+    for x in xs:
+        print(x)
+each([1])
+each(1)

@@ -1,0 +1,8 @@
+print()
+print(1, "a", None, True, ..., [1], (2,), ())
+print(1, 2, 3, sep="", end=";\n")
+print(end="no line\n")
+print("a", sep=None, end=None)
+print([["it's"], ('"', "\n")], repr("x"), str([str(1)]))
+print(int, type(1), type("") is str)
+print(1, sep=2)

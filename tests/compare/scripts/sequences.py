@@ -1,0 +1,6 @@
+print([1] + [2] * 3, (1,) * 2 + (3,), "ab" * 2 + "c", 0 * [1], -1 * (1,))
+print([1, [2, 3]] == [1, [2, 3]], (1, 2) != (1, 2), [1] == (1,), range(3) == range(0, 3, 1))
+print(1 in [0, True], "b" in "abc", "" in "", [1] in [[1]], 2 not in (1, 3))
+print("abc" < "abd", "Z" < "a", "" <= "", "b" > "abc")
+print(not [], not (0,), bool(""), bool(range(0)), [] or "empty", () and 1)
+[1] + (2,)
