@@ -24,12 +24,12 @@ use Rattle.pt_verify_depths.proofs.ObjectRuns.{object_runs}
 use Rattle.sem_run.specs.run.Machine.{BlockId, Machine, refuses, not_at_line}
 use Rattle.sem_run.specs.run.Source.{or_null}
 use Rattle.sem_code.specs.comp_expr.Law.{active_at}
-use Rattle.pt_host.specs.World.{Names, World, no_names, start_world}
-use Rattle.pt_host.specs.HeapHost.{heap_host}
+use Rattle.sem_rows.specs.pt_host.World.{Names, World, no_names, start_world}
+use Rattle.sem_rows.specs.pt_host.HeapHost.{heap_host}
 use Rattle.pt_bare_runs.specs.Strides as bare
 use Rattle.pt_bare_runs.specs.Strides.{Outcome, take_turn}
 use Rattle.pt_bare_writes.proofs.FrontLemmas.{outcomes_begin_so}
-use Rattle.sem_code_machine.specs.code_machine.CodeBlocks.{machine, start_of}
+use Rattle.sem_rows.specs.sem_code_machine.code_machine.CodeBlocks.{machine, start_of}
 use Rattle.pt_run_code.specs.pt_code_loader.Loaded.{iterates}
 use Rattle.law_fits.proofs.Runs.{starts_sound}
 use Rattle.pt_run_code.specs.pt_runner.Work.{Work, RunDoes}

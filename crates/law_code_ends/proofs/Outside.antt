@@ -12,8 +12,8 @@ use Rattle.sem_run.specs.run.State.{OpenAsk}
 use Rattle.sem_run.specs.run.Step.{callee_of, line_before}
 use Rattle.sem_run.specs.transitions.Transitions.{by_answer}
 use Rattle.sem_run.specs.transitions.Successors.{successor}
-use Rattle.pt_host.specs.World.{Names, World, Program}
-use Rattle.pt_host.specs.HeapHost.{heap_host}
+use Rattle.sem_rows.specs.pt_host.World.{Names, World, Program}
+use Rattle.sem_rows.specs.pt_host.HeapHost.{heap_host}
 use Rattle.sem_rows.specs.heap_rows.Leads.{LeavesFeature, HasHeapExtras}
 use Rattle.pt_bare_runs.specs.Strides as B
 use Rattle.pt_bare_runs.specs.Strides.{State, Stride, take_turn}

@@ -6,7 +6,7 @@ use Rattle.pt_code.specs.File.{HasFile}
 use Rattle.sem_run.specs.run.Run.{Write}
 use Rattle.pt_bare_runs.specs.Strides.{Outcome}
 use Rattle.sem_fits.specs.fits.Fits.{AllFit}
-use Rattle.pt_host.specs.World.{World}
+use Rattle.sem_rows.specs.pt_host.World.{World}
 use Rattle.pt_run_code.specs.pt_runner.Work.{Work}
 use Rattle.pt_run_code.specs.CodeRun.{CodeRunsTo, CodeWritesFirst}
 

@@ -38,18 +38,18 @@ use Rattle.pt_content.specs.declared.operand.Operand.TheVariants as operand
 use Rattle.pt_prims.specs.Operations.{content_of, grown, prim_heap}
 use Rattle.sem_run.specs.run.Machine.{BlockId}
 use Rattle.sem_run.specs.run.Host.{Here, BlockResult, answer, raise, print, leave, request, opens, made, beyond}
-use Rattle.pt_host.specs.World.{Names, Stores, CodeFacts, Program, Allotted, with_objects, allot}
-use Rattle.pt_host.specs.Trees.{Tree, answer_with, raise_with}
-use Rattle.pt_host.specs.Builtins as B
-use Rattle.pt_host.specs.Builtins.{builtin}
-use Rattle.pt_host.specs.Errors.{error_saying, raise_saying}
-use Rattle.pt_host.specs.declared.places.TheConstants.{TYPE_ERROR}
-use Rattle.pt_host.specs.Texts.{unbound_text, unbound_class, binding_text, not_callable_text}
-use Rattle.pt_host.specs.Variables.{cell_number, with_cell, put, make_anew, raise_unbound, by_builtin, unless_bound, readable_value, variable_value, load_by, delete_by}
-use Rattle.pt_host.specs.Primitives.{Awaited, asked, one_value, done, a_truth, so_many, item_or_end}
-use Rattle.pt_host.specs.Calls.{not_callable, number_of, function_object, first_value, cells_from, cells_along, result_of, block_of, parameters_given, run_block, call_bound, is_simple, call_function, operands_of, call_with, call_builtin, class_function, call_other, call_object, call_value, call, has_spread, arguments}
-use Rattle.pt_host.specs.Answers.{change_of, by_change, unpacking, deeds, operation_of, by_operation, operate, seeks, answers}
-use Rattle.pt_host.proofs.AskedEnds.{Ends, AllotsIn, asked-ends}
+use Rattle.sem_rows.specs.pt_host.World.{Names, Stores, CodeFacts, Program, Allotted, with_objects, allot}
+use Rattle.sem_rows.specs.pt_host.Trees.{Tree, answer_with, raise_with}
+use Rattle.sem_rows.specs.pt_host.Builtins as B
+use Rattle.sem_rows.specs.pt_host.Builtins.{builtin}
+use Rattle.sem_rows.specs.pt_host.Errors.{error_saying, raise_saying}
+use Rattle.sem_rows.specs.pt_host.declared.places.TheConstants.{TYPE_ERROR}
+use Rattle.sem_rows.specs.pt_host.Texts.{unbound_text, unbound_class, binding_text, not_callable_text}
+use Rattle.sem_rows.specs.pt_host.Variables.{cell_number, with_cell, put, make_anew, raise_unbound, by_builtin, unless_bound, readable_value, variable_value, load_by, delete_by}
+use Rattle.sem_rows.specs.pt_host.Primitives.{Awaited, asked, one_value, done, a_truth, so_many, item_or_end}
+use Rattle.sem_rows.specs.pt_host.Calls.{not_callable, number_of, function_object, first_value, cells_from, cells_along, result_of, block_of, parameters_given, run_block, call_bound, is_simple, call_function, operands_of, call_with, call_builtin, class_function, call_other, call_object, call_value, call, has_spread, arguments}
+use Rattle.sem_rows.specs.pt_host.Answers.{change_of, by_change, unpacking, deeds, operation_of, by_operation, operate, seeks, answers}
+use Rattle.sem_rows.proofs.pt_host.AskedEnds.{Ends, AllotsIn, asked-ends}
 use Rattle.law_frames.specs.RunNames.{HasItsNames, TakesCells, AllTakeCells, StoresHaveNames}
 use Rattle.law_frames.proofs.Stores.{IsOneOf, put-keeps, all-both, all-set, all-get, AllotsCells, allotted, error-allotted, saying-allotted, other-objects}
 

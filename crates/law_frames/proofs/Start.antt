@@ -5,7 +5,7 @@ use Rattle.pt_heap.specs.declared.object.Object.TheVariants as object
 use Rattle.pt_builtin_objects.specs.declared.Kind.{Kind}
 use Rattle.pt_builtin_objects.specs.declared.Kind.TheVariants as kind
 use Rattle.pt_builtin_objects.specs.Start.{object_of, objects_of, start_rows, start_objects}
-use Rattle.pt_host.specs.World.{Program}
+use Rattle.sem_rows.specs.pt_host.World.{Program}
 use Rattle.law_frames.specs.RunNames.{TakesCells, AllTakeCells}
 use Rattle.law_frames.specs.Laws.{RunsBeginWithTheirNames}
 

@@ -17,8 +17,8 @@ use Rattle.pt_heap.specs.declared.object.Object.TheVariants as object
 use Rattle.pt_content.specs.Changes.{next_object}
 use Rattle.sem_run.specs.run.Machine.{BlockId}
 use Rattle.sem_run.specs.run.Host.{made, beyond}
-use Rattle.pt_host.specs.World.{Stores, Program, Allotted, allot, allot_then, with_objects}
-use Rattle.pt_host.specs.Errors.{error, error_saying}
+use Rattle.sem_rows.specs.pt_host.World.{Stores, Program, Allotted, allot, allot_then, with_objects}
+use Rattle.sem_rows.specs.pt_host.Errors.{error, error_saying}
 use Rattle.law_frames.specs.RunNames.{TakesCells, AllTakeCells, StoresHaveNames}
 
 -- a name of a list

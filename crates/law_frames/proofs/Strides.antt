@@ -21,12 +21,12 @@ use Rattle.sem_run.specs.transitions.Transitions.{by_answer, by_finding, of_open
 use Rattle.sem_run.specs.transitions.Successors.{Successor, to, arises, behind_yield, behind_print, behind_request, behind_note, outside, end, none, successor}
 use Rattle.pt_bare_runs.specs.Strides as B
 use Rattle.pt_bare_runs.specs.Strides.{Waiting, Stride, behind}
-use Rattle.pt_host.specs.World.{Names, World, Stores, Program, Allotted}
-use Rattle.pt_host.specs.Errors.{failure, in_heap_of, with_entry, enters}
-use Rattle.pt_host.specs.HeapHost.{heap_host}
-use Rattle.pt_host.specs.Trees.{Tree}
-use Rattle.pt_host.specs.Answers.{answers}
-use Rattle.pt_host.specs.declared.places.TheConstants.{GENERATOR_EXIT, RECURSION_ERROR, RUNTIME_ERROR, VALUE_ERROR}
+use Rattle.sem_rows.specs.pt_host.World.{Names, World, Stores, Program, Allotted}
+use Rattle.sem_rows.specs.pt_host.Errors.{failure, in_heap_of, with_entry, enters}
+use Rattle.sem_rows.specs.pt_host.HeapHost.{heap_host}
+use Rattle.sem_rows.specs.pt_host.Trees.{Tree}
+use Rattle.sem_rows.specs.pt_host.Answers.{answers}
+use Rattle.sem_rows.specs.pt_host.declared.places.TheConstants.{GENERATOR_EXIT, RECURSION_ERROR, RUNTIME_ERROR, VALUE_ERROR}
 use Rattle.std.specs.Prelude.{codes}
 use Rattle.law_frames.specs.RunNames.{HasItsNames, TakesCells, AllTakeCells, StoresHaveNames, WaitingHasNames}
 use Rattle.law_frames.proofs.Stores.{all-set, AllotsCells, error-allotted, saying-allotted}

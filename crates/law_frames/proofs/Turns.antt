@@ -20,10 +20,10 @@ use Rattle.sem_code.specs.slots.Machine.{turn, here, thrown_here}
 use Rattle.sem_run.specs.run.Machine.{BlockId}
 use Rattle.pt_base.specs.declared.what.What.TheVariants.{Feature}
 use Rattle.sem_run.specs.run.Host.{Here, leave}
-use Rattle.pt_host.specs.World.{CodeFacts, Program, Stores, no_names}
-use Rattle.pt_host.specs.Answers.{operate}
+use Rattle.sem_rows.specs.pt_host.World.{CodeFacts, Program, Stores, no_names}
+use Rattle.sem_rows.specs.pt_host.Answers.{operate}
 use Rattle.sem_rows.specs.heap_rows.Leads.{LeavesFeature}
-use Rattle.sem_code_machine.specs.code_machine.CodeBlocks.{CodeBlocks}
+use Rattle.sem_rows.specs.sem_code_machine.code_machine.CodeBlocks.{CodeBlocks}
 use Rattle.sem_rows.specs.variables.Numbers.{cell_name}
 use Rattle.law_frames.specs.Operands.{OperandsName, CodeNamesItsBlocks}
 use Rattle.law_frames.proofs.Stores.{IsOneOf}

@@ -7,8 +7,8 @@ use Rattle.pt_code.specs.View.{Ins}
 use Rattle.sem_control.specs.control.Turn as T
 use Rattle.sem_code.specs.slots.CodeObject.{Pool}
 use Rattle.sem_run.specs.run.Machine.{BlockId}
-use Rattle.pt_host.specs.World.{CodeFacts, Program}
-use Rattle.sem_code_machine.specs.code_machine.CodeBlocks.{CodeBlocks}
+use Rattle.sem_rows.specs.pt_host.World.{CodeFacts, Program}
+use Rattle.sem_rows.specs.sem_code_machine.code_machine.CodeBlocks.{CodeBlocks}
 use Rattle.sem_rows.specs.heap_rows.Leads.{HasHeapExtras}
 use Rattle.sem_rows.specs.variables.Numbers.{KnowsNames}
 

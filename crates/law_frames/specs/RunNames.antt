@@ -6,8 +6,8 @@ use Rattle.pt_heap.specs.declared.value.Value.{Value}
 use Rattle.pt_heap.specs.declared.object.Object.{Object}
 use Rattle.pt_heap.specs.declared.object.Object.TheVariants as object
 use Rattle.sem_run.specs.run.Machine.{BlockId}
-use Rattle.pt_host.specs.World.{Names, World, Stores, CodeFacts, Program}
-use Rattle.pt_host.specs.Calls.{block_of}
+use Rattle.sem_rows.specs.pt_host.World.{Names, World, Stores, CodeFacts, Program}
+use Rattle.sem_rows.specs.pt_host.Calls.{block_of}
 use Rattle.pt_bare_runs.specs.Strides as bare
 use Rattle.pt_bare_runs.specs.Strides.{Waiting}
 

@@ -5,3 +5,5 @@ pub mod code_names;
 pub mod code_program;
 pub mod loaded_scripts;
 pub mod script_program;
+
+pub use pt_code_loader::{load, start};

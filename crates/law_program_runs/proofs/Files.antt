@@ -10,9 +10,9 @@ use Rattle.pt_code.specs.File.{HasFile}
 use Rattle.sem_code.specs.slots.CodeObject.{CodeObject}
 use Rattle.sem_fits.specs.fits.Block.{kinds_at_start}
 use Rattle.sem_run.specs.run.Machine.{BlockId}
-use Rattle.pt_run_code.specs.pt_code_loader.Loaded.{iterates}
-use Rattle.pt_run_code.specs.law_loading.code_program.CodeProgram.{AreObjectsOf, code_blocks, iterates_by, number_in}
-use Rattle.pt_run_code.proofs.law_loading.code_program.Objects.{at_number, begins}
+use Rattle.pt_run_script.specs.pt_run_code.pt_code_loader.Loaded.{iterates}
+use Rattle.pt_run_script.specs.pt_run_code.law_loading.code_program.CodeProgram.{AreObjectsOf, code_blocks, iterates_by, number_in}
+use Rattle.pt_run_script.proofs.pt_run_code.law_loading.code_program.Objects.{at_number, begins}
 use Rattle.law_code_jumps.specs.jump_answers.Known.{SlotsKnown, KnowsCode}
 use Rattle.law_verified_code.specs.Laws.{IsInCode}
 use Rattle.law_verified_code.proofs.Verified.{verified_never_halts}

@@ -7,12 +7,12 @@ use Rattle.pt_bare_writes.proofs.Fronting.{runs_write_it_first}
 use Rattle.sem_code_machine.specs.code_machine.CodeBlocks.{machine}
 use Rattle.pt_host.specs.HeapHost.{heap_host}
 use Rattle.pt_host.specs.World.{no_names, start_world}
-use Rattle.pt_run_code.proofs.pt_runner.GoesTo.{runs_so}
-use Rattle.law_compile.specs.script_runs.Blocks.{script_code, number_of, the_module}
-use Rattle.law_compile.specs.script_runs.Laws.{tree_machine}
-use Rattle.pt_run_code.specs.law_loading.script_program.ScriptProgram.{program_of}
-use Rattle.pt_run_code.specs.law_loading.code_program.CodeProgram.{code_blocks, number_in, program_of_code}
-use Rattle.pt_run_code.specs.CodeRun as run
+use Rattle.pt_run_script.proofs.pt_run_code.pt_runner.GoesTo.{runs_so}
+use Rattle.pt_run_script.specs.law_compile.script_runs.Blocks.{script_code, number_of, the_module}
+use Rattle.pt_run_script.specs.law_compile.script_runs.Laws.{tree_machine}
+use Rattle.pt_run_script.specs.pt_run_code.law_loading.script_program.ScriptProgram.{program_of}
+use Rattle.pt_run_script.specs.pt_run_code.law_loading.code_program.CodeProgram.{code_blocks, number_in, program_of_code}
+use Rattle.pt_run_script.specs.pt_run_code.CodeRun as run
 use Rattle.law_code_jumps.proofs.bare_runs.Turns.{code_bare_runs_are_runs, code_bare_fronts_are_fronts}
 use Rattle.law_program_runs.specs.CodeFiles.{nothing, of_run}
 use Rattle.law_program_runs.specs.Laws.{ScriptRunsAreRuns, ScriptFrontsAreFronts, CodeOfScriptHasItsRun, CodeFileRunsAreRuns, CodeFileFrontsAreFronts}

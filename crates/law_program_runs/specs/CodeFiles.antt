@@ -9,7 +9,7 @@ use Rattle.sem_run.specs.run.Run.{Write}
 use Rattle.sem_run.specs.run.Shown.{Outcome, RunsTo, WritesFirst}
 use Rattle.pt_host.specs.HeapHost.{heap_host}
 use Rattle.pt_host.specs.World.{World, no_names, start_world}
-use Rattle.pt_run_code.specs.law_loading.code_program.CodeProgram.{AreObjectsOf, code_blocks, number_in, program_of_code, the_module}
+use Rattle.pt_run_script.specs.pt_run_code.law_loading.code_program.CodeProgram.{AreObjectsOf, code_blocks, number_in, program_of_code, the_module}
 use Rattle.law_code_runs.specs.code_run.CodeMachine.{CodeSource, Position, machine}
 use Rattle.law_code_jumps.specs.jump_answers.Known.{SlotsKnown}
 use Rattle.law_code_jumps.specs.told_code.Told.{told_code}

@@ -16,12 +16,12 @@ use Rattle.sem_run.specs.run.Shown as run
 use Rattle.sem_run.specs.run.Shown.{Outcome}
 use Rattle.pt_host.specs.HeapHost.{heap_host}
 use Rattle.pt_host.specs.World.{World, no_names, start_world}
-use Rattle.pt_run_code.specs.pt_runner.Work.{Work}
-use Rattle.law_compile.specs.script_runs.Blocks.{the_module}
-use Rattle.law_compile.specs.script_runs.Laws.{tree_machine}
-use Rattle.pt_run_code.specs.law_loading.script_program.ScriptProgram.{program_of}
-use Rattle.pt_run_code.specs.law_loading.code_program.CodeProgram.{AreObjectsOf}
-use Rattle.pt_run_code.specs.CodeRun.{CodeRunsTo, CodeWritesFirst}
+use Rattle.pt_run_script.specs.pt_run_code.pt_runner.Work.{Work}
+use Rattle.pt_run_script.specs.law_compile.script_runs.Blocks.{the_module}
+use Rattle.pt_run_script.specs.law_compile.script_runs.Laws.{tree_machine}
+use Rattle.pt_run_script.specs.pt_run_code.law_loading.script_program.ScriptProgram.{program_of}
+use Rattle.pt_run_script.specs.pt_run_code.law_loading.code_program.CodeProgram.{AreObjectsOf}
+use Rattle.pt_run_script.specs.pt_run_code.CodeRun.{CodeRunsTo, CodeWritesFirst}
 use Rattle.pt_run_script.specs.ScriptRun.{RunsTo, ScriptWritesFirst, CodeRunsBy}
 use Rattle.law_code_jumps.specs.jump_answers.Known.{SlotsKnown, KnowsCode}
 use Rattle.law_text_code.specs.Texts.{told_machine}

@@ -21,8 +21,8 @@ use Rattle.sem_names.specs.BlockNames.{cell_names, class_if, distinct, free_name
 use Rattle.sem_names.specs.Naming.{as_control, is_between, is_free_at, own, scope_or_global, seen}
 use Rattle.sem_names.specs.Regions.{before, class_of, further, is_among, outside}
 use Rattle.sem_names.specs.Script.{Naming, functions_of, naming_script}
-use Rattle.law_files.proofs.code_files.Each.{both, mapped, weaken}
-use Rattle.law_files.proofs.code_files.Sound.{Apart, Differs}
+use Rattle.law_operands.proofs.law_files.code_files.Each.{both, mapped, weaken}
+use Rattle.law_operands.proofs.law_files.code_files.Sound.{Apart, Differs}
 use Rattle.pt_supported.specs.Built.{Built}
 use Rattle.law_operands.proofs.free_names.Distinct.{apart_behind, each_distinct, each_mention}
 use Rattle.law_operands.proofs.free_names.Outwards.{never}

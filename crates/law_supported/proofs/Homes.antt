@@ -11,7 +11,7 @@ use Rattle.pt_scopes.specs.Scope.{home_at, home_of, owner, owns, settled, verdic
 use Rattle.pt_tree.specs.Syntax.{Stms}
 use Rattle.sem_names.specs.Regions.{before, deeper, depth_of, further, is_comprehension, outside, outside_comprehension}
 use Rattle.law_names.proofs.module_names.Homes.{OfKind, regions_have_homes}
-use Rattle.law_files.proofs.code_files.Each.{each_at}
+use Rattle.law_operands.proofs.law_files.code_files.Each.{each_at}
 use Rattle.pt_supported.specs.Built.{Built}
 use Rattle.law_operands.proofs.free_names.Outwards.{nothing_is}
 use Rattle.law_supported.proofs.Plain.{IsPlain, built_is_plain}

@@ -18,7 +18,7 @@ use Rattle.sem_names.specs.Around.{captured_in}
 use Rattle.sem_names.specs.BlockNames.{captured_at, cell_names, class_if, class_taken, distinct, free_names, has_class, is_cell, is_local, local_names, makes_class, named_at, names_in, param_names, read_free, taken_along, variables_of}
 use Rattle.sem_names.specs.Naming.{own, scope_or_global, seen, variable, variable_in}
 use Rattle.sem_names.specs.Script.{Naming, functions_of, naming_script, spelled_in}
-use Rattle.law_files.proofs.code_files.Each.{both, everywhere, mapped, weaken}
+use Rattle.law_operands.proofs.law_files.code_files.Each.{both, everywhere, mapped, weaken}
 use Rattle.pt_supported.specs.Built.{Built}
 use Rattle.law_operands.specs.free_names.FreeNames.{Among, StandsIn}
 use Rattle.law_operands.proofs.free_names.Kept.{any_front}

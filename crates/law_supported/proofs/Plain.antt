@@ -13,7 +13,7 @@ use Rattle.pt_scopes.specs.Places.{Part, ◌⨾◌, nothing, mention, misplaced,
 use Rattle.pt_tree.specs.declared.expression.NamedParameter.{NamedParameter}
 use Rattle.pt_tree.specs.Syntax as S
 use Rattle.pt_tree.specs.Syntax.{Name, Exp, Exps, Opt, Links, Args, Params, Formals, Place, Tgt, Tgts, Decorators, Stm, Stms, Branches}
-use Rattle.law_files.proofs.code_files.Each.{both}
+use Rattle.law_operands.proofs.law_files.code_files.Each.{both}
 use Rattle.std.specs.Option.{option_or}
 use Rattle.pt_supported.specs.Built.{Built, is_available, unless, unbuilt_all, unbuilt_args, unbuilt_branches, unbuilt_decorators, unbuilt_exp, unbuilt_formals, unbuilt_links, unbuilt_of, unbuilt_opt, unbuilt_params, unbuilt_place, unbuilt_stm, unbuilt_target, unbuilt_targets}
 use Rattle.pt_supported.proofs.Never.{first, second, told}

@@ -7,7 +7,7 @@ use Rattle.pt_scopes.specs.declared.region.Mention.{Mention}
 use Rattle.pt_tree.specs.Syntax.{Name}
 use Rattle.sem_control.specs.control.Turn.{Scope, Variable}
 use Rattle.sem_names.specs.BlockNames.{distinct, distinct_behind, names_in, with_name}
-use Rattle.law_files.proofs.code_files.Each.{weaken}
+use Rattle.law_operands.proofs.law_files.code_files.Each.{weaken}
 use Rattle.law_operands.specs.free_names.FreeNames.{Among}
 use Rattle.law_operands.proofs.free_names.Among.{among_behind, among_new, or_right}
 use Rattle.law_operands.proofs.free_names.Outwards.{never, or_left}

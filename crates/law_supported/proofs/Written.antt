@@ -18,11 +18,11 @@ use Rattle.pt_assembler.specs.Tables.{Begins}
 use Rattle.pt_assembler.specs.Layout.{Written, keep_cell, keep_free, keep_local, layout, with_cell, with_free, with_local, with_text}
 use Rattle.pt_assembler.proofs.TableLemmas.{begins_then}
 use Rattle.pt_assembler.proofs.Growth.{Tabled, grows, tabled_same, tabled_then}
-use Rattle.sem_compile.specs.stm_pieces.StmPiece.{code_piece}
-use Rattle.sem_compile.specs.compile.ScriptCode.{BlockLayout, Tables, code_of, empty_block, layout_of, with_all}
-use Rattle.sem_compile.specs.compile.Laws.{IsLayoutIn}
-use Rattle.sem_compile.proofs.compile.Blocks.{all_tabled, blocks_are_laid_out}
-use Rattle.law_files.proofs.code_files.Sound.{Apart, Differs}
+use Rattle.law_operands.specs.law_files.sem_compile.stm_pieces.StmPiece.{code_piece}
+use Rattle.law_operands.specs.law_files.sem_compile.compile.ScriptCode.{BlockLayout, Tables, code_of, empty_block, layout_of, with_all}
+use Rattle.law_operands.specs.law_files.sem_compile.compile.Laws.{IsLayoutIn}
+use Rattle.law_operands.proofs.law_files.sem_compile.compile.Blocks.{all_tabled, blocks_are_laid_out}
+use Rattle.law_operands.proofs.law_files.code_files.Sound.{Apart, Differs}
 use Rattle.pt_supported.specs.Built.{Built}
 use Rattle.law_operands.specs.free_names.FreeNames.{Among, NamedOperands}
 use Rattle.law_operands.proofs.free_names.Begun.{each_among, operands_also}

@@ -10,7 +10,7 @@ use Rattle.sem_names.specs.Around.{names_of}
 use Rattle.pt_instr.specs.declared.TextNo.{TextNo}
 use Rattle.sem_code.specs.slots.BlockObject.{text_in}
 use Rattle.pt_assembler.specs.Layout.{Written}
-use Rattle.sem_compile.specs.compile.ScriptCode.{BlockLayout, code_of, script_layouts}
+use Rattle.law_operands.specs.law_files.sem_compile.compile.ScriptCode.{BlockLayout, code_of, script_layouts}
 use Rattle.law_operands.specs.free_names.FreeNames.{ClassNameIsUnused}
 use Rattle.pt_supported.specs.Built.{Built}
 

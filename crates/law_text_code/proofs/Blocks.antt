@@ -19,20 +19,20 @@ use Rattle.law_code_runs.specs.code_run.Law.{Of}
 use Rattle.law_code_runs.specs.code_run.Parts.{HasClosedParts, KnowsActs}
 use Rattle.law_code_runs.specs.code_follows.Laws.{iterates, HasObject, IsOfScript}
 use Rattle.law_code_runs.proofs.code_follows.Objects.{block_has_its_code}
-use Rattle.law_compile.proofs.read_forms.Texts.{scripts_of_texts_are_formed}
-use Rattle.law_compile.proofs.formed_scripts.Statements.{scripts_are_formed}
-use Rattle.law_compile.proofs.script_objects.Objects.{objects_have_their_code}
-use Rattle.law_compile.proofs.fitting_scripts.Fitting.{blocks_of_texts_fit}
-use Rattle.law_compile.specs.script_runs.Blocks.{number_or_module, code_or_module, block_of, number_of, script_trees, script_code}
+use Rattle.law_jumps.proofs.law_compile.read_forms.Texts.{scripts_of_texts_are_formed}
+use Rattle.law_jumps.proofs.law_compile.formed_scripts.Statements.{scripts_are_formed}
+use Rattle.law_jumps.proofs.law_compile.script_objects.Objects.{objects_have_their_code}
+use Rattle.law_jumps.proofs.law_compile.fitting_scripts.Fitting.{blocks_of_texts_fit}
+use Rattle.law_jumps.specs.law_compile.script_runs.Blocks.{number_or_module, code_or_module, block_of, number_of, script_trees, script_code}
 use Rattle.law_jumps.specs.script_acts.Laws.{IsTold}
 use Rattle.law_jumps.specs.start_nests.Laws.{own_block}
 use Rattle.law_jumps.specs.acts_in_parts.Laws.{JumpsBySlots}
 use Rattle.law_jumps.proofs.script_acts.Script.{script_knows_its_acts}
 use Rattle.law_jumps.proofs.text_parts.Texts.{free_names}
 use Rattle.law_jumps.proofs.text_runs.Texts.{closed_parts}
-use Rattle.law_code_jumps.specs.told_code.Told.{marks_in, size_of}
-use Rattle.law_code_jumps.specs.told_code.Laws.{AnswersJumps}
-use Rattle.law_code_jumps.proofs.told_code.Answered.{answers_are_jumps, told_code_answers_jumps}
+use Rattle.law_jumps.specs.law_code_jumps.told_code.Told.{marks_in, size_of}
+use Rattle.law_jumps.specs.law_code_jumps.told_code.Laws.{AnswersJumps}
+use Rattle.law_jumps.proofs.law_code_jumps.told_code.Answered.{answers_are_jumps, told_code_answers_jumps}
 use Rattle.law_text_code.specs.Texts.{TextCode, IsCodeOfText, text_code}
 
 -- a block of trees and of code is that of a text

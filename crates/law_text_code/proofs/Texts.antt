@@ -7,7 +7,7 @@ use Rattle.law_code_runs.specs.code_run.Law.{IsCodeOf, Script, Coded}
 use Rattle.law_code_runs.specs.code_run.Parts.{HasClosedParts, KnowsActs}
 use Rattle.law_code_runs.proofs.code_run.Following.{has_the_runs}
 use Rattle.law_code_runs.proofs.code_run.Fronts.{begins_so, never_halts}
-use Rattle.law_compile.specs.script_runs.Blocks.{script_trees}
+use Rattle.law_jumps.specs.law_compile.script_runs.Blocks.{script_trees}
 use Rattle.law_text_code.specs.Texts.{TextCode, IsCodeOfText, text_code, ProgramCode, IsCodeOfProgram, text_of, program_trees, program_code}
 use Rattle.law_text_code.specs.Laws.{RunsAsIt, TextRunsAsItsCode, ProgramRunsAsItsCode}
 use Rattle.law_text_code.proofs.Blocks.{IsOfText, has_code, has_parts, knows_acts}

@@ -4,7 +4,7 @@ use Rattle.sem_run.specs.run.Host.{Host}
 use Rattle.sem_run.specs.run.Laws.{HaveTheSameRuns, BeginAlike, NeverHalts, session}
 use Rattle.sem_run.specs.run.Machine.{BlockId, Machine}
 use Rattle.sem_run.specs.run.Run.{Debugger}
-use Rattle.law_compile.specs.script_runs.Laws.{tree_machine}
+use Rattle.law_jumps.specs.law_compile.script_runs.Laws.{tree_machine}
 use Rattle.law_text_code.specs.Texts.{TextCode, IsCodeOfText, told_machine, ProgramCode, IsCodeOfProgram, program_machine, program_code_machine}
 
 module _ {S R : Type 0} (D N V W : Type 0) where

@@ -15,10 +15,10 @@ use Rattle.sem_run.specs.run.Source.{Source}
 use Rattle.law_code_runs.specs.code_run.CodeMachine as coded
 use Rattle.law_code_runs.specs.code_run.CodeMachine.{CodeSource}
 use Rattle.pt_front.specs.Text.{IsScript}
-use Rattle.law_compile.specs.script_objects.Laws.{HasCode}
-use Rattle.law_compile.specs.script_runs.Blocks.{script_code, script_trees, number_of}
-use Rattle.law_code_jumps.specs.jump_answers.Known.{SlotsKnown, KnowsCode}
-use Rattle.law_code_jumps.specs.told_code.Told.{told_code}
+use Rattle.law_jumps.specs.law_compile.script_objects.Laws.{HasCode}
+use Rattle.law_jumps.specs.law_compile.script_runs.Blocks.{script_code, script_trees, number_of}
+use Rattle.law_jumps.specs.law_code_jumps.jump_answers.Known.{SlotsKnown, KnowsCode}
+use Rattle.law_jumps.specs.law_code_jumps.told_code.Told.{told_code}
 
 -- a script with an object for each of its blocks and what is known of its slots, by their numbers
 pub record TextCode (V : Type 0) : Type 0 where

@@ -7,3 +7,4 @@ pub mod statement_starts
 pub mod script_tables
 pub mod script_loops
 pub mod standing_pieces
+pub use Rattle.law_operands.specs as law_operands

@@ -6,3 +6,4 @@ mod Stuck
 pub mod Writes
 pub mod Coded
 pub mod Plain
+pub use Rattle.law_code_runs.proofs as law_code_runs

@@ -5,7 +5,7 @@ use Rattle.std.proofs.lemmas.List.{map-append}
 use Rattle.sem_control.specs.control.Turn as T
 use Rattle.sem_control.specs.control.Turn.{Variable}
 use Rattle.pt_scopes.specs.declared.region.Mention.{Mention}
-use Rattle.sem_names.specs.BlockNames.{distinct_behind, names_in, with_name}
+use Rattle.pt_symbols.specs.sem_names.BlockNames.{distinct_behind, names_in, with_name}
 use Rattle.pt_symbols.specs.Tables.{mention_if, mentions_at}
 use Rattle.pt_tree.specs.Syntax.{Name}
 

@@ -8,10 +8,10 @@ use Rattle.pt_tree.specs.Fold.{parameters_of}
 use Rattle.pt_tree.specs.Syntax.{Params}
 use Rattle.sem_control.specs.control.Turn as T
 use Rattle.sem_control.specs.control.Turn.{Around}
-use Rattle.sem_names.specs.Around.{Names, around_by}
-use Rattle.sem_names.specs.BlockNames.{cell_names, free_names, local_names}
-use Rattle.sem_names.specs.Naming.{as_control}
-use Rattle.sem_names.specs.Script.{Naming, functions_of}
+use Rattle.pt_symbols.specs.sem_names.Around.{Names, around_by}
+use Rattle.pt_symbols.specs.sem_names.BlockNames.{cell_names, free_names, local_names}
+use Rattle.pt_symbols.specs.sem_names.Naming.{as_control}
+use Rattle.pt_symbols.specs.sem_names.Script.{Naming, functions_of}
 use Rattle.pt_block_names.specs.declared.block_names.BlockNames.{BlockNames}
 use Rattle.pt_block_names.specs.declared.lists.NameLists.{NameLists}
 use Rattle.pt_block_names.specs.declared.variable.Variable.{Variable}

@@ -4,10 +4,10 @@ use Rattle.pt_scopes.specs.NameSets.{is_in}
 use Rattle.pt_scopes.specs.Resolved.{scope_told}
 use Rattle.pt_scopes.specs.Scope.{home_of, scope_of}
 use Rattle.pt_tree.specs.Syntax.{Name}
-use Rattle.sem_names.specs.BlockNames.{has_class, makes_class, read_free}
-use Rattle.sem_names.specs.Naming.{is_captured}
-use Rattle.sem_names.specs.Regions.{numbered}
-use Rattle.sem_names.specs.Script.{Naming, functions_of}
+use Rattle.pt_symbols.specs.sem_names.BlockNames.{has_class, makes_class, read_free}
+use Rattle.pt_symbols.specs.sem_names.Naming.{is_captured}
+use Rattle.pt_symbols.specs.sem_names.Regions.{numbered}
+use Rattle.pt_symbols.specs.sem_names.Script.{Naming, functions_of}
 use Rattle.pt_symbols.specs.RegionSets.{has_region}
 use Rattle.pt_symbols.specs.Tables.{mentions_at, mentions_in, names_in, next_in}
 use Rattle.pt_block_names.specs.declared.tables.Tables.{Tables}

@@ -2,10 +2,10 @@
 
 ghost use Rattle.std.specs.Prelude.{◌≡◌, ◌++◌, [], ◌∷◌, map, slice_get, None, IfOk, OnOk};
 ghost use Rattle.std.specs.Option.{option_copied};
-ghost use Rattle.sem_names.specs.Around.{captured_in};
-ghost use Rattle.sem_names.specs.BlockNames.{class_if, class_name, class_variable, distinct_behind, formal_names, free_names, is_cell, is_local, makes_class, named, named_at, names_in, param_names, taken_along, variables_of, with_name};
-ghost use Rattle.sem_names.specs.Naming.{as_control, cell_or_local as cell_or_local_of, comprehension_in, own, owned, scope_or_global, seen, seen_if, variable};
-ghost use Rattle.sem_names.specs.Script.{functions_of, spelled_in};
+ghost use Rattle.pt_symbols.specs.sem_names.Around.{captured_in};
+ghost use Rattle.pt_symbols.specs.sem_names.BlockNames.{class_if, class_name, class_variable, distinct_behind, formal_names, free_names, is_cell, is_local, makes_class, named, named_at, names_in, param_names, taken_along, variables_of, with_name};
+ghost use Rattle.pt_symbols.specs.sem_names.Naming.{as_control, cell_or_local as cell_or_local_of, comprehension_in, own, owned, scope_or_global, seen, seen_if, variable};
+ghost use Rattle.pt_symbols.specs.sem_names.Script.{functions_of, spelled_in};
 ghost use Rattle.pt_scopes.specs.Mentions.{places_script};
 ghost use Rattle.pt_scopes.specs.Refusals.{fault_of};
 ghost use Rattle.pt_scopes.specs.Scope.{scope_of};
@@ -20,9 +20,8 @@ use crate::tables::{Tables, scopes_of};
 use crate::variable::Variable;
 use pt_base::{ActNo, BlockId, Dup, Memory, Seq, Text};
 use pt_scopes::{Kind, Mention, Region, Scope, read_in};
-use pt_symbols::{NameList, PlaceTable, dotted_name};
+use pt_symbols::{BlockShape, NameList, PlaceTable, dotted_name};
 use pt_tree::{NamedParameter, Parameter, Parameters, Script};
-use sem_names::BlockShape;
 use std::alloc::Global;
 use std::marker::Model;
 
@@ -42,7 +41,7 @@ pub struct ScriptNames {
 }
 
 impl Model for ScriptNames {
-    ghost use Rattle.sem_names.specs.Script.{Naming};
+    ghost use Rattle.pt_symbols.specs.sem_names.Script.{Naming};
     ghost use Rattle.pt_block_names.specs.Tells.{Tells};
 
     ghost Value = { Naming };

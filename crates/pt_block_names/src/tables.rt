@@ -10,11 +10,10 @@ ghost use Rattle.pt_tree.specs.StatementFold.{script_of};
 use pt_base::{Failure, Memory, Seq};
 use pt_scopes::{NameSet, Scopes, resolve};
 use pt_symbols::{
-    FreeNames, MentionTable, NextTable, PlaceTable, RegionSet, captured_names, class_makers,
-    class_regions, free_names, mention_table, next_table,
+    BlockShape, FreeNames, MentionTable, NextTable, PlaceTable, RegionSet, captured_names,
+    class_makers, class_regions, free_names, mention_table, next_table,
 };
 use pt_tree::Script;
-use sem_names::BlockShape;
 use std::alloc::Global;
 
 #[derive(Drop)]

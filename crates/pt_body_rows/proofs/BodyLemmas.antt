@@ -16,26 +16,26 @@ use Rattle.sem_code.specs.slots.CodeObject.{named, global}
 use Rattle.sem_code.specs.slots.Steps.{gives, does}
 use Rattle.sem_code.specs.slots.Pops.{one}
 use Rattle.sem_run.specs.run.Host.{Here}
-use Rattle.pt_host.specs.World.{World, Stores}
-use Rattle.pt_host.specs.Trees.{Tree}
-use Rattle.pt_host.specs.Variables.{load_by, by_builtin, put}
-use Rattle.pt_host.specs.Builtins as builtins
-use Rattle.pt_host.specs.Builtins.{Builtin, builtin}
-use Rattle.sem_rows.specs.declared.heap_rows.progress.Progress.{Progress}
-use Rattle.sem_rows.specs.declared.heap_rows.progress.Progress.TheVariants as progress
-use Rattle.sem_rows.specs.heap_rows.Laws.{reached}
-use Rattle.sem_rows.specs.heap_rows.Leads.{by_tree, giving}
-use Rattle.sem_rows.specs.heap_rows.Told.{told}
-use Rattle.sem_rows.specs.heap_rows.RowsIn.{RowsIn}
-use Rattle.sem_rows.specs.heap_rows.Views.{slots_view, stores_in}
-use Rattle.sem_rows.proofs.heap_rows.RowLemmas.{loads_lead}
-use Rattle.pt_code_facts.specs.declared.facts.BlockFacts.{BlockFacts}
-use Rattle.pt_code_facts.specs.Facts.{facts_view}
-use Rattle.pt_builtins.specs.declared.BuiltinLookup.{BuiltinLookup}
-use Rattle.pt_builtins.specs.Lookups.{builtin_view}
-use Rattle.pt_moves.specs.Operands.{one_value}
-use Rattle.pt_moves.proofs.TakeLemmas.{one_on}
-use Rattle.pt_moves.proofs.MoveLemmas.{lacks_one, stuck_row}
+use Rattle.pt_name_rows.specs.pt_builtins.pt_host.World.{World, Stores}
+use Rattle.pt_name_rows.specs.pt_builtins.pt_host.Trees.{Tree}
+use Rattle.pt_name_rows.specs.pt_builtins.pt_host.Variables.{load_by, by_builtin, put}
+use Rattle.pt_name_rows.specs.pt_builtins.pt_host.Builtins as builtins
+use Rattle.pt_name_rows.specs.pt_builtins.pt_host.Builtins.{Builtin, builtin}
+use Rattle.pt_name_rows.specs.pt_moves.sem_rows.declared.heap_rows.progress.Progress.{Progress}
+use Rattle.pt_name_rows.specs.pt_moves.sem_rows.declared.heap_rows.progress.Progress.TheVariants as progress
+use Rattle.pt_name_rows.specs.pt_moves.sem_rows.heap_rows.Laws.{reached}
+use Rattle.pt_name_rows.specs.pt_moves.sem_rows.heap_rows.Leads.{by_tree, giving}
+use Rattle.pt_name_rows.specs.pt_moves.sem_rows.heap_rows.Told.{told}
+use Rattle.pt_name_rows.specs.pt_moves.sem_rows.heap_rows.RowsIn.{RowsIn}
+use Rattle.pt_name_rows.specs.pt_moves.sem_rows.heap_rows.Views.{slots_view, stores_in}
+use Rattle.pt_name_rows.proofs.pt_moves.sem_rows.heap_rows.RowLemmas.{loads_lead}
+use Rattle.pt_name_rows.specs.pt_code_facts.declared.facts.BlockFacts.{BlockFacts}
+use Rattle.pt_name_rows.specs.pt_code_facts.Facts.{facts_view}
+use Rattle.pt_name_rows.specs.pt_builtins.declared.BuiltinLookup.{BuiltinLookup}
+use Rattle.pt_name_rows.specs.pt_builtins.Lookups.{builtin_view}
+use Rattle.pt_name_rows.specs.pt_moves.Operands.{one_value}
+use Rattle.pt_name_rows.proofs.pt_moves.TakeLemmas.{one_on}
+use Rattle.pt_name_rows.proofs.pt_moves.MoveLemmas.{lacks_one, stuck_row}
 use Rattle.pt_name_rows.specs.Names.{RowsGlobal, RowsLoadGlobal, global_unbound}
 use Rattle.pt_name_rows.proofs.AskLemmas.{goes_to, loads, stores, deletes, deletes_none}
 use Rattle.pt_body_rows.specs.Bodies.{place_in, own_value, body_value, locals_with, names_with, RowsName, RowsLoadName, with_globals}

@@ -9,7 +9,7 @@ use Rattle.indexmap.specs.IndexMap.{insert_entry}
 use Rattle.pt_tree.specs.Syntax.{Name}
 use Rattle.pt_heap.specs.declared.value.Value.{Value}
 use Rattle.pt_names.specs.Names.{Named, name_value}
-use Rattle.sem_rows.specs.heap_rows.Views.{paired}
+use Rattle.pt_name_rows.specs.pt_moves.sem_rows.heap_rows.Views.{paired}
 use Rattle.pt_body_rows.specs.Bodies.{place_in, value_by, own_value, locals_with, names_with}
 
 -- the place among those from a number on

@@ -9,15 +9,15 @@ use Rattle.pt_instr.specs.declared.Instr.{Instr}
 use Rattle.pt_heap.specs.declared.value.Value.{Value}
 use Rattle.pt_names.specs.Names.{Named, name_value}
 use Rattle.pt_frames.specs.declared.slot.Slot.{Slot}
-use Rattle.pt_host.specs.World.{World}
-use Rattle.pt_host.specs.Builtins.{builtin}
-use Rattle.sem_rows.specs.declared.heap_rows.progress.Progress.{Progress}
-use Rattle.sem_rows.specs.heap_rows.RowsIn.{Standpoint, RowsIn}
-use Rattle.sem_rows.specs.heap_rows.Views.{stores_in}
-use Rattle.pt_code_facts.specs.declared.facts.BlockFacts.{BlockFacts}
-use Rattle.pt_code_facts.specs.Facts.{facts_view}
-use Rattle.pt_builtins.specs.declared.BuiltinLookup.{BuiltinLookup}
-use Rattle.pt_builtins.specs.Lookups.{builtin_view}
+use Rattle.pt_name_rows.specs.pt_builtins.pt_host.World.{World}
+use Rattle.pt_name_rows.specs.pt_builtins.pt_host.Builtins.{builtin}
+use Rattle.pt_name_rows.specs.pt_moves.sem_rows.declared.heap_rows.progress.Progress.{Progress}
+use Rattle.pt_name_rows.specs.pt_moves.sem_rows.heap_rows.RowsIn.{Standpoint, RowsIn}
+use Rattle.pt_name_rows.specs.pt_moves.sem_rows.heap_rows.Views.{stores_in}
+use Rattle.pt_name_rows.specs.pt_code_facts.declared.facts.BlockFacts.{BlockFacts}
+use Rattle.pt_name_rows.specs.pt_code_facts.Facts.{facts_view}
+use Rattle.pt_name_rows.specs.pt_builtins.declared.BuiltinLookup.{BuiltinLookup}
+use Rattle.pt_name_rows.specs.pt_builtins.Lookups.{builtin_view}
 
 -- where the first of names stands that is this one, as far as there are places
 abbrev pub place_in : {A : Type 0} → Name → List Name → List A → Option ℕ

@@ -7,15 +7,14 @@ ghost use Rattle.pt_instr.specs.declared.Instr.TheVariants as instr;
 
 use crate::own::{body_value, own_value, put_own};
 use pt_base::{Memory, Seq};
-use pt_builtins::BuiltinLookup;
-use pt_code_facts::BlockFacts;
 use pt_frames::{Slot, Slots};
 use pt_heap::Value;
 use pt_instr::TextNo;
-use pt_moves::take_one;
-use pt_name_rows::{delete_global, global, set_global, unbound_global};
+use pt_name_rows::{
+    BlockFacts, BuiltinLookup, Progress, delete_global, global, set_global, take_one,
+    unbound_global,
+};
 use pt_names::Names;
-use sem_rows::heap_rows::Progress;
 use std::alloc::Global;
 
 /// Gives the value of a name of a body, or what the name means by itself.

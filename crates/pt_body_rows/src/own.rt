@@ -3,9 +3,8 @@ ghost use Rattle.std.specs.Prelude.{◌≡◌, IfOk, OnOk};
 ghost use Rattle.pt_body_rows.specs.Bodies.{body_value, locals_with, names_with, own_value, place_in};
 
 use pt_base::{Memory, Seq, Text};
-use pt_code_facts::BlockFacts;
 use pt_heap::Value;
-use pt_name_rows::{put_at, value_at};
+use pt_name_rows::{BlockFacts, put_at, value_at};
 use pt_names::Names;
 use std::alloc::Global;
 

@@ -1,1 +1,2 @@
 pub mod Lookups
+pub use Rattle.pt_host.specs as pt_host

@@ -137,3 +137,5 @@ pub fn builtin(name: &str) -> BuiltinLookup
         BuiltinLookup::Unbound
     }
 }
+
+pub use pt_host::{NAME_ERROR, UNBOUND_LOCAL_ERROR, free_text, local_text, name_text};

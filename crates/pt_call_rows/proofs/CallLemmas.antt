@@ -26,19 +26,19 @@ use Rattle.pt_content.specs.Operands.{operand_of, object_operand}
 use Rattle.pt_code.specs.View.{Ins}
 use Rattle.sem_code.specs.slots.CodeObject.{CodeObject}
 use Rattle.sem_run.specs.run.Host.{Here, BlockResult, leave, opens}
-use Rattle.pt_host.specs.World.{Names, Stores, Program, CodeFacts}
-use Rattle.pt_host.specs.Trees.{Tree}
-use Rattle.pt_host.specs.Calls.{block_of, is_simple, call_bound, call_function, call_builtin, call_with, call_value, call_object, call_other, class_function, are_print_names, operands_of, print_operands, unnamed_operands, not_callable as host_not_callable, names_from, parameters_given, result_of}
+use Rattle.pt_operators.specs.pt_moves.sem_rows.pt_host.World.{Names, Stores, Program, CodeFacts}
+use Rattle.pt_operators.specs.pt_moves.sem_rows.pt_host.Trees.{Tree}
+use Rattle.pt_operators.specs.pt_moves.sem_rows.pt_host.Calls.{block_of, is_simple, call_bound, call_function, call_builtin, call_with, call_value, call_object, call_other, class_function, are_print_names, operands_of, print_operands, unnamed_operands, not_callable as host_not_callable, names_from, parameters_given, result_of}
 use Rattle.sem_run.specs.transitions.Successors.{behind_request}
-use Rattle.sem_rows.specs.declared.heap_rows.progress.Progress.{Progress}
-use Rattle.sem_rows.specs.declared.heap_rows.progress.Progress.TheVariants as progress
-use Rattle.sem_rows.specs.heap_rows.Leads.{HeapSuccessor}
-use Rattle.sem_rows.specs.heap_rows.Leads.{by_tree, giving}
-use Rattle.sem_rows.specs.heap_rows.Told.{told, block_id}
-use Rattle.sem_rows.specs.heap_rows.Views.{slots_view, names_in}
-use Rattle.pt_code_facts.specs.declared.facts.BlockFacts.{BlockFacts}
-use Rattle.pt_code_facts.specs.declared.facts.Blocks.{Blocks}
-use Rattle.pt_code_facts.specs.Facts.{facts_view, facts_at}
+use Rattle.pt_operators.specs.pt_moves.sem_rows.declared.heap_rows.progress.Progress.{Progress}
+use Rattle.pt_operators.specs.pt_moves.sem_rows.declared.heap_rows.progress.Progress.TheVariants as progress
+use Rattle.pt_operators.specs.pt_moves.sem_rows.heap_rows.Leads.{HeapSuccessor}
+use Rattle.pt_operators.specs.pt_moves.sem_rows.heap_rows.Leads.{by_tree, giving}
+use Rattle.pt_operators.specs.pt_moves.sem_rows.heap_rows.Told.{told, block_id}
+use Rattle.pt_operators.specs.pt_moves.sem_rows.heap_rows.Views.{slots_view, names_in}
+use Rattle.pt_function_rows.specs.pt_code_facts.declared.facts.BlockFacts.{BlockFacts}
+use Rattle.pt_function_rows.specs.pt_code_facts.declared.facts.Blocks.{Blocks}
+use Rattle.pt_function_rows.specs.pt_code_facts.Facts.{facts_view, facts_at}
 use Rattle.pt_operators.specs.Operates.{Asks, Operates}
 use Rattle.pt_function_rows.specs.Openings.{first_values_of, numbers_from, given_cells}
 use Rattle.pt_call_rows.specs.CallRows.{Calls, CallsBlock, CallsFunction, CallsBuiltin, CallsValue, with_parts}

@@ -6,7 +6,7 @@ use Rattle.pt_heap.specs.declared.view.Binding.{Binding}
 use Rattle.pt_bind.specs.declared.arguments.Args.{Args}
 use Rattle.pt_content.specs.declared.function.Function.{Function}
 use Rattle.pt_content.specs.declared.function.Function.TheVariants as function
-use Rattle.pt_host.specs.Calls.{are_print_names, is_print_name, operands_of, unnamed_operands}
+use Rattle.pt_operators.specs.pt_moves.sem_rows.pt_host.Calls.{are_print_names, is_print_name, operands_of, unnamed_operands}
 use Rattle.pt_call_rows.specs.CallRows.{is_print}
 
 -- by the count of names

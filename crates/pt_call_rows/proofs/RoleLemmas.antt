@@ -10,7 +10,7 @@ use Rattle.pt_heap.specs.declared.value.Value.{Value}
 use Rattle.pt_heap.specs.declared.view.Binding.{Binding}
 use Rattle.pt_bind.specs.declared.arguments.Args.{Args}
 use Rattle.sem_code.specs.slots.Instructions.{role_of}
-use Rattle.pt_host.specs.Calls.{arguments, has_spread, plain_arguments, named_arguments}
+use Rattle.pt_operators.specs.pt_moves.sem_rows.pt_host.Calls.{arguments, has_spread, plain_arguments, named_arguments}
 use Rattle.pt_call_rows.specs.Roles.{is_spread}
 
 -- which are spread

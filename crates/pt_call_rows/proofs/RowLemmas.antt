@@ -17,18 +17,18 @@ use Rattle.sem_code.specs.slots.Instructions.{all_positional, last_named, role_o
 use Rattle.sem_code.specs.slots.Steps.{gives}
 use Rattle.sem_code.specs.slots.Pops as P
 use Rattle.sem_run.specs.run.Host.{Here, leave}
-use Rattle.pt_host.specs.World.{Stores, Program}
-use Rattle.pt_host.specs.Calls.{arguments, has_spread, call_value}
-use Rattle.sem_rows.specs.declared.heap_rows.progress.Progress.{Progress}
-use Rattle.sem_rows.specs.declared.heap_rows.progress.Progress.TheVariants as progress
-use Rattle.sem_rows.specs.heap_rows.Laws.{reached}
-use Rattle.sem_rows.specs.heap_rows.Leads.{by_tree, giving}
-use Rattle.sem_rows.specs.heap_rows.RowsIn.{RowsIn}
-use Rattle.sem_rows.specs.heap_rows.Views.{slots_view}
-use Rattle.sem_rows.proofs.heap_rows.RowLemmas.{asks_lead}
-use Rattle.pt_code_facts.specs.declared.facts.Blocks.{Blocks}
-use Rattle.pt_moves.specs.Operands.{one_value}
-use Rattle.pt_moves.proofs.MoveLemmas.{stuck_row}
+use Rattle.pt_operators.specs.pt_moves.sem_rows.pt_host.World.{Stores, Program}
+use Rattle.pt_operators.specs.pt_moves.sem_rows.pt_host.Calls.{arguments, has_spread, call_value}
+use Rattle.pt_operators.specs.pt_moves.sem_rows.declared.heap_rows.progress.Progress.{Progress}
+use Rattle.pt_operators.specs.pt_moves.sem_rows.declared.heap_rows.progress.Progress.TheVariants as progress
+use Rattle.pt_operators.specs.pt_moves.sem_rows.heap_rows.Laws.{reached}
+use Rattle.pt_operators.specs.pt_moves.sem_rows.heap_rows.Leads.{by_tree, giving}
+use Rattle.pt_operators.specs.pt_moves.sem_rows.heap_rows.RowsIn.{RowsIn}
+use Rattle.pt_operators.specs.pt_moves.sem_rows.heap_rows.Views.{slots_view}
+use Rattle.pt_operators.proofs.pt_moves.sem_rows.heap_rows.RowLemmas.{asks_lead}
+use Rattle.pt_function_rows.specs.pt_code_facts.declared.facts.Blocks.{Blocks}
+use Rattle.pt_operators.specs.pt_moves.Operands.{one_value}
+use Rattle.pt_operators.proofs.pt_moves.MoveLemmas.{stuck_row}
 use Rattle.pt_function_rows.specs.Operands.{many_values}
 use Rattle.pt_function_rows.specs.Arguments.{named_last}
 use Rattle.pt_call_rows.specs.CallRows.{Calls, CallsValue, RowsCall, RowsNamedCall, with_parts}

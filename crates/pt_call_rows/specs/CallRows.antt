@@ -20,20 +20,20 @@ use Rattle.pt_content.specs.declared.function.Function.TheVariants as builtin
 use Rattle.pt_code.specs.View.{Ins}
 use Rattle.sem_code.specs.slots.CodeObject.{CodeObject}
 use Rattle.sem_run.specs.run.Host.{Here}
-use Rattle.pt_host.specs.declared.places.TheConstants.{TYPE_ERROR}
-use Rattle.pt_host.specs.World.{Stores, Program, with_objects, in_world}
-use Rattle.pt_host.specs.Texts.{binding_text, not_callable_text}
-use Rattle.pt_host.specs.Trees.{Tree}
-use Rattle.pt_host.specs.Calls.{block_of, call_function, call_builtin, call_value, class_function}
-use Rattle.sem_rows.specs.declared.heap_rows.progress.Progress.{Progress}
-use Rattle.sem_rows.specs.declared.heap_rows.progress.Progress.TheVariants as progress
-use Rattle.sem_rows.specs.heap_rows.Leads.{by_tree, giving}
-use Rattle.sem_rows.specs.heap_rows.Told.{told}
-use Rattle.sem_rows.specs.heap_rows.RowsIn.{RowsIn}
-use Rattle.sem_rows.specs.heap_rows.Views.{slots_view}
-use Rattle.pt_code_facts.specs.declared.facts.BlockFacts.{BlockFacts}
-use Rattle.pt_code_facts.specs.declared.facts.Blocks.{Blocks}
-use Rattle.pt_code_facts.specs.Facts.{facts_view, KnowsBlocks}
+use Rattle.pt_operators.specs.pt_moves.sem_rows.pt_host.declared.places.TheConstants.{TYPE_ERROR}
+use Rattle.pt_operators.specs.pt_moves.sem_rows.pt_host.World.{Stores, Program, with_objects, in_world}
+use Rattle.pt_operators.specs.pt_moves.sem_rows.pt_host.Texts.{binding_text, not_callable_text}
+use Rattle.pt_operators.specs.pt_moves.sem_rows.pt_host.Trees.{Tree}
+use Rattle.pt_operators.specs.pt_moves.sem_rows.pt_host.Calls.{block_of, call_function, call_builtin, call_value, class_function}
+use Rattle.pt_operators.specs.pt_moves.sem_rows.declared.heap_rows.progress.Progress.{Progress}
+use Rattle.pt_operators.specs.pt_moves.sem_rows.declared.heap_rows.progress.Progress.TheVariants as progress
+use Rattle.pt_operators.specs.pt_moves.sem_rows.heap_rows.Leads.{by_tree, giving}
+use Rattle.pt_operators.specs.pt_moves.sem_rows.heap_rows.Told.{told}
+use Rattle.pt_operators.specs.pt_moves.sem_rows.heap_rows.RowsIn.{RowsIn}
+use Rattle.pt_operators.specs.pt_moves.sem_rows.heap_rows.Views.{slots_view}
+use Rattle.pt_function_rows.specs.pt_code_facts.declared.facts.BlockFacts.{BlockFacts}
+use Rattle.pt_function_rows.specs.pt_code_facts.declared.facts.Blocks.{Blocks}
+use Rattle.pt_function_rows.specs.pt_code_facts.Facts.{facts_view, KnowsBlocks}
 
 -- what a value is where it is called
 

@@ -5,28 +5,24 @@ ghost use Rattle.pt_attrs.specs.Store.{is_scripted};
 ghost use Rattle.pt_call_rows.specs.CallRows.{CallsBlock, CallsBuiltin, CallsFunction, CallsValue};
 ghost use Rattle.pt_call_rows.specs.CallRows.{RowsCall, RowsNamedCall, builtin_of, function_of};
 ghost use Rattle.pt_call_rows.specs.CallRows.{is_memory, is_print, is_unsupported, misfit, not_callable};
-ghost use Rattle.pt_code_facts.specs.Facts.{facts_view};
+ghost use Rattle.pt_function_rows.specs.pt_code_facts.Facts.{facts_view};
 ghost use Rattle.pt_content.specs.declared.function.Function.TheVariants as builtin;
 ghost use Rattle.pt_dicts.specs.Chain.{class_in};
 ghost use Rattle.pt_frames.specs.Slots.{active_in};
-ghost use Rattle.pt_host.specs.Calls.{is_simple};
+ghost use Rattle.pt_operators.specs.pt_moves.sem_rows.pt_host.Calls.{is_simple};
 ghost use Rattle.pt_instr.specs.declared.Instr.TheVariants as instr;
 
 use crate::operands::{are_print_names, print_operands};
 use crate::roles::{arguments, has_spread};
 use pt_base::{Memory, ObjId, Seq, Text, What};
 use pt_bind::{Args, BindErr, bind_with};
-use pt_code_facts::{BlockFacts, Blocks};
 use pt_content::{Function as Builtin, Op, class_name, of_class, of_function};
 use pt_dicts::{class_at, object_at};
 use pt_frames::Slots;
-use pt_function_rows::{named_last, open, take_values};
+use pt_function_rows::{BlockFacts, Blocks, named_last, open, take_values};
 use pt_heap::{Function, Heap, Object, Value};
-use pt_host::{TYPE_ERROR, binding_text, not_callable_text};
 use pt_instr::ListNo;
-use pt_moves::take_one;
-use pt_operators::operation;
-use sem_rows::heap_rows::Progress;
+use pt_operators::{Progress, TYPE_ERROR, binding_text, not_callable_text, operation, take_one};
 use std::alloc::Global;
 
 /// It is no function.

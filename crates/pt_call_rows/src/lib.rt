@@ -6,3 +6,5 @@ mod operands;
 mod roles;
 
 pub use calls::{call, call_with_names, call_with_roles};
+pub use pt_function_rows::make_function;
+pub use pt_operators::{binary, compare, in_place, not, unary};

@@ -1,7 +1,7 @@
 //! The operands of builtin functions that are called (Library Reference, "Built-in Functions").
 ghost use Rattle.std.specs.Prelude.{◌≡◌, ◌++◌, IfOk, OnOk};
 ghost use Rattle.pt_bind.specs.Binding.{value_of};
-ghost use Rattle.pt_host.specs.Calls.{are_print_names, is_print_name, or_none, print_operands};
+ghost use Rattle.pt_operators.specs.pt_moves.sem_rows.pt_host.Calls.{are_print_names, is_print_name, or_none, print_operands};
 
 use pt_base::{Memory, Seq};
 use pt_bind::Args;

@@ -1,7 +1,7 @@
 //! Arguments by the roles that their texts name (Language Reference 6.3.4).
 ghost use Rattle.std.specs.Prelude.{◌≡◌, ◌++◌, ◌∷◌, [], map, IfOk, OnOk};
 ghost use Rattle.pt_call_rows.specs.Roles.{is_spread};
-ghost use Rattle.pt_host.specs.Calls.{arguments, has_spread, named_arguments, plain_arguments};
+ghost use Rattle.pt_operators.specs.pt_moves.sem_rows.pt_host.Calls.{arguments, has_spread, named_arguments, plain_arguments};
 ghost use Rattle.sem_code.specs.slots.Instructions.{role_of};
 
 use pt_base::{Dup, Memory, Seq, Text};

@@ -11,7 +11,7 @@ use Rattle.pt_code.specs.declared.Code.{Code}
 use Rattle.sem_code.specs.slots.BlockObject.{text_in, pool_of}
 use Rattle.sem_code.specs.slots.CodeObject.{CodeObject}
 use Rattle.sem_run.specs.run.Machine as M
-use Rattle.pt_host.specs.World.{CodeFacts, Program}
+use Rattle.sem_rows.specs.pt_host.World.{CodeFacts, Program}
 use Rattle.sem_rows.specs.variables.Numbers.{KnowsNames}
 use Rattle.pt_code_facts.specs.declared.facts.BlockFacts.{BlockFacts}
 use Rattle.pt_code_facts.specs.declared.facts.Blocks.{Blocks}

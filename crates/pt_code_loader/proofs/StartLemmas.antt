@@ -9,19 +9,19 @@ use Rattle.pt_builtin_objects.specs.Start.{start_objects}
 use Rattle.sem_code.specs.slots.Slots.{on}
 use Rattle.sem_code.specs.slots.Machine as slots
 use Rattle.sem_run.specs.run.Machine.{BlockId}
-use Rattle.pt_host.specs.World.{CodeFacts, Program, no_names, start_world}
-use Rattle.pt_host.specs.HeapHost.{heap_host}
+use Rattle.pt_code_tables.specs.pt_builtins.pt_host.World.{CodeFacts, Program, no_names, start_world}
+use Rattle.pt_code_tables.specs.pt_builtins.pt_host.HeapHost.{heap_host}
 use Rattle.pt_bare_runs.specs.Strides as bare
 use Rattle.sem_code_machine.specs.code_machine.CodeBlocks.{CodeBlocks, machine, start_of}
 use Rattle.pt_frames.specs.declared.activation.Activation.{Activation}
-use Rattle.sem_rows.specs.heap_rows.Told.{block_id}
-use Rattle.sem_rows.specs.heap_rows.Views.{paired, names_in, slots_view}
+use Rattle.pt_code_tables.specs.pt_machine_state.pt_code_facts.sem_rows.heap_rows.Told.{block_id}
+use Rattle.pt_code_tables.specs.pt_machine_state.pt_code_facts.sem_rows.heap_rows.Views.{paired, names_in, slots_view}
 use Rattle.pt_code_tables.specs.declared.tables.CodeTables.{CodeTables}
 use Rattle.pt_code_tables.specs.Tables.{AreTablesOf}
-use Rattle.pt_machine_state.specs.declared.machine.Machine.{Machine}
-use Rattle.pt_machine_state.specs.declared.machine.Standing.TheVariants as standing
-use Rattle.pt_machine_state.specs.Changes.{slots_at_start}
-use Rattle.pt_machine_state.specs.Views.{run_of, state_of}
+use Rattle.pt_code_tables.specs.pt_machine_state.declared.machine.Machine.{Machine}
+use Rattle.pt_code_tables.specs.pt_machine_state.declared.machine.Standing.TheVariants as standing
+use Rattle.pt_code_tables.specs.pt_machine_state.Changes.{slots_at_start}
+use Rattle.pt_code_tables.specs.pt_machine_state.Views.{run_of, state_of}
 use Rattle.pt_code_loader.specs.Starting.{at_start}
 
 abbrev the_module : BlockId

@@ -18,8 +18,8 @@ use Rattle.pt_builtin_objects.specs.Start.{start_rows}
 use Rattle.pt_names.specs.Names.{Named, place_of, unless_placed, with_place}
 use Rattle.pt_assembler.specs.Tables.{kept, number_in}
 use Rattle.pt_assembler.proofs.TableLemmas.{kept_within}
-use Rattle.pt_host.specs.World.{Program}
-use Rattle.pt_host.specs.Answers.{constant_value, text_object}
+use Rattle.pt_code_tables.specs.pt_builtins.pt_host.World.{Program}
+use Rattle.pt_code_tables.specs.pt_builtins.pt_host.Answers.{constant_value, text_object}
 use Rattle.sem_code.specs.slots.BlockObject.{constant_of}
 use Rattle.pt_code_loader.specs.Texts.{text_of, kept_texts, texts_among, values_in}
 

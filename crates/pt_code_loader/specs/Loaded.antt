@@ -12,10 +12,10 @@ use Rattle.sem_fits.specs.fits.Block as F
 use Rattle.sem_fits.specs.fits.Fits.{TooDeep}
 use Rattle.pt_verify_depths.specs.Sizes.{Sized}
 use Rattle.pt_verify_depths.specs.PlaceTable.{SizesDisagree}
-use Rattle.pt_host.specs.Builtins.{builtin}
-use Rattle.pt_code_facts.specs.Facts.{blocks_of}
-use Rattle.pt_builtins.specs.Lookups.{builtin_view}
-use Rattle.pt_machine_state.specs.declared.blocks.BlockCode.{BlockCode}
+use Rattle.pt_code_tables.specs.pt_builtins.pt_host.Builtins.{builtin}
+use Rattle.pt_code_tables.specs.pt_machine_state.pt_code_facts.Facts.{blocks_of}
+use Rattle.pt_code_tables.specs.pt_builtins.Lookups.{builtin_view}
+use Rattle.pt_code_tables.specs.pt_machine_state.declared.blocks.BlockCode.{BlockCode}
 use Rattle.pt_code_loader.specs.declared.loading.Loaded.{Loaded}
 use Rattle.pt_code_loader.specs.Texts.{constant_texts, AreValues}
 

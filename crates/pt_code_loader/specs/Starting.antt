@@ -1,14 +1,14 @@
 -- The machine where a run begins (Language Reference 4.1, 4.3).
 use Rattle.std.specs.Prelude.{◌≡◌, [], false}
 use Rattle.pt_heap.specs.declared.value.Value.{Value}
-use Rattle.pt_host.specs.World.{Program, no_names, start_world}
-use Rattle.pt_host.specs.HeapHost.{heap_host}
+use Rattle.pt_code_tables.specs.pt_builtins.pt_host.World.{Program, no_names, start_world}
+use Rattle.pt_code_tables.specs.pt_builtins.pt_host.HeapHost.{heap_host}
 use Rattle.pt_bare_runs.specs.Strides as bare
-use Rattle.sem_rows.specs.heap_rows.Told.{block_id}
+use Rattle.pt_code_tables.specs.pt_machine_state.pt_code_facts.sem_rows.heap_rows.Told.{block_id}
 use Rattle.sem_code_machine.specs.code_machine.CodeBlocks.{CodeBlocks, machine}
 use Rattle.pt_code_tables.specs.Tables.{AreTablesOf}
-use Rattle.pt_machine_state.specs.declared.machine.Machine.{Machine}
-use Rattle.pt_machine_state.specs.Views.{Beside, run_of}
+use Rattle.pt_code_tables.specs.pt_machine_state.declared.machine.Machine.{Machine}
+use Rattle.pt_code_tables.specs.pt_machine_state.Views.{Beside, run_of}
 use Rattle.pt_code_loader.specs.declared.loading.Loaded.{Loaded}
 
 -- no act began, and nothing waits

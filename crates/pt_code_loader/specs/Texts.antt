@@ -9,8 +9,8 @@ use Rattle.pt_code.specs.declared.Const.TheVariants as const
 use Rattle.pt_code.specs.declared.Code.{Code}
 use Rattle.sem_code.specs.slots.BlockObject.{text_in, constant_of}
 use Rattle.pt_assembler.specs.Tables.{kept}
-use Rattle.pt_host.specs.Answers.{constant_value}
-use Rattle.pt_host.specs.World.{Program}
+use Rattle.pt_code_tables.specs.pt_builtins.pt_host.Answers.{constant_value}
+use Rattle.pt_code_tables.specs.pt_builtins.pt_host.World.{Program}
 
 abbrev pub text_of : (texts : List Name) → Const → List Name
 text_of texts (const.Text t) = text_in texts t.0 ∷ []

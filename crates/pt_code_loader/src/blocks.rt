@@ -8,7 +8,7 @@ use crate::depths::depths;
 use crate::names::text_in;
 use pt_base::{Memory, Seq};
 use pt_code::{BlockKind, Code, CodeBlock};
-use pt_machine_state::BlockCode;
+use pt_code_tables::BlockCode;
 use pt_places::{Handlers, Places};
 use std::alloc::Global;
 

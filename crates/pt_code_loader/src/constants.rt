@@ -4,8 +4,8 @@ ghost use Rattle.std.specs.Prelude.{◌≡◌, ◌+◌, ◌++◌, List, ℕ, IfO
 ghost use Rattle.std.specs.Map.{keys_of};
 ghost use Rattle.std.specs.Str.{bytes_eq};
 ghost use Rattle.pt_assembler.specs.Tables.{kept, number_in};
-ghost use Rattle.pt_host.specs.World.{Program};
-ghost use Rattle.pt_host.specs.Answers.{constant_value};
+ghost use Rattle.pt_code_tables.specs.pt_builtins.pt_host.World.{Program};
+ghost use Rattle.pt_code_tables.specs.pt_builtins.pt_host.Answers.{constant_value};
 ghost use Rattle.sem_code.specs.slots.BlockObject.{constant_of};
 ghost use Rattle.pt_builtin_objects.specs.Start.{start_rows};
 ghost use Rattle.pt_code_loader.specs.Texts.{AreValues, kept_texts, text_of, texts_among};

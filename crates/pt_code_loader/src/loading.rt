@@ -1,5 +1,5 @@
 ghost use Rattle.std.specs.Prelude.{◌≡◌, ◌∷◌, ◌<◌, IfOk, OnOk, length};
-ghost use Rattle.pt_code_facts.specs.Facts.{blocks_of};
+ghost use Rattle.pt_code_tables.specs.pt_machine_state.pt_code_facts.Facts.{blocks_of};
 ghost use Rattle.pt_code_loader.specs.Loaded.{AreLoaded, IsLoadedCode};
 ghost use Rattle.law_files.specs.operands_fit.Laws.{CellsFit};
 
@@ -9,9 +9,8 @@ use crate::names::{builtins_of, lists_of};
 use pt_base::{Dup, Memory, Seq, Text};
 use pt_code::Code;
 use pt_code_facts::Blocks as Facts;
-use pt_code_tables::CodeTables;
+use pt_code_tables::{Blocks, CodeTables};
 use pt_heap::Seed;
-use pt_machine_state::Blocks;
 use std::alloc::Global;
 
 /// A code that is ready to run.
@@ -42,8 +41,8 @@ fn facts_of(alloc: Global, code: &Code) -> Result<Facts, Memory>
         (λ f. f.of_module ∷ f.others ≡ blocks_of code.now.texts code.now.blocks) }
 {
     let blocks = code.blocks.as_slice();
-    let of_module = pt_code_facts::facts_of(alloc, &code.texts, &blocks[0])?;
-    let others = pt_code_facts::blocks_of(alloc, &code.texts, &blocks[1..])?;
+    let of_module = pt_code_tables::facts_of(alloc, &code.texts, &blocks[0])?;
+    let others = pt_code_tables::blocks_of(alloc, &code.texts, &blocks[1..])?;
     Ok(Facts { of_module, others })
 }
 

@@ -1,12 +1,12 @@
 //! What the numbers of texts and of lists of texts name.
 ghost use Rattle.std.specs.Prelude.{◌≡◌, IfOk, map};
-ghost use Rattle.pt_host.specs.Builtins.{builtin};
+ghost use Rattle.pt_code_tables.specs.pt_builtins.pt_host.Builtins.{builtin};
 ghost use Rattle.sem_code.specs.slots.BlockObject.{text_in};
-ghost use Rattle.pt_builtins.specs.Lookups.{builtin_view};
+ghost use Rattle.pt_code_tables.specs.pt_builtins.Lookups.{builtin_view};
 ghost use Rattle.pt_code_loader.specs.Loaded.{listed_texts};
 
 use pt_base::{Memory, Seq, Text};
-use pt_builtins::{BuiltinLookup, builtin};
+use pt_code_tables::{BuiltinLookup, builtin};
 use std::alloc::Global;
 
 /// The text of a number; the empty one where there is none.

@@ -3,14 +3,14 @@ ghost use Rattle.pt_frames.specs.Activations.{new_activation};
 ghost use Rattle.pt_heap.specs.declared.object.Object.TheVariants.{Str};
 ghost use Rattle.pt_builtin_objects.specs.Start.{start_objects};
 ghost use Rattle.pt_code_loader.specs.Starting.{Begins};
-ghost use Rattle.pt_machine_state.specs.Changes.{slots_at_start};
+ghost use Rattle.pt_code_tables.specs.pt_machine_state.Changes.{slots_at_start};
 
 use crate::Loaded;
 use pt_base::{BlockId, Dup, Memory, Seq, Text};
 use pt_bind::Locals;
+use pt_code_tables::{Machine, Standing};
 use pt_frames::{Frames, Slot, Slots};
 use pt_heap::{Heap, Object, Seed, Str as HeapStr, Value};
-use pt_machine_state::{Machine, Standing};
 use std::alloc::Global;
 
 /// Puts an object for a text behind the others of a heap.

@@ -9,13 +9,13 @@ use Rattle.sem_control.specs.control.Turn as T
 use Rattle.sem_control.specs.control.Turn.{Scope}
 use Rattle.sem_code.specs.slots.CodeObject.{Pool}
 use Rattle.sem_run.specs.run.Machine.{BlockId}
-use Rattle.pt_host.specs.World.{CodeFacts, Program}
-use Rattle.pt_host.specs.Answers.{constant_value}
-use Rattle.pt_host.specs.Builtins.{builtin}
+use Rattle.pt_builtins.specs.pt_host.World.{CodeFacts, Program}
+use Rattle.pt_builtins.specs.pt_host.Answers.{constant_value}
+use Rattle.pt_builtins.specs.pt_host.Builtins.{builtin}
 use Rattle.sem_code_machine.specs.code_machine.CodeBlocks.{CodeBlocks}
-use Rattle.sem_rows.specs.heap_rows.Leads.{HasHeapExtras}
-use Rattle.sem_rows.specs.variables.Numbers.{KnowsNames}
-use Rattle.pt_code_facts.specs.Facts.{KnowsBlocks}
+use Rattle.pt_machine_state.specs.pt_code_facts.sem_rows.heap_rows.Leads.{HasHeapExtras}
+use Rattle.pt_machine_state.specs.pt_code_facts.sem_rows.variables.Numbers.{KnowsNames}
+use Rattle.pt_machine_state.specs.pt_code_facts.Facts.{KnowsBlocks}
 use Rattle.pt_builtins.specs.declared.BuiltinLookup.{BuiltinLookup}
 use Rattle.pt_builtins.specs.declared.BuiltinLookup.TheVariants as lookup
 use Rattle.pt_builtins.specs.Lookups.{builtin_view}

@@ -10,10 +10,10 @@ use Rattle.sem_control.specs.control.Jump.{starts_on}
 use Rattle.pt_block_names.specs.declared.block_names.BlockNames.{BlockNames}
 use Rattle.pt_assembler.specs.declared.operation.Operation.TheVariants.{Plain}
 use Rattle.pt_assembler.specs.Layout.{Written, put, put_start}
-use Rattle.sem_compile.specs.stm_pieces.Needed.{Behind}
-use Rattle.pt_stm_forms.specs.Blocks.{is_docstring}
-use Rattle.pt_stm_forms.specs.Compound.{behind_suite}
-use Rattle.pt_stm_forms.proofs.BlockForms.{docstring-body}
+use Rattle.pt_write_ops.specs.sem_compile.stm_pieces.Needed.{Behind}
+use Rattle.pt_write_simple.specs.pt_stm_forms.Blocks.{is_docstring}
+use Rattle.pt_write_simple.specs.pt_stm_forms.Compound.{behind_suite}
+use Rattle.pt_write_simple.proofs.pt_stm_forms.BlockForms.{docstring-body}
 
 pub documented : (b : BlockNames) (body : List Stmt) (first : Stmt) (q : Behind) (w : Written) → Some first ≡ slice_get body 0 → true ≡ is_docstring (stm_of first)
     → behind_suite b (stms_of (take (length body - 1) (drop 1 body))) q (put (Plain instr.Nop) (put_start (starts_on (stm_of first)) w))

@@ -18,12 +18,12 @@ use Rattle.pt_assembler.specs.declared.operation.Label.{Label}
 use Rattle.pt_assembler.specs.declared.operation.Operation.TheVariants.{Plain}
 use Rattle.pt_assembler.specs.Layout.{Written, put, put_start, at, new_label, next_label, bind, numbered_from}
 use Rattle.pt_expr_forms.proofs.Acts.{new_label-act}
-use Rattle.sem_compile.specs.stm_pieces.Needed.{Behind, in_front}
-use Rattle.pt_stm_forms.specs.Blocks.{is_docstring}
-use Rattle.pt_stm_forms.specs.Compound.{acts_skipped, behind_start, behind_suite, behind_body, behind_caught, behind_else, behind_ensured, behind_final, behind_guarded, behind_handlers, else_ended, ensured_from}
-use Rattle.pt_stm_forms.proofs.StatementActs.{numbered-act}
-use Rattle.pt_stm_forms.proofs.CompoundForms.{suite-none, suite-more, suite-act, start-silent, start-untaken, start-plain}
-use Rattle.pt_stm_forms.proofs.BlockForms.{body-other, docstring-body, module-form, function-form, lambda-form, generator-form}
+use Rattle.pt_write_ops.specs.sem_compile.stm_pieces.Needed.{Behind, in_front}
+use Rattle.pt_write_simple.specs.pt_stm_forms.Blocks.{is_docstring}
+use Rattle.pt_write_simple.specs.pt_stm_forms.Compound.{acts_skipped, behind_start, behind_suite, behind_body, behind_caught, behind_else, behind_ensured, behind_final, behind_guarded, behind_handlers, else_ended, ensured_from}
+use Rattle.pt_write_simple.proofs.pt_stm_forms.StatementActs.{numbered-act}
+use Rattle.pt_write_simple.proofs.pt_stm_forms.CompoundForms.{suite-none, suite-more, suite-act, start-silent, start-untaken, start-plain}
+use Rattle.pt_write_simple.proofs.pt_stm_forms.BlockForms.{body-other, docstring-body, module-form, function-form, lambda-form, generator-form}
 use Rattle.pt_comp.proofs.Starts.{starts-line}
 
 -- statements of the tree one after the other

@@ -8,9 +8,9 @@ ghost use Rattle.pt_instr.specs.declared.Instr.TheVariants.{Nop};
 ghost use Rattle.sem_control.specs.control.Jump.{starts_on};
 ghost use Rattle.pt_assembler.specs.declared.operation.Operation.TheVariants.{Plain as PlainOperation};
 ghost use Rattle.pt_assembler.specs.Layout.{put, put_start};
-ghost use Rattle.sem_compile.specs.stm_pieces.Needed.{free};
-ghost use Rattle.pt_stm_forms.specs.Compound.{behind_suite};
-ghost use Rattle.pt_stm_forms.specs.Blocks.{behind_code, returned_none};
+ghost use Rattle.pt_write_ops.specs.sem_compile.stm_pieces.Needed.{free};
+ghost use Rattle.pt_write_simple.specs.pt_stm_forms.Compound.{behind_suite};
+ghost use Rattle.pt_write_simple.specs.pt_stm_forms.Blocks.{behind_code, returned_none};
 
 use crate::docstrings::is_docstring;
 use crate::statements::suite_code;

@@ -4,7 +4,7 @@ ghost use Rattle.std.specs.Prelude.{◌≡◌, map, OnOk};
 ghost use Rattle.pt_tree.specs.Syntax.{no_branches};
 ghost use Rattle.pt_tree.specs.Fold.{chained, exp_of};
 ghost use Rattle.pt_tree.specs.StatementFold.{branch_of, stms_of};
-ghost use Rattle.pt_stm_forms.specs.Compound.{behind_branch, behind_branches};
+ghost use Rattle.pt_write_simple.specs.pt_stm_forms.Compound.{behind_branch, behind_branches};
 
 use crate::statements::suite_code;
 use pt_assembler::{Jump, Label, Operation, Writer};

@@ -6,7 +6,7 @@ ghost use Rattle.pt_tree.specs.Fold.{behind, clause_of, exp_of};
 ghost use Rattle.pt_tree.specs.StatementFold.{stms_of};
 ghost use Rattle.pt_assembler.specs.Layout.{layout};
 ghost use Rattle.pt_expr_forms.specs.Behind.{known};
-ghost use Rattle.sem_compile.specs.stm_pieces.StmPiece.{code_piece};
+ghost use Rattle.pt_write_ops.specs.sem_compile.stm_pieces.StmPiece.{code_piece};
 
 use crate::blocks::{function, lambda, statements};
 use crate::generators::generator;

@@ -3,7 +3,7 @@
 ghost use Rattle.std.specs.Prelude.{◌≡◌, [], option_map, IfOk, OnOk};
 ghost use Rattle.pt_tree.specs.Fold.{exp_of, target_of};
 ghost use Rattle.pt_tree.specs.StatementFold.{items_of, stms_of};
-ghost use Rattle.pt_stm_forms.specs.Compound.{behind_all_left, behind_entered, behind_item, behind_items, behind_left, behind_taken, open_context};
+ghost use Rattle.pt_write_simple.specs.pt_stm_forms.Compound.{behind_all_left, behind_entered, behind_item, behind_items, behind_left, behind_taken, open_context};
 
 use crate::places::{end_ensured, over_slot};
 use crate::statements::suite_code;
@@ -12,10 +12,9 @@ use pt_base::{Line, Memory, Stack};
 use pt_block_names::BlockNames;
 use pt_exits::Behind;
 use pt_instr::Instr;
-use pt_stm_forms::OpenContext;
 use pt_tree::{Expr, Stmt, Target, WithItem};
 use pt_write_ops::plain;
-use pt_write_simple::{bind_target, value_code};
+use pt_write_simple::{OpenContext, bind_target, value_code};
 
 /// The code of `with items: body`: items are entered from the first on, and left from the last on.
 #[cycle(statements)]

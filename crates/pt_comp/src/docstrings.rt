@@ -4,7 +4,7 @@ ghost use Rattle.std.specs.Prelude.{◌≡◌};
 ghost use Rattle.pt_tree.specs.Blocks.{is_string, is_text as is_text_constant};
 ghost use Rattle.pt_tree.specs.Fold.{exp_of};
 ghost use Rattle.pt_tree.specs.StatementFold.{stm_of};
-ghost use Rattle.pt_stm_forms.specs.Blocks.{is_docstring as is_docstring_statement};
+ghost use Rattle.pt_write_simple.specs.pt_stm_forms.Blocks.{is_docstring as is_docstring_statement};
 
 use pt_tree::{Constant, Expr, ExprNode, Stmt, StmtNode};
 

@@ -3,17 +3,16 @@
 ghost use Rattle.std.specs.Prelude.{◌≡◌, map, OnOk};
 ghost use Rattle.pt_tree.specs.Blocks as B;
 ghost use Rattle.pt_tree.specs.Fold.{behind, clause_of, exp_of};
-ghost use Rattle.pt_stm_forms.specs.Blocks.{behind_code, behind_yielded};
+ghost use Rattle.pt_write_simple.specs.pt_stm_forms.Blocks.{behind_code, behind_yielded};
 
 use crate::blocks::end_block;
 use pt_assembler::{Jump, Label, Operation, Writer};
 use pt_base::{Line, Memory};
 use pt_block_names::BlockNames;
-use pt_comp_expr::{Surroundings, clauses, turn};
 use pt_instr::Instr;
 use pt_tree::{Clause, Expr};
 use pt_write_ops::plain;
-use pt_write_simple::value_code;
+use pt_write_simple::{Surroundings, clauses, turn, value_code};
 
 /// The code of the block of a generator expression, over the slot of its first iterator.
 #[tactic(auto, using(crate::proofs::Rules::generators))]

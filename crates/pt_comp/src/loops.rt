@@ -4,7 +4,7 @@ ghost use Rattle.std.specs.Prelude.{◌≡◌, IfOk, OnOk};
 ghost use Rattle.pt_tree.specs.Fold.{exp_of, target_of};
 ghost use Rattle.pt_tree.specs.StatementFold.{stms_of};
 ghost use Rattle.pt_assembler.specs.Layout.{next_label};
-ghost use Rattle.pt_stm_forms.specs.Compound.{behind_for, behind_loop_body, behind_while};
+ghost use Rattle.pt_write_simple.specs.pt_stm_forms.Compound.{behind_for, behind_loop_body, behind_while};
 
 use crate::places::over_slot;
 use crate::statements::suite_code;

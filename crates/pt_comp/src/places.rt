@@ -4,7 +4,7 @@ ghost use Rattle.std.specs.Prelude.{◌≡◌, ◌+◌, [], true, IfOk, OnOk};
 ghost use Rattle.pt_tree.specs.declared.expression.Constant.TheVariants.{Bool as BoolConstant};
 ghost use Rattle.pt_assembler.specs.Piece.{const, move};
 ghost use Rattle.pt_assembler.specs.Layout.{layout};
-ghost use Rattle.pt_stm_forms.specs.Compound.{ensured_from, over_more};
+ghost use Rattle.pt_write_simple.specs.pt_stm_forms.Compound.{ensured_from, over_more};
 
 use pt_assembler::{Operation, Place, Writer};
 use pt_base::{Memory, Pc};

@@ -2,10 +2,10 @@
 
 ghost use Rattle.std.specs.Prelude.{◌≡◌, ◌&&◌, OnOk};
 ghost use Rattle.pt_tree.specs.StatementFold.{stm_of, stms_of};
-ghost use Rattle.sem_compile.specs.stm_pieces.Needed.{is_needed as is_needed_behind, leaves as leaves_statement};
+ghost use Rattle.pt_write_ops.specs.sem_compile.stm_pieces.Needed.{is_needed as is_needed_behind, leaves as leaves_statement};
 ghost use Rattle.pt_exits.specs.Asked.{asked};
-ghost use Rattle.pt_stm_forms.specs.Simple.{behind_stm};
-ghost use Rattle.pt_stm_forms.specs.Compound.{behind_start, behind_suite, behind_untaken};
+ghost use Rattle.pt_write_simple.specs.pt_stm_forms.Simple.{behind_stm};
+ghost use Rattle.pt_write_simple.specs.pt_stm_forms.Compound.{behind_start, behind_suite, behind_untaken};
 
 use crate::choices::branches_code;
 use crate::contexts::with_statement;

@@ -5,7 +5,7 @@ ghost use Rattle.pt_tree.specs.Syntax.{no_handlers};
 ghost use Rattle.pt_tree.specs.Fold.{chained, opt_exp};
 ghost use Rattle.pt_tree.specs.StatementFold.{handler_of, stms_of};
 ghost use Rattle.pt_exits.specs.Asked.{asked};
-ghost use Rattle.pt_stm_forms.specs.Compound.{acts_skipped, behind_covered, behind_ensured, behind_handled, behind_handler, behind_handlers, else_ended};
+ghost use Rattle.pt_write_simple.specs.pt_stm_forms.Compound.{acts_skipped, behind_covered, behind_ensured, behind_handled, behind_handler, behind_handlers, else_ended};
 
 use crate::places::{end_ensured, over_slot};
 use crate::statements::suite_code;

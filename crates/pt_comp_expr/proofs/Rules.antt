@@ -14,10 +14,10 @@ use Rattle.pt_instr.specs.declared.Instr.TheVariants as instr
 use Rattle.pt_block_names.specs.declared.block_names.BlockNames.{BlockNames}
 use Rattle.pt_assembler.specs.declared.operation.Label.{Label}
 use Rattle.pt_assembler.specs.Layout.{Written}
-use Rattle.pt_expr_forms.specs.declared.display.Display.{Display}
-use Rattle.pt_expr_forms.specs.Behind.{plain_act, still, behind_exp, display_of, display_instr, exps_count, behind_all, entries_count, behind_entries, defaults_count, behind_defaults}
-use Rattle.pt_expr_forms.specs.Loops.{behind_conditions}
-use Rattle.pt_expr_forms.proofs.Forms.{display-form, dict-form, several-form, starred-form, name_at-form, attribute_at-form, item_at-form, exp-laid, target-laid, acts-exp, acts-target}
+use Rattle.pt_write_leaves.specs.pt_expr_forms.declared.display.Display.{Display}
+use Rattle.pt_write_leaves.specs.pt_expr_forms.Behind.{plain_act, still, behind_exp, display_of, display_instr, exps_count, behind_all, entries_count, behind_entries, defaults_count, behind_defaults}
+use Rattle.pt_write_leaves.specs.pt_expr_forms.Loops.{behind_conditions}
+use Rattle.pt_write_leaves.proofs.pt_expr_forms.Forms.{display-form, dict-form, several-form, starred-form, name_at-form, attribute_at-form, item_at-form, exp-laid, target-laid, acts-exp, acts-target}
 
 -- a clause by its parts
 abbrev pub parts : Clause → ClauseOf

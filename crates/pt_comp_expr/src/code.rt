@@ -5,8 +5,8 @@ ghost use Rattle.pt_tree.specs.Syntax.{lambda};
 ghost use Rattle.pt_tree.specs.Fold.{exp_of, parameters_of, place_node_of, target_of};
 ghost use Rattle.pt_tree.specs.Sizes.{size, params_size, place_size, target_size};
 ghost use Rattle.pt_assembler.specs.Layout.{layout};
-ghost use Rattle.sem_compile.specs.emitter.ExpPiece.{exp_piece, place_piece, target_piece};
-ghost use Rattle.pt_expr_forms.specs.Behind.{known, numbers};
+ghost use Rattle.pt_write_ops.specs.sem_compile.emitter.ExpPiece.{exp_piece, place_piece, target_piece};
+ghost use Rattle.pt_write_leaves.specs.pt_expr_forms.Behind.{known, numbers};
 
 use crate::expressions::expression;
 use crate::functions::function;

@@ -3,16 +3,15 @@
 ghost use Rattle.std.specs.Prelude.{◌≡◌, map, IfOk, OnOk};
 ghost use Rattle.pt_tree.specs.Fold.{clause_of};
 ghost use Rattle.pt_assembler.specs.Layout.{next_label};
-ghost use Rattle.pt_expr_forms.specs.Loops.{begun, behind_begun, behind_clauses, behind_iterator, behind_turn, last_loop};
+ghost use Rattle.pt_write_leaves.specs.pt_expr_forms.Loops.{begun, behind_begun, behind_clauses, behind_iterator, behind_turn, last_loop};
 
 use crate::expressions::expression;
 use crate::targets::target;
 use pt_assembler::{Jump, Label, Operation, Writer};
 use pt_base::{Line, Memory};
-use pt_expr_forms::{Begun, Built, Innermost};
 use pt_instr::Instr;
 use pt_tree::Clause;
-use pt_write_leaves::{Surroundings, one_more, renew_clauses};
+use pt_write_leaves::{Begun, Built, Innermost, Surroundings, one_more, renew_clauses};
 use pt_write_ops::plain;
 
 /// The iterator of a clause.

@@ -2,7 +2,7 @@
 
 ghost use Rattle.std.specs.Prelude.{◌≡◌, OnOk};
 ghost use Rattle.pt_tree.specs.Fold.{exp_of};
-ghost use Rattle.pt_expr_forms.specs.Behind.{behind_exp};
+ghost use Rattle.pt_write_leaves.specs.pt_expr_forms.Behind.{behind_exp};
 
 use crate::comprehensions::{begin_comprehension, clauses, iterator};
 use crate::functions::function;
@@ -11,12 +11,11 @@ use crate::operands::{arguments, dictionary, display_code, operands, optional};
 use crate::strings::parts;
 use pt_assembler::{Jump, Operation, Writer};
 use pt_base::Memory;
-use pt_expr_forms::{Built, Display};
 use pt_instr::Instr;
 use pt_tree::{Expr, ExprNode};
 use pt_write_leaves::{
-    Surroundings, call_code, delegate, end_comprehension, get_attribute, make_generator, name_code,
-    still_due,
+    Built, Display, Surroundings, call_code, delegate, end_comprehension, get_attribute,
+    make_generator, name_code, still_due,
 };
 use pt_write_ops::{constant, plain};
 

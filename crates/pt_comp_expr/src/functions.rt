@@ -3,7 +3,7 @@
 ghost use Rattle.std.specs.Prelude.{◌≡◌, ◌+◌, map, IfOk, OnOk};
 ghost use Rattle.pt_tree.specs.Syntax.{lambda, no_formals};
 ghost use Rattle.pt_tree.specs.Fold.{chained, formal_of, parameters_of};
-ghost use Rattle.pt_expr_forms.specs.Behind.{behind_defaults, behind_exp, defaults_count, still};
+ghost use Rattle.pt_write_leaves.specs.pt_expr_forms.Behind.{behind_defaults, behind_exp, defaults_count, still};
 
 use crate::expressions::expression;
 use pt_assembler::Writer;

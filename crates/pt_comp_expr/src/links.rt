@@ -3,7 +3,7 @@
 ghost use Rattle.std.specs.Prelude.{◌≡◌, map, OnOk};
 ghost use Rattle.pt_tree.specs.Syntax.{no_links};
 ghost use Rattle.pt_tree.specs.Fold.{chained, link_of};
-ghost use Rattle.pt_expr_forms.specs.Behind.{behind_links};
+ghost use Rattle.pt_write_leaves.specs.pt_expr_forms.Behind.{behind_links};
 
 use crate::expressions::expression;
 use pt_assembler::Writer;

@@ -3,15 +3,14 @@
 ghost use Rattle.std.specs.Prelude.{◌≡◌, map, IfOk, OnOk};
 ghost use Rattle.pt_tree.specs.Syntax.{dict, no_args, no_entries};
 ghost use Rattle.pt_tree.specs.Fold.{all_of, argument_of, chained, entry_of, exp_of, opt_exp};
-ghost use Rattle.pt_expr_forms.specs.Behind.{behind_args, behind_exp, behind_operands, behind_opt, display_of, opt_count, still};
+ghost use Rattle.pt_write_leaves.specs.pt_expr_forms.Behind.{behind_args, behind_exp, behind_operands, behind_opt, display_of, opt_count, still};
 
 use crate::expressions::expression;
 use pt_assembler::{Jump, Label, Operation, Writer};
 use pt_base::{Boxed, Line, Memory};
-use pt_expr_forms::Display;
 use pt_instr::Instr;
 use pt_tree::{Argument, Entry, Expr};
-use pt_write_leaves::{Surroundings, still_due};
+use pt_write_leaves::{Display, Surroundings, still_due};
 use pt_write_ops::{null, operand_count, plain};
 
 /// Items from left to right, and what they are put into (Language Reference 6.2.5, 6.2.6, 6.15).

@@ -3,7 +3,7 @@
 ghost use Rattle.std.specs.Prelude.{◌≡◌, map, false, IfOk, OnOk};
 ghost use Rattle.pt_tree.specs.Syntax.{no_pieces};
 ghost use Rattle.pt_tree.specs.Fold.{chained, piece_of};
-ghost use Rattle.pt_expr_forms.specs.Behind.{behind_pieces, pieces_count};
+ghost use Rattle.pt_write_leaves.specs.pt_expr_forms.Behind.{behind_pieces, pieces_count};
 
 use crate::expressions::expression;
 use pt_assembler::Writer;

@@ -3,7 +3,7 @@
 ghost use Rattle.std.specs.Prelude.{◌≡◌, map, OnOk};
 ghost use Rattle.pt_tree.specs.Syntax.{single};
 ghost use Rattle.pt_tree.specs.Fold.{place_node_of, target_of, targets_of};
-ghost use Rattle.pt_expr_forms.specs.Behind.{behind_target, behind_targets};
+ghost use Rattle.pt_write_leaves.specs.pt_expr_forms.Behind.{behind_target, behind_targets};
 
 use crate::expressions::expression;
 use pt_assembler::Writer;

@@ -7,7 +7,7 @@ use Rattle.pt_code.specs.declared.CodeBlock.{CodeBlock}
 use Rattle.pt_blocks.specs.Visits.{without_class, behind_blocks}
 use Rattle.sem_names.specs.Around.{around_of, names_at, names_of}
 use Rattle.sem_names.specs.Script.{Naming, naming_script}
-use Rattle.sem_compile.specs.compile.ScriptCode.{Tables, BlockLayout, no_tables, tables_of, layout_of, layouts, tables_behind, code_block, code_of}
+use Rattle.law_files.specs.sem_compile.compile.ScriptCode.{Tables, BlockLayout, no_tables, tables_of, layout_of, layouts, tables_behind, code_block, code_of}
 use Rattle.pt_block_names.specs.Named.{names_in_region, names_with}
 use Rattle.pt_compile.specs.PartialCode.{PartialCode, whole, with_block}
 

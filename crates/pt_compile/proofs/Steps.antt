@@ -6,9 +6,9 @@ use Rattle.pt_instr.specs.declared.TextNo.{TextNo}
 use Rattle.pt_code.specs.declared.BlockKind.{BlockKind}
 use Rattle.pt_assembler.specs.declared.image.Heading.{Heading}
 use Rattle.pt_assembler.specs.Layout.{Written, layout}
-use Rattle.sem_compile.specs.stm_pieces.Laws.{slots_of}
-use Rattle.sem_compile.specs.stm_pieces.StmPiece.{code_piece}
-use Rattle.sem_compile.specs.compile.ScriptCode.{heading, kind_of}
+use Rattle.law_files.specs.sem_compile.stm_pieces.Laws.{slots_of}
+use Rattle.law_files.specs.sem_compile.stm_pieces.StmPiece.{code_piece}
+use Rattle.law_files.specs.sem_compile.compile.ScriptCode.{heading, kind_of}
 use Rattle.pt_expr_forms.specs.Behind.{known}
 use Rattle.pt_compile.specs.declared.open_block.OpenBlock.{OpenBlock}
 use Rattle.pt_compile.specs.PartialCode.{PartialCode, IsOpen, with_block, with_layout}

@@ -12,7 +12,7 @@ use Rattle.sem_names.specs.Script.{Naming}
 use Rattle.pt_block_names.specs.Named.{names_with}
 use Rattle.pt_assembler.specs.declared.image.Heading.{Heading}
 use Rattle.pt_assembler.specs.Layout.{Written, begun, with_text, number_of_text, block_of}
-use Rattle.sem_compile.specs.compile.ScriptCode.{Tables, BlockLayout, layout_of, tables_of, code_with, with_names}
+use Rattle.law_files.specs.sem_compile.compile.ScriptCode.{Tables, BlockLayout, layout_of, tables_of, code_with, with_names}
 use Rattle.pt_compile.specs.declared.open_block.OpenBlock.{OpenBlock}
 
 -- a block begins over so many slots

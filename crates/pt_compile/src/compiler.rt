@@ -2,7 +2,7 @@ ghost use Rattle.std.specs.Prelude.{◌≡◌, [], None, IfOk, OnOk};
 ghost use Rattle.pt_scopes.specs.Mentions.{places_script};
 ghost use Rattle.pt_scopes.specs.Refusals.{fault_of};
 ghost use Rattle.pt_tree.specs.StatementFold.{script_of};
-ghost use Rattle.sem_compile.specs.compile.ScriptCode.{code_of, no_tables};
+ghost use Rattle.law_files.specs.sem_compile.compile.ScriptCode.{code_of, no_tables};
 ghost use Rattle.std.specs.Option.{option_copied};
 ghost use Rattle.pt_block_names.specs.Named.{params_of};
 ghost use Rattle.law_files.specs.code_files.Numbers.{NumbersFit};

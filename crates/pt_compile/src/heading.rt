@@ -7,7 +7,7 @@ ghost use Rattle.pt_tree.specs.Blocks as B;
 ghost use Rattle.pt_tree.specs.Fold.{exp_of};
 ghost use Rattle.pt_tree.specs.StatementFold.{stms_of};
 ghost use Rattle.pt_code.specs.declared.BlockKind.TheVariants as kind;
-ghost use Rattle.sem_compile.specs.compile.ScriptCode.{keyword_only_count, kind_of, plain_count, rest_of};
+ghost use Rattle.law_files.specs.sem_compile.compile.ScriptCode.{keyword_only_count, kind_of, plain_count, rest_of};
 ghost use Rattle.pt_compile.specs.PartialCode.{gives_at, gives_value};
 ghost use Rattle.pt_block_names.specs.Named.{params_of};
 

@@ -2,7 +2,7 @@
 
 ghost use Rattle.std.specs.Prelude.{◌≡◌, OnOk};
 ghost use Rattle.pt_assembler.specs.Layout.{with_cell, with_free, with_local};
-ghost use Rattle.sem_compile.specs.compile.ScriptCode.{with_all, with_names};
+ghost use Rattle.law_files.specs.sem_compile.compile.ScriptCode.{with_all, with_names};
 ghost use Rattle.pt_block_names.specs.Named.{lists_of};
 
 use pt_assembler::Writer;

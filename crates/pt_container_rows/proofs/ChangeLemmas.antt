@@ -19,18 +19,18 @@ use Rattle.pt_content.specs.declared.op.Op.TheVariants as op
 use Rattle.pt_content.specs.declared.answer.PrimAns.{PrimAns}
 use Rattle.pt_content.specs.declared.answer.PrimAns.TheVariants as prim
 use Rattle.pt_prims.specs.Operations.{prim_answer, prim_heap}
-use Rattle.pt_host.specs.Errors.{error}
-use Rattle.pt_host.specs.Primitives.{arguments_of, done as awaits_none}
-use Rattle.pt_host.specs.World.{Stores, Program, allot, with_objects}
+use Rattle.sem_rows.specs.pt_host.Errors.{error}
+use Rattle.sem_rows.specs.pt_host.Primitives.{arguments_of, done as awaits_none}
+use Rattle.sem_rows.specs.pt_host.World.{Stores, Program, allot, with_objects}
 use Rattle.sem_rows.specs.declared.heap_rows.progress.Progress.{Progress}
 use Rattle.sem_rows.specs.declared.heap_rows.progress.Progress.TheVariants as progress
 use Rattle.sem_rows.specs.heap_rows.Laws.{reached}
 use Rattle.sem_rows.specs.heap_rows.Leads.{behind}
 use Rattle.sem_rows.specs.heap_rows.Views.{slots_view}
 use Rattle.sem_rows.proofs.heap_rows.RowLemmas.{asks_lead, raises_alike}
-use Rattle.pt_moves.specs.Operands.{one_value, two_values, three_values, RowsHeap}
-use Rattle.pt_moves.proofs.TakeLemmas.{one_on, two_on, three_on}
-use Rattle.pt_moves.proofs.MoveLemmas.{lacks_one, lacks_two, lacks_three, stuck_row}
+use Rattle.pt_operators.specs.pt_moves.Operands.{one_value, two_values, three_values, RowsHeap}
+use Rattle.pt_operators.proofs.pt_moves.TakeLemmas.{one_on, two_on, three_on}
+use Rattle.pt_operators.proofs.pt_moves.MoveLemmas.{lacks_one, lacks_two, lacks_three, stuck_row}
 use Rattle.pt_operators.specs.Operates.{Asks, progress_of}
 use Rattle.pt_operators.proofs.OperatorLemmas.{Tells, asks}
 use Rattle.pt_container_rows.specs.Operands.{value_down}

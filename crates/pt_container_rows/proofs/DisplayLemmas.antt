@@ -9,15 +9,15 @@ use Rattle.pt_frames.specs.declared.slot.Slot.{Slot}
 use Rattle.sem_code.specs.slots.Steps.{gives}
 use Rattle.pt_content.specs.declared.op.Op.{Op}
 use Rattle.pt_content.specs.declared.op.Op.TheVariants as op
-use Rattle.pt_host.specs.World.{with_objects}
+use Rattle.sem_rows.specs.pt_host.World.{with_objects}
 use Rattle.sem_rows.specs.declared.heap_rows.progress.Progress.{Progress}
 use Rattle.sem_rows.specs.declared.heap_rows.progress.Progress.TheVariants as progress
 use Rattle.sem_rows.specs.heap_rows.Laws.{reached}
 use Rattle.sem_rows.specs.heap_rows.Leads.{by_tree, giving}
 use Rattle.sem_rows.specs.heap_rows.Views.{slots_view}
 use Rattle.sem_rows.proofs.heap_rows.RowLemmas.{asks_lead}
-use Rattle.pt_moves.specs.Operands.{RowsHeap}
-use Rattle.pt_moves.proofs.MoveLemmas.{stuck_row}
+use Rattle.pt_operators.specs.pt_moves.Operands.{RowsHeap}
+use Rattle.pt_operators.proofs.pt_moves.MoveLemmas.{stuck_row}
 use Rattle.pt_operators.specs.Operates.{Asks, Operates}
 use Rattle.pt_function_rows.specs.Operands.{many_values}
 use Rattle.pt_function_rows.proofs.TakeLemmas.{values_taken, values_missing}

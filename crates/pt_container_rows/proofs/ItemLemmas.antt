@@ -12,8 +12,8 @@ use Rattle.sem_code.specs.slots.Instructions.{conversion_of}
 use Rattle.pt_content.specs.declared.op.Op.TheVariants as op
 use Rattle.sem_rows.specs.declared.heap_rows.progress.Progress.{Progress}
 use Rattle.sem_rows.specs.declared.heap_rows.progress.Progress.TheVariants as progress
-use Rattle.pt_moves.specs.Operands.{two_values, three_values, RowsHeap}
-use Rattle.pt_moves.proofs.TakeLemmas.{two_on, three_on}
+use Rattle.pt_operators.specs.pt_moves.Operands.{two_values, three_values, RowsHeap}
+use Rattle.pt_operators.proofs.pt_moves.TakeLemmas.{two_on, three_on}
 use Rattle.pt_operators.specs.Operates.{Operates}
 use Rattle.pt_function_rows.specs.Operands.{many_values}
 use Rattle.pt_container_rows.specs.Rows.{Gathers}

@@ -41,10 +41,10 @@ use Rattle.pt_sequences.specs.Cursors.{asked_or}
 use Rattle.pt_sequences.specs.Ranges.{range_length}
 use Rattle.pt_sequences.specs.Unpacking.{char_texts, integers_from, mismatch, unless, unpacked, values}
 use Rattle.pt_prims.specs.Operations.{placed, prim_answer, prim_heap}
-use Rattle.pt_host.specs.Answers.{unpacking}
-use Rattle.pt_host.specs.Errors.{error}
-use Rattle.pt_host.specs.Primitives.{answer_if, arguments_of, row_from, so_many}
-use Rattle.pt_host.specs.World.{Stores, Program, allot, with_objects}
+use Rattle.sem_rows.specs.pt_host.Answers.{unpacking}
+use Rattle.sem_rows.specs.pt_host.Errors.{error}
+use Rattle.sem_rows.specs.pt_host.Primitives.{answer_if, arguments_of, row_from, so_many}
+use Rattle.sem_rows.specs.pt_host.World.{Stores, Program, allot, with_objects}
 use Rattle.sem_rows.specs.declared.heap_rows.progress.Progress.{Progress}
 use Rattle.sem_rows.specs.declared.heap_rows.progress.Progress.TheVariants as progress
 use Rattle.sem_rows.specs.heap_rows.Laws.{reached}
@@ -52,9 +52,9 @@ use Rattle.sem_rows.specs.heap_rows.Leads.{by_tree}
 use Rattle.sem_rows.specs.heap_rows.Told.{told}
 use Rattle.sem_rows.specs.heap_rows.Views.{slots_view}
 use Rattle.sem_rows.proofs.heap_rows.RowLemmas.{asks_lead, raises_alike}
-use Rattle.pt_moves.specs.Operands.{one_value, RowsHeap}
-use Rattle.pt_moves.proofs.TakeLemmas.{one_on}
-use Rattle.pt_moves.proofs.MoveLemmas.{lacks_one, stuck_row}
+use Rattle.pt_operators.specs.pt_moves.Operands.{one_value, RowsHeap}
+use Rattle.pt_operators.proofs.pt_moves.TakeLemmas.{one_on}
+use Rattle.pt_operators.proofs.pt_moves.MoveLemmas.{lacks_one, stuck_row}
 use Rattle.pt_operators.specs.Operates.{Continuation, Asks}
 use Rattle.pt_operators.proofs.OperatorLemmas.{Tells, asks}
 use Rattle.pt_container_rows.specs.Answers.{over_row, progress_of_row}

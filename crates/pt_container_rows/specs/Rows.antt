@@ -13,9 +13,9 @@ use Rattle.sem_code.specs.slots.Steps.{asks}
 use Rattle.sem_code.specs.slots.Instructions.{operates}
 use Rattle.sem_run.specs.run.Host.{Here}
 use Rattle.pt_content.specs.declared.op.Op.{Op}
-use Rattle.pt_host.specs.Answers.{operate, unpacking}
-use Rattle.pt_host.specs.Primitives.{by_prim, done}
-use Rattle.pt_host.specs.World.{Program, Stores, with_objects}
+use Rattle.sem_rows.specs.pt_host.Answers.{operate, unpacking}
+use Rattle.sem_rows.specs.pt_host.Primitives.{by_prim, done}
+use Rattle.sem_rows.specs.pt_host.World.{Program, Stores, with_objects}
 use Rattle.sem_rows.specs.declared.heap_rows.progress.Progress.{Progress}
 use Rattle.sem_rows.specs.heap_rows.Laws.{reached}
 use Rattle.sem_rows.specs.heap_rows.Leads.{behind}

@@ -5,15 +5,14 @@ ghost use Rattle.pt_container_rows.specs.Rows.{Changes};
 ghost use Rattle.pt_frames.specs.Slots.{active_in};
 ghost use Rattle.pt_frames.specs.declared.slot.Slot.{Slot};
 ghost use Rattle.pt_instr.specs.declared.Instr.TheVariants as instr;
-ghost use Rattle.pt_moves.specs.Operands.{RowsHeap};
+ghost use Rattle.pt_operators.specs.pt_moves.Operands.{RowsHeap};
 
 use crate::taking::value_down;
 use pt_base::Memory;
 use pt_content::Op;
 use pt_frames::Slots;
 use pt_heap::{Heap, Value};
-use pt_moves::{take_one, take_three, take_two};
-use pt_operators::ask;
+use pt_operators::{ask, take_one, take_three, take_two};
 use sem_rows::heap_rows::Progress;
 use std::alloc::Global;
 

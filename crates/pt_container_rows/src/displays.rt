@@ -3,7 +3,7 @@ ghost use Rattle.std.specs.Prelude.{◌≡◌, IfOk, OnOk};
 ghost use Rattle.pt_container_rows.specs.Rows.{Gathers};
 ghost use Rattle.pt_frames.specs.Slots.{active_in};
 ghost use Rattle.pt_instr.specs.declared.Instr.TheVariants as instr;
-ghost use Rattle.pt_moves.specs.Operands.{RowsHeap};
+ghost use Rattle.pt_operators.specs.pt_moves.Operands.{RowsHeap};
 
 use pt_base::Memory;
 use pt_content::Op;

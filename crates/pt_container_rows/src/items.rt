@@ -2,7 +2,7 @@
 ghost use Rattle.std.specs.Prelude.{◌≡◌, IfOk, OnOk};
 ghost use Rattle.pt_frames.specs.Slots.{active_in};
 ghost use Rattle.pt_instr.specs.declared.Instr.TheVariants as instr;
-ghost use Rattle.pt_moves.specs.Operands.{RowsHeap};
+ghost use Rattle.pt_operators.specs.pt_moves.Operands.{RowsHeap};
 ghost use Rattle.sem_code.specs.slots.Instructions.{conversion_of};
 
 use pt_base::Memory;
@@ -10,8 +10,7 @@ use pt_content::Op;
 use pt_frames::Slots;
 use pt_heap::Heap;
 use pt_instr::Conversion as Formatting;
-use pt_moves::{take_three, take_two};
-use pt_operators::operation;
+use pt_operators::{operation, take_three, take_two};
 use pt_tree::Conversion;
 use sem_rows::heap_rows::Progress;
 use std::alloc::Global;

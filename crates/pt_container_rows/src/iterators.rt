@@ -3,7 +3,7 @@ ghost use Rattle.std.specs.Prelude.{◌≡◌, IfOk, OnOk};
 ghost use Rattle.pt_container_rows.specs.Answers.{over_item, over_iterator, progress_of_item};
 ghost use Rattle.pt_frames.specs.Slots.{active_in};
 ghost use Rattle.pt_instr.specs.declared.Instr.TheVariants as instr;
-ghost use Rattle.pt_moves.specs.Operands.{RowsHeap};
+ghost use Rattle.pt_operators.specs.pt_moves.Operands.{RowsHeap};
 ghost use Rattle.pt_operators.specs.Operates.{value_given};
 
 use crate::taking::take_iterator;
@@ -11,8 +11,7 @@ use pt_base::{Memory, Pc};
 use pt_content::{Op, PrimAns};
 use pt_frames::{Slot, Slots};
 use pt_heap::{Heap, Value};
-use pt_moves::take_one;
-use pt_operators::{Outcome, ask, outcome_of};
+use pt_operators::{Outcome, ask, outcome_of, take_one};
 use pt_prims::prim;
 use sem_rows::heap_rows::Progress;
 use std::alloc::Global;

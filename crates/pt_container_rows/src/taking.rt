@@ -2,7 +2,7 @@
 ghost use Rattle.std.specs.Prelude.{◌≡◌, drop, IfSome};
 ghost use Rattle.pt_container_rows.specs.Operands.{iterator_in, one_iterator, value_down};
 ghost use Rattle.pt_frames.specs.Slots.{active_in};
-ghost use Rattle.pt_moves.specs.Operands.{value_in};
+ghost use Rattle.pt_operators.specs.pt_moves.Operands.{value_in};
 
 use pt_frames::{Slot, Slots};
 use pt_heap::Value;

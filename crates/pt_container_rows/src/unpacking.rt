@@ -5,13 +5,13 @@ ghost use Rattle.pt_container_rows.specs.Rows.{Unpacks};
 ghost use Rattle.pt_frames.specs.Slots.{active_in};
 ghost use Rattle.pt_frames.specs.declared.slot.Slot.TheVariants as slot;
 ghost use Rattle.pt_instr.specs.declared.Instr.TheVariants as instr;
-ghost use Rattle.pt_moves.specs.Operands.{RowsHeap};
+ghost use Rattle.pt_operators.specs.pt_moves.Operands.{RowsHeap};
 
 use pt_base::{Memory, What};
 use pt_content::{Op, PrimAns};
 use pt_frames::{Slot, Slots};
 use pt_heap::{Heap, Value};
-use pt_moves::take_one;
+use pt_operators::take_one;
 use pt_prims::prim;
 use sem_rows::heap_rows::Progress;
 use std::alloc::Global;

@@ -18,7 +18,7 @@ use Rattle.pt_assembler.specs.declared.operation.Operation.{Operation as Written
 use Rattle.pt_assembler.specs.Piece as P
 use Rattle.pt_assembler.specs.Piece.{Op, Piece, empty, act, move, block, headed, closed, ◌▸◌}
 use Rattle.pt_assembler.specs.Layout.{Written, layout, put, put_act, new_label, next_label, bind, with_text, keep_constant, keep_list, keep_local, keep_cell, keep_free, with_texts, with_constant_text, const_for, number_of_text, list_for, with_operand}
-use Rattle.sem_compile.specs.emitter.ExpPiece.{null_piece, made_piece, op_piece, renewed_piece, exp_piece, part_piece, exps_piece, entries_piece, args_piece, pieces_piece, spec_piece, links_piece, ands_piece, ors_piece, formals_piece, first_piece, clauses_piece, item_piece, target_piece, targets_piece, place_piece}
+use Rattle.pt_write_ops.specs.sem_compile.emitter.ExpPiece.{null_piece, made_piece, op_piece, renewed_piece, exp_piece, part_piece, exps_piece, entries_piece, args_piece, pieces_piece, spec_piece, links_piece, ands_piece, ors_piece, formals_piece, first_piece, clauses_piece, item_piece, target_piece, targets_piece, place_piece}
 
 -- The number of the next act, behind each step of a writer.
 

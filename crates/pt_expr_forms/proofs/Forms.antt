@@ -25,8 +25,8 @@ use Rattle.pt_assembler.specs.declared.operation.Operation.TheVariants.{Plain, T
 use Rattle.pt_assembler.specs.declared.operation.Jump.TheVariants.{Always, IfFalse, IfTrueKeep, IfFalseKeep}
 use Rattle.pt_assembler.specs.Piece.{Piece, act, const, with_text}
 use Rattle.pt_assembler.specs.Layout.{Written, layout, put, put_act, act_of, new_label, next_label, bind}
-use Rattle.sem_compile.specs.emitter.Ops.{call, formatting_of, operation, load, store, push_cell}
-use Rattle.sem_compile.specs.emitter.ExpPiece.{unpack_op, exp_piece, part_piece, exps_piece, entries_piece, args_piece, pieces_piece, spec_piece, links_piece, ands_piece, ors_piece, formals_piece, first_piece, made_piece, op_piece, target_piece, targets_piece}
+use Rattle.pt_write_ops.specs.sem_compile.emitter.Ops.{call, formatting_of, operation, load, store, push_cell}
+use Rattle.pt_write_ops.specs.sem_compile.emitter.ExpPiece.{unpack_op, exp_piece, part_piece, exps_piece, entries_piece, args_piece, pieces_piece, spec_piece, links_piece, ands_piece, ors_piece, formals_piece, first_piece, made_piece, op_piece, target_piece, targets_piece}
 use Rattle.pt_write_ops.specs.Written.{cells_piece}
 use Rattle.pt_expr_forms.specs.declared.display.Display.{Display}
 use Rattle.pt_expr_forms.specs.declared.display.Display.TheVariants as display

@@ -15,8 +15,8 @@ use Rattle.pt_assembler.specs.declared.operation.Jump.TheVariants.{AtEnd, Always
 use Rattle.pt_assembler.specs.declared.operation.Operation.TheVariants.{Plain, To}
 use Rattle.pt_assembler.specs.Piece.{Piece, act, move, closed, plain, to, ◌▸◌}
 use Rattle.pt_assembler.specs.Layout.{Written, layout, put, put_act, act_of, new_label, next_label, bind, operation_of, with_operand}
-use Rattle.sem_compile.specs.emitter.Ops.{operation, renew}
-use Rattle.sem_compile.specs.emitter.ExpPiece.{exp_piece, target_piece, clauses_piece, item_piece, renewed_piece}
+use Rattle.pt_write_ops.specs.sem_compile.emitter.Ops.{operation, renew}
+use Rattle.pt_write_ops.specs.sem_compile.emitter.ExpPiece.{exp_piece, target_piece, clauses_piece, item_piece, renewed_piece}
 use Rattle.pt_expr_forms.specs.declared.comprehension.Built.{Built}
 use Rattle.pt_expr_forms.specs.declared.comprehension.Built.TheVariants as built
 use Rattle.pt_expr_forms.specs.declared.comprehension.Innermost.{Innermost}

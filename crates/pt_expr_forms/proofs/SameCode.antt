@@ -11,8 +11,8 @@ use Rattle.sem_control.specs.control.Expressions.{cells_of, making, roles, targe
 use Rattle.pt_block_names.specs.declared.block_names.BlockNames.{BlockNames}
 use Rattle.pt_block_names.specs.Named.{around}
 use Rattle.pt_assembler.specs.Piece.{Piece, move, ◌▸◌}
-use Rattle.sem_compile.specs.emitter.Ops.{push_cell, renew}
-use Rattle.sem_compile.specs.emitter.ExpPiece.{made_piece, op_piece, renewed_piece, exp_piece, part_piece, exps_piece, entries_piece, args_piece, pieces_piece, spec_piece, links_piece, ands_piece, ors_piece, formals_piece, first_piece, clauses_piece, item_piece, target_piece, targets_piece, place_piece}
+use Rattle.pt_write_ops.specs.sem_compile.emitter.Ops.{push_cell, renew}
+use Rattle.pt_write_ops.specs.sem_compile.emitter.ExpPiece.{made_piece, op_piece, renewed_piece, exp_piece, part_piece, exps_piece, entries_piece, args_piece, pieces_piece, spec_piece, links_piece, ands_piece, ors_piece, formals_piece, first_piece, clauses_piece, item_piece, target_piece, targets_piece, place_piece}
 use Rattle.pt_expr_forms.specs.Behind.{known}
 
 module _ {V : Type 0} (null : V) (b : BlockNames) where

@@ -17,8 +17,8 @@ use Rattle.pt_assembler.specs.declared.operation.Jump.TheVariants.{Always, IfFal
 use Rattle.pt_assembler.specs.declared.operation.Operation.TheVariants.{Plain, To}
 use Rattle.pt_assembler.specs.Piece.{const, act}
 use Rattle.pt_assembler.specs.Layout.{Written, layout, put, put_act, act_of, new_label, next_label, bind}
-use Rattle.sem_compile.specs.emitter.Ops.{formatting_of}
-use Rattle.sem_compile.specs.emitter.ExpPiece.{exp_piece, target_piece, null_piece}
+use Rattle.pt_write_ops.specs.sem_compile.emitter.Ops.{formatting_of}
+use Rattle.pt_write_ops.specs.sem_compile.emitter.ExpPiece.{exp_piece, target_piece, null_piece}
 use Rattle.pt_expr_forms.specs.declared.display.Display.{Display}
 use Rattle.pt_expr_forms.specs.declared.display.Display.TheVariants as display
 use Rattle.pt_expr_forms.specs.declared.links.LinkEnds.{LinkEnds}

@@ -8,8 +8,8 @@ use Rattle.pt_block_names.specs.Named.{around}
 use Rattle.pt_assembler.specs.declared.operation.Target.{Target}
 use Rattle.pt_assembler.specs.PieceAt.{Context, Piece_at}
 use Rattle.sem_code.specs.comp_expr.Places.{Exp_at}
-use Rattle.sem_compile.specs.emitter.Laws.{Agrees}
-use Rattle.sem_compile.specs.emitter.ExpPiece.{exp_piece}
+use Rattle.pt_write_ops.specs.sem_compile.emitter.Laws.{Agrees}
+use Rattle.pt_write_ops.specs.sem_compile.emitter.ExpPiece.{exp_piece}
 use Rattle.pt_expr_forms.specs.Behind.{known}
 
 -- where the piece that is written of an expression stands, there stands the code of the expression, whatever the value None is

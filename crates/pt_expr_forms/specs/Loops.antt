@@ -13,7 +13,7 @@ use Rattle.pt_assembler.specs.declared.operation.Jump.TheVariants.{AtEnd, Always
 use Rattle.pt_assembler.specs.declared.operation.Operation.TheVariants.{Plain, To}
 use Rattle.pt_assembler.specs.Piece.{move}
 use Rattle.pt_assembler.specs.Layout.{Written, layout, put, new_label, next_label, bind}
-use Rattle.sem_compile.specs.emitter.Ops.{renew}
+use Rattle.pt_write_ops.specs.sem_compile.emitter.Ops.{renew}
 use Rattle.pt_expr_forms.specs.declared.comprehension.Built.{Built}
 use Rattle.pt_expr_forms.specs.declared.comprehension.Built.TheVariants as built
 use Rattle.pt_expr_forms.specs.declared.comprehension.Begun.{Begun}

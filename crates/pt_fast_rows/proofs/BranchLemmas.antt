@@ -7,12 +7,12 @@ use Rattle.pt_heap.specs.declared.value.Value.TheVariants as value
 use Rattle.pt_frames.specs.declared.slot.Slot.{Slot}
 use Rattle.pt_frames.specs.declared.slot.Slot.TheVariants as slot
 use Rattle.pt_frames.specs.Slots.{active_in}
-use Rattle.sem_rows.specs.declared.heap_rows.progress.Progress.TheVariants as progress
-use Rattle.pt_moves.specs.Operands.{one_value}
-use Rattle.pt_moves.specs.Truth.{branch}
-use Rattle.pt_moves.proofs.TakeLemmas.{quiet_one}
-use Rattle.pt_moves.proofs.TruthLemmas.{known_truth, known_tested}
-use Rattle.pt_moves.proofs.BranchLemmas.{jump_if_row, jump_unless_row}
+use Rattle.pt_operators.specs.pt_moves.sem_rows.declared.heap_rows.progress.Progress.TheVariants as progress
+use Rattle.pt_operators.specs.pt_moves.Operands.{one_value}
+use Rattle.pt_operators.specs.pt_moves.Truth.{branch}
+use Rattle.pt_operators.proofs.pt_moves.TakeLemmas.{quiet_one}
+use Rattle.pt_operators.proofs.pt_moves.TruthLemmas.{known_truth, known_tested}
+use Rattle.pt_operators.proofs.pt_moves.BranchLemmas.{jump_if_row, jump_unless_row}
 use Rattle.pt_fast_rows.specs.FastPaths.{FastRow, Led, truth_in}
 use Rattle.pt_fast_rows.proofs.ValueLemmas.{at_next}
 

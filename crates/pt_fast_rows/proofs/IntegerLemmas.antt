@@ -22,9 +22,9 @@ use Rattle.pt_prims.specs.Arithmetic.{integer_content}
 use Rattle.pt_comparisons.specs.Comparisons.{comparison_content}
 use Rattle.pt_prims.specs.InPlace.{in_place_content}
 use Rattle.pt_prims.specs.Operations.{content_of, placed, grown}
-use Rattle.sem_rows.specs.declared.heap_rows.progress.Progress.TheVariants as progress
-use Rattle.pt_moves.specs.Operands.{two_values}
-use Rattle.pt_moves.proofs.TakeLemmas.{two_on, two_off}
+use Rattle.pt_operators.specs.pt_moves.sem_rows.declared.heap_rows.progress.Progress.TheVariants as progress
+use Rattle.pt_operators.specs.pt_moves.Operands.{two_values}
+use Rattle.pt_operators.proofs.pt_moves.TakeLemmas.{two_on, two_off}
 use Rattle.pt_operators.specs.Operates.{Operates, progress_of, value_given}
 use Rattle.pt_operators.proofs.OperatorLemmas.{operates, binary_values, in_place_values, compare_values}
 use Rattle.pt_fast_rows.specs.FastPaths.{FastRow, Led, integer_in, integers_compare}

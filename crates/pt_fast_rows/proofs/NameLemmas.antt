@@ -14,7 +14,7 @@ use Rattle.pt_names.specs.Names.{Named, name_value}
 use Rattle.pt_frames.specs.declared.slot.Slot.{Slot}
 use Rattle.pt_frames.specs.declared.slot.Slot.TheVariants as slot
 use Rattle.pt_frames.specs.Slots.{active_in}
-use Rattle.pt_moves.proofs.TakeLemmas.{quiet_one}
+use Rattle.pt_operators.proofs.pt_moves.TakeLemmas.{quiet_one}
 use Rattle.pt_name_rows.specs.Names.{value_through, with_value}
 use Rattle.pt_name_rows.proofs.LocalLemmas as locals
 use Rattle.pt_name_rows.proofs.CellLemmas as cells

@@ -9,13 +9,13 @@ use Rattle.pt_heap.specs.declared.object.Object.{Object}
 use Rattle.pt_frames.specs.declared.slot.Slot.{Slot}
 use Rattle.pt_frames.specs.declared.slot.Slot.TheVariants as slot
 use Rattle.pt_frames.specs.Slots.{active_in}
-use Rattle.pt_host.specs.World.{with_objects}
-use Rattle.sem_rows.specs.declared.heap_rows.progress.Progress.{Progress}
-use Rattle.sem_rows.specs.declared.heap_rows.progress.Progress.TheVariants as progress
-use Rattle.pt_moves.specs.Operands.{one_value, RowsSlots, RowsHeap}
-use Rattle.pt_moves.proofs.TakeLemmas.{quiet_one}
-use Rattle.pt_moves.proofs.MoveLemmas.{pop_row, return_row}
-use Rattle.pt_moves.proofs.ConstantLemmas.{constant_row}
+use Rattle.pt_name_rows.specs.pt_builtins.pt_host.World.{with_objects}
+use Rattle.pt_operators.specs.pt_moves.sem_rows.declared.heap_rows.progress.Progress.{Progress}
+use Rattle.pt_operators.specs.pt_moves.sem_rows.declared.heap_rows.progress.Progress.TheVariants as progress
+use Rattle.pt_operators.specs.pt_moves.Operands.{one_value, RowsSlots, RowsHeap}
+use Rattle.pt_operators.proofs.pt_moves.TakeLemmas.{quiet_one}
+use Rattle.pt_operators.proofs.pt_moves.MoveLemmas.{pop_row, return_row}
+use Rattle.pt_operators.proofs.pt_moves.ConstantLemmas.{constant_row}
 use Rattle.pt_fast_rows.specs.FastPaths.{FastConstant, FastReturn, FastRow, Led}
 
 -- the place behind is next

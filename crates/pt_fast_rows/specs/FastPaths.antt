@@ -16,11 +16,11 @@ use Rattle.pt_frames.specs.declared.slot.Slot.TheVariants as slot
 use Rattle.pt_frames.specs.Slots.{active_in}
 use Rattle.pt_comparisons.specs.Comparisons.{number_order}
 use Rattle.pt_comparisons.specs.Equalities.{same_number}
-use Rattle.sem_rows.specs.declared.heap_rows.progress.Progress.{Progress}
-use Rattle.sem_rows.specs.declared.heap_rows.progress.Progress.TheVariants as progress
-use Rattle.pt_code_facts.specs.declared.facts.BlockFacts.{BlockFacts}
-use Rattle.pt_builtins.specs.declared.BuiltinLookup.{BuiltinLookup}
-use Rattle.pt_moves.specs.Operands.{RowsSlots, RowsHeap, RowsConstant}
+use Rattle.pt_operators.specs.pt_moves.sem_rows.declared.heap_rows.progress.Progress.{Progress}
+use Rattle.pt_operators.specs.pt_moves.sem_rows.declared.heap_rows.progress.Progress.TheVariants as progress
+use Rattle.pt_name_rows.specs.pt_code_facts.declared.facts.BlockFacts.{BlockFacts}
+use Rattle.pt_name_rows.specs.pt_builtins.declared.BuiltinLookup.{BuiltinLookup}
+use Rattle.pt_operators.specs.pt_moves.Operands.{RowsSlots, RowsHeap, RowsConstant}
 use Rattle.pt_name_rows.specs.Names.{RowsLocal, RowsCell, RowsGlobal, RowsLoadGlobal}
 
 -- the place that is next, where an instruction comes to one

@@ -3,7 +3,7 @@ ghost use Rattle.std.specs.Prelude.{◌≡◌, Some, drop, MatchOption};
 ghost use Rattle.pt_fast_rows.specs.FastPaths.{FastRow, Leads, truth_in};
 ghost use Rattle.pt_heap.specs.declared.value.Value.TheVariants as value;
 ghost use Rattle.pt_instr.specs.declared.Instr.TheVariants as instr;
-ghost use Rattle.pt_moves.specs.Operands.{one_value};
+ghost use Rattle.pt_operators.specs.pt_moves.Operands.{one_value};
 
 use pt_base::Pc;
 use pt_frames::{Slot, Slots};

@@ -4,7 +4,7 @@ ghost use Rattle.pt_fast_rows.specs.FastPaths.{FastRow, Leads, integer_in, integ
 ghost use Rattle.pt_frames.specs.declared.slot.Slot.TheVariants as slot;
 ghost use Rattle.pt_heap.specs.declared.value.Value.TheVariants as value;
 ghost use Rattle.pt_instr.specs.declared.Instr.TheVariants as instr;
-ghost use Rattle.pt_moves.specs.Operands.{two_values};
+ghost use Rattle.pt_operators.specs.pt_moves.Operands.{two_values};
 
 use pt_base::{BinOp, CompareOp, Memory, Pc};
 use pt_frames::{Slot, Slots};

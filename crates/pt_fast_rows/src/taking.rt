@@ -1,6 +1,6 @@
 //! How a value is taken off the slots, if one is on top.
 ghost use Rattle.std.specs.Prelude.{◌≡◌, Some, drop, MatchOption};
-ghost use Rattle.pt_moves.specs.Operands.{one_value, value_in};
+ghost use Rattle.pt_operators.specs.pt_moves.Operands.{one_value, value_in};
 
 use pt_frames::{Slot, Slots};
 use pt_heap::Value;

@@ -6,7 +6,7 @@ use Rattle.sem_control.specs.control.Turn as T
 use Rattle.pt_heap.specs.declared.value.Value.{Value}
 use Rattle.pt_heap.specs.declared.view.Binding.{Binding}
 use Rattle.sem_code.specs.slots.Instructions.{all_positional, last_named}
-use Rattle.pt_host.specs.Calls.{plain_arguments, named_arguments, arguments, has_spread, defaults_of}
+use Rattle.pt_moves.specs.sem_rows.pt_host.Calls.{plain_arguments, named_arguments, arguments, has_spread, defaults_of}
 use Rattle.pt_function_rows.specs.Arguments.{named_last}
 
 plain_of_named : (xs : List Name) (vs : List Value) → plain_arguments (map T.named xs) vs ≡ []

@@ -19,16 +19,16 @@ use Rattle.sem_code.specs.slots.Steps.{gives}
 use Rattle.sem_code.specs.slots.Pops as P
 use Rattle.sem_run.specs.run.Host.{made, beyond}
 use Rattle.pt_content.specs.Changes.{next_object}
-use Rattle.pt_host.specs.World.{Stores, Allotted, IsAllotted, allot, with_objects}
-use Rattle.pt_host.specs.Trees.{answer_with}
-use Rattle.pt_host.specs.Calls.{defaults_of, number_of, function_object}
-use Rattle.sem_rows.specs.declared.heap_rows.progress.Progress.TheVariants as progress
-use Rattle.sem_rows.specs.heap_rows.Laws.{reached}
-use Rattle.sem_rows.specs.heap_rows.Leads.{by_tree, giving}
-use Rattle.sem_rows.specs.heap_rows.Told.{told}
-use Rattle.sem_rows.specs.heap_rows.RowsIn.{Standpoint, RowsIn}
-use Rattle.sem_rows.specs.heap_rows.Views.{slots_view}
-use Rattle.sem_rows.proofs.heap_rows.RowLemmas.{operations_lead}
+use Rattle.pt_moves.specs.sem_rows.pt_host.World.{Stores, Allotted, IsAllotted, allot, with_objects}
+use Rattle.pt_moves.specs.sem_rows.pt_host.Trees.{answer_with}
+use Rattle.pt_moves.specs.sem_rows.pt_host.Calls.{defaults_of, number_of, function_object}
+use Rattle.pt_moves.specs.sem_rows.declared.heap_rows.progress.Progress.TheVariants as progress
+use Rattle.pt_moves.specs.sem_rows.heap_rows.Laws.{reached}
+use Rattle.pt_moves.specs.sem_rows.heap_rows.Leads.{by_tree, giving}
+use Rattle.pt_moves.specs.sem_rows.heap_rows.Told.{told}
+use Rattle.pt_moves.specs.sem_rows.heap_rows.RowsIn.{Standpoint, RowsIn}
+use Rattle.pt_moves.specs.sem_rows.heap_rows.Views.{slots_view}
+use Rattle.pt_moves.proofs.sem_rows.heap_rows.RowLemmas.{operations_lead}
 use Rattle.pt_moves.proofs.MoveLemmas.{stuck_row}
 use Rattle.pt_function_rows.specs.Operands.{many_values, many_cells}
 use Rattle.pt_function_rows.specs.FunctionRows.{MakesFunction, RowsFunction}

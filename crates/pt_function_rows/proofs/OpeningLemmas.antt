@@ -9,9 +9,9 @@ use Rattle.pt_heap.specs.declared.value.Value.{Value}
 use Rattle.pt_heap.specs.declared.object.Function.{Function}
 use Rattle.pt_bind.specs.Binding.{names_of}
 use Rattle.pt_bind.specs.declared.arguments.Params.{Params}
-use Rattle.pt_host.specs.World.{World}
-use Rattle.pt_host.specs.Calls.{cells_from, cells_along, names_from, parameters_given}
-use Rattle.sem_rows.specs.heap_rows.Views.{paired, names_in}
+use Rattle.pt_moves.specs.sem_rows.pt_host.World.{World}
+use Rattle.pt_moves.specs.sem_rows.pt_host.Calls.{cells_from, cells_along, names_from, parameters_given}
+use Rattle.pt_moves.specs.sem_rows.heap_rows.Views.{paired, names_in}
 use Rattle.pt_code_facts.specs.declared.facts.BlockFacts.{BlockFacts}
 use Rattle.pt_code_facts.specs.Facts.{facts_view}
 use Rattle.pt_function_rows.specs.Openings.{parameter_value, first_value_of, first_values_of, given_cells, numbers_from}

@@ -10,7 +10,7 @@ use Rattle.pt_frames.specs.Slots.{active_in}
 use Rattle.sem_control.specs.control.Turn.{stuck}
 use Rattle.sem_code.specs.slots.Pops as P
 use Rattle.sem_code.specs.slots.Pops.{Next}
-use Rattle.sem_rows.specs.heap_rows.Views.{slots_view}
+use Rattle.pt_moves.specs.sem_rows.heap_rows.Views.{slots_view}
 use Rattle.pt_moves.specs.Operands.{one_value}
 use Rattle.pt_moves.proofs.TakeLemmas.{one_on}
 use Rattle.pt_function_rows.specs.Operands.{values_before, cell_in, one_cell, cells_before}

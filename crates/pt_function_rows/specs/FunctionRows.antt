@@ -4,9 +4,9 @@ use Rattle.pt_tree.specs.Syntax.{Name}
 use Rattle.pt_instr.specs.declared.Instr.{Instr}
 use Rattle.pt_heap.specs.declared.object.Object.{Object}
 use Rattle.pt_frames.specs.declared.slot.Slot.{Slot}
-use Rattle.pt_host.specs.World.{Stores, with_objects}
-use Rattle.sem_rows.specs.declared.heap_rows.progress.Progress.{Progress}
-use Rattle.sem_rows.specs.heap_rows.RowsIn.{Standpoint, RowsIn}
+use Rattle.pt_moves.specs.sem_rows.pt_host.World.{Stores, with_objects}
+use Rattle.pt_moves.specs.sem_rows.declared.heap_rows.progress.Progress.{Progress}
+use Rattle.pt_moves.specs.sem_rows.heap_rows.RowsIn.{Standpoint, RowsIn}
 
 -- the operands name these names of defaults and a block that takes so many cells along, and the block that makes the function is
 -- hidden or not

@@ -6,7 +6,7 @@ use Rattle.pt_names.specs.Names.{name_value}
 use Rattle.pt_bind.specs.declared.arguments.Params.{Params}
 use Rattle.pt_bind.specs.NameSets.{is_among}
 use Rattle.pt_bind.specs.Binding.{names_of}
-use Rattle.pt_host.specs.Calls.{parameters_given}
+use Rattle.pt_moves.specs.sem_rows.pt_host.Calls.{parameters_given}
 use Rattle.pt_code_facts.specs.declared.facts.BlockFacts.{BlockFacts}
 
 abbrev pub parameter_value : Params → List (Option Value) → Name → Option Value

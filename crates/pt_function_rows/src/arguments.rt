@@ -1,7 +1,7 @@
 //! Arguments of calls, and names with values.
 ghost use Rattle.std.specs.Prelude.{◌≡◌, IfOk};
 ghost use Rattle.pt_function_rows.specs.Arguments.{named_last};
-ghost use Rattle.pt_host.specs.Calls.{defaults_of};
+ghost use Rattle.pt_moves.specs.sem_rows.pt_host.Calls.{defaults_of};
 
 use pt_base::{Dup, Memory, Seq, Text};
 use pt_bind::Args;

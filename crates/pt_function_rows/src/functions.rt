@@ -9,9 +9,8 @@ use crate::values::{take_cells, take_values};
 use pt_base::{BlockId, Memory, Text, What};
 use pt_frames::{Slot, Slots};
 use pt_heap::{Function, Heap, Object};
-use pt_host::allot;
 use pt_instr::ListNo;
-use sem_rows::heap_rows::Progress;
+use pt_moves::{Progress, allot};
 use std::alloc::Global;
 
 /// Makes a function of a block with defaults of these names, which takes so many cells along. It is

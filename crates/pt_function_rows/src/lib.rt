@@ -10,4 +10,5 @@ mod values;
 pub use arguments::{bindings, named_last};
 pub use functions::make_function;
 pub use opening::open;
+pub use pt_code_facts::{BlockFacts, Blocks};
 pub use values::{take_cells, take_values};

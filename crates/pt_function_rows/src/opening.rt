@@ -4,7 +4,7 @@ ghost use Rattle.std.specs.Map.{lookup};
 ghost use Rattle.std.specs.Str.{bytes_eq};
 ghost use Rattle.pt_bind.specs.NameSets.{is_among};
 ghost use Rattle.pt_function_rows.specs.Openings.{first_values_of, first_value_of, given_cells, numbers_from, parameter_value};
-ghost use Rattle.pt_host.specs.Calls.{parameters_given};
+ghost use Rattle.pt_moves.specs.sem_rows.pt_host.Calls.{parameters_given};
 
 use pt_base::{Memory, Seq, Text};
 use pt_bind::{Locals, Params};

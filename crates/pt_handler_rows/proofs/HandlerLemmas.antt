@@ -12,10 +12,10 @@ use Rattle.sem_control.specs.control.Turn.{stuck}
 use Rattle.sem_code.specs.slots.Slots as S
 use Rattle.sem_code.specs.slots.Pops.{Next, an_exception, a_completion}
 use Rattle.sem_code.specs.slots.Landing.{land}
-use Rattle.sem_rows.specs.declared.heap_rows.progress.Progress.TheVariants as progress
-use Rattle.sem_rows.specs.heap_rows.Views.{slots_view}
-use Rattle.sem_rows.specs.heap_rows.Told.{KeepsActive}
-use Rattle.sem_rows.proofs.heap_rows.RowLemmas.{moves_lead}
+use Rattle.pt_moves.specs.sem_rows.declared.heap_rows.progress.Progress.TheVariants as progress
+use Rattle.pt_moves.specs.sem_rows.heap_rows.Views.{slots_view}
+use Rattle.pt_moves.specs.sem_rows.heap_rows.Told.{KeepsActive}
+use Rattle.pt_moves.proofs.sem_rows.heap_rows.RowLemmas.{moves_lead}
 use Rattle.pt_moves.specs.Operands.{RowsSlots}
 use Rattle.pt_moves.proofs.MoveLemmas.{stuck_row}
 use Rattle.pt_handler_rows.specs.Held.{exception_in, one_exception, completion_in, one_completion, let_go}

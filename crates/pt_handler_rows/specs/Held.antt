@@ -5,8 +5,8 @@ use Rattle.pt_heap.specs.declared.completion.Completion.{Completion}
 use Rattle.pt_heap.specs.declared.completion.Completion.TheVariants.{Raise}
 use Rattle.pt_frames.specs.declared.slot.Slot.{Slot}
 use Rattle.pt_frames.specs.declared.slot.Slot.TheVariants as slot
-use Rattle.sem_rows.specs.declared.heap_rows.progress.Progress.{Progress}
-use Rattle.sem_rows.specs.declared.heap_rows.progress.Progress.TheVariants as progress
+use Rattle.pt_moves.specs.sem_rows.declared.heap_rows.progress.Progress.{Progress}
+use Rattle.pt_moves.specs.sem_rows.declared.heap_rows.progress.Progress.TheVariants as progress
 
 abbrev pub exception_in : Option Slot → Option Value
 exception_in (Some (slot.Exc e)) = Some e

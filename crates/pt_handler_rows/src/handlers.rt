@@ -3,14 +3,14 @@ ghost use Rattle.std.specs.Prelude.{◌≡◌, drop, IfOk, IfSome, OnOk};
 ghost use Rattle.pt_frames.specs.Slots.{active_in};
 ghost use Rattle.pt_handler_rows.specs.Held.{completion_in, exception_in, let_go};
 ghost use Rattle.pt_handler_rows.specs.Held.{one_completion, one_exception};
-ghost use Rattle.sem_rows.specs.heap_rows.Told.{KeepsActive};
+ghost use Rattle.pt_moves.specs.sem_rows.heap_rows.Told.{KeepsActive};
 ghost use Rattle.pt_instr.specs.declared.Instr.TheVariants as instr;
 ghost use Rattle.pt_moves.specs.Operands.{RowsSlots};
 
 use pt_base::Memory;
 use pt_frames::{Slot, Slots};
 use pt_heap::{Completion, Value};
-use sem_rows::heap_rows::Progress;
+use pt_moves::Progress;
 
 /// The exception that a slot holds, if it is there and holds one.
 fn exception_in(slot: Option<Slot>) -> Option<Value>

@@ -7,14 +7,14 @@ use Rattle.pt_names.specs.Names.{Named}
 use Rattle.pt_frames.specs.declared.slot.Slot.{Slot}
 use Rattle.pt_frames.specs.Slots.{active_in}
 use Rattle.sem_code_machine.specs.code_machine.CodeBlocks.{CodeBlocks}
-use Rattle.sem_rows.specs.declared.heap_rows.progress.Progress.{Progress}
-use Rattle.sem_rows.specs.heap_rows.RowsIn.{RowsIn}
-use Rattle.sem_rows.specs.heap_rows.Views.{stores_in, world_view}
-use Rattle.pt_code_facts.specs.declared.facts.BlockFacts.{BlockFacts}
-use Rattle.pt_host.specs.World.{Program}
+use Rattle.pt_code_tables.specs.pt_machine_state.pt_code_facts.sem_rows.declared.heap_rows.progress.Progress.{Progress}
+use Rattle.pt_code_tables.specs.pt_machine_state.pt_code_facts.sem_rows.heap_rows.RowsIn.{RowsIn}
+use Rattle.pt_code_tables.specs.pt_machine_state.pt_code_facts.sem_rows.heap_rows.Views.{stores_in, world_view}
+use Rattle.pt_code_tables.specs.pt_machine_state.pt_code_facts.declared.facts.BlockFacts.{BlockFacts}
+use Rattle.pt_code_tables.specs.pt_builtins.pt_host.World.{Program}
 use Rattle.pt_body_rows.specs.Bodies.{IsNameOf, RowsName, RowsLoadName}
-use Rattle.pt_machine_state.specs.declared.machine.Machine.{Machine}
-use Rattle.pt_machine_state.specs.Views.{block_of}
+use Rattle.pt_code_tables.specs.pt_machine_state.declared.machine.Machine.{Machine}
+use Rattle.pt_code_tables.specs.pt_machine_state.Views.{block_of}
 use Rattle.pt_code_tables.specs.declared.tables.CodeTables.{CodeTables}
 use Rattle.pt_code_tables.specs.Tables.{AreTablesOf, is_class_in, text_in, builtin_in}
 use Rattle.pt_machine.specs.Performing.{Performs}

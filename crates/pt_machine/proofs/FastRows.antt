@@ -9,15 +9,15 @@ use Rattle.pt_instr.specs.declared.TextNo.{TextNo}
 use Rattle.pt_heap.specs.declared.value.Value.{Value}
 use Rattle.pt_names.specs.Names.{Named}
 use Rattle.pt_frames.specs.declared.slot.Slot.{Slot}
-use Rattle.sem_rows.specs.declared.heap_rows.progress.Progress.TheVariants as progress
-use Rattle.pt_code_facts.specs.declared.facts.BlockFacts.{BlockFacts}
-use Rattle.pt_code_facts.specs.Facts.{facts_at}
-use Rattle.sem_rows.specs.heap_rows.Told.{block_id}
-use Rattle.pt_moves.specs.Operands.{RowsConstant}
-use Rattle.pt_moves.proofs.MoveLemmas.{jump_row}
-use Rattle.pt_name_rows.specs.Names.{RowsGlobal, RowsLoadGlobal}
+use Rattle.pt_code_tables.specs.pt_machine_state.pt_code_facts.sem_rows.declared.heap_rows.progress.Progress.TheVariants as progress
+use Rattle.pt_code_tables.specs.pt_machine_state.pt_code_facts.declared.facts.BlockFacts.{BlockFacts}
+use Rattle.pt_code_tables.specs.pt_machine_state.pt_code_facts.Facts.{facts_at}
+use Rattle.pt_code_tables.specs.pt_machine_state.pt_code_facts.sem_rows.heap_rows.Told.{block_id}
+use Rattle.pt_body_rows.specs.pt_name_rows.pt_moves.Operands.{RowsConstant}
+use Rattle.pt_body_rows.proofs.pt_name_rows.pt_moves.MoveLemmas.{jump_row}
+use Rattle.pt_body_rows.specs.pt_name_rows.Names.{RowsGlobal, RowsLoadGlobal}
 use Rattle.pt_fast_rows.specs.FastPaths.{FastRow, FastConstant, FastLocal, FastCell, FastLoad, FastGlobal, Leads, Led}
-use Rattle.pt_machine_state.specs.declared.machine.Machine.{Machine}
+use Rattle.pt_code_tables.specs.pt_machine_state.declared.machine.Machine.{Machine}
 use Rattle.pt_code_tables.specs.declared.tables.CodeTables.{CodeTables}
 use Rattle.pt_code_tables.specs.Tables.{constant_in, text_in, builtin_in}
 use Rattle.pt_machine.specs.Performing.{Performs}

@@ -5,3 +5,4 @@ pub mod CallRows
 pub mod FastRows
 pub mod StepLemmas
 pub mod SilentLemmas
+pub use Rattle.law_frames.proofs as law_frames

@@ -8,20 +8,20 @@ use Rattle.pt_frames.specs.declared.slot.Slot.{Slot}
 use Rattle.pt_frames.specs.Slots.{active_in}
 use Rattle.pt_code.specs.View.{Ins}
 use Rattle.sem_run.specs.run.Host.{Here}
-use Rattle.pt_host.specs.World.{Program, Stores, CodeFacts}
-use Rattle.pt_host.specs.HeapHost.{heap_host}
+use Rattle.pt_code_tables.specs.pt_builtins.pt_host.World.{Program, Stores, CodeFacts}
+use Rattle.pt_code_tables.specs.pt_builtins.pt_host.HeapHost.{heap_host}
 use Rattle.sem_code_machine.specs.rows.Rows.{row_of}
 use Rattle.sem_code_machine.specs.code_machine.CodeBlocks.{CodeBlocks}
-use Rattle.sem_rows.specs.declared.heap_rows.progress.Progress.{Progress}
-use Rattle.sem_rows.specs.heap_rows.RowsIn.{RowsIn, Standpoint}
-use Rattle.sem_rows.specs.heap_rows.Told.{told, block_id}
-use Rattle.sem_rows.specs.heap_rows.Views.{slots_view, stores_in, world_view}
-use Rattle.sem_rows.specs.variables.Numbers.{KnowsNames}
-use Rattle.pt_code_facts.specs.declared.facts.BlockFacts.{BlockFacts}
-use Rattle.pt_code_facts.specs.Facts.{facts_view, facts_at}
-use Rattle.pt_name_rows.specs.Names.{RowsLocal, RowsCell, RowsOwnCell, RowsGlobal, RowsLoadGlobal}
-use Rattle.pt_machine_state.specs.declared.machine.Machine.{Machine}
-use Rattle.pt_machine_state.specs.Views.{block_of, stores_of}
+use Rattle.pt_code_tables.specs.pt_machine_state.pt_code_facts.sem_rows.declared.heap_rows.progress.Progress.{Progress}
+use Rattle.pt_code_tables.specs.pt_machine_state.pt_code_facts.sem_rows.heap_rows.RowsIn.{RowsIn, Standpoint}
+use Rattle.pt_code_tables.specs.pt_machine_state.pt_code_facts.sem_rows.heap_rows.Told.{told, block_id}
+use Rattle.pt_code_tables.specs.pt_machine_state.pt_code_facts.sem_rows.heap_rows.Views.{slots_view, stores_in, world_view}
+use Rattle.pt_code_tables.specs.pt_machine_state.pt_code_facts.sem_rows.variables.Numbers.{KnowsNames}
+use Rattle.pt_code_tables.specs.pt_machine_state.pt_code_facts.declared.facts.BlockFacts.{BlockFacts}
+use Rattle.pt_code_tables.specs.pt_machine_state.pt_code_facts.Facts.{facts_view, facts_at}
+use Rattle.pt_body_rows.specs.pt_name_rows.Names.{RowsLocal, RowsCell, RowsOwnCell, RowsGlobal, RowsLoadGlobal}
+use Rattle.pt_code_tables.specs.pt_machine_state.declared.machine.Machine.{Machine}
+use Rattle.pt_code_tables.specs.pt_machine_state.Views.{block_of, stores_of}
 use Rattle.pt_code_tables.specs.declared.tables.CodeTables.{CodeTables}
 use Rattle.pt_code_tables.specs.Tables.{AreTablesOf, HasDifferentNames, text_in, builtin_in}
 use Rattle.law_frames.specs.Operands.{OperandsNameIn}

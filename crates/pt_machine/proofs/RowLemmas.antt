@@ -10,20 +10,20 @@ use Rattle.pt_frames.specs.declared.slot.Slot.{Slot}
 use Rattle.pt_frames.specs.Slots.{active_in}
 use Rattle.pt_code.specs.View.{Ins}
 use Rattle.sem_run.specs.run.Host.{Here}
-use Rattle.pt_host.specs.World.{Program}
-use Rattle.pt_host.specs.HeapHost.{heap_host}
+use Rattle.pt_code_tables.specs.pt_builtins.pt_host.World.{Program}
+use Rattle.pt_code_tables.specs.pt_builtins.pt_host.HeapHost.{heap_host}
 use Rattle.sem_code_machine.specs.rows.Rows.{row_of}
 use Rattle.sem_code_machine.specs.code_machine.CodeBlocks.{CodeBlocks}
-use Rattle.sem_rows.specs.declared.heap_rows.progress.Progress.{Progress}
-use Rattle.sem_rows.specs.declared.heap_rows.progress.Progress.TheVariants as progress
-use Rattle.sem_rows.specs.heap_rows.Told.{told, IfActive, KeepsActive}
-use Rattle.sem_rows.specs.heap_rows.Views.{slots_view}
-use Rattle.sem_rows.specs.heap_rows.Leads.{IsStuck}
-use Rattle.sem_rows.specs.unsupported_rows.Unsupported.{is_supported, RowsOutside}
-use Rattle.pt_moves.specs.Operands.{RowsSlots, RowsHeap, RowsConstant}
-use Rattle.pt_machine_state.specs.declared.machine.Machine.{Machine}
-use Rattle.pt_machine_state.specs.Views.{block_of, stores_of}
-use Rattle.pt_machine_state.specs.Laws.{behind_row}
+use Rattle.pt_code_tables.specs.pt_machine_state.pt_code_facts.sem_rows.declared.heap_rows.progress.Progress.{Progress}
+use Rattle.pt_code_tables.specs.pt_machine_state.pt_code_facts.sem_rows.declared.heap_rows.progress.Progress.TheVariants as progress
+use Rattle.pt_code_tables.specs.pt_machine_state.pt_code_facts.sem_rows.heap_rows.Told.{told, IfActive, KeepsActive}
+use Rattle.pt_code_tables.specs.pt_machine_state.pt_code_facts.sem_rows.heap_rows.Views.{slots_view}
+use Rattle.pt_code_tables.specs.pt_machine_state.pt_code_facts.sem_rows.heap_rows.Leads.{IsStuck}
+use Rattle.pt_code_tables.specs.pt_machine_state.pt_code_facts.sem_rows.unsupported_rows.Unsupported.{is_supported, RowsOutside}
+use Rattle.pt_body_rows.specs.pt_name_rows.pt_moves.Operands.{RowsSlots, RowsHeap, RowsConstant}
+use Rattle.pt_code_tables.specs.pt_machine_state.declared.machine.Machine.{Machine}
+use Rattle.pt_code_tables.specs.pt_machine_state.Views.{block_of, stores_of}
+use Rattle.pt_code_tables.specs.pt_machine_state.Laws.{behind_row}
 use Rattle.pt_code_tables.specs.declared.tables.CodeTables.{CodeTables}
 use Rattle.pt_code_tables.specs.Tables.{AreTablesOf, constant_in}
 use Rattle.pt_machine.specs.Performing.{NamesPlaces, Performs, IsRowIn, row_done}

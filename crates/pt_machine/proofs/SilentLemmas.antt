@@ -11,22 +11,22 @@ use Rattle.pt_instr.specs.declared.Instr.TheVariants as instr
 use Rattle.pt_heap.specs.declared.value.Value.{Value}
 use Rattle.pt_heap.specs.declared.completion.Completion.TheVariants as completion
 use Rattle.pt_frames.specs.declared.slot.Slot.{Slot}
-use Rattle.sem_rows.specs.declared.heap_rows.progress.Progress.TheVariants as progress
-use Rattle.pt_machine_state.proofs.ApplyLemmas.{applied_leaves}
+use Rattle.pt_code_tables.specs.pt_machine_state.pt_code_facts.sem_rows.declared.heap_rows.progress.Progress.TheVariants as progress
+use Rattle.pt_code_tables.proofs.pt_machine_state.ApplyLemmas.{applied_leaves}
 use Rattle.pt_places.specs.declared.places.Place.{Place}
 use Rattle.pt_places.specs.PlaceTable.{entry}
-use Rattle.sem_rows.specs.declared.heap_rows.progress.Progress.{Progress}
+use Rattle.pt_code_tables.specs.pt_machine_state.pt_code_facts.sem_rows.declared.heap_rows.progress.Progress.{Progress}
 use Rattle.pt_fast_rows.specs.FastPaths.{FastReturn, Leads, Led}
 use Rattle.sem_run.specs.run.Run as run
-use Rattle.pt_machine_state.specs.declared.blocks.BlockCode.{BlockCode}
-use Rattle.pt_machine_state.specs.declared.machine.Machine.{Machine}
-use Rattle.pt_machine_state.specs.declared.machine.Standing.TheVariants as standing
-use Rattle.pt_machine_state.specs.declared.machine.Stride.TheVariants as stride
-use Rattle.pt_machine_state.specs.declared.writes.Writes.{Writes}
-use Rattle.pt_machine_state.specs.Blocks.{block_at}
-use Rattle.pt_machine_state.specs.Changes.{at_act, events_of, gone_to, left_place, line_events, line_of}
-use Rattle.pt_machine_state.specs.Views.{block_of}
-use Rattle.pt_machine_state.specs.Writing.{Adds, event_line, kept, pieces_of}
+use Rattle.pt_code_tables.specs.pt_machine_state.declared.blocks.BlockCode.{BlockCode}
+use Rattle.pt_code_tables.specs.pt_machine_state.declared.machine.Machine.{Machine}
+use Rattle.pt_code_tables.specs.pt_machine_state.declared.machine.Standing.TheVariants as standing
+use Rattle.pt_code_tables.specs.pt_machine_state.declared.machine.Stride.TheVariants as stride
+use Rattle.pt_code_tables.specs.pt_machine_state.declared.writes.Writes.{Writes}
+use Rattle.pt_code_tables.specs.pt_machine_state.Blocks.{block_at}
+use Rattle.pt_code_tables.specs.pt_machine_state.Changes.{at_act, events_of, gone_to, left_place, line_events, line_of}
+use Rattle.pt_code_tables.specs.pt_machine_state.Views.{block_of}
+use Rattle.pt_code_tables.specs.pt_machine_state.Writing.{Adds, event_line, kept, pieces_of}
 use Rattle.std.specs.Prelude.{codes, if◌then◌else◌}
 use Rattle.pt_code_tables.specs.declared.tables.CodeTables.{CodeTables}
 use Rattle.pt_machine.specs.FastStrides.{GoesSilently, HasUnit, IsSilent, begun}

@@ -14,35 +14,35 @@ use Rattle.sem_code.specs.slots.Steps.{mark_of}
 use Rattle.sem_code.specs.slots.Machine as slots
 use Rattle.sem_code.specs.slots.Needs.{Begins}
 use Rattle.sem_code.proofs.slots.MarkLaw.{begins_at}
-use Rattle.sem_rows.specs.heap_rows.Views.{paired, slots_view}
+use Rattle.pt_code_tables.specs.pt_machine_state.pt_code_facts.sem_rows.heap_rows.Views.{paired, slots_view}
 use Rattle.pt_places.specs.declared.places.Place.{Place}
 use Rattle.pt_places.specs.PlaceTable.{entry, place_at, place_of}
-use Rattle.pt_host.specs.World.{CodeFacts, Program}
-use Rattle.pt_host.specs.HeapHost.{heap_host}
+use Rattle.pt_code_tables.specs.pt_builtins.pt_host.World.{CodeFacts, Program}
+use Rattle.pt_code_tables.specs.pt_builtins.pt_host.HeapHost.{heap_host}
 use Rattle.pt_bare_runs.specs.Strides.{take_turn, stride as stride_of}
 use Rattle.sem_code_machine.specs.code_machine.CodeBlocks.{CodeBlocks, machine}
-use Rattle.sem_rows.specs.declared.heap_rows.progress.Progress.{Progress}
-use Rattle.sem_rows.specs.declared.heap_rows.progress.Progress.TheVariants as progress
+use Rattle.pt_code_tables.specs.pt_machine_state.pt_code_facts.sem_rows.declared.heap_rows.progress.Progress.{Progress}
+use Rattle.pt_code_tables.specs.pt_machine_state.pt_code_facts.sem_rows.declared.heap_rows.progress.Progress.TheVariants as progress
 use Rattle.pt_base.specs.declared.numbers.Pc.{Pc}
 use Rattle.pt_fast_rows.specs.FastPaths.{Led, place_behind}
-use Rattle.pt_machine_state.specs.declared.blocks.BlockCode.{BlockCode}
-use Rattle.pt_machine_state.specs.declared.machine.Machine.{Machine}
-use Rattle.pt_machine_state.specs.declared.machine.MachineEnd.TheVariants as end
-use Rattle.pt_machine_state.specs.declared.machine.Standing.TheVariants as standing
-use Rattle.pt_machine_state.specs.declared.machine.Stride.{Stride}
-use Rattle.pt_machine_state.specs.declared.machine.Stride.TheVariants as stride
-use Rattle.pt_machine_state.specs.declared.writes.Writes.{Writes}
-use Rattle.pt_machine_state.specs.Writing.{Adds}
-use Rattle.pt_machine_state.specs.Blocks.{block_at}
-use Rattle.pt_machine_state.specs.Views.{Bare, Beside, block_of, state_of, run_in, run_of}
-use Rattle.pt_machine_state.specs.Strode.{Strode}
-use Rattle.pt_machine_state.specs.Changes.{at_act, line_events, gone_to}
-use Rattle.pt_machine_state.specs.Applies.{Applied, Closes}
-use Rattle.pt_machine_state.specs.Laws as laws
-use Rattle.pt_machine_state.specs.Laws.{AtRow, behind_row}
-use Rattle.pt_machine_state.proofs.ApplyLemmas.{applied_next, applied_goto}
-use Rattle.pt_machine_state.proofs.TurnLemmas.{spent}
-use Rattle.pt_machine_state.proofs.StrideLemmas.{unmarked_done, marked_done}
+use Rattle.pt_code_tables.specs.pt_machine_state.declared.blocks.BlockCode.{BlockCode}
+use Rattle.pt_code_tables.specs.pt_machine_state.declared.machine.Machine.{Machine}
+use Rattle.pt_code_tables.specs.pt_machine_state.declared.machine.MachineEnd.TheVariants as end
+use Rattle.pt_code_tables.specs.pt_machine_state.declared.machine.Standing.TheVariants as standing
+use Rattle.pt_code_tables.specs.pt_machine_state.declared.machine.Stride.{Stride}
+use Rattle.pt_code_tables.specs.pt_machine_state.declared.machine.Stride.TheVariants as stride
+use Rattle.pt_code_tables.specs.pt_machine_state.declared.writes.Writes.{Writes}
+use Rattle.pt_code_tables.specs.pt_machine_state.Writing.{Adds}
+use Rattle.pt_code_tables.specs.pt_machine_state.Blocks.{block_at}
+use Rattle.pt_code_tables.specs.pt_machine_state.Views.{Bare, Beside, block_of, state_of, run_in, run_of}
+use Rattle.pt_code_tables.specs.pt_machine_state.Strode.{Strode}
+use Rattle.pt_code_tables.specs.pt_machine_state.Changes.{at_act, line_events, gone_to}
+use Rattle.pt_code_tables.specs.pt_machine_state.Applies.{Applied, Closes}
+use Rattle.pt_code_tables.specs.pt_machine_state.Laws as laws
+use Rattle.pt_code_tables.specs.pt_machine_state.Laws.{AtRow, behind_row}
+use Rattle.pt_code_tables.proofs.pt_machine_state.ApplyLemmas.{applied_next, applied_goto}
+use Rattle.pt_code_tables.proofs.pt_machine_state.TurnLemmas.{spent}
+use Rattle.pt_code_tables.proofs.pt_machine_state.StrideLemmas.{unmarked_done, marked_done}
 use Rattle.pt_code_tables.specs.declared.tables.CodeTables.{CodeTables}
 use Rattle.pt_code_tables.specs.Tables.{AreTablesOf, is_class_in, scope_by}
 use Rattle.pt_machine.specs.Strides.{MachineHasNames, Strides}

@@ -1,12 +1,12 @@
 -- When the machine does a stride of which nothing is written.
 use Rattle.std.specs.Prelude.{◌≡◌, ℕ, true, nat_lt, Option, Some, None}
 use Rattle.pt_ranges.specs.declared.lines.ActMark.{ActMark}
-use Rattle.pt_machine_state.specs.declared.blocks.BlockCode.{BlockCode}
-use Rattle.pt_machine_state.specs.declared.machine.Machine.{Machine}
-use Rattle.pt_machine_state.specs.declared.writes.Writes.{Writes}
-use Rattle.pt_machine_state.specs.Writing.{Adds}
-use Rattle.pt_machine_state.specs.Changes.{at_act, line_events}
-use Rattle.pt_machine_state.specs.declared.machine.Stride.TheVariants as stride
+use Rattle.pt_code_tables.specs.pt_machine_state.declared.blocks.BlockCode.{BlockCode}
+use Rattle.pt_code_tables.specs.pt_machine_state.declared.machine.Machine.{Machine}
+use Rattle.pt_code_tables.specs.pt_machine_state.declared.writes.Writes.{Writes}
+use Rattle.pt_code_tables.specs.pt_machine_state.Writing.{Adds}
+use Rattle.pt_code_tables.specs.pt_machine_state.Changes.{at_act, line_events}
+use Rattle.pt_code_tables.specs.pt_machine_state.declared.machine.Stride.TheVariants as stride
 use Rattle.pt_places.specs.declared.places.Place.{Place}
 use Rattle.pt_code_tables.specs.declared.tables.CodeTables.{CodeTables}
 use Rattle.pt_machine.specs.Performing.{GoesOn}

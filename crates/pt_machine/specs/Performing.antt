@@ -3,18 +3,18 @@ use Rattle.std.specs.Prelude.{◌≡◌, ◌≤◌, ◌++◌, false, length}
 use Rattle.pt_instr.specs.declared.Instr.{Instr}
 use Rattle.pt_heap.specs.declared.value.Value.{Value}
 use Rattle.pt_code.specs.View.{Ins}
-use Rattle.pt_host.specs.World.{Program}
+use Rattle.pt_code_tables.specs.pt_builtins.pt_host.World.{Program}
 use Rattle.sem_code_machine.specs.code_machine.CodeBlocks.{CodeBlocks}
-use Rattle.sem_rows.specs.declared.heap_rows.progress.Progress.{Progress}
-use Rattle.sem_rows.specs.heap_rows.Told.{KeepsActive}
-use Rattle.pt_machine_state.specs.declared.machine.Machine.{Machine}
-use Rattle.pt_machine_state.specs.declared.blocks.BlockCode.{BlockCode}
-use Rattle.pt_machine_state.specs.declared.machine.Stride.{Stride}
-use Rattle.pt_machine_state.specs.declared.writes.Writes.{Writes}
-use Rattle.pt_machine_state.specs.Applies.{Applied}
-use Rattle.pt_machine_state.specs.Views.{block_of}
+use Rattle.pt_code_tables.specs.pt_machine_state.pt_code_facts.sem_rows.declared.heap_rows.progress.Progress.{Progress}
+use Rattle.pt_code_tables.specs.pt_machine_state.pt_code_facts.sem_rows.heap_rows.Told.{KeepsActive}
+use Rattle.pt_code_tables.specs.pt_machine_state.declared.machine.Machine.{Machine}
+use Rattle.pt_code_tables.specs.pt_machine_state.declared.blocks.BlockCode.{BlockCode}
+use Rattle.pt_code_tables.specs.pt_machine_state.declared.machine.Stride.{Stride}
+use Rattle.pt_code_tables.specs.pt_machine_state.declared.writes.Writes.{Writes}
+use Rattle.pt_code_tables.specs.pt_machine_state.Applies.{Applied}
+use Rattle.pt_code_tables.specs.pt_machine_state.Views.{block_of}
 use Rattle.pt_places.specs.declared.places.Place.{Place}
-use Rattle.pt_machine_state.specs.Laws.{RowDone, behind_row, IsRow}
+use Rattle.pt_code_tables.specs.pt_machine_state.Laws.{RowDone, behind_row, IsRow}
 use Rattle.pt_code_tables.specs.declared.tables.CodeTables.{CodeTables}
 use Rattle.pt_code_tables.specs.Tables.{AreTablesOf, is_class_in}
 use Rattle.law_frames.specs.Operands.{OperandsName}

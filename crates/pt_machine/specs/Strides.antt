@@ -1,18 +1,18 @@
 -- When the machine does strides of runs over code.
 use Rattle.std.specs.Prelude.{◌≡◌, ℕ, []}
 use Rattle.pt_heap.specs.declared.value.Value.{Value}
-use Rattle.pt_host.specs.World.{Program}
-use Rattle.pt_host.specs.HeapHost.{heap_host}
+use Rattle.pt_code_tables.specs.pt_builtins.pt_host.World.{Program}
+use Rattle.pt_code_tables.specs.pt_builtins.pt_host.HeapHost.{heap_host}
 use Rattle.pt_bare_runs.specs.Strides.{stride as stride_of}
 use Rattle.sem_code_machine.specs.code_machine.CodeBlocks.{CodeBlocks, machine}
-use Rattle.pt_machine_state.specs.declared.machine.Machine.{Machine}
-use Rattle.pt_machine_state.specs.declared.machine.Stride.{Stride}
-use Rattle.pt_machine_state.specs.declared.writes.Writes.{Writes}
-use Rattle.pt_machine_state.specs.Views.{Beside, AllWait, block_of, run_of}
-use Rattle.pt_machine_state.specs.Strode.{Strode}
+use Rattle.pt_code_tables.specs.pt_machine_state.declared.machine.Machine.{Machine}
+use Rattle.pt_code_tables.specs.pt_machine_state.declared.machine.Stride.{Stride}
+use Rattle.pt_code_tables.specs.pt_machine_state.declared.writes.Writes.{Writes}
+use Rattle.pt_code_tables.specs.pt_machine_state.Views.{Beside, AllWait, block_of, run_of}
+use Rattle.pt_code_tables.specs.pt_machine_state.Strode.{Strode}
 use Rattle.pt_code_tables.specs.declared.tables.CodeTables.{CodeTables}
 use Rattle.pt_code_tables.specs.Tables.{AreTablesOf}
-use Rattle.sem_rows.specs.heap_rows.Views.{names_view}
+use Rattle.pt_code_tables.specs.pt_machine_state.pt_code_facts.sem_rows.heap_rows.Views.{names_view}
 use Rattle.law_frames.specs.RunNames.{HasItsNames}
 use Rattle.law_frames.specs.Operands.{CodeNamesItsBlocks}
 

@@ -5,10 +5,8 @@ ghost use Rattle.pt_machine.specs.Performing.{Performs};
 
 use pt_base::Memory;
 use pt_body_rows::{delete_name, name, set_name};
-use pt_code_tables::CodeTables;
+use pt_code_tables::{CodeTables, Machine, Progress};
 use pt_instr::Instr;
-use pt_machine_state::Machine;
-use sem_rows::heap_rows::Progress;
 
 /// Does the row of an instruction of a name of a body.
 #[tactic(auto, using(crate::proofs::BodyRows::loaded_name, crate::proofs::BodyRows::set_name))]

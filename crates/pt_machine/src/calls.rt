@@ -4,12 +4,9 @@ ghost use Rattle.pt_machine.specs.Groups.{calls};
 ghost use Rattle.pt_machine.specs.Performing.{Performs};
 
 use pt_base::Memory;
-use pt_call_rows::{call, call_with_names, call_with_roles};
-use pt_code_tables::CodeTables;
-use pt_function_rows::make_function;
+use pt_call_rows::{call, call_with_names, call_with_roles, make_function};
+use pt_code_tables::{CodeTables, Machine, Progress};
 use pt_instr::Instr;
-use pt_machine_state::Machine;
-use sem_rows::heap_rows::Progress;
 
 /// Does the row of an instruction that makes a function or calls.
 #[tactic(auto, using(crate::proofs::CallRows::called, crate::proofs::CallRows::called_with_names))]

@@ -4,11 +4,9 @@ ghost use Rattle.pt_machine.specs.Groups.{names_cell};
 ghost use Rattle.pt_machine.specs.Performing.{Performs};
 
 use pt_base::Memory;
-use pt_code_tables::CodeTables;
+use pt_body_rows::{cell, delete_cell, fresh_cell, push_cell, set_cell};
+use pt_code_tables::{CodeTables, Machine, Progress};
 use pt_instr::Instr;
-use pt_machine_state::Machine;
-use pt_name_rows::{cell, delete_cell, fresh_cell, push_cell, set_cell};
-use sem_rows::heap_rows::Progress;
 
 /// Does the row of an instruction of a cell or free name.
 #[tactic(auto, using(crate::proofs::NameRows::loaded_cell, crate::proofs::NameRows::set_cell, crate::proofs::NameRows::deleted_cell, crate::proofs::NameRows::fresh_cell, crate::proofs::NameRows::pushed_cell))]

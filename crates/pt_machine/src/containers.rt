@@ -4,14 +4,12 @@ ghost use Rattle.pt_machine.specs.Groups.{uses_containers};
 ghost use Rattle.pt_machine.specs.Performing.{Performs};
 
 use pt_base::Memory;
-use pt_code_tables::CodeTables;
+use pt_code_tables::{CodeTables, Machine, Progress};
 use pt_container_rows::{
     add_to_dict, add_to_list, add_to_set, delete_item, dict, format, item, iter, join, list, next,
     set, set_item, slice, tuple, unpack, unpack_star,
 };
 use pt_instr::Instr;
-use pt_machine_state::Machine;
-use sem_rows::heap_rows::Progress;
 
 /// Does the row of an instruction of containers, of iterators or of f-strings.
 #[tactic(auto, using(crate::proofs::RowLemmas::heap_row))]

@@ -4,13 +4,12 @@ ghost use Rattle.pt_fast_rows.specs.FastPaths.{Leads};
 ghost use Rattle.pt_machine.specs.Performing.{Performs};
 
 use pt_base::{Memory, Pc};
-use pt_code_tables::CodeTables;
+use pt_code_tables::{CodeTables, Machine};
 use pt_fast_rows::{
     fast_binary, fast_cell, fast_compare, fast_constant, fast_global, fast_in_place, fast_jump_if,
     fast_jump_unless, fast_local, fast_pop, fast_set_cell, fast_set_global, fast_set_local,
 };
 use pt_instr::Instr;
-use pt_machine_state::Machine;
 
 /// Does the row of a common instruction, where it has a fast path, and answers the place that is
 /// next. Else nothing changes.

@@ -4,23 +4,22 @@ ghost use Rattle.pt_code_tables.specs.declared.tables.CodeTables.{CodeTables};
 ghost use Rattle.pt_instr.specs.declared.Instr.TheVariants as instr;
 ghost use Rattle.pt_machine.specs.FastStrides.{GoesSilently, HasUnit, IsSilent, begun};
 ghost use Rattle.pt_machine.specs.Strides.{Strides};
-ghost use Rattle.pt_machine_state.specs.Blocks.{block_at};
-ghost use Rattle.pt_machine_state.specs.Views.{block_of};
-ghost use Rattle.pt_machine_state.specs.declared.blocks.BlockCode.{BlockCode};
-ghost use Rattle.pt_machine_state.specs.declared.machine.Standing.TheVariants as standing;
-ghost use Rattle.pt_machine_state.specs.declared.machine.Stride.TheVariants as stride;
+ghost use Rattle.pt_code_tables.specs.pt_machine_state.Blocks.{block_at};
+ghost use Rattle.pt_code_tables.specs.pt_machine_state.Views.{block_of};
+ghost use Rattle.pt_code_tables.specs.pt_machine_state.declared.blocks.BlockCode.{BlockCode};
+ghost use Rattle.pt_code_tables.specs.pt_machine_state.declared.machine.Standing.TheVariants as standing;
+ghost use Rattle.pt_code_tables.specs.pt_machine_state.declared.machine.Stride.TheVariants as stride;
 ghost use Rattle.pt_places.specs.PlaceTable.{entry};
 
 use crate::fast::perform_fast;
 use pt_base::Memory;
-use pt_code_tables::CodeTables;
+use pt_code_tables::{BlockCode, CodeTables, Machine, Standing, Writes};
 use pt_fast_rows::fast_return;
 use pt_heap::Completion;
 use pt_instr::Instr;
-use pt_machine_state::{BlockCode, Machine, Standing, Writes};
 use pt_places::Place;
+use pt_progress::{block_of, go_to, is_told, leave_place};
 use pt_ranges::ActMark;
-use pt_transfers::{block_of, go_to, is_told, leave_place};
 
 /// Whether a unit is left for the act that begins with a mark, if there is one, and nothing is
 /// written of its line.

@@ -4,11 +4,9 @@ ghost use Rattle.pt_machine.specs.Groups.{names_global};
 ghost use Rattle.pt_machine.specs.Performing.{Performs};
 
 use pt_base::Memory;
-use pt_code_tables::CodeTables;
+use pt_body_rows::{delete_global, global, set_global};
+use pt_code_tables::{CodeTables, Machine, Progress};
 use pt_instr::Instr;
-use pt_machine_state::Machine;
-use pt_name_rows::{delete_global, global, set_global};
-use sem_rows::heap_rows::Progress;
 
 /// Does the row of an instruction of a name of the module.
 #[tactic(auto, using(crate::proofs::NameRows::global_row, crate::proofs::NameRows::load_row))]

@@ -11,11 +11,8 @@ use crate::locals::perform_local;
 use crate::moves::perform_move;
 use crate::operations::perform_operation;
 use pt_base::Memory;
-use pt_code_tables::CodeTables;
+use pt_code_tables::{CodeTables, Machine, Progress, not_supported};
 use pt_instr::Instr;
-use pt_machine_state::Machine;
-use sem_rows::heap_rows::Progress;
-use sem_rows::unsupported_rows::not_supported;
 
 /// Does the row of an instruction that stands at the place of the newest activation.
 ///

@@ -16,4 +16,5 @@ mod operations;
 mod strides;
 
 pub use fast_strides::fast_stride;
+pub use pt_code_tables::CodeTables;
 pub use strides::stride;

@@ -4,11 +4,9 @@ ghost use Rattle.pt_machine.specs.Groups.{names_local};
 ghost use Rattle.pt_machine.specs.Performing.{Performs};
 
 use pt_base::Memory;
-use pt_code_tables::CodeTables;
+use pt_body_rows::{delete_local, fresh_local, local, set_local};
+use pt_code_tables::{CodeTables, Machine, Progress};
 use pt_instr::Instr;
-use pt_machine_state::Machine;
-use pt_name_rows::{delete_local, fresh_local, local, set_local};
-use sem_rows::heap_rows::Progress;
 
 /// Does the row of an instruction of a local name.
 #[tactic(auto, using(crate::proofs::NameRows::local_row, crate::proofs::NameRows::set_local, crate::proofs::NameRows::deleted_local, crate::proofs::NameRows::fresh_local))]

@@ -4,12 +4,12 @@ ghost use Rattle.pt_machine.specs.Groups.{moves_slots};
 ghost use Rattle.pt_machine.specs.Performing.{Performs};
 
 use pt_base::Memory;
-use pt_code_tables::CodeTables;
+use pt_body_rows::{
+    constant, copy, copy_two, jump, leave, nop, pop, return_value, rotate_three, swap,
+};
+use pt_code_tables::{CodeTables, Machine, Progress};
 use pt_handler_rows::{caught, end_finally, end_handler, normal, rethrow};
 use pt_instr::Instr;
-use pt_machine_state::Machine;
-use pt_moves::{constant, copy, copy_two, jump, leave, nop, pop, return_value, rotate_three, swap};
-use sem_rows::heap_rows::Progress;
 
 /// Does the row of an instruction that changes slots alone.
 #[tactic(auto, using(crate::proofs::RowLemmas::slots_row, crate::proofs::RowLemmas::handler_row, crate::proofs::RowLemmas::still_row, crate::proofs::RowLemmas::constant_row))]

@@ -4,12 +4,10 @@ ghost use Rattle.pt_machine.specs.Groups.{operates};
 ghost use Rattle.pt_machine.specs.Performing.{Performs};
 
 use pt_base::Memory;
-use pt_code_tables::CodeTables;
+use pt_body_rows::{jump_if, jump_if_keep, jump_unless, jump_unless_keep};
+use pt_call_rows::{binary, compare, in_place, not, unary};
+use pt_code_tables::{CodeTables, Machine, Progress};
 use pt_instr::Instr;
-use pt_machine_state::Machine;
-use pt_moves::{jump_if, jump_if_keep, jump_unless, jump_unless_keep};
-use pt_operators::{binary, compare, in_place, not, unary};
-use sem_rows::heap_rows::Progress;
 
 /// Does the row of an instruction of an operator or of a test.
 #[tactic(auto, using(crate::proofs::RowLemmas::heap_row))]

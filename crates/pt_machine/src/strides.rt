@@ -2,18 +2,16 @@
 ghost use Rattle.std.specs.Prelude.{◌≡◌, Some, IfOk};
 ghost use Rattle.pt_machine.specs.Strides.{Strides};
 ghost use Rattle.pt_machine.specs.Performing.{GoesOn};
-ghost use Rattle.pt_machine_state.specs.Blocks.{block_at};
-ghost use Rattle.pt_machine_state.specs.Views.{block_of};
-ghost use Rattle.pt_machine_state.specs.declared.machine.Standing.TheVariants as standing;
+ghost use Rattle.pt_code_tables.specs.pt_machine_state.Blocks.{block_at};
+ghost use Rattle.pt_code_tables.specs.pt_machine_state.Views.{block_of};
+ghost use Rattle.pt_code_tables.specs.pt_machine_state.declared.machine.Standing.TheVariants as standing;
 ghost use Rattle.pt_places.specs.PlaceTable.{entry};
 
 use crate::instructions::perform;
 use pt_base::Memory;
-use pt_code_tables::CodeTables;
-use pt_machine_state::{BlockCode, Machine, MachineEnd, Standing, Stride, Writes};
+use pt_code_tables::{BlockCode, CodeTables, Machine, MachineEnd, Standing, Stride, Writes};
 use pt_places::Place;
-use pt_progress::{apply, close};
-use pt_transfers::{begin_act, block_of};
+use pt_progress::{apply, begin_act, block_of, close};
 
 /// Does what stands at a place, and goes on where that leads.
 #[tactic(auto, using(crate::proofs::StepLemmas::done_there))]

@@ -19,16 +19,16 @@ use Rattle.sem_run.specs.run.Events as Told
 use Rattle.sem_run.specs.run.Host.{Host, Entry}
 use Rattle.sem_run.specs.run.Views.{line_or}
 use Rattle.sem_run.specs.run.Run as run
-use Rattle.pt_host.specs.World.{Names, World, Program}
-use Rattle.pt_host.specs.Errors.{enters}
+use Rattle.pt_code_facts.specs.sem_rows.pt_host.World.{Names, World, Program}
+use Rattle.pt_code_facts.specs.sem_rows.pt_host.Errors.{enters}
 use Rattle.pt_content.specs.Classes.{class_name}
-use Rattle.pt_host.specs.HeapHost.{heap_host}
+use Rattle.pt_code_facts.specs.sem_rows.pt_host.HeapHost.{heap_host}
 use Rattle.sem_run.specs.transitions.Successors as leads
 use Rattle.pt_bare_runs.specs.Strides as bare
 use Rattle.pt_bare_runs.specs.Strides.{goes, stride as stride_of, in_state, in_world, raise_here, logged, arise, here_of}
 use Rattle.sem_code_machine.specs.code_machine.CodeBlocks.{CodeBlocks, machine}
-use Rattle.sem_rows.specs.declared.heap_rows.progress.Progress.TheVariants as progress
-use Rattle.sem_rows.specs.heap_rows.Views.{slots_view, world_view}
+use Rattle.pt_code_facts.specs.sem_rows.declared.heap_rows.progress.Progress.TheVariants as progress
+use Rattle.pt_code_facts.specs.sem_rows.heap_rows.Views.{slots_view, world_view}
 use Rattle.pt_machine_state.specs.declared.blocks.BlockCode.{BlockCode}
 use Rattle.pt_machine_state.specs.declared.blocks.Blocks.{Blocks}
 use Rattle.pt_machine_state.specs.declared.machine.Machine.{Machine}

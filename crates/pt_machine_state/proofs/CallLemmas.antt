@@ -22,18 +22,18 @@ use Rattle.sem_run.specs.run.Source.{or_null}
 use Rattle.sem_run.specs.run.Events as Told
 use Rattle.sem_run.specs.run.Host as H
 use Rattle.sem_run.specs.run.Host.{Opening, BlockResult, Store, Made, made, beyond}
-use Rattle.pt_host.specs.World.{Names, World, Program, Allotted, IsAllotted}
-use Rattle.pt_host.specs.Errors.{error_saying, in_heap_of}
-use Rattle.pt_host.specs.HeapHost.{heap_host}
-use Rattle.pt_host.specs.declared.places.TheConstants.{RECURSION_ERROR}
+use Rattle.pt_code_facts.specs.sem_rows.pt_host.World.{Names, World, Program, Allotted, IsAllotted}
+use Rattle.pt_code_facts.specs.sem_rows.pt_host.Errors.{error_saying, in_heap_of}
+use Rattle.pt_code_facts.specs.sem_rows.pt_host.HeapHost.{heap_host}
+use Rattle.pt_code_facts.specs.sem_rows.pt_host.declared.places.TheConstants.{RECURSION_ERROR}
 use Rattle.sem_run.specs.transitions.Successors.{Successor}
 use Rattle.pt_bare_runs.specs.Strides as bare
 use Rattle.pt_bare_runs.specs.Strides.{logged, open_above, open_or_fail, fail_opening, is_full, store, lead}
 use Rattle.sem_code_machine.specs.code_machine.CodeBlocks.{CodeBlocks, machine, start_of}
-use Rattle.sem_rows.specs.declared.heap_rows.progress.Progress.TheVariants as progress
-use Rattle.sem_rows.specs.heap_rows.Leads.{HasHeapTruths}
-use Rattle.sem_rows.specs.heap_rows.Told.{block_id, opening_of}
-use Rattle.sem_rows.specs.heap_rows.Views.{slots_view, world_view}
+use Rattle.pt_code_facts.specs.sem_rows.declared.heap_rows.progress.Progress.TheVariants as progress
+use Rattle.pt_code_facts.specs.sem_rows.heap_rows.Leads.{HasHeapTruths}
+use Rattle.pt_code_facts.specs.sem_rows.heap_rows.Told.{block_id, opening_of}
+use Rattle.pt_code_facts.specs.sem_rows.heap_rows.Views.{slots_view, world_view}
 use Rattle.pt_machine_state.specs.declared.blocks.BlockCode.{BlockCode}
 use Rattle.pt_machine_state.specs.declared.blocks.Blocks.{Blocks}
 use Rattle.pt_machine_state.specs.declared.machine.Machine.{Machine}

@@ -17,13 +17,13 @@ use Rattle.sem_run.specs.transitions.Successors as leads
 use Rattle.sem_run.specs.run.Host as H
 use Rattle.sem_run.specs.run.Host.{Leaving, BlockResult}
 use Rattle.sem_run.specs.run.Run as run
-use Rattle.pt_host.specs.World.{Names, Program}
-use Rattle.pt_host.specs.HeapHost.{heap_host}
-use Rattle.pt_host.specs.Leaving.{leaving}
+use Rattle.pt_code_facts.specs.sem_rows.pt_host.World.{Names, Program}
+use Rattle.pt_code_facts.specs.sem_rows.pt_host.HeapHost.{heap_host}
+use Rattle.pt_code_facts.specs.sem_rows.pt_host.Leaving.{leaving}
 use Rattle.pt_bare_runs.specs.Strides as bare
 use Rattle.pt_bare_runs.specs.Strides.{outside_at, behind, close, end_by_exception, end_logged, lead, return_to, store, stride as stride_of}
 use Rattle.sem_code_machine.specs.code_machine.CodeBlocks.{CodeBlocks, machine}
-use Rattle.sem_rows.specs.heap_rows.Views.{slots_view, world_view}
+use Rattle.pt_code_facts.specs.sem_rows.heap_rows.Views.{slots_view, world_view}
 use Rattle.pt_machine_state.specs.declared.blocks.BlockCode.{BlockCode}
 use Rattle.pt_machine_state.specs.declared.blocks.Blocks.{Blocks}
 use Rattle.pt_machine_state.specs.declared.machine.Machine.{Machine}

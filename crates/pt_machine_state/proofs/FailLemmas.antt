@@ -19,18 +19,18 @@ use Rattle.sem_code.specs.slots.Slots as S
 use Rattle.sem_code.specs.slots.Landing.{land}
 use Rattle.sem_code.specs.comp_expr.Law.{active_at}
 use Rattle.sem_run.specs.run.Host.{made, beyond}
-use Rattle.pt_host.specs.World.{Program, Allotted, allot, allot_then, IsAllotted}
-use Rattle.pt_host.specs.Errors.{error, error_saying}
-use Rattle.pt_host.specs.HeapHost.{heap_host}
+use Rattle.pt_code_facts.specs.sem_rows.pt_host.World.{Program, Allotted, allot, allot_then, IsAllotted}
+use Rattle.pt_code_facts.specs.sem_rows.pt_host.Errors.{error, error_saying}
+use Rattle.pt_code_facts.specs.sem_rows.pt_host.HeapHost.{heap_host}
 use Rattle.pt_content.specs.Changes.{next_object}
-use Rattle.pt_host.specs.Trees.{raise_with}
-use Rattle.pt_host.specs.Calls.{arguments_of}
+use Rattle.pt_code_facts.specs.sem_rows.pt_host.Trees.{raise_with}
+use Rattle.pt_code_facts.specs.sem_rows.pt_host.Calls.{arguments_of}
 use Rattle.sem_run.specs.transitions.Successors as leads
 use Rattle.pt_bare_runs.specs.Strides.{with_store, active_in as active_among}
 use Rattle.sem_code_machine.specs.code_machine.CodeBlocks.{CodeBlocks, machine}
-use Rattle.sem_rows.specs.declared.heap_rows.progress.Progress.TheVariants as progress
-use Rattle.sem_rows.specs.heap_rows.Leads.{by_tree, giving}
-use Rattle.sem_rows.specs.heap_rows.Views.{slots_view}
+use Rattle.pt_code_facts.specs.sem_rows.declared.heap_rows.progress.Progress.TheVariants as progress
+use Rattle.pt_code_facts.specs.sem_rows.heap_rows.Leads.{by_tree, giving}
+use Rattle.pt_code_facts.specs.sem_rows.heap_rows.Views.{slots_view}
 use Rattle.pt_machine_state.specs.declared.blocks.BlockCode.{BlockCode}
 use Rattle.pt_machine_state.specs.declared.blocks.Blocks.{Blocks}
 use Rattle.pt_machine_state.specs.declared.machine.Machine.{Machine}

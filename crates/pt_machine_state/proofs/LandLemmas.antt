@@ -20,9 +20,9 @@ use Rattle.pt_unwind.specs.Landings.{landing_of}
 use Rattle.pt_unwind.specs.Steps.{completion_of, state_behind}
 use Rattle.pt_unwind.proofs.StepLemmas.{lands_same}
 use Rattle.sem_run.specs.run.Machine.{BlockId}
-use Rattle.pt_host.specs.World.{Program}
+use Rattle.pt_code_facts.specs.sem_rows.pt_host.World.{Program}
 use Rattle.sem_code_machine.specs.code_machine.CodeBlocks.{CodeBlocks}
-use Rattle.sem_rows.specs.heap_rows.Views.{slot_view, slots_view}
+use Rattle.pt_code_facts.specs.sem_rows.heap_rows.Views.{slot_view, slots_view}
 use Rattle.pt_machine_state.specs.declared.blocks.BlockCode.{BlockCode}
 use Rattle.pt_machine_state.specs.declared.machine.Machine.{Machine}
 use Rattle.pt_machine_state.specs.declared.machine.Standing.TheVariants as standing

@@ -7,3 +7,4 @@ pub mod FailLemmas
 pub mod CallLemmas
 pub mod CloseLemmas
 pub mod StrideLemmas
+pub use Rattle.pt_code_facts.proofs as pt_code_facts

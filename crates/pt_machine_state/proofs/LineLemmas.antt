@@ -13,8 +13,8 @@ use Rattle.sem_run.specs.run.Machine.{BlockId}
 use Rattle.sem_run.specs.run.Host.{Frame}
 use Rattle.sem_run.specs.run.Views as views
 use Rattle.sem_run.specs.run.Views.{line_or, visible, line_of_first}
-use Rattle.pt_host.specs.World.{Names, Stores, Program}
-use Rattle.pt_host.specs.HeapHost.{heap_host}
+use Rattle.pt_code_facts.specs.sem_rows.pt_host.World.{Names, Stores, Program}
+use Rattle.pt_code_facts.specs.sem_rows.pt_host.HeapHost.{heap_host}
 use Rattle.sem_run.specs.transitions.Successors as leads
 use Rattle.pt_bare_runs.specs.Strides as bare
 use Rattle.pt_bare_runs.specs.Strides.{with_store, frames_in, outside_at}

@@ -14,8 +14,8 @@ use Rattle.sem_code.specs.slots.Machine as slots
 use Rattle.sem_code.specs.slots.Instructions.{perform}
 use Rattle.sem_code.specs.slots.Needs.{Begins}
 use Rattle.sem_code.proofs.slots.MarkLaw.{begins_at}
-use Rattle.pt_host.specs.World.{Program}
-use Rattle.pt_host.specs.HeapHost.{heap_host}
+use Rattle.pt_code_facts.specs.sem_rows.pt_host.World.{Program}
+use Rattle.pt_code_facts.specs.sem_rows.pt_host.HeapHost.{heap_host}
 use Rattle.sem_code_machine.specs.rows.Rows.{row_of}
 use Rattle.pt_bare_runs.specs.Strides.{behind, here_of, lead, line_logged, store, take_turn, take_unit, stride as stride_of}
 use Rattle.sem_run.specs.run.Step.{line_before}
@@ -23,11 +23,11 @@ use Rattle.sem_code_machine.specs.code_machine.CodeBlocks.{CodeBlocks, machine}
 use Rattle.sem_code.specs.comp_expr.Law.{active_at}
 use Rattle.pt_frames.specs.Slots.{active_in}
 use Rattle.sem_run.specs.transitions.Successors as leads
-use Rattle.sem_rows.specs.declared.heap_rows.progress.Progress.{Progress}
-use Rattle.sem_rows.specs.declared.heap_rows.progress.Progress.TheVariants as progress
-use Rattle.sem_rows.specs.heap_rows.Leads.{HeapSuccessor, IsStuck}
-use Rattle.sem_rows.specs.heap_rows.Told.{told, IfActive}
-use Rattle.sem_rows.specs.heap_rows.Views.{slots_view}
+use Rattle.pt_code_facts.specs.sem_rows.declared.heap_rows.progress.Progress.{Progress}
+use Rattle.pt_code_facts.specs.sem_rows.declared.heap_rows.progress.Progress.TheVariants as progress
+use Rattle.pt_code_facts.specs.sem_rows.heap_rows.Leads.{HeapSuccessor, IsStuck}
+use Rattle.pt_code_facts.specs.sem_rows.heap_rows.Told.{told, IfActive}
+use Rattle.pt_code_facts.specs.sem_rows.heap_rows.Views.{slots_view}
 use Rattle.pt_machine_state.specs.declared.blocks.BlockCode.{BlockCode}
 use Rattle.pt_machine_state.specs.declared.blocks.Blocks.{Blocks}
 use Rattle.pt_machine_state.specs.declared.machine.Machine.{Machine}

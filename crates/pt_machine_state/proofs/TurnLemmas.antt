@@ -7,8 +7,8 @@ use Rattle.sem_control.specs.control.Turn.{Mark, Ask, Seek, Deed, Leave, Test, A
 use Rattle.sem_code.specs.slots.Slots.{State}
 use Rattle.sem_code.specs.slots.Needs.{Begins}
 use Rattle.sem_run.specs.run.Host.{Here}
-use Rattle.pt_host.specs.World.{Names, World, Stores, Program}
-use Rattle.pt_host.specs.HeapHost.{heap_host}
+use Rattle.pt_code_facts.specs.sem_rows.pt_host.World.{Names, World, Stores, Program}
+use Rattle.pt_code_facts.specs.sem_rows.pt_host.HeapHost.{heap_host}
 use Rattle.sem_run.specs.transitions.Transitions.{transition}
 use Rattle.sem_run.specs.transitions.Successors.{Successor, successor}
 use Rattle.pt_bare_runs.specs.Strides as bare

@@ -4,7 +4,7 @@ use Rattle.sem_run.specs.run.Run as run
 use Rattle.sem_run.specs.run.Run.{to_out, to_log}
 use Rattle.pt_heap.specs.declared.value.Value.{Value}
 use Rattle.sem_code.specs.slots.Slots.{State}
-use Rattle.pt_host.specs.World.{Names, World, Program}
+use Rattle.pt_code_facts.specs.sem_rows.pt_host.World.{Names, World, Program}
 use Rattle.pt_bare_runs.specs.Strides as bare
 use Rattle.pt_bare_runs.specs.Strides.{behind}
 use Rattle.sem_code_machine.specs.code_machine.CodeBlocks.{CodeBlocks}

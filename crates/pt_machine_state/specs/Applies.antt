@@ -9,14 +9,14 @@ use Rattle.sem_code.specs.slots.Slots.{State}
 use Rattle.sem_code.specs.slots.CodeObject.{CodeObject}
 use Rattle.sem_code.specs.comp_expr.Law.{active_at}
 use Rattle.sem_run.specs.run.Host.{Here}
-use Rattle.pt_host.specs.World.{Program}
-use Rattle.pt_host.specs.HeapHost.{heap_host}
+use Rattle.pt_code_facts.specs.sem_rows.pt_host.World.{Program}
+use Rattle.pt_code_facts.specs.sem_rows.pt_host.HeapHost.{heap_host}
 use Rattle.pt_bare_runs.specs.Strides.{with_store, here_of, lead, stride as stride_of}
 use Rattle.sem_code_machine.specs.code_machine.CodeBlocks.{CodeBlocks, machine}
-use Rattle.sem_rows.specs.declared.heap_rows.progress.Progress.{Progress}
-use Rattle.sem_rows.specs.heap_rows.Leads.{HeapSuccessor}
-use Rattle.sem_rows.specs.heap_rows.Told.{told, IfActive}
-use Rattle.sem_rows.specs.heap_rows.Views.{slots_view}
+use Rattle.pt_code_facts.specs.sem_rows.declared.heap_rows.progress.Progress.{Progress}
+use Rattle.pt_code_facts.specs.sem_rows.heap_rows.Leads.{HeapSuccessor}
+use Rattle.pt_code_facts.specs.sem_rows.heap_rows.Told.{told, IfActive}
+use Rattle.pt_code_facts.specs.sem_rows.heap_rows.Views.{slots_view}
 use Rattle.pt_machine_state.specs.declared.blocks.BlockCode.{BlockCode}
 use Rattle.pt_machine_state.specs.declared.blocks.Blocks.{Blocks}
 use Rattle.pt_machine_state.specs.declared.machine.Machine.{Machine}

@@ -5,9 +5,9 @@ use Rattle.pt_ranges.specs.Rows.{covers}
 use Rattle.pt_code.specs.View.{Ins}
 use Rattle.pt_places.specs.PlaceTable.{HasPlaces}
 use Rattle.sem_run.specs.run.Machine.{BlockId}
-use Rattle.pt_host.specs.World.{Program}
+use Rattle.pt_code_facts.specs.sem_rows.pt_host.World.{Program}
 use Rattle.sem_code_machine.specs.code_machine.CodeBlocks.{CodeBlocks}
-use Rattle.sem_rows.specs.heap_rows.Leads.{HasHeapTruths}
+use Rattle.pt_code_facts.specs.sem_rows.heap_rows.Leads.{HasHeapTruths}
 use Rattle.pt_code_facts.specs.Numbered.{by_number}
 use Rattle.pt_machine_state.specs.declared.blocks.BlockCode.{BlockCode}
 use Rattle.pt_machine_state.specs.declared.blocks.Blocks.{Blocks}

@@ -27,7 +27,7 @@ use Rattle.sem_code.specs.slots.Steps.{mark_of}
 use Rattle.sem_run.specs.run.Host.{Entry}
 use Rattle.sem_run.specs.run.Run as run
 use Rattle.sem_run.specs.run.Views.{line_or}
-use Rattle.pt_host.specs.Errors.{with_entry}
+use Rattle.pt_code_facts.specs.sem_rows.pt_host.Errors.{with_entry}
 use Rattle.pt_machine_state.specs.declared.blocks.BlockCode.{BlockCode}
 use Rattle.pt_machine_state.specs.declared.machine.Machine.{Machine}
 use Rattle.pt_machine_state.specs.declared.machine.Standing.{Standing}

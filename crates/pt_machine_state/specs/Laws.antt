@@ -8,15 +8,15 @@ use Rattle.pt_ranges.specs.declared.lines.ActMark.{ActMark}
 use Rattle.pt_code.specs.View.{Ins}
 use Rattle.pt_frames.specs.declared.slot.Slot.{Slot}
 use Rattle.sem_run.specs.run.Host.{Here}
-use Rattle.pt_host.specs.World.{Program}
-use Rattle.pt_host.specs.HeapHost.{heap_host}
+use Rattle.pt_code_facts.specs.sem_rows.pt_host.World.{Program}
+use Rattle.pt_code_facts.specs.sem_rows.pt_host.HeapHost.{heap_host}
 use Rattle.sem_code_machine.specs.rows.Rows.{row_of}
 use Rattle.pt_bare_runs.specs.Strides.{stride as stride_of}
 use Rattle.sem_code_machine.specs.code_machine.CodeBlocks.{CodeBlocks, machine}
-use Rattle.sem_rows.specs.declared.heap_rows.progress.Progress.{Progress}
-use Rattle.sem_rows.specs.heap_rows.Leads.{HeapSuccessor, IsStuck}
-use Rattle.sem_rows.specs.heap_rows.Told.{told, KeepsActive}
-use Rattle.sem_rows.specs.heap_rows.Views.{slots_view}
+use Rattle.pt_code_facts.specs.sem_rows.declared.heap_rows.progress.Progress.{Progress}
+use Rattle.pt_code_facts.specs.sem_rows.heap_rows.Leads.{HeapSuccessor, IsStuck}
+use Rattle.pt_code_facts.specs.sem_rows.heap_rows.Told.{told, KeepsActive}
+use Rattle.pt_code_facts.specs.sem_rows.heap_rows.Views.{slots_view}
 use Rattle.pt_machine_state.specs.declared.blocks.BlockCode.{BlockCode}
 use Rattle.pt_machine_state.specs.declared.blocks.Blocks.{Blocks}
 use Rattle.pt_machine_state.specs.declared.machine.Machine.{Machine}

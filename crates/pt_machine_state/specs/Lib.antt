@@ -5,3 +5,4 @@ pub mod Strode
 pub mod Changes
 pub mod Applies
 pub mod Laws
+pub use Rattle.pt_code_facts.specs as pt_code_facts

@@ -6,13 +6,13 @@ use Rattle.pt_ranges.specs.declared.handlers.Handler.{Handler}
 use Rattle.sem_code.specs.slots.Slots.{State, Slots, reraises}
 use Rattle.sem_run.specs.run.Host as H
 use Rattle.sem_run.specs.run.Host.{Leaving}
-use Rattle.pt_host.specs.World.{Names, World, Program}
-use Rattle.pt_host.specs.Leaving.{leaving}
+use Rattle.pt_code_facts.specs.sem_rows.pt_host.World.{Names, World, Program}
+use Rattle.pt_code_facts.specs.sem_rows.pt_host.Leaving.{leaving}
 use Rattle.pt_bare_runs.specs.Strides as bare
 use Rattle.pt_bare_runs.specs.Strides.{goes, ends, is_stuck, done, exited, raised, spent, outside_at, stride as stride_of}
-use Rattle.pt_host.specs.HeapHost.{heap_host}
+use Rattle.pt_code_facts.specs.sem_rows.pt_host.HeapHost.{heap_host}
 use Rattle.sem_code_machine.specs.code_machine.CodeBlocks.{CodeBlocks, machine}
-use Rattle.sem_rows.specs.heap_rows.Views.{world_view}
+use Rattle.pt_code_facts.specs.sem_rows.heap_rows.Views.{world_view}
 use Rattle.pt_machine_state.specs.declared.machine.Machine.{Machine}
 use Rattle.pt_machine_state.specs.declared.machine.MachineEnd.{MachineEnd}
 use Rattle.pt_machine_state.specs.declared.machine.MachineEnd.TheVariants as end

@@ -15,15 +15,15 @@ use Rattle.sem_code.specs.comp_expr.Law.{active_at}
 use Rattle.sem_run.specs.run.Machine.{BlockId}
 use Rattle.sem_run.specs.run.Host.{Frame, Store, BlockResult}
 use Rattle.sem_run.specs.run.State as run
-use Rattle.pt_host.specs.World.{Names, World, Stores, Program}
-use Rattle.pt_host.specs.Calls.{result_of}
+use Rattle.pt_code_facts.specs.sem_rows.pt_host.World.{Names, World, Stores, Program}
+use Rattle.pt_code_facts.specs.sem_rows.pt_host.Calls.{result_of}
 use Rattle.sem_run.specs.transitions.Successors.{Successor}
 use Rattle.pt_bare_runs.specs.Strides as bare
 use Rattle.pt_bare_runs.specs.Strides.{Waiting}
 use Rattle.sem_code_machine.specs.code_machine.CodeBlocks.{CodeBlocks}
-use Rattle.sem_rows.specs.heap_rows.Views.{slots_view, names_view, world_view, stores_view}
-use Rattle.sem_rows.specs.heap_rows.Leads.{by_tree, giving}
-use Rattle.sem_rows.specs.heap_rows.Told.{block_id}
+use Rattle.pt_code_facts.specs.sem_rows.heap_rows.Views.{slots_view, names_view, world_view, stores_view}
+use Rattle.pt_code_facts.specs.sem_rows.heap_rows.Leads.{by_tree, giving}
+use Rattle.pt_code_facts.specs.sem_rows.heap_rows.Told.{block_id}
 use Rattle.pt_machine_state.specs.declared.machine.Machine.{Machine}
 use Rattle.pt_machine_state.specs.declared.machine.Standing.{Standing}
 use Rattle.pt_machine_state.specs.declared.machine.Standing.TheVariants as standing

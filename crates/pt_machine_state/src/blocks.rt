@@ -1,4 +1,4 @@
-ghost use Rattle.sem_rows.specs.heap_rows.Told.{block_id};
+ghost use Rattle.pt_code_facts.specs.sem_rows.heap_rows.Told.{block_id};
 ghost use Rattle.pt_machine_state.specs.Blocks.{block_at, depth_of};
 ghost use Rattle.std.specs.Prelude.{◌≡◌, Bool};
 

@@ -15,12 +15,12 @@ ghost use Rattle.pt_heap.specs.declared.completion.Completion.TheVariants as com
 ghost use Rattle.pt_heap.specs.declared.completion.Completion.{Completion};
 ghost use Rattle.pt_heap.specs.declared.object.Object.{Object};
 ghost use Rattle.pt_heap.specs.declared.value.Value.{Value};
-ghost use Rattle.sem_rows.specs.heap_rows.Told.{block_id};
-ghost use Rattle.sem_rows.specs.declared.heap_rows.progress.Progress.TheVariants as progress;
-ghost use Rattle.pt_host.specs.Calls.{arguments_of};
-ghost use Rattle.pt_host.specs.Errors.{error, error_saying};
-ghost use Rattle.pt_host.specs.World.{IsAllotted, allot};
-ghost use Rattle.pt_host.specs.declared.places.TheConstants.{RECURSION_ERROR};
+ghost use Rattle.pt_code_facts.specs.sem_rows.heap_rows.Told.{block_id};
+ghost use Rattle.pt_code_facts.specs.sem_rows.declared.heap_rows.progress.Progress.TheVariants as progress;
+ghost use Rattle.pt_code_facts.specs.sem_rows.pt_host.Calls.{arguments_of};
+ghost use Rattle.pt_code_facts.specs.sem_rows.pt_host.Errors.{error, error_saying};
+ghost use Rattle.pt_code_facts.specs.sem_rows.pt_host.World.{IsAllotted, allot};
+ghost use Rattle.pt_code_facts.specs.sem_rows.pt_host.declared.places.TheConstants.{RECURSION_ERROR};
 ghost use Rattle.pt_machine_state.specs.Applies.{Applied, Closes};
 ghost use Rattle.pt_machine_state.specs.Blocks.{block_at};
 ghost use Rattle.pt_machine_state.specs.Changes.{events_of, given_back, gone_to, landed, left_place};

@@ -13,4 +13,5 @@ pub use laws::{
     instructions_are_strides, the_machine_goes_where_instructions_lead,
 };
 pub use machine::{Machine, MachineEnd, Standing, Stride};
+pub use pt_code_facts::{Progress, blocks_of, facts_of, not_supported};
 pub use writes::{Write, Writes};

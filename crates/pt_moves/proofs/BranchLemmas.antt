@@ -24,10 +24,10 @@ use Rattle.pt_content.specs.declared.answer.PrimAns.TheVariants as prim
 use Rattle.pt_content.specs.Operands.{operand_of}
 use Rattle.pt_prims.specs.Operations.{prim_answer, prim_heap, placed}
 use Rattle.pt_comparisons.specs.Truths.{truth_by}
-use Rattle.pt_host.specs.World.{Stores, Program, with_objects, allot}
-use Rattle.pt_host.specs.Answers.{branch as answered}
-use Rattle.pt_host.specs.Primitives.{a_truth, arguments_of, asked, of_prim}
-use Rattle.pt_host.specs.Errors.{error}
+use Rattle.sem_rows.specs.pt_host.World.{Stores, Program, with_objects, allot}
+use Rattle.sem_rows.specs.pt_host.Answers.{branch as answered}
+use Rattle.sem_rows.specs.pt_host.Primitives.{a_truth, arguments_of, asked, of_prim}
+use Rattle.sem_rows.specs.pt_host.Errors.{error}
 use Rattle.sem_run.specs.transitions.Successors.{to}
 use Rattle.sem_rows.specs.declared.heap_rows.progress.Progress.{Progress}
 use Rattle.sem_rows.specs.declared.heap_rows.progress.Progress.TheVariants as progress

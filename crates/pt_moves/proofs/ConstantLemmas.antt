@@ -13,8 +13,8 @@ use Rattle.sem_code.specs.slots.Slots.{Slots}
 use Rattle.sem_code.specs.slots.CodeObject.{CodeObject}
 use Rattle.sem_code.specs.slots.Steps.{mark_of, unmarked, after, gives_known, known}
 use Rattle.sem_run.specs.run.Host.{Here}
-use Rattle.pt_host.specs.World.{Stores, Program}
-use Rattle.pt_host.specs.Answers.{constant_value}
+use Rattle.sem_rows.specs.pt_host.World.{Stores, Program}
+use Rattle.sem_rows.specs.pt_host.Answers.{constant_value}
 use Rattle.sem_run.specs.transitions.Successors.{to}
 use Rattle.sem_rows.specs.declared.heap_rows.progress.Progress.TheVariants as progress
 use Rattle.sem_rows.specs.heap_rows.Leads.{HasHeapTruths, giving}

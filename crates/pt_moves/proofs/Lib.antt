@@ -3,3 +3,4 @@ pub mod MoveLemmas
 pub mod ConstantLemmas
 pub mod TruthLemmas
 pub mod BranchLemmas
+pub use Rattle.sem_rows.proofs as sem_rows

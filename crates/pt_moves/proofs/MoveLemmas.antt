@@ -13,8 +13,8 @@ use Rattle.sem_code.specs.slots.Slots as S
 use Rattle.sem_code.specs.slots.Slots.{State}
 use Rattle.sem_code.specs.slots.Pops.{Next, one, two, three, movable}
 use Rattle.sem_run.specs.run.Host.{Here}
-use Rattle.pt_host.specs.World.{Stores, Program}
-use Rattle.pt_host.specs.HeapHost.{heap_host}
+use Rattle.sem_rows.specs.pt_host.World.{Stores, Program}
+use Rattle.sem_rows.specs.pt_host.HeapHost.{heap_host}
 use Rattle.sem_run.specs.transitions.Transitions.{transition}
 use Rattle.sem_run.specs.transitions.Successors.{successor, none}
 use Rattle.sem_rows.specs.declared.heap_rows.progress.Progress.TheVariants as progress

@@ -10,11 +10,11 @@ use Rattle.pt_frames.specs.declared.slot.Slot.TheVariants as slot
 use Rattle.pt_code.specs.View.{Ins}
 use Rattle.sem_code.specs.slots.CodeObject.{CodeObject}
 use Rattle.sem_run.specs.run.Host.{Here}
-use Rattle.pt_host.specs.World.{Stores, Program, with_objects}
-use Rattle.pt_host.specs.HeapHost.{heap_host}
-use Rattle.pt_host.specs.Answers.{constant_value}
+use Rattle.sem_rows.specs.pt_host.World.{Stores, Program, with_objects}
+use Rattle.sem_rows.specs.pt_host.HeapHost.{heap_host}
+use Rattle.sem_rows.specs.pt_host.Answers.{constant_value}
 use Rattle.sem_rows.specs.declared.heap_rows.progress.Progress.{Progress}
-use Rattle.sem_code_machine.specs.rows.Rows.{row_of}
+use Rattle.sem_rows.specs.sem_code_machine.rows.Rows.{row_of}
 use Rattle.sem_rows.specs.heap_rows.Leads.{HasHeapTruths}
 use Rattle.sem_rows.specs.heap_rows.Told.{told}
 use Rattle.sem_rows.specs.heap_rows.Views.{slots_view}

@@ -9,17 +9,17 @@ use Rattle.sem_code.specs.slots.Slots.{Slots, State, on}
 use Rattle.sem_code.specs.slots.CodeObject.{CodeObject}
 use Rattle.sem_code.specs.slots.Steps.{gives, does}
 use Rattle.sem_run.specs.run.Host.{Here, made, beyond}
-use Rattle.pt_host.specs.World.{Stores, Program, Allotted}
-use Rattle.pt_host.specs.Trees.{raise_with}
-use Rattle.pt_host.specs.Errors.{error_saying}
-use Rattle.pt_host.specs.Texts.{unbound_text, unbound_class}
-use Rattle.pt_host.specs.Variables.{readable_value, variable_value, load_by, unless_bound, delete_by, put, make_anew}
+use Rattle.pt_builtins.specs.pt_host.World.{Stores, Program, Allotted}
+use Rattle.pt_builtins.specs.pt_host.Trees.{raise_with}
+use Rattle.pt_builtins.specs.pt_host.Errors.{error_saying}
+use Rattle.pt_builtins.specs.pt_host.Texts.{unbound_text, unbound_class}
+use Rattle.pt_builtins.specs.pt_host.Variables.{readable_value, variable_value, load_by, unless_bound, delete_by, put, make_anew}
 use Rattle.sem_run.specs.transitions.Successors.{to}
-use Rattle.sem_rows.specs.heap_rows.Leads.{HeapSuccessor}
-use Rattle.sem_rows.specs.heap_rows.Leads.{by_tree, giving, behind}
-use Rattle.sem_rows.specs.heap_rows.Laws.{reached}
-use Rattle.sem_rows.specs.heap_rows.Told.{told}
-use Rattle.sem_rows.proofs.heap_rows.RowLemmas.{loads_lead, deeds_lead}
+use Rattle.pt_moves.specs.sem_rows.heap_rows.Leads.{HeapSuccessor}
+use Rattle.pt_moves.specs.sem_rows.heap_rows.Leads.{by_tree, giving, behind}
+use Rattle.pt_moves.specs.sem_rows.heap_rows.Laws.{reached}
+use Rattle.pt_moves.specs.sem_rows.heap_rows.Told.{told}
+use Rattle.pt_moves.proofs.sem_rows.heap_rows.RowLemmas.{loads_lead, deeds_lead}
 use Rattle.pt_name_rows.specs.Names.{unbound}
 
 abbrev pub goes_to : State Value → Stores → HeapSuccessor

@@ -13,18 +13,18 @@ use Rattle.pt_frames.specs.declared.slot.Slot.TheVariants as slot
 use Rattle.sem_run.specs.run.Host.{Here}
 use Rattle.sem_code.specs.slots.Slots as S
 use Rattle.sem_code.specs.slots.Slots.{on}
-use Rattle.pt_host.specs.World.{World, Stores}
-use Rattle.pt_host.specs.Trees.{Tree}
-use Rattle.pt_host.specs.Variables.{variable_value, readable_value, cell_number, cell_value, unless_bound, raise_unbound, put, with_cell, with_new_cell, make_anew, number_value}
-use Rattle.sem_rows.specs.declared.heap_rows.progress.Progress.{Progress}
-use Rattle.sem_rows.specs.declared.heap_rows.progress.Progress.TheVariants as progress
-use Rattle.sem_rows.specs.heap_rows.Leads.{by_tree, giving}
-use Rattle.sem_rows.specs.heap_rows.Told.{told}
-use Rattle.sem_rows.specs.heap_rows.RowsIn.{RowsIn}
-use Rattle.sem_rows.proofs.heap_rows.RowLemmas.{cells_lead}
-use Rattle.sem_rows.specs.heap_rows.Views.{slots_view, stores_in}
-use Rattle.sem_rows.specs.variables.Numbers.{cell_name, cell_variable, HasCells}
-use Rattle.sem_rows.proofs.variables.NumberLemmas.{cells_stand}
+use Rattle.pt_builtins.specs.pt_host.World.{World, Stores}
+use Rattle.pt_builtins.specs.pt_host.Trees.{Tree}
+use Rattle.pt_builtins.specs.pt_host.Variables.{variable_value, readable_value, cell_number, cell_value, unless_bound, raise_unbound, put, with_cell, with_new_cell, make_anew, number_value}
+use Rattle.pt_moves.specs.sem_rows.declared.heap_rows.progress.Progress.{Progress}
+use Rattle.pt_moves.specs.sem_rows.declared.heap_rows.progress.Progress.TheVariants as progress
+use Rattle.pt_moves.specs.sem_rows.heap_rows.Leads.{by_tree, giving}
+use Rattle.pt_moves.specs.sem_rows.heap_rows.Told.{told}
+use Rattle.pt_moves.specs.sem_rows.heap_rows.RowsIn.{RowsIn}
+use Rattle.pt_moves.proofs.sem_rows.heap_rows.RowLemmas.{cells_lead}
+use Rattle.pt_moves.specs.sem_rows.heap_rows.Views.{slots_view, stores_in}
+use Rattle.pt_moves.specs.sem_rows.variables.Numbers.{cell_name, cell_variable, HasCells}
+use Rattle.pt_moves.proofs.sem_rows.variables.NumberLemmas.{cells_stand}
 use Rattle.pt_code_facts.specs.declared.facts.BlockFacts.{BlockFacts}
 use Rattle.pt_code_facts.specs.Facts.{facts_view}
 use Rattle.pt_moves.specs.Operands.{one_value}

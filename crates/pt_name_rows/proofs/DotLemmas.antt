@@ -2,7 +2,7 @@
 use Rattle.std.proofs.Common.{◌≡◌, ◌∙◌, ◌<◌, ℕ, Bool, true, false, List, [], ◌∷◌, length, Option, Some, None, refl, sym, ap, arith, ◌==◌, eqb-true}
 use Rattle.std.specs.Prelude.{MatchOption, if◌then◌else◌}
 use Rattle.std.specs.Borrow.{Bor}
-use Rattle.pt_host.specs.Texts.{without_dots}
+use Rattle.pt_builtins.specs.pt_host.Texts.{without_dots}
 use Rattle.pt_name_rows.specs.Names.{behind_dot}
 
 -- by what a search for the dot found

@@ -14,15 +14,15 @@ use Rattle.pt_frames.specs.declared.slot.Slot.{Slot}
 use Rattle.pt_frames.specs.declared.slot.Slot.TheVariants as slot
 use Rattle.sem_code.specs.slots.Slots.{on}
 use Rattle.sem_code.specs.slots.CodeObject.{global}
-use Rattle.pt_host.specs.World.{Stores}
-use Rattle.pt_host.specs.Variables.{by_builtin}
-use Rattle.pt_host.specs.Builtins.{builtin}
-use Rattle.sem_rows.specs.declared.heap_rows.progress.Progress.{Progress}
-use Rattle.sem_rows.specs.declared.heap_rows.progress.Progress.TheVariants as progress
-use Rattle.sem_rows.specs.heap_rows.Leads.{by_tree, giving}
-use Rattle.sem_rows.specs.heap_rows.Told.{told}
-use Rattle.sem_rows.specs.heap_rows.RowsIn.{Standpoint, RowsIn}
-use Rattle.sem_rows.specs.heap_rows.Views.{slots_view}
+use Rattle.pt_builtins.specs.pt_host.World.{Stores}
+use Rattle.pt_builtins.specs.pt_host.Variables.{by_builtin}
+use Rattle.pt_builtins.specs.pt_host.Builtins.{builtin}
+use Rattle.pt_moves.specs.sem_rows.declared.heap_rows.progress.Progress.{Progress}
+use Rattle.pt_moves.specs.sem_rows.declared.heap_rows.progress.Progress.TheVariants as progress
+use Rattle.pt_moves.specs.sem_rows.heap_rows.Leads.{by_tree, giving}
+use Rattle.pt_moves.specs.sem_rows.heap_rows.Told.{told}
+use Rattle.pt_moves.specs.sem_rows.heap_rows.RowsIn.{Standpoint, RowsIn}
+use Rattle.pt_moves.specs.sem_rows.heap_rows.Views.{slots_view}
 use Rattle.pt_code.specs.View.{Ins}
 use Rattle.pt_builtins.specs.declared.BuiltinLookup.{BuiltinLookup}
 use Rattle.pt_builtins.specs.declared.BuiltinLookup.TheVariants as lookup

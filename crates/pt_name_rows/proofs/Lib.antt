@@ -4,3 +4,4 @@ pub mod LocalLemmas
 pub mod CellLemmas
 pub mod GlobalLemmas
 pub mod NameLemmas
+pub use Rattle.pt_moves.proofs as pt_moves

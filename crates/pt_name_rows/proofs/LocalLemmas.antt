@@ -13,16 +13,16 @@ use Rattle.pt_names.specs.Names.{Named, name_value}
 use Rattle.pt_frames.specs.declared.slot.Slot.{Slot}
 use Rattle.pt_frames.specs.declared.slot.Slot.TheVariants as slot
 use Rattle.sem_code.specs.slots.CodeObject.{local}
-use Rattle.pt_host.specs.World.{World, Stores}
-use Rattle.pt_host.specs.Variables.{variable_value}
+use Rattle.pt_builtins.specs.pt_host.World.{World, Stores}
+use Rattle.pt_builtins.specs.pt_host.Variables.{variable_value}
 use Rattle.sem_code.specs.slots.Slots.{on}
-use Rattle.sem_rows.specs.declared.heap_rows.progress.Progress.{Progress}
-use Rattle.sem_rows.specs.declared.heap_rows.progress.Progress.TheVariants as progress
-use Rattle.sem_rows.specs.heap_rows.Told.{told}
-use Rattle.sem_rows.specs.heap_rows.RowsIn.{RowsIn}
-use Rattle.sem_rows.specs.heap_rows.Views.{slots_view, stores_in}
-use Rattle.sem_rows.specs.variables.Numbers.{HasLocals}
-use Rattle.sem_rows.proofs.variables.NumberLemmas.{locals_stand}
+use Rattle.pt_moves.specs.sem_rows.declared.heap_rows.progress.Progress.{Progress}
+use Rattle.pt_moves.specs.sem_rows.declared.heap_rows.progress.Progress.TheVariants as progress
+use Rattle.pt_moves.specs.sem_rows.heap_rows.Told.{told}
+use Rattle.pt_moves.specs.sem_rows.heap_rows.RowsIn.{RowsIn}
+use Rattle.pt_moves.specs.sem_rows.heap_rows.Views.{slots_view, stores_in}
+use Rattle.pt_moves.specs.sem_rows.variables.Numbers.{HasLocals}
+use Rattle.pt_moves.proofs.sem_rows.variables.NumberLemmas.{locals_stand}
 use Rattle.pt_code_facts.specs.declared.facts.BlockFacts.{BlockFacts}
 use Rattle.pt_code_facts.specs.Facts.{facts_view}
 use Rattle.pt_moves.specs.Operands.{one_value}

@@ -4,9 +4,9 @@ use Rattle.std.specs.Prelude.{nat_lt, if◌then◌else◌}
 use Rattle.std.proofs.lemmas.Bool.Decides.{nat_tests}
 use Rattle.pt_tree.specs.Syntax.{Name}
 use Rattle.sem_control.specs.control.Turn as T
-use Rattle.pt_host.specs.World.{CodeFacts}
-use Rattle.sem_rows.specs.declared.heap_rows.progress.Progress.{Progress}
-use Rattle.sem_rows.specs.variables.Numbers.{cell_name}
+use Rattle.pt_builtins.specs.pt_host.World.{CodeFacts}
+use Rattle.pt_moves.specs.sem_rows.declared.heap_rows.progress.Progress.{Progress}
+use Rattle.pt_moves.specs.sem_rows.variables.Numbers.{cell_name}
 use Rattle.pt_name_rows.specs.Names.{unbound, cell_unbound, local_unbound, free_unbound}
 
 -- a cell name is told as a local one, and a free name as one of a function around

@@ -8,14 +8,14 @@ use Rattle.pt_instr.specs.declared.Instr.{Instr}
 use Rattle.pt_heap.specs.declared.value.Value.{Value}
 use Rattle.pt_names.specs.Names.{Named}
 use Rattle.pt_frames.specs.declared.slot.Slot.{Slot}
-use Rattle.pt_host.specs.World.{CodeFacts, World, Stores, in_world}
-use Rattle.pt_host.specs.Texts.{unbound_text, unbound_class}
-use Rattle.pt_host.specs.Builtins.{builtin}
-use Rattle.sem_rows.specs.declared.heap_rows.progress.Progress.{Progress}
-use Rattle.sem_rows.specs.declared.heap_rows.progress.Progress.TheVariants as progress
-use Rattle.sem_rows.specs.heap_rows.RowsIn.{RowsIn}
-use Rattle.sem_rows.specs.heap_rows.Views.{stores_in}
-use Rattle.sem_rows.specs.variables.Numbers.{cell_variable, KnowsNames, HasLocals, HasCells}
+use Rattle.pt_builtins.specs.pt_host.World.{CodeFacts, World, Stores, in_world}
+use Rattle.pt_builtins.specs.pt_host.Texts.{unbound_text, unbound_class}
+use Rattle.pt_builtins.specs.pt_host.Builtins.{builtin}
+use Rattle.pt_moves.specs.sem_rows.declared.heap_rows.progress.Progress.{Progress}
+use Rattle.pt_moves.specs.sem_rows.declared.heap_rows.progress.Progress.TheVariants as progress
+use Rattle.pt_moves.specs.sem_rows.heap_rows.RowsIn.{RowsIn}
+use Rattle.pt_moves.specs.sem_rows.heap_rows.Views.{stores_in}
+use Rattle.pt_moves.specs.sem_rows.variables.Numbers.{cell_variable, KnowsNames, HasLocals, HasCells}
 use Rattle.pt_code_facts.specs.declared.facts.BlockFacts.{BlockFacts}
 use Rattle.pt_code_facts.specs.Facts.{facts_view}
 use Rattle.pt_builtins.specs.declared.BuiltinLookup.{BuiltinLookup}

@@ -12,8 +12,7 @@ use pt_code_facts::BlockFacts;
 use pt_frames::{Slot, Slots};
 use pt_heap::Value;
 use pt_instr::SlotNo;
-use pt_moves::take_one;
-use sem_rows::heap_rows::Progress;
+use pt_moves::{Progress, take_one};
 use std::alloc::Global;
 
 /// The most cells that are kept.

@@ -9,9 +9,8 @@ use pt_base::{Memory, What};
 use pt_builtins::BuiltinLookup;
 use pt_frames::{Slot, Slots};
 use pt_instr::TextNo;
-use pt_moves::take_one;
+use pt_moves::{Progress, take_one};
 use pt_names::Names;
-use sem_rows::heap_rows::Progress;
 use std::alloc::Global;
 
 /// Gives the value of a name of the module, or what the name means by itself.

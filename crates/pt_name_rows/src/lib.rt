@@ -10,4 +10,10 @@ mod unbound;
 pub use cells::{cell, delete_cell, fresh_cell, push_cell, put_through, set_cell, value_through};
 pub use globals::{delete_global, global, set_global};
 pub use locals::{delete_local, fresh_local, local, put_at, set_local, value_at};
+pub use pt_builtins::BuiltinLookup;
+pub use pt_code_facts::BlockFacts;
+pub use pt_moves::{
+    Progress, constant, copy, copy_two, jump, jump_if, jump_if_keep, jump_unless, jump_unless_keep,
+    leave, nop, pop, return_value, rotate_three, swap, take_one,
+};
 pub use unbound::unbound_global;

@@ -2,14 +2,14 @@
 ghost use Rattle.std.specs.Prelude.{◌≡◌, [], slice_index_or, IfOk};
 ghost use Rattle.pt_code_facts.specs.Facts.{facts_view};
 ghost use Rattle.std.specs.Option.{option_copied};
-ghost use Rattle.pt_host.specs.Texts.{without_dots};
+ghost use Rattle.pt_builtins.specs.pt_host.Texts.{without_dots};
 ghost use Rattle.pt_name_rows.specs.Names.{behind_dot, cell_unbound, global_unbound, free_unbound, local_unbound};
-ghost use Rattle.sem_rows.specs.variables.Numbers.{cell_name};
+ghost use Rattle.pt_moves.specs.sem_rows.variables.Numbers.{cell_name};
 
 use pt_base::{Memory, Seq, Text};
+use pt_builtins::{NAME_ERROR, UNBOUND_LOCAL_ERROR, free_text, local_text, name_text};
 use pt_code_facts::BlockFacts;
-use pt_host::{NAME_ERROR, UNBOUND_LOCAL_ERROR, free_text, local_text, name_text};
-use sem_rows::heap_rows::Progress;
+use pt_moves::Progress;
 use std::alloc::Global;
 
 /// What stands behind the dot that a text begins with, if it does.

@@ -1,1 +1,2 @@
 pub mod OperatorLemmas
+pub use Rattle.pt_moves.proofs as pt_moves

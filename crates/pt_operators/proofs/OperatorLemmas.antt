@@ -20,14 +20,14 @@ use Rattle.pt_content.specs.declared.op.Op.TheVariants as op
 use Rattle.pt_content.specs.declared.answer.PrimAns.{PrimAns}
 use Rattle.pt_content.specs.declared.answer.PrimAns.TheVariants as prim
 use Rattle.pt_prims.specs.Operations.{prim_answer, prim_heap}
-use Rattle.pt_host.specs.World.{Program, Stores, with_objects}
-use Rattle.pt_host.specs.Primitives.{Awaited, asked, of_prim, one_value}
-use Rattle.sem_rows.specs.declared.heap_rows.progress.Progress.{Progress}
-use Rattle.sem_rows.specs.declared.heap_rows.progress.Progress.TheVariants as progress
-use Rattle.sem_rows.specs.heap_rows.Leads.{by_tree, giving}
-use Rattle.sem_rows.specs.heap_rows.Told.{told}
-use Rattle.sem_rows.specs.heap_rows.Views.{slots_view}
-use Rattle.sem_rows.proofs.heap_rows.RowLemmas.{asks_lead}
+use Rattle.pt_moves.specs.sem_rows.pt_host.World.{Program, Stores, with_objects}
+use Rattle.pt_moves.specs.sem_rows.pt_host.Primitives.{Awaited, asked, of_prim, one_value}
+use Rattle.pt_moves.specs.sem_rows.declared.heap_rows.progress.Progress.{Progress}
+use Rattle.pt_moves.specs.sem_rows.declared.heap_rows.progress.Progress.TheVariants as progress
+use Rattle.pt_moves.specs.sem_rows.heap_rows.Leads.{by_tree, giving}
+use Rattle.pt_moves.specs.sem_rows.heap_rows.Told.{told}
+use Rattle.pt_moves.specs.sem_rows.heap_rows.Views.{slots_view}
+use Rattle.pt_moves.proofs.sem_rows.heap_rows.RowLemmas.{asks_lead}
 use Rattle.pt_moves.specs.Operands.{one_value as value_on_top, two_values, RowsHeap}
 use Rattle.pt_moves.proofs.TakeLemmas.{one_on, two_on}
 use Rattle.pt_moves.proofs.MoveLemmas.{stuck_row}

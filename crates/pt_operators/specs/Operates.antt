@@ -13,13 +13,13 @@ use Rattle.sem_run.specs.run.Host.{Here}
 use Rattle.pt_content.specs.declared.op.Op.{Op}
 use Rattle.pt_content.specs.declared.answer.PrimAns.{PrimAns}
 use Rattle.pt_content.specs.declared.answer.PrimAns.TheVariants as prim
-use Rattle.pt_host.specs.Primitives.{Awaited, asked, one_value}
-use Rattle.pt_host.specs.World.{Program, Stores, with_objects}
-use Rattle.sem_rows.specs.declared.heap_rows.progress.Progress.{Progress}
-use Rattle.sem_rows.specs.declared.heap_rows.progress.Progress.TheVariants as progress
-use Rattle.sem_rows.specs.heap_rows.Leads.{by_tree, giving}
-use Rattle.sem_rows.specs.heap_rows.Told.{told}
-use Rattle.sem_rows.specs.heap_rows.Views.{slots_view}
+use Rattle.pt_moves.specs.sem_rows.pt_host.Primitives.{Awaited, asked, one_value}
+use Rattle.pt_moves.specs.sem_rows.pt_host.World.{Program, Stores, with_objects}
+use Rattle.pt_moves.specs.sem_rows.declared.heap_rows.progress.Progress.{Progress}
+use Rattle.pt_moves.specs.sem_rows.declared.heap_rows.progress.Progress.TheVariants as progress
+use Rattle.pt_moves.specs.sem_rows.heap_rows.Leads.{by_tree, giving}
+use Rattle.pt_moves.specs.sem_rows.heap_rows.Told.{told}
+use Rattle.pt_moves.specs.sem_rows.heap_rows.Views.{slots_view}
 
 -- the value that an answer gives where one is awaited, if it does: what prints gives None
 abbrev pub value_given : PrimAns → Option Value

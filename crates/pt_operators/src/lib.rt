@@ -4,3 +4,6 @@
 mod operators;
 
 pub use operators::{Outcome, ask, binary, compare, in_place, not, operation, outcome_of, unary};
+pub use pt_moves::{
+    Progress, TYPE_ERROR, binding_text, not_callable_text, take_one, take_three, take_two,
+};

@@ -10,9 +10,8 @@ use pt_base::{BinOp, CompareOp, Memory, UnOp, What};
 use pt_content::{Op, PrimAns};
 use pt_frames::{Slot, Slots};
 use pt_heap::{Heap, Value};
-use pt_moves::{take_one, take_two};
+use pt_moves::{Progress, take_one, take_two};
 use pt_prims::prim;
-use sem_rows::heap_rows::Progress;
 use std::alloc::Global;
 
 /// What the answer of an operation comes to where a value is awaited: the value that is given, if

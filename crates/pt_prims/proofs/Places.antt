@@ -10,7 +10,7 @@ use Rattle.pt_heap.specs.declared.object.Object.TheVariants.{Class}
 use Rattle.pt_heap.specs.Sound.{place_of, places_in, places_of, IsClassAt, IsSound, IsWithin}
 use Rattle.pt_builtin_objects.specs.Start.{start_objects}
 use Rattle.pt_attrs.specs.Look.{object_of}
-use Rattle.pt_sequences.specs.Displays.{repeated}
+use Rattle.pt_comparisons.specs.pt_sequences.Displays.{repeated}
 use Rattle.pt_prims.specs.Laws.{AllWithin, IsWithinIf}
 
 -- places below a number

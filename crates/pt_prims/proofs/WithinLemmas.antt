@@ -42,18 +42,18 @@ use Rattle.pt_content.specs.declared.op.Op.TheVariants as op
 use Rattle.pt_content.specs.declared.operand.Operand.{Operand}
 use Rattle.pt_content.specs.declared.operand.Operand.TheVariants as operand
 use Rattle.pt_content.specs.Operands.{operand_of, text_of}
-use Rattle.pt_sequences.specs.Cursors as cursors
-use Rattle.pt_sequences.specs.Displays.{bounded, fit, list_content, repeated, repeated_list, repeated_tuple, times, tuple_content}
-use Rattle.pt_sequences.specs.Items as items
-use Rattle.pt_sequences.specs.Lengths.{length_by, length_of, lengthless}
-use Rattle.pt_sequences.specs.Ranges.{range_by, range_content, range_length, range_of, range_value, range_item}
-use Rattle.pt_sequences.specs.Unpacking as unpacking
-use Rattle.pt_reprs.specs.declared.writer.WriteErr.{WriteErr}
-use Rattle.pt_reprs.specs.declared.writer.WriteErr.TheVariants as write
-use Rattle.pt_reprs.specs.Pieces.{written}
-use Rattle.pt_reprs.specs.Reached.{need_help, needs_help}
-use Rattle.pt_reprs.specs.Reprs.{repr_pieces}
-use Rattle.pt_reprs.specs.Texts as texts
+use Rattle.pt_comparisons.specs.pt_sequences.Cursors as cursors
+use Rattle.pt_comparisons.specs.pt_sequences.Displays.{bounded, fit, list_content, repeated, repeated_list, repeated_tuple, times, tuple_content}
+use Rattle.pt_comparisons.specs.pt_sequences.Items as items
+use Rattle.pt_comparisons.specs.pt_sequences.Lengths.{length_by, length_of, lengthless}
+use Rattle.pt_comparisons.specs.pt_sequences.Ranges.{range_by, range_content, range_length, range_of, range_value, range_item}
+use Rattle.pt_comparisons.specs.pt_sequences.Unpacking as unpacking
+use Rattle.pt_comparisons.specs.pt_reprs.declared.writer.WriteErr.{WriteErr}
+use Rattle.pt_comparisons.specs.pt_reprs.declared.writer.WriteErr.TheVariants as write
+use Rattle.pt_comparisons.specs.pt_reprs.Pieces.{written}
+use Rattle.pt_comparisons.specs.pt_reprs.Reached.{need_help, needs_help}
+use Rattle.pt_comparisons.specs.pt_reprs.Reprs.{repr_pieces}
+use Rattle.pt_comparisons.specs.pt_reprs.Texts as texts
 use Rattle.pt_comparisons.specs.declared.equality.Equality.{Equality}
 use Rattle.pt_comparisons.specs.declared.equality.Equality.TheVariants as equality
 use Rattle.pt_prims.specs.Arithmetic.{binary_by, binary_content, integer_content, truth_binary, truths_binary, unary_by}
@@ -347,10 +347,10 @@ module _ (h : List Object) (s : IsSound start_objects h) where
   item-within : (v i : Value) → IsWithinHeap h (items.item_content h v i)
   item-within v i = by (items.index_of h i)
     where
-      by : (x : Rattle.pt_sequences.specs.declared.item.Index.Index) → IsWithinHeap h (items.item_of h v x (object_of h v))
-      by (Rattle.pt_sequences.specs.declared.item.Index.TheVariants.Number z) = item-at-within v z (object_of h v) refl
-      by Rattle.pt_sequences.specs.declared.item.Index.TheVariants.Slice = tt
-      by Rattle.pt_sequences.specs.declared.item.Index.TheVariants.Other = unindexed-within v (object_of h v)
+      by : (x : Rattle.pt_comparisons.specs.pt_sequences.declared.item.Index.Index) → IsWithinHeap h (items.item_of h v x (object_of h v))
+      by (Rattle.pt_comparisons.specs.pt_sequences.declared.item.Index.TheVariants.Number z) = item-at-within v z (object_of h v) refl
+      by Rattle.pt_comparisons.specs.pt_sequences.declared.item.Index.TheVariants.Slice = tt
+      by Rattle.pt_comparisons.specs.pt_sequences.declared.item.Index.TheVariants.Other = unindexed-within v (object_of h v)
 
   -- iterators
   iterator-over-within : (id : ObjId) (o : Option Object) → IsWithin h (value.Obj id) → IsWithinHeap h (cursors.iterator_over h id o)

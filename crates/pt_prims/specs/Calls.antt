@@ -26,11 +26,11 @@ use Rattle.pt_content.specs.declared.operand.Operand.{Operand}
 use Rattle.pt_content.specs.declared.operand.Operand.TheVariants.{Number, Text, Instance}
 use Rattle.pt_content.specs.Operands.{operand_of, text_of}
 use Rattle.pt_content.specs.TypeErrors.{bad_argument}
-use Rattle.pt_sequences.specs.Cursors.{iterator_content, next_content}
-use Rattle.pt_sequences.specs.Displays.{tuple_content}
-use Rattle.pt_sequences.specs.Lengths.{length_content}
-use Rattle.pt_sequences.specs.Ranges.{range_content}
-use Rattle.pt_reprs.specs.Texts.{new_text, print_content, repr_content, str_content}
+use Rattle.pt_comparisons.specs.pt_sequences.Cursors.{iterator_content, next_content}
+use Rattle.pt_comparisons.specs.pt_sequences.Displays.{tuple_content}
+use Rattle.pt_comparisons.specs.pt_sequences.Lengths.{length_content}
+use Rattle.pt_comparisons.specs.pt_sequences.Ranges.{range_content}
+use Rattle.pt_comparisons.specs.pt_reprs.Texts.{new_text, print_content, repr_content, str_content}
 use Rattle.pt_prims.specs.declared.calls.TheConstants.{STOP_ITERATION}
 use Rattle.pt_prims.specs.Arithmetic.{integer_content}
 use Rattle.pt_comparisons.specs.Truths.{truth_content, truth_value}

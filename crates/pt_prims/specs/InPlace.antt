@@ -19,8 +19,8 @@ use Rattle.pt_content.specs.declared.operand.Operand.{Operand}
 use Rattle.pt_content.specs.declared.operand.Operand.TheVariants.{Number}
 use Rattle.pt_content.specs.Changes.{replacing}
 use Rattle.pt_content.specs.Operands.{operand_of}
-use Rattle.pt_sequences.specs.Cursors.{asked_or}
-use Rattle.pt_sequences.specs.Displays.{list_content, repeated_list}
+use Rattle.pt_comparisons.specs.pt_sequences.Cursors.{asked_or}
+use Rattle.pt_comparisons.specs.pt_sequences.Displays.{list_content, repeated_list}
 use Rattle.pt_prims.specs.Arithmetic.{binary_content}
 
 -- a list takes the items of one that would be new

@@ -12,10 +12,10 @@ use Rattle.pt_content.specs.declared.content.NewObject.TheVariants.{Text}
 use Rattle.pt_content.specs.declared.answer.PrimAns.{PrimAns}
 use Rattle.pt_content.specs.declared.answer.PrimAns.TheVariants as answer
 use Rattle.pt_content.specs.Changes.{added, changed, has_room, next_object, places_from}
-use Rattle.pt_sequences.specs.Cursors.{iterator_content, next_content}
-use Rattle.pt_sequences.specs.Displays.{list_content, tuple_content}
-use Rattle.pt_sequences.specs.Items.{item_content}
-use Rattle.pt_sequences.specs.Unpacking.{unpack_content}
+use Rattle.pt_comparisons.specs.pt_sequences.Cursors.{iterator_content, next_content}
+use Rattle.pt_comparisons.specs.pt_sequences.Displays.{list_content, tuple_content}
+use Rattle.pt_comparisons.specs.pt_sequences.Items.{item_content}
+use Rattle.pt_comparisons.specs.pt_sequences.Unpacking.{unpack_content}
 use Rattle.pt_prims.specs.Arithmetic.{binary_content, unary_content}
 use Rattle.pt_prims.specs.Calls.{call_content}
 use Rattle.pt_comparisons.specs.Comparisons.{comparison_content}

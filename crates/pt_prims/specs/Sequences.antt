@@ -18,7 +18,7 @@ use Rattle.pt_content.specs.declared.operand.Operand.{Operand}
 use Rattle.pt_content.specs.declared.operand.Operand.TheVariants.{Number}
 use Rattle.pt_content.specs.Operands.{operand_of}
 use Rattle.pt_content.specs.TypeErrors.{binary_type_error}
-use Rattle.pt_sequences.specs.Displays.{list_content, repeated_list, repeated_tuple, times, tuple_content}
+use Rattle.pt_comparisons.specs.pt_sequences.Displays.{list_content, repeated_list, repeated_tuple, times, tuple_content}
 
 -- one text behind another, where that isn't too long
 abbrev pub joined : List ℕ → List ℕ → Content

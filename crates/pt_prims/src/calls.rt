@@ -15,7 +15,10 @@ ghost use Rattle.pt_prims.specs.Calls.{quotient_and_remainder, view_class};
 use crate::arithmetic::integer_content;
 use pt_attrs::object_of;
 use pt_base::{BinOp, Memory, ObjId, Seq, Text, UnOp, What};
-use pt_comparisons::{truth_content, truth_value};
+use pt_comparisons::{
+    iterator_content, length_content, new_text, next_content, print_content, range_content,
+    repr_content, str_content, truth_content, truth_value, tuple_content,
+};
 use pt_content::{
     Content, Function, Helper, Operand, PrimAns, TYPE_ERROR, VALUE_ERROR, bad_argument, operand_of,
     text_of,
@@ -23,8 +26,6 @@ use pt_content::{
 use pt_dicts::object_at;
 use pt_heap::{Heap, Object, Part, Str, Value};
 use pt_ints::IntAns;
-use pt_reprs::{new_text, print_content, repr_content, str_content};
-use pt_sequences::{iterator_content, length_content, next_content, range_content, tuple_content};
 use std::alloc::Global;
 
 /// The place of the class that `next` raises.

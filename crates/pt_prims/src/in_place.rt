@@ -7,11 +7,11 @@ use crate::arithmetic::binary_content;
 use crate::sequences::concatenation;
 use pt_attrs::object_of;
 use pt_base::{BinOp, Memory, Seq, What};
+use pt_comparisons::{asked_or, list_content, repeated_list};
 use pt_content::{
     Change, Content, Helper, Mutable, NewObject, Operand, PrimAns, Replacement, operand_of,
 };
 use pt_heap::{Heap, Object, Value};
-use pt_sequences::{asked_or, list_content, repeated_list};
 use std::alloc::Global;
 
 /// A list takes the items of one that would be new.

@@ -8,12 +8,12 @@ use crate::arithmetic::{binary_content, unary_content};
 use crate::calls::call_content;
 use crate::in_place::in_place_content;
 use pt_base::{Memory, ObjId, Seq, Text, What};
-use pt_comparisons::{comparison_content, inverse_content, truth_content};
+use pt_comparisons::{
+    comparison_content, inverse_content, item_content, iterator_content, list_content,
+    next_content, truth_content, tuple_content, unpack_content,
+};
 use pt_content::{Change, Content, NewObject, Op, PrimAns, add, add_values, apply};
 use pt_heap::{Heap, Value};
-use pt_sequences::{
-    item_content, iterator_content, list_content, next_content, tuple_content, unpack_content,
-};
 use std::alloc::Global;
 
 /// What an operation answers, with new objects that aren't in the heap yet.

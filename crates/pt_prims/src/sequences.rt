@@ -4,16 +4,16 @@ ghost use Rattle.std.specs.Prelude.{◌≡◌, ◌++◌, IfOk, IsTrue};
 ghost use Rattle.pt_attrs.specs.Look.{object_of};
 ghost use Rattle.pt_strs.specs.Join.{copies};
 ghost use Rattle.pt_content.specs.Operands.{operand_of};
-ghost use Rattle.pt_sequences.specs.Displays.{times};
+ghost use Rattle.pt_comparisons.specs.pt_sequences.Displays.{times};
 ghost use Rattle.pt_prims.specs.Sequences.{formatted, is_short, joined, object_repeated, objects_added};
 ghost use Rattle.pt_prims.specs.Sequences.{repeated_by, repeated_text, sequences_binary};
 ghost use Rattle.pt_prims.specs.Sequences.{sets_combined};
 
 use pt_attrs::object_of;
 use pt_base::{BinOp, Memory, Seq, Text, What};
+use pt_comparisons::{list_content, repeated_list, repeated_tuple, tuple_content};
 use pt_content::{Content, NewObject, Operand, binary_type_error, operand_of};
 use pt_heap::{Heap, Object, Str, Value};
-use pt_sequences::{list_content, repeated_list, repeated_tuple, tuple_content};
 use pt_strs::LENGTH_LIMIT;
 use std::alloc::Global;
 

@@ -14,10 +14,10 @@ use Rattle.pt_bare_runs.proofs.BareRuns.{bare_runs_once}
 use Rattle.pt_machine_state.specs.Writing.{kept}
 use Rattle.pt_sinks.specs.Writing.{outs}
 use Rattle.pt_sinks.proofs.WritingLemmas.{outs_append}
-use Rattle.pt_run_code.specs.law_loading.script_program.ScriptProgram.{program_of}
-use Rattle.law_compile.specs.script_runs.Blocks.{the_module}
-use Rattle.law_compile.specs.script_runs.Laws.{tree_machine}
-use Rattle.pt_run_code.specs.pt_runner.Work.{Work}
+use Rattle.pt_run_script.specs.pt_run_code.law_loading.script_program.ScriptProgram.{program_of}
+use Rattle.pt_run_script.specs.law_compile.script_runs.Blocks.{the_module}
+use Rattle.pt_run_script.specs.law_compile.script_runs.Laws.{tree_machine}
+use Rattle.pt_run_script.specs.pt_run_code.pt_runner.Work.{Work}
 use Rattle.pt_run_script.specs.ScriptRun.{RunsTo}
 use Rattle.pt_supported.specs.Built.{Built, unbuilt_of}
 use Rattle.pt_front.proofs.Once.{one_script, one_refusal, never_both}

@@ -9,7 +9,7 @@ use Rattle.pt_wide.specs.StatementFold.{stms_from}
 use Rattle.sem_control.specs.numbering.Numbered.{IsNumbered}
 use Rattle.law_front.proofs.script_numbers.Scripts.{numbered}
 use Rattle.pt_front.specs.Text.{IsScript}
-use Rattle.sem_compile.specs.compile.ScriptCode.{code_of}
+use Rattle.law_files.specs.sem_compile.compile.ScriptCode.{code_of}
 use Rattle.law_files.specs.code_files.Numbers.{NumbersFit}
 use Rattle.law_files.proofs.code_files.Marks.{marks_rise}
 use Rattle.law_files.proofs.code_files.Whole.{script_has_file}

@@ -10,17 +10,17 @@ use Rattle.pt_host.specs.World.{Program, World}
 use Rattle.pt_bare_runs.specs.Strides as bare
 use Rattle.pt_bare_runs.specs.Strides.{Ending}
 use Rattle.pt_machine_state.specs.Writing.{kept}
-use Rattle.pt_run_code.specs.pt_runner.Ends.{IsEnding, block_name}
-use Rattle.pt_run_code.proofs.pt_runner.AdvanceLemmas.{if_err}
-use Rattle.pt_run_code.specs.pt_runner.declared.ending.Ended.{Ended}
-use Rattle.pt_run_code.specs.pt_runner.declared.ending.RunEnd.{RunEnd}
-use Rattle.pt_run_code.specs.pt_runner.declared.ending.RunEnd.TheVariants as run
+use Rattle.pt_run_script.specs.pt_run_code.pt_runner.Ends.{IsEnding, block_name}
+use Rattle.pt_run_script.proofs.pt_run_code.pt_runner.AdvanceLemmas.{if_err}
+use Rattle.pt_run_script.specs.pt_run_code.pt_runner.declared.ending.Ended.{Ended}
+use Rattle.pt_run_script.specs.pt_run_code.pt_runner.declared.ending.RunEnd.{RunEnd}
+use Rattle.pt_run_script.specs.pt_run_code.pt_runner.declared.ending.RunEnd.TheVariants as run
 use Rattle.pt_bare_runs.specs.Strides.{Outcome}
 use Rattle.pt_code.specs.declared.Code.{Code}
-use Rattle.pt_run_code.specs.pt_runner.Work.{Work}
+use Rattle.pt_run_script.specs.pt_run_code.pt_runner.Work.{Work}
 use Rattle.pt_base.specs.declared.numbers.Line.{Line}
 use Rattle.pt_supported_code.specs.Built.{BuiltCode, IsUnbuiltCode}
-use Rattle.pt_run_code.specs.CodeRun.{CodeBrokeOff, CodeFinished}
+use Rattle.pt_run_script.specs.pt_run_code.CodeRun.{CodeBrokeOff, CodeFinished}
 use Rattle.pt_run_script.specs.ScriptRun.{ScriptBrokeOff, ScriptFinished}
 use Rattle.pt_sinks.specs.Writing.{Took, TookFront}
 use Rattle.pt_sinks.specs.declared.writing.WriteErr.{WriteErr}

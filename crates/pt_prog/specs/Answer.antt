@@ -18,8 +18,8 @@ use Rattle.sem_fits.specs.fits.Fits.{AllFit}
 use Rattle.pt_host.specs.World.{Program, World, read_from}
 use Rattle.pt_machine_state.specs.Writing.{kept}
 use Rattle.pt_tracebacks.specs.Summaries.{summaries}
-use Rattle.pt_run_code.specs.pt_runner.Ends.{block_name}
-use Rattle.pt_run_code.specs.pt_runner.Work.{Work}
+use Rattle.pt_run_script.specs.pt_run_code.pt_runner.Ends.{block_name}
+use Rattle.pt_run_script.specs.pt_run_code.pt_runner.Work.{Work}
 use Rattle.pt_run_script.specs.ScriptRun.{CodeRunsBy, RunsTo, ScriptWritesFirst}
 use Rattle.pt_supported.specs.Built.{Built, unbuilt_of}
 use Rattle.pt_front.specs.Text.{IsScript, IsRefused}
@@ -33,11 +33,11 @@ use Rattle.pt_verify.specs.Verdict.{IsRefused as IsRefusedCode}
 use Rattle.pt_verify.specs.declared.error.VerifyErr.{VerifyErr}
 use Rattle.pt_verify.specs.declared.error.VerifyErr.TheVariants as misfit
 use Rattle.pt_supported_code.specs.Built.{IsUnbuiltCode}
-use Rattle.pt_run_code.specs.law_loading.script_program.ScriptProgram.{program_of}
-use Rattle.pt_run_code.specs.law_loading.code_program.CodeProgram.{program_of_code}
-use Rattle.pt_run_code.specs.law_loading.code_program.Laws.{IsRunnable}
-use Rattle.pt_run_code.specs.CodeRun.{CodeRunsTo, CodeWritesFirst}
-use Rattle.sem_compile.specs.compile.ScriptCode.{code_of}
+use Rattle.pt_run_script.specs.pt_run_code.law_loading.script_program.ScriptProgram.{program_of}
+use Rattle.pt_run_script.specs.pt_run_code.law_loading.code_program.CodeProgram.{program_of_code}
+use Rattle.pt_run_script.specs.pt_run_code.law_loading.code_program.Laws.{IsRunnable}
+use Rattle.pt_run_script.specs.pt_run_code.CodeRun.{CodeRunsTo, CodeWritesFirst}
+use Rattle.law_files.specs.sem_compile.compile.ScriptCode.{code_of}
 use Rattle.pt_listing.specs.Listing.{IsListing}
 use Rattle.pt_words.specs.Words.{Asked, command_line}
 use Rattle.pt_words.specs.declared.line.Command.{Command}

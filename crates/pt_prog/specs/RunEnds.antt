@@ -1,7 +1,7 @@
 -- The program's end, and the log's last write, for the end of a run as the run of code tells it.
 use Rattle.std.specs.Prelude.{ℕ, List, Option, Result, Ok, Err}
-use Rattle.pt_run_code.specs.pt_runner.declared.ending.RunEnd.{RunEnd}
-use Rattle.pt_run_code.specs.pt_runner.declared.ending.RunEnd.TheVariants as run
+use Rattle.pt_run_script.specs.pt_run_code.pt_runner.declared.ending.RunEnd.{RunEnd}
+use Rattle.pt_run_script.specs.pt_run_code.pt_runner.declared.ending.RunEnd.TheVariants as run
 use Rattle.pt_sinks.specs.declared.writing.WriteErr.{WriteErr}
 use Rattle.pt_sinks.specs.declared.writing.WriteErr.TheVariants as error
 use Rattle.pt_prog.specs.declared.end.End.{End}

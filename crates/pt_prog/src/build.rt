@@ -2,7 +2,7 @@
 
 ghost use Rattle.std.specs.Prelude.{◌≡◌, ℕ, List, IfOk};
 ghost use Rattle.pt_code.specs.File.{HasFile, file};
-ghost use Rattle.sem_compile.specs.compile.ScriptCode.{code_of};
+ghost use Rattle.law_files.specs.sem_compile.compile.ScriptCode.{code_of};
 ghost use Rattle.pt_front.specs.Text.{IsScript};
 ghost use Rattle.pt_tree.specs.StatementFold.{script_of};
 

@@ -1,7 +1,7 @@
 //! The listing of a script's code, for people (Library Reference, "dis").
 
 ghost use Rattle.std.specs.Prelude.{ℕ, List, IfOk, string_bytes};
-ghost use Rattle.sem_compile.specs.compile.ScriptCode.{code_of};
+ghost use Rattle.law_files.specs.sem_compile.compile.ScriptCode.{code_of};
 ghost use Rattle.pt_front.specs.Text.{IsScript};
 ghost use Rattle.pt_listing.specs.Listing.{IsListing};
 ghost use Rattle.pt_tree.specs.StatementFold.{script_of};

@@ -11,7 +11,7 @@ ghost use Rattle.pt_sinks.specs.declared.writing.Out.TheVariants as stream;
 use crate::end::End;
 use crate::log_text::{final_text, totals_text};
 use pt_base::Sink;
-use pt_run_code::{RunEnd, Totals};
+use pt_run_script::{RunEnd, Totals};
 use pt_sinks::{Out, WriteErr, put};
 use pt_tracebacks::{ExceptionSummary, traceback_text};
 use std::alloc::Global;

@@ -18,7 +18,7 @@ use crate::running::tells_events;
 use pt_base::{Failure, Sink};
 use pt_code::{Code, CodeErr, read};
 use pt_heap::Seed;
-use pt_run_code::run_code;
+use pt_run_script::run_code;
 use pt_sinks::WriteErr;
 use pt_supported_code::unbuilt;
 use pt_verify::{VerifyErr, verify};

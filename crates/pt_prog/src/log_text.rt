@@ -4,7 +4,7 @@ ghost use Rattle.std.specs.Prelude.{◌≡◌, IfOk, option_map, string_bytes};
 ghost use Rattle.pt_prog.specs.LogText.{final_text, totals_text};
 
 use crate::end::End;
-use pt_run_code::Totals;
+use pt_run_script::Totals;
 use std::alloc::{AllocError, Global};
 
 /// The final text of an end, without the newline behind it.

@@ -10,22 +10,22 @@ use Rattle.pt_heap.specs.declared.value.Value.{Value}
 use Rattle.pt_heap.specs.declared.object.Object.{Object}
 use Rattle.sem_rows.specs.declared.heap_rows.progress.Progress.{Progress}
 use Rattle.sem_rows.specs.declared.heap_rows.progress.Progress.TheVariants as progress
-use Rattle.pt_host.specs.Calls.{arguments_of}
-use Rattle.pt_host.specs.Errors.{error, error_saying}
-use Rattle.pt_host.specs.World.{IsAllotted, allot}
-use Rattle.pt_host.specs.declared.places.TheConstants.{RECURSION_ERROR}
+use Rattle.sem_rows.specs.pt_host.Calls.{arguments_of}
+use Rattle.sem_rows.specs.pt_host.Errors.{error, error_saying}
+use Rattle.sem_rows.specs.pt_host.World.{IsAllotted, allot}
+use Rattle.sem_rows.specs.pt_host.declared.places.TheConstants.{RECURSION_ERROR}
 use Rattle.sem_run.specs.run.State.{most_activations}
-use Rattle.pt_machine_state.specs.declared.blocks.BlockCode.{BlockCode}
-use Rattle.pt_machine_state.specs.declared.blocks.Blocks.{Blocks}
-use Rattle.pt_machine_state.specs.declared.machine.Machine.{Machine}
-use Rattle.pt_machine_state.specs.declared.machine.MachineEnd.TheVariants as end
-use Rattle.pt_machine_state.specs.declared.machine.Stride.{Stride}
-use Rattle.pt_machine_state.specs.declared.machine.Stride.TheVariants as stride
-use Rattle.pt_machine_state.specs.declared.writes.Writes.{Writes}
-use Rattle.pt_machine_state.specs.Applies.{Applied}
-use Rattle.pt_machine_state.specs.Views.{active_of}
-use Rattle.pt_machine_state.proofs.FailLemmas.{applied_fails, applied_fails_saying, fails_outside, fails_saying_outside}
-use Rattle.pt_machine_state.proofs.CallLemmas.{fails_to_open, no_room_to_fail}
+use Rattle.pt_transfers.specs.pt_machine_state.declared.blocks.BlockCode.{BlockCode}
+use Rattle.pt_transfers.specs.pt_machine_state.declared.blocks.Blocks.{Blocks}
+use Rattle.pt_transfers.specs.pt_machine_state.declared.machine.Machine.{Machine}
+use Rattle.pt_transfers.specs.pt_machine_state.declared.machine.MachineEnd.TheVariants as end
+use Rattle.pt_transfers.specs.pt_machine_state.declared.machine.Stride.{Stride}
+use Rattle.pt_transfers.specs.pt_machine_state.declared.machine.Stride.TheVariants as stride
+use Rattle.pt_transfers.specs.pt_machine_state.declared.writes.Writes.{Writes}
+use Rattle.pt_transfers.specs.pt_machine_state.Applies.{Applied}
+use Rattle.pt_transfers.specs.pt_machine_state.Views.{active_of}
+use Rattle.pt_transfers.proofs.pt_machine_state.FailLemmas.{applied_fails, applied_fails_saying, fails_outside, fails_saying_outside}
+use Rattle.pt_transfers.proofs.pt_machine_state.CallLemmas.{fails_to_open, no_room_to_fail}
 use Rattle.pt_progress.specs.Arising.{Arises, ArisesOf}
 
 module _ (blocks : Blocks) (block : BlockCode) (next : Pc) (m : Machine) (w : Writes) where

@@ -7,21 +7,21 @@ use Rattle.pt_frames.specs.declared.activations.OpenActivation.{OpenActivation}
 use Rattle.pt_frames.specs.declared.purpose.Purpose.{Purpose}
 use Rattle.pt_places.specs.declared.places.Place.{Place}
 use Rattle.pt_places.specs.PlaceTable.{entry, place_at}
-use Rattle.pt_host.specs.World.{Program}
-use Rattle.sem_code_machine.specs.code_machine.CodeBlocks.{CodeBlocks}
-use Rattle.pt_machine_state.specs.declared.blocks.Blocks.{Blocks}
-use Rattle.pt_machine_state.specs.declared.machine.Machine.{Machine}
-use Rattle.pt_machine_state.specs.declared.machine.Standing.{Standing}
-use Rattle.pt_machine_state.specs.declared.machine.Standing.TheVariants as standing
-use Rattle.pt_machine_state.specs.declared.machine.Stride.{Stride}
-use Rattle.pt_machine_state.specs.declared.machine.Stride.TheVariants as stride
-use Rattle.pt_machine_state.specs.declared.writes.Writes.{Writes}
-use Rattle.pt_machine_state.specs.Applies.{Closes}
-use Rattle.pt_machine_state.specs.Blocks.{AreBlocksOf, block_at}
-use Rattle.pt_machine_state.specs.Changes.{events_of, raise_events, raised_at, suspended}
-use Rattle.pt_machine_state.specs.Writing.{Adds}
-use Rattle.pt_machine_state.proofs.CloseLemmas.{block_raises}
-use Rattle.pt_machine_state.specs.Views.{AllWait, none, more, Waits, WaitsFor, block_of}
+use Rattle.sem_rows.specs.pt_host.World.{Program}
+use Rattle.sem_rows.specs.sem_code_machine.code_machine.CodeBlocks.{CodeBlocks}
+use Rattle.pt_transfers.specs.pt_machine_state.declared.blocks.Blocks.{Blocks}
+use Rattle.pt_transfers.specs.pt_machine_state.declared.machine.Machine.{Machine}
+use Rattle.pt_transfers.specs.pt_machine_state.declared.machine.Standing.{Standing}
+use Rattle.pt_transfers.specs.pt_machine_state.declared.machine.Standing.TheVariants as standing
+use Rattle.pt_transfers.specs.pt_machine_state.declared.machine.Stride.{Stride}
+use Rattle.pt_transfers.specs.pt_machine_state.declared.machine.Stride.TheVariants as stride
+use Rattle.pt_transfers.specs.pt_machine_state.declared.writes.Writes.{Writes}
+use Rattle.pt_transfers.specs.pt_machine_state.Applies.{Closes}
+use Rattle.pt_transfers.specs.pt_machine_state.Blocks.{AreBlocksOf, block_at}
+use Rattle.pt_transfers.specs.pt_machine_state.Changes.{events_of, raise_events, raised_at, suspended}
+use Rattle.pt_transfers.specs.pt_machine_state.Writing.{Adds}
+use Rattle.pt_transfers.proofs.pt_machine_state.CloseLemmas.{block_raises}
+use Rattle.pt_transfers.specs.pt_machine_state.Views.{AllWait, none, more, Waits, WaitsFor, block_of}
 
 module _ (program : Program) (code : CodeBlocks Value) (blocks : Blocks) (known : AreBlocksOf program code blocks) where
   at-call : (a : Activation) (x : Waits) → WaitsFor program code a x → entry (block_at blocks (block_of a)).places a.pc.0 ≡ None → ⊥

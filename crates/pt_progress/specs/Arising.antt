@@ -4,16 +4,16 @@ use Rattle.pt_base.specs.declared.numbers.Line.{Line}
 use Rattle.pt_base.specs.declared.what.What.TheVariants.{Heap}
 use Rattle.pt_heap.specs.declared.value.Value.{Value}
 use Rattle.pt_heap.specs.declared.object.Object.{Object}
-use Rattle.pt_host.specs.World.{Allotted, IsAllotted}
-use Rattle.pt_machine_state.specs.declared.blocks.BlockCode.{BlockCode}
-use Rattle.pt_machine_state.specs.declared.blocks.Blocks.{Blocks}
-use Rattle.pt_machine_state.specs.declared.machine.Machine.{Machine}
-use Rattle.pt_machine_state.specs.declared.machine.MachineEnd.TheVariants.{Outside}
-use Rattle.pt_machine_state.specs.declared.machine.Stride.{Stride}
-use Rattle.pt_machine_state.specs.declared.machine.Stride.TheVariants.{Goes, Ends}
-use Rattle.pt_machine_state.specs.declared.writes.Writes.{Writes}
-use Rattle.pt_machine_state.specs.Changes.{raise_events, raised_at, visible_line}
-use Rattle.pt_machine_state.specs.Writing.{Adds}
+use Rattle.sem_rows.specs.pt_host.World.{Allotted, IsAllotted}
+use Rattle.pt_transfers.specs.pt_machine_state.declared.blocks.BlockCode.{BlockCode}
+use Rattle.pt_transfers.specs.pt_machine_state.declared.blocks.Blocks.{Blocks}
+use Rattle.pt_transfers.specs.pt_machine_state.declared.machine.Machine.{Machine}
+use Rattle.pt_transfers.specs.pt_machine_state.declared.machine.MachineEnd.TheVariants.{Outside}
+use Rattle.pt_transfers.specs.pt_machine_state.declared.machine.Stride.{Stride}
+use Rattle.pt_transfers.specs.pt_machine_state.declared.machine.Stride.TheVariants.{Goes, Ends}
+use Rattle.pt_transfers.specs.pt_machine_state.declared.writes.Writes.{Writes}
+use Rattle.pt_transfers.specs.pt_machine_state.Changes.{raise_events, raised_at, visible_line}
+use Rattle.pt_transfers.specs.pt_machine_state.Writing.{Adds}
 
 -- one that was made arises; where none was, the run leaves the profile
 abbrev pub Arises : Blocks → BlockCode → Option Value → Stride → (old : Machine) (written : Writes) → (new : Machine) (writes : Writes) → Type 0

@@ -1,16 +1,17 @@
 //! What instructions come to is done.
 ghost use Rattle.std.specs.Prelude.{◌≡◌, IfOk};
 ghost use Rattle.pt_base.specs.declared.numbers.Pc.{Pc};
-ghost use Rattle.pt_machine_state.specs.Applies.{Applied};
+ghost use Rattle.pt_transfers.specs.pt_machine_state.Applies.{Applied};
 ghost use Rattle.sem_rows.specs.declared.heap_rows.progress.Progress.TheVariants as progress;
 
 use crate::failing::{outside, raise_saying, raise_with};
 use pt_base::{BlockId, Memory, Pc, Text};
 use pt_bind::Locals;
 use pt_heap::Completion;
-use pt_host::RECURSION_ERROR;
-use pt_machine_state::{BlockCode, Blocks, Machine, Stride, Writes};
-use pt_transfers::{go_to, land, leave_place, open, print, tell};
+use pt_transfers::{
+    BlockCode, Blocks, Machine, Stride, Writes, go_to, land, leave_place, open, print, tell,
+};
+use sem_rows::RECURSION_ERROR;
 use sem_rows::heap_rows::Progress;
 
 /// The most activations that may be open.

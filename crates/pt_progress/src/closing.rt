@@ -1,12 +1,14 @@
 //! A block ends, and its result goes to the activation that waits for it.
 ghost use Rattle.std.specs.Prelude.{◌≡◌, ◌≢◌, IfOk};
-ghost use Rattle.pt_machine_state.specs.Applies.{Closes};
-ghost use Rattle.pt_machine_state.specs.declared.machine.Standing.TheVariants as standing;
+ghost use Rattle.pt_transfers.specs.pt_machine_state.Applies.{Closes};
+ghost use Rattle.pt_transfers.specs.pt_machine_state.declared.machine.Standing.TheVariants as standing;
 
 use pt_base::Memory;
 use pt_heap::Value;
-use pt_machine_state::{Blocks, Machine, MachineEnd, Standing, Stride, Writes};
-use pt_transfers::{block_of, give_back, raise, resume, tell, visible_line};
+use pt_transfers::{
+    Blocks, Machine, MachineEnd, Standing, Stride, Writes, block_of, give_back, raise, resume,
+    tell, visible_line,
+};
 
 /// The block returned: the call of the activation that waits has the value, or the module is done.
 #[tactic(auto, using(pt_machine_state::proofs::CloseLemmas::module_returns, pt_machine_state::proofs::CloseLemmas::block_returns, crate::proofs::CallerLemmas::no_call))]

@@ -1,20 +1,21 @@
 //! Exceptions that instructions make.
 ghost use Rattle.std.specs.Prelude.{◌≡◌, None, IfOk};
-ghost use Rattle.pt_host.specs.Calls.{arguments_of};
-ghost use Rattle.pt_host.specs.Errors.{error, error_saying};
-ghost use Rattle.pt_host.specs.World.{allot};
-ghost use Rattle.pt_machine_state.specs.Changes.{visible_line};
-ghost use Rattle.pt_machine_state.specs.Views.{active_of};
-ghost use Rattle.pt_machine_state.specs.declared.machine.MachineEnd.TheVariants as ending;
-ghost use Rattle.pt_machine_state.specs.declared.machine.Stride.TheVariants as stride;
+ghost use Rattle.sem_rows.specs.pt_host.Calls.{arguments_of};
+ghost use Rattle.sem_rows.specs.pt_host.Errors.{error, error_saying};
+ghost use Rattle.sem_rows.specs.pt_host.World.{allot};
+ghost use Rattle.pt_transfers.specs.pt_machine_state.Changes.{visible_line};
+ghost use Rattle.pt_transfers.specs.pt_machine_state.Views.{active_of};
+ghost use Rattle.pt_transfers.specs.pt_machine_state.declared.machine.MachineEnd.TheVariants as ending;
+ghost use Rattle.pt_transfers.specs.pt_machine_state.declared.machine.Stride.TheVariants as stride;
 ghost use Rattle.pt_base.specs.declared.numbers.Line.{Line};
 ghost use Rattle.pt_progress.specs.Arising.{Arises, ArisesOf};
 
 use pt_base::{Memory, ObjId, Seq, Text, What};
 use pt_heap::Value;
-use pt_host::{allot, error, error_saying};
-use pt_machine_state::{BlockCode, Blocks, Machine, MachineEnd, Stride, Writes};
-use pt_transfers::{active, raise, visible_line};
+use pt_transfers::{
+    BlockCode, Blocks, Machine, MachineEnd, Stride, Writes, active, raise, visible_line,
+};
+use sem_rows::{allot, error, error_saying};
 use std::alloc::Global;
 
 /// The run leaves the profile of the language where the innermost visible frame stands.

@@ -7,3 +7,4 @@ mod failing;
 
 pub use applying::apply;
 pub use closing::close;
+pub use pt_transfers::{begin_act, block_of, go_to, is_told, leave_place};

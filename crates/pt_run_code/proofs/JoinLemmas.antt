@@ -6,9 +6,9 @@ use Rattle.std.proofs.lemmas.Option.{slice_get_within}
 use Rattle.pt_code.specs.declared.Code.{Code}
 use Rattle.pt_code.specs.File.{HasFile}
 use Rattle.law_files.specs.operands_fit.Laws.{CellsFit}
-use Rattle.sem_rows.specs.heap_rows.Views.{paired}
-use Rattle.pt_host.specs.HeapHost.{heap_host}
-use Rattle.pt_host.specs.World.{Program, World, no_names, start_world}
+use Rattle.pt_machine_state.specs.pt_code_facts.sem_rows.heap_rows.Views.{paired}
+use Rattle.pt_machine_state.specs.pt_code_facts.sem_rows.pt_host.HeapHost.{heap_host}
+use Rattle.pt_machine_state.specs.pt_code_facts.sem_rows.pt_host.World.{Program, World, no_names, start_world}
 use Rattle.sem_run.specs.run.Machine.{BlockId}
 use Rattle.pt_bare_runs.specs.Strides as bare
 use Rattle.pt_heap.specs.declared.value.Value.{Value}
@@ -16,9 +16,9 @@ use Rattle.sem_code_machine.specs.code_machine.CodeBlocks.{CodeBlocks, machine}
 use Rattle.pt_machine_state.specs.declared.machine.Machine.{Machine}
 use Rattle.pt_machine_state.specs.Views.{Bare, Beside, block_of, run_of}
 use Rattle.pt_machine_state.specs.Writing.{kept}
-use Rattle.pt_code_loader.specs.declared.loading.Loaded.{Loaded}
-use Rattle.pt_code_loader.specs.Loaded.{IsLoadedCode}
-use Rattle.pt_code_loader.specs.Starting.{Begins, at_start}
+use Rattle.law_loading.specs.pt_code_loader.declared.loading.Loaded.{Loaded}
+use Rattle.law_loading.specs.pt_code_loader.Loaded.{IsLoadedCode}
+use Rattle.law_loading.specs.pt_code_loader.Starting.{Begins, at_start}
 use Rattle.pt_runner.specs.declared.ending.Ended.{Ended}
 use Rattle.pt_runner.specs.Runs.{IsReady, ModuleRun}
 use Rattle.pt_runner.specs.Runs as coded

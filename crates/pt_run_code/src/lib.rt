@@ -2,8 +2,8 @@
 //! their run.
 #![tactic(auto)]
 
-mod run;
+mod running;
 mod texts;
 
-pub use pt_runner::{RunEnd, Totals};
-pub use run::run_code;
+pub use pt_runner::{Ended, RunEnd, Totals, run};
+pub use running::run_code;

@@ -8,19 +8,19 @@ use Rattle.pt_wide.specs.Syntax as wide
 use Rattle.law_front.proofs.script_numbers.Scripts.{numbered}
 use Rattle.pt_code.specs.declared.CodeBlock.{CodeBlock}
 use Rattle.pt_code.specs.declared.Code.{Code}
-use Rattle.sem_compile.specs.compile.ScriptCode.{code_of}
-use Rattle.law_files.specs.code_files.Numbers.{NumbersFit}
-use Rattle.law_files.specs.operands_fit.Laws.{CellsFit}
+use Rattle.law_operands.specs.law_files.sem_compile.compile.ScriptCode.{code_of}
+use Rattle.law_operands.specs.law_files.code_files.Numbers.{NumbersFit}
+use Rattle.law_operands.specs.law_files.operands_fit.Laws.{CellsFit}
 use Rattle.pt_heap.specs.declared.value.Value.{Value}
 use Rattle.pt_heap.specs.declared.value.Value.TheVariants as value
-use Rattle.pt_host.specs.HeapHost.{heap_host}
-use Rattle.pt_host.specs.World.{Program, World, no_names, start_world}
+use Rattle.sem_rows.specs.pt_host.HeapHost.{heap_host}
+use Rattle.sem_rows.specs.pt_host.World.{Program, World, no_names, start_world}
 use Rattle.sem_rows.specs.heap_rows.Views.{paired}
 use Rattle.pt_machine_state.specs.Views.{Bare, Beside, block_of, run_of}
 use Rattle.pt_bare_runs.specs.Laws.{NeverStuck}
 use Rattle.pt_bare_runs.specs.Strides as bare
 use Rattle.sem_run.specs.run.Machine.{BlockId}
-use Rattle.sem_code_machine.specs.code_machine.CodeBlocks.{CodeBlocks, machine}
+use Rattle.sem_rows.specs.sem_code_machine.code_machine.CodeBlocks.{CodeBlocks, machine}
 use Rattle.pt_bare_host.proofs.BlocksOnly.{opens_only}
 use Rattle.pt_supported.specs.Built.{Built}
 use Rattle.pt_supported.proofs.Silent.{built_blocks_give_nothing_on}
@@ -29,7 +29,7 @@ use Rattle.law_compile.specs.read_forms.Laws.{IsWideOf}
 use Rattle.law_compile.proofs.read_forms.Texts.{scripts_of_texts_are_formed}
 use Rattle.law_supported.proofs.Different.{cells_are_different}
 use Rattle.law_supported.proofs.Written.{blocks_have_names}
-use Rattle.law_loading.specs.script_program.ScriptProgram.{program_of}
+use Rattle.pt_run_code.specs.law_loading.script_program.ScriptProgram.{program_of}
 use Rattle.law_compile.specs.script_runs.Blocks.{script_code, the_module}
 use Rattle.law_compile.specs.script_runs.Laws.{code_machine}
 use Rattle.law_compile.specs.read_runs.Laws.{IsReadWith}
@@ -43,15 +43,15 @@ use Rattle.pt_machine_state.specs.declared.blocks.BlockCode.{BlockCode}
 use Rattle.pt_code_loader.specs.declared.loading.Loaded.{Loaded}
 use Rattle.pt_code_loader.specs.Loaded.{AreLoaded, IsLoaded, IsLoadedCode}
 use Rattle.pt_code_loader.specs.Starting.{Begins, at_start}
-use Rattle.law_loading.proofs.code_names.Blocks.{code_names_blocks, module_begins}
-use Rattle.law_loading.specs.loaded_scripts.Laws.{HasTables, IsLoadable}
-use Rattle.law_loading.proofs.loaded_scripts.Loading.{code_has_its_module, loaded_script_has_tables, loaded_script_is_read}
+use Rattle.pt_run_code.proofs.law_loading.code_names.Blocks.{code_names_blocks, module_begins}
+use Rattle.pt_run_code.specs.law_loading.loaded_scripts.Laws.{HasTables, IsLoadable}
+use Rattle.pt_run_code.proofs.law_loading.loaded_scripts.Loading.{code_has_its_module, loaded_script_has_tables, loaded_script_is_read}
 use Rattle.law_compile.specs.fitting_scripts.Laws.{CodeFits}
 use Rattle.law_compile.proofs.fitting_scripts.Fitting.{code_of_texts_fits}
-use Rattle.pt_runner.specs.declared.ending.Ended.{Ended}
-use Rattle.pt_runner.specs.Runs.{IsReady, ModuleRun}
-use Rattle.pt_runner.specs.Runs as coded
-use Rattle.pt_runner.proofs.GoesTo.{runs_so}
+use Rattle.pt_run_code.specs.pt_runner.declared.ending.Ended.{Ended}
+use Rattle.pt_run_code.specs.pt_runner.Runs.{IsReady, ModuleRun}
+use Rattle.pt_run_code.specs.pt_runner.Runs as coded
+use Rattle.pt_run_code.proofs.pt_runner.GoesTo.{runs_so}
 use Rattle.pt_sinks.specs.declared.writing.WriteErr.{WriteErr}
 use Rattle.pt_run_script.specs.ScriptRun.{ScriptBrokeOff, ScriptFinished}
 

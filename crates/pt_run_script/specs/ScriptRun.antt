@@ -6,22 +6,22 @@ use Rattle.pt_tree.specs.Blocks.{Block, blocks_script}
 use Rattle.pt_heap.specs.declared.value.Value.{Value}
 use Rattle.pt_heap.specs.declared.value.Value.TheVariants as value
 use Rattle.sem_code.specs.slots.CodeObject.{CodeObject}
-use Rattle.sem_compile.specs.compile.ScriptCode.{code_of}
+use Rattle.law_operands.specs.law_files.sem_compile.compile.ScriptCode.{code_of}
 use Rattle.law_compile.specs.fitting_scripts.Laws.{CodeFits}
 use Rattle.sem_run.specs.run.Machine.{BlockId}
 use Rattle.sem_run.specs.run.Run.{Write}
 use Rattle.pt_bare_runs.specs.Strides as bare
 use Rattle.pt_bare_runs.specs.Strides.{Outcome}
 use Rattle.pt_bare_writes.specs.Fronts.{RunWritesFirst}
-use Rattle.pt_host.specs.HeapHost.{heap_host}
-use Rattle.pt_host.specs.World.{World, no_names, start_world}
+use Rattle.sem_rows.specs.pt_host.HeapHost.{heap_host}
+use Rattle.sem_rows.specs.pt_host.World.{World, no_names, start_world}
 use Rattle.sem_rows.specs.heap_rows.Leads.{HasHeapTruths, HasHeapExtras}
 use Rattle.pt_machine_state.specs.Writing.{kept}
-use Rattle.pt_runner.specs.Ends.{IsEnding, block_name}
-use Rattle.pt_runner.specs.Work.{Work, RunDoes}
-use Rattle.pt_runner.specs.declared.ending.Ended.{Ended}
+use Rattle.pt_run_code.specs.pt_runner.Ends.{IsEnding, block_name}
+use Rattle.pt_run_code.specs.pt_runner.Work.{Work, RunDoes}
+use Rattle.pt_run_code.specs.pt_runner.declared.ending.Ended.{Ended}
 use Rattle.law_compile.specs.script_objects.Laws.{HasCode}
-use Rattle.law_loading.specs.script_program.ScriptProgram.{program_of}
+use Rattle.pt_run_code.specs.law_loading.script_program.ScriptProgram.{program_of}
 use Rattle.law_compile.specs.script_runs.Blocks.{number_of, the_module}
 use Rattle.law_compile.specs.script_runs.Laws.{tree_machine, code_machine}
 use Rattle.pt_sinks.specs.Writing.{Took, TookFront}

@@ -10,7 +10,7 @@ use pt_base::Sink;
 use pt_code_loader::{load, start};
 use pt_compile::compile;
 use pt_heap::Seed;
-use pt_runner::{Ended, run};
+use pt_run_code::{Ended, run};
 use pt_sinks::WriteErr;
 use pt_tree::Script;
 use std::alloc::Global;

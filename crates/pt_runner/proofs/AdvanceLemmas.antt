@@ -8,8 +8,8 @@ use Rattle.sem_code.specs.slots.Slots.{State}
 use Rattle.sem_run.specs.run.Host as H
 use Rattle.sem_run.specs.run.Host.{Leaving}
 use Rattle.sem_run.specs.run.Run.{Write}
-use Rattle.pt_host.specs.World.{Names, Program, World}
-use Rattle.pt_host.specs.Leaving.{leaving}
+use Rattle.sem_rows.specs.pt_host.World.{Names, Program, World}
+use Rattle.sem_rows.specs.pt_host.Leaving.{leaving}
 use Rattle.pt_bare_runs.specs.Strides as bare
 use Rattle.pt_bare_runs.specs.Strides.{goes, ends, is_stuck}
 use Rattle.pt_bare_writes.specs.Fronts.{written_by, within}
@@ -19,19 +19,19 @@ use Rattle.pt_sinks.specs.declared.writing.WriteErr.{WriteErr}
 use Rattle.pt_sinks.specs.declared.writing.WriteErr.TheVariants as error
 use Rattle.pt_sinks.proofs.WritingLemmas.{took_nothing, front_of_all, front_before}
 use Rattle.sem_rows.specs.heap_rows.Views.{world_view}
-use Rattle.sem_code_machine.specs.code_machine.CodeBlocks.{CodeBlocks}
-use Rattle.pt_machine_state.specs.declared.blocks.BlockCode.{BlockCode}
-use Rattle.pt_machine_state.specs.declared.machine.Machine.{Machine}
-use Rattle.pt_machine_state.specs.declared.machine.MachineEnd.{MachineEnd}
-use Rattle.pt_machine_state.specs.declared.machine.MachineEnd.TheVariants as ended
-use Rattle.pt_machine_state.specs.declared.machine.Stride.{Stride}
-use Rattle.pt_machine_state.specs.declared.machine.Stride.TheVariants as stride
-use Rattle.pt_machine_state.specs.declared.writes.Writes.{Writes}
-use Rattle.pt_machine_state.specs.Changes.{events_of}
-use Rattle.pt_machine_state.specs.Strode.{Strode, left, ending_of}
-use Rattle.pt_machine_state.specs.Writing.{Adds, kept, pieces_of}
-use Rattle.pt_code_tables.specs.declared.tables.CodeTables.{CodeTables}
-use Rattle.pt_code_tables.specs.Tables.{AreTablesOf}
+use Rattle.sem_rows.specs.sem_code_machine.code_machine.CodeBlocks.{CodeBlocks}
+use Rattle.pt_transfers.specs.pt_machine_state.declared.blocks.BlockCode.{BlockCode}
+use Rattle.pt_transfers.specs.pt_machine_state.declared.machine.Machine.{Machine}
+use Rattle.pt_transfers.specs.pt_machine_state.declared.machine.MachineEnd.{MachineEnd}
+use Rattle.pt_transfers.specs.pt_machine_state.declared.machine.MachineEnd.TheVariants as ended
+use Rattle.pt_transfers.specs.pt_machine_state.declared.machine.Stride.{Stride}
+use Rattle.pt_transfers.specs.pt_machine_state.declared.machine.Stride.TheVariants as stride
+use Rattle.pt_transfers.specs.pt_machine_state.declared.writes.Writes.{Writes}
+use Rattle.pt_transfers.specs.pt_machine_state.Changes.{events_of}
+use Rattle.pt_transfers.specs.pt_machine_state.Strode.{Strode, left, ending_of}
+use Rattle.pt_transfers.specs.pt_machine_state.Writing.{Adds, kept, pieces_of}
+use Rattle.pt_machine.specs.pt_code_tables.declared.tables.CodeTables.{CodeTables}
+use Rattle.pt_machine.specs.pt_code_tables.Tables.{AreTablesOf}
 use Rattle.pt_machine.specs.Strides.{Strides}
 use Rattle.pt_runner.specs.declared.ending.RunEnd.{RunEnd}
 use Rattle.pt_runner.specs.Ends.{IsEnding, block_name, end_by, end_of, table_name}

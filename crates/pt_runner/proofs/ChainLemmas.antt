@@ -4,7 +4,7 @@ use Rattle.std.specs.Prelude.{◌==◌, ◌||◌}
 use Rattle.std.proofs.lemmas.Bool.Decides.{nat_tests}
 use Rattle.pt_heap.specs.declared.object.Object.{Object}
 use Rattle.pt_dicts.specs.Chain.{class_in}
-use Rattle.pt_host.specs.Leaving.{base_of, or_base, derives_within}
+use Rattle.sem_rows.specs.pt_host.Leaving.{base_of, or_base, derives_within}
 
 pub within-more : (h : List Object) (n i from p : ℕ) → i < n
     → derives_within h (n - i) from p ≡ (p == from) || or_base (derives_within h (n - (i + 1)) from) (base_of (class_in (slice_get h p)))

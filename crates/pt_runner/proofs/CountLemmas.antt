@@ -3,13 +3,13 @@ use Rattle.std.proofs.Common.{arith, ◌≡◌, ℕ, ◌-◌, ◌^◌, min, max,
 use Rattle.std.proofs.lemmas.List.{length-map}
 use Rattle.pt_heap.specs.declared.value.Value.{Value}
 use Rattle.pt_frames.specs.declared.activation.Activation.{Activation}
-use Rattle.pt_host.specs.World.{World}
+use Rattle.sem_rows.specs.pt_host.World.{World}
 use Rattle.pt_bare_runs.specs.Strides as bare
 use Rattle.pt_bare_runs.specs.Strides.{Ending}
 use Rattle.sem_rows.specs.heap_rows.Views.{slot_view}
-use Rattle.pt_machine_state.specs.declared.machine.Standing.{Standing}
-use Rattle.pt_machine_state.specs.declared.machine.Standing.TheVariants as standing
-use Rattle.pt_machine_state.specs.Views.{state_of}
+use Rattle.pt_transfers.specs.pt_machine_state.declared.machine.Standing.{Standing}
+use Rattle.pt_transfers.specs.pt_machine_state.declared.machine.Standing.TheVariants as standing
+use Rattle.pt_transfers.specs.pt_machine_state.Views.{state_of}
 use Rattle.pt_runner.specs.declared.ending.RunEnd.{RunEnd}
 use Rattle.pt_runner.specs.declared.ending.RunEnd.TheVariants as end
 use Rattle.pt_runner.specs.declared.ending.Totals.{Totals}

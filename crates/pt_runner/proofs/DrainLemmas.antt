@@ -6,8 +6,8 @@ use Rattle.pt_base.specs.Taken.{Pieces}
 use Rattle.pt_sinks.specs.Writing.{Took, TookFront}
 use Rattle.pt_sinks.specs.declared.writing.WriteErr.{WriteErr}
 use Rattle.pt_sinks.proofs.WritingLemmas.{took_behind, front_behind, front_before}
-use Rattle.pt_machine_state.specs.declared.writes.Write.{Write}
-use Rattle.pt_machine_state.specs.Writing.{piece_of}
+use Rattle.pt_transfers.specs.pt_machine_state.declared.writes.Write.{Write}
+use Rattle.pt_transfers.specs.pt_machine_state.Writing.{piece_of}
 
 module _ (items : List Write) (i : ℕ) (d : Write) (within : i < length items) (is : d ≡ get_or items i d) where
   one_more : map piece_of (take (i + 1) items) ≡ map piece_of (take i items) ++ piece_of d ∷ []

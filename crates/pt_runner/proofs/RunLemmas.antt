@@ -7,8 +7,8 @@ use Rattle.sem_code.specs.slots.Slots.{State}
 use Rattle.pt_frames.specs.declared.activations.OpenActivation.{OpenActivation}
 use Rattle.sem_run.specs.run.Events.{starts}
 use Rattle.sem_run.specs.run.Run.{Write}
-use Rattle.pt_host.specs.World.{Names, World}
-use Rattle.pt_host.specs.HeapHost.{heap_host}
+use Rattle.sem_rows.specs.pt_host.World.{Names, World}
+use Rattle.sem_rows.specs.pt_host.HeapHost.{heap_host}
 use Rattle.pt_bare_runs.specs.Strides as bare
 use Rattle.pt_bare_runs.specs.Strides.{goes, stride, Outcome}
 use Rattle.pt_bare_runs.specs.Laws.{Reaches}
@@ -17,18 +17,18 @@ use Rattle.pt_sinks.specs.Writing.{Took, TookFront}
 use Rattle.pt_sinks.specs.declared.writing.WriteErr.{WriteErr}
 use Rattle.pt_sinks.specs.declared.writing.WriteErr.TheVariants as error
 use Rattle.pt_sinks.proofs.WritingLemmas.{took_behind, front_behind, front_of_all}
-use Rattle.sem_code_machine.specs.code_machine.CodeBlocks.{machine}
-use Rattle.pt_machine_state.specs.declared.machine.Machine.{Machine}
-use Rattle.pt_machine_state.specs.Blocks.{block_at}
-use Rattle.pt_machine_state.specs.Views.{Bare, Beside, Waits, AllWait, none, block_of, state_of, run_of}
-use Rattle.pt_machine_state.specs.Strode.{ComesTo, GoesOnRaising}
-use Rattle.pt_machine_state.specs.Changes.{events_of}
-use Rattle.pt_machine_state.specs.Writing.{kept}
-use Rattle.pt_machine_state.proofs.ApplyLemmas.{logged-start}
-use Rattle.pt_machine_state.proofs.WriteLemmas.{kept-append}
-use Rattle.pt_code_tables.specs.declared.tables.CodeTables.{CodeTables}
-use Rattle.law_frames.specs.RunNames.{RunHasNames}
-use Rattle.law_frames.proofs.Runs.{reached_has_names}
+use Rattle.sem_rows.specs.sem_code_machine.code_machine.CodeBlocks.{machine}
+use Rattle.pt_transfers.specs.pt_machine_state.declared.machine.Machine.{Machine}
+use Rattle.pt_transfers.specs.pt_machine_state.Blocks.{block_at}
+use Rattle.pt_transfers.specs.pt_machine_state.Views.{Bare, Beside, Waits, AllWait, none, block_of, state_of, run_of}
+use Rattle.pt_transfers.specs.pt_machine_state.Strode.{ComesTo, GoesOnRaising}
+use Rattle.pt_transfers.specs.pt_machine_state.Changes.{events_of}
+use Rattle.pt_transfers.specs.pt_machine_state.Writing.{kept}
+use Rattle.pt_transfers.proofs.pt_machine_state.ApplyLemmas.{logged-start}
+use Rattle.pt_transfers.proofs.pt_machine_state.WriteLemmas.{kept-append}
+use Rattle.pt_machine.specs.pt_code_tables.declared.tables.CodeTables.{CodeTables}
+use Rattle.pt_machine.specs.law_frames.RunNames.{RunHasNames}
+use Rattle.pt_machine.proofs.law_frames.Runs.{reached_has_names}
 use Rattle.pt_runner.specs.declared.ending.Ended.{Ended}
 use Rattle.pt_runner.specs.declared.ending.RunEnd.{RunEnd}
 use Rattle.pt_runner.specs.declared.ending.Totals.{Totals}

@@ -4,23 +4,23 @@ use Rattle.pt_base.specs.Taken.{Pieces}
 use Rattle.pt_heap.specs.declared.value.Value.{Value}
 use Rattle.sem_code.specs.slots.Slots.{State}
 use Rattle.sem_run.specs.run.Run.{Write}
-use Rattle.pt_host.specs.World.{Names, World, Program}
-use Rattle.pt_host.specs.HeapHost.{heap_host}
+use Rattle.sem_rows.specs.pt_host.World.{Names, World, Program}
+use Rattle.sem_rows.specs.pt_host.HeapHost.{heap_host}
 use Rattle.pt_bare_runs.specs.Strides as bare
 use Rattle.pt_bare_runs.specs.Strides.{Ending, goes, ends, is_stuck, stride}
 use Rattle.pt_bare_writes.specs.Fronts.{WritesFirst}
 use Rattle.pt_sinks.specs.Writing.{Took, TookFront}
 use Rattle.pt_sinks.specs.declared.writing.WriteErr.{WriteErr}
-use Rattle.sem_code_machine.specs.code_machine.CodeBlocks.{CodeBlocks, machine}
+use Rattle.sem_rows.specs.sem_code_machine.code_machine.CodeBlocks.{CodeBlocks, machine}
 use Rattle.pt_frames.specs.declared.activation.Activation.{Activation}
-use Rattle.pt_machine_state.specs.declared.machine.Machine.{Machine}
-use Rattle.pt_machine_state.specs.declared.machine.Standing.{Standing}
-use Rattle.pt_machine_state.specs.declared.machine.Standing.TheVariants as standing
-use Rattle.pt_machine_state.specs.Views.{Bare, Beside, AllWait, run_of}
-use Rattle.pt_machine_state.specs.Strode.{ComesTo}
-use Rattle.pt_machine_state.specs.Writing.{kept}
-use Rattle.pt_code_tables.specs.declared.tables.CodeTables.{CodeTables}
-use Rattle.pt_code_tables.specs.Tables.{AreTablesOf}
+use Rattle.pt_transfers.specs.pt_machine_state.declared.machine.Machine.{Machine}
+use Rattle.pt_transfers.specs.pt_machine_state.declared.machine.Standing.{Standing}
+use Rattle.pt_transfers.specs.pt_machine_state.declared.machine.Standing.TheVariants as standing
+use Rattle.pt_transfers.specs.pt_machine_state.Views.{Bare, Beside, AllWait, run_of}
+use Rattle.pt_transfers.specs.pt_machine_state.Strode.{ComesTo}
+use Rattle.pt_transfers.specs.pt_machine_state.Writing.{kept}
+use Rattle.pt_machine.specs.pt_code_tables.declared.tables.CodeTables.{CodeTables}
+use Rattle.pt_machine.specs.pt_code_tables.Tables.{AreTablesOf}
 use Rattle.pt_machine.specs.Strides.{MachineHasNames}
 use Rattle.pt_runner.specs.declared.ending.RunEnd.{RunEnd}
 use Rattle.pt_runner.specs.declared.ending.RunEnd.TheVariants as end

@@ -7,16 +7,16 @@ use Rattle.sem_run.specs.run.Host as H
 use Rattle.sem_run.specs.run.Host.{Leaving}
 use Rattle.pt_bare_runs.specs.Strides as bare
 use Rattle.pt_bare_runs.specs.Strides.{Ending}
-use Rattle.pt_host.specs.World.{Program, World}
-use Rattle.pt_host.specs.Leaving.{leaving}
+use Rattle.sem_rows.specs.pt_host.World.{Program, World}
+use Rattle.sem_rows.specs.pt_host.Leaving.{leaving}
 use Rattle.pt_tracebacks.specs.Summaries.{summaries}
 use Rattle.pt_tracebacks.specs.declared.summary.ExceptionSummary.{ExceptionSummary}
 use Rattle.sem_rows.specs.heap_rows.Views.{world_view}
-use Rattle.pt_machine_state.specs.Blocks.{block_at}
-use Rattle.pt_machine_state.specs.declared.machine.Machine.{Machine}
-use Rattle.pt_machine_state.specs.declared.machine.MachineEnd.{MachineEnd}
-use Rattle.pt_machine_state.specs.declared.machine.MachineEnd.TheVariants as machine
-use Rattle.pt_code_tables.specs.declared.tables.CodeTables.{CodeTables}
+use Rattle.pt_transfers.specs.pt_machine_state.Blocks.{block_at}
+use Rattle.pt_transfers.specs.pt_machine_state.declared.machine.Machine.{Machine}
+use Rattle.pt_transfers.specs.pt_machine_state.declared.machine.MachineEnd.{MachineEnd}
+use Rattle.pt_transfers.specs.pt_machine_state.declared.machine.MachineEnd.TheVariants as machine
+use Rattle.pt_machine.specs.pt_code_tables.declared.tables.CodeTables.{CodeTables}
 use Rattle.pt_runner.specs.declared.ending.RunEnd.{RunEnd}
 use Rattle.pt_runner.specs.declared.ending.RunEnd.TheVariants as end
 

@@ -4,23 +4,23 @@ use Rattle.pt_base.specs.Taken.{Pieces}
 use Rattle.pt_heap.specs.declared.value.Value.{Value}
 use Rattle.sem_run.specs.run.Machine.{BlockId}
 use Rattle.sem_run.specs.run.Run.{Write}
-use Rattle.pt_host.specs.World.{Names, World, Program}
-use Rattle.pt_host.specs.HeapHost.{heap_host}
+use Rattle.sem_rows.specs.pt_host.World.{Names, World, Program}
+use Rattle.sem_rows.specs.pt_host.HeapHost.{heap_host}
 use Rattle.pt_bare_runs.specs.Strides as bare
 use Rattle.pt_bare_runs.specs.Strides.{Outcome}
 use Rattle.pt_bare_runs.specs.Laws.{NeverStuck}
 use Rattle.pt_bare_writes.specs.Fronts.{RunWritesFirst}
 use Rattle.pt_sinks.specs.Writing.{Took, TookFront}
 use Rattle.pt_sinks.specs.declared.writing.WriteErr.{WriteErr}
-use Rattle.sem_code_machine.specs.code_machine.CodeBlocks.{CodeBlocks, machine}
-use Rattle.pt_machine_state.specs.declared.machine.Machine.{Machine}
-use Rattle.pt_machine_state.specs.Views.{Beside, run_of}
-use Rattle.pt_machine_state.specs.Writing.{kept}
-use Rattle.pt_code_tables.specs.declared.tables.CodeTables.{CodeTables}
-use Rattle.pt_code_tables.specs.Tables.{AreTablesOf}
+use Rattle.sem_rows.specs.sem_code_machine.code_machine.CodeBlocks.{CodeBlocks, machine}
+use Rattle.pt_transfers.specs.pt_machine_state.declared.machine.Machine.{Machine}
+use Rattle.pt_transfers.specs.pt_machine_state.Views.{Beside, run_of}
+use Rattle.pt_transfers.specs.pt_machine_state.Writing.{kept}
+use Rattle.pt_machine.specs.pt_code_tables.declared.tables.CodeTables.{CodeTables}
+use Rattle.pt_machine.specs.pt_code_tables.Tables.{AreTablesOf}
 use Rattle.pt_runner.specs.declared.ending.Ended.{Ended}
-use Rattle.law_frames.specs.RunNames.{StoresHaveNames}
-use Rattle.law_frames.specs.Operands.{CodeNamesItsBlocks}
+use Rattle.pt_machine.specs.law_frames.RunNames.{StoresHaveNames}
+use Rattle.pt_machine.specs.law_frames.Operands.{CodeNamesItsBlocks}
 use Rattle.pt_runner.specs.Ends.{IsEnding, block_name}
 use Rattle.pt_runner.specs.Work.{Work, RunDoes}
 

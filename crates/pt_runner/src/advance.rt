@@ -2,7 +2,7 @@
 
 ghost use Rattle.std.specs.Prelude.{◌≡◌, ◌≤◌, ◌∷◌, [], Err, IfOk, OnOk, IfErr};
 ghost use Rattle.pt_base.specs.Faults.{Rose};
-ghost use Rattle.pt_machine_state.specs.Writing.{pieces_of};
+ghost use Rattle.pt_transfers.specs.pt_machine_state.Writing.{pieces_of};
 ghost use Rattle.pt_sinks.specs.declared.writing.Out.TheVariants as stream;
 ghost use Rattle.pt_runner.specs.Advancing.{Advanced, BrokeOffAt, Point, StandsAt};
 ghost use Rattle.pt_runner.specs.Ends.{end_of, table_name};
@@ -11,10 +11,9 @@ use crate::draining::drain;
 use crate::ending::RunEnd;
 use crate::leaving::leaving;
 use pt_base::{Memory, Sink};
-use pt_code_tables::CodeTables;
-use pt_machine::{fast_stride, stride};
-use pt_machine_state::{Machine, MachineEnd, Stride, Writes};
+use pt_machine::{CodeTables, fast_stride, stride};
 use pt_sinks::WriteErr;
+use pt_transfers::{Machine, MachineEnd, Stride, Writes};
 
 /// The end of a run that the machine came to.
 fn end_of(tables: &CodeTables, end: MachineEnd, machine: &Machine) -> Result<RunEnd, Memory>

@@ -5,7 +5,7 @@ ghost use Rattle.std.specs.Option.{option_copied};
 ghost use Rattle.pt_runner.specs.Advancing.{counted, next_over, stopped_spent};
 
 use crate::ending::{RunEnd, Totals};
-use pt_machine_state::{Machine, Standing};
+use pt_transfers::{Machine, Standing};
 
 /// How many slots lie where an instruction is next, if one is.
 pub(crate) fn next_over(machine: &Machine) -> Option<usize>

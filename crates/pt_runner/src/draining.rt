@@ -2,13 +2,13 @@
 
 ghost use Rattle.std.specs.Prelude.{◌≡◌, ◌≤◌, ◌∷◌, [], Err, OnOk, IfErr};
 ghost use Rattle.pt_base.specs.Faults.{Rose};
-ghost use Rattle.pt_machine_state.specs.Writing.{piece_of, pieces_of};
+ghost use Rattle.pt_transfers.specs.pt_machine_state.Writing.{piece_of, pieces_of};
 ghost use Rattle.pt_sinks.specs.Writing.{Took, TookFront};
 ghost use Rattle.pt_sinks.specs.declared.writing.Out.TheVariants as stream;
 
 use pt_base::Sink;
-use pt_machine_state::{Write, Writes};
 use pt_sinks::{Out, WriteErr, put};
+use pt_transfers::{Write, Writes};
 
 /// Writes a piece to its stream, in one call.
 fn put_piece<O: Sink, L: Sink>(piece: &Write, out: &mut O, log: &mut L) -> Result<(), WriteErr>

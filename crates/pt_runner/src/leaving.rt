@@ -1,18 +1,18 @@
 ghost use Rattle.std.specs.Prelude.{◌≡◌, [], ◌∷◌, slice_get, IfOk};
 ghost use Rattle.std.specs.Option.{option_copied};
-ghost use Rattle.pt_host.specs.Leaving.{derives, error_at, exits_with, exits_with_object};
-ghost use Rattle.pt_host.specs.Leaving.{leaves_by, status_of};
+ghost use Rattle.sem_rows.specs.pt_host.Leaving.{derives, error_at, exits_with, exits_with_object};
+ghost use Rattle.sem_rows.specs.pt_host.Leaving.{leaves_by, status_of};
 ghost use Rattle.pt_runner.specs.Ends.{end_by, table_name};
 ghost use Rattle.pt_tracebacks.specs.Summaries.{summaries};
 
 use crate::ending::RunEnd;
 use crate::naming::TableNames;
 use pt_base::{Dup, Line, Memory, ObjId, What};
-use pt_code_tables::CodeTables;
 use pt_dicts::{class_at, object_at};
 use pt_heap::{Error, Heap, Object, Value};
-use pt_host::SYSTEM_EXIT;
+use pt_machine::CodeTables;
 use pt_tracebacks::summaries;
+use sem_rows::SYSTEM_EXIT;
 use std::alloc::Global;
 
 /// Whether a class is another one or has it among its bases.

@@ -1,5 +1,5 @@
 use pt_base::BlockId;
-use pt_code_tables::CodeTables;
+use pt_machine::CodeTables;
 use pt_tracebacks::BlockNames;
 
 /// The names of the blocks that tables have.

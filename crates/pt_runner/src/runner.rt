@@ -2,10 +2,10 @@
 
 ghost use Rattle.std.specs.Prelude.{◌≡◌, ◌≤◌, ◌∷◌, [], Err, IfOk, OnOk, IfErr, codes};
 ghost use Rattle.pt_base.specs.Faults.{Rose};
-ghost use Rattle.pt_machine_state.specs.Blocks.{block_at};
-ghost use Rattle.pt_machine_state.specs.Changes.{events_of};
-ghost use Rattle.pt_machine_state.specs.Views.{block_of};
-ghost use Rattle.pt_machine_state.specs.Writing.{kept, pieces_of};
+ghost use Rattle.pt_transfers.specs.pt_machine_state.Blocks.{block_at};
+ghost use Rattle.pt_transfers.specs.pt_machine_state.Changes.{events_of};
+ghost use Rattle.pt_transfers.specs.pt_machine_state.Views.{block_of};
+ghost use Rattle.pt_transfers.specs.pt_machine_state.Writing.{kept, pieces_of};
 ghost use Rattle.pt_sinks.specs.Writing.{Took, TookFront};
 ghost use Rattle.pt_sinks.specs.declared.writing.Out.TheVariants as stream;
 ghost use Rattle.pt_runner.specs.Runs.{BrokeOff, Finished, IsReady, ModuleRun};
@@ -15,10 +15,9 @@ use crate::counting::{next_over, stopped_spent};
 use crate::draining::drain;
 use crate::ending::{Ended, Totals};
 use pt_base::Sink;
-use pt_code_tables::CodeTables;
-use pt_machine_state::{Machine, Writes};
+use pt_machine::CodeTables;
 use pt_sinks::WriteErr;
-use pt_transfers::tell;
+use pt_transfers::{Machine, Writes, tell};
 use std::alloc::Global;
 
 /// Tells that the module starts.

@@ -21,8 +21,8 @@ use Rattle.pt_expr_forms.specs.declared.comprehension.Innermost.{Innermost}
 use Rattle.pt_expr_forms.proofs.Acts.{new_label-act}
 use Rattle.pt_expr_forms.proofs.Forms.{acted}
 use Rattle.pt_expr_forms.proofs.LoopForms.{turn-laid, clauses-laid}
-use Rattle.sem_compile.specs.stm_pieces.Needed.{Behind, free, in_front}
-use Rattle.sem_compile.specs.stm_pieces.StmPiece.{block_piece, yielded_piece}
+use Rattle.pt_write_ops.specs.sem_compile.stm_pieces.Needed.{Behind, free, in_front}
+use Rattle.pt_write_ops.specs.sem_compile.stm_pieces.StmPiece.{block_piece, yielded_piece}
 use Rattle.pt_stm_forms.specs.Simple.{behind_value}
 use Rattle.pt_stm_forms.specs.Compound.{behind_suite}
 use Rattle.pt_stm_forms.specs.Blocks.{behind_code, returned_none, behind_statements, behind_lambda, behind_yielded, outermost, behind_outermost, behind_generator, is_docstring}

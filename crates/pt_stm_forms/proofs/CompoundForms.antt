@@ -15,13 +15,13 @@ use Rattle.pt_assembler.specs.declared.operation.Jump.TheVariants.{AtEnd, Always
 use Rattle.pt_assembler.specs.declared.operation.Operation.TheVariants.{Plain, To}
 use Rattle.pt_assembler.specs.Piece.{Piece, plain, const, to, act, move, block, closed, looped, started, ◌▸◌}
 use Rattle.pt_assembler.specs.Layout.{Written, layout, put, put_act, act_of, put_start, new_label, next_label, bind, placed, loop_in, numbered_from}
-use Rattle.sem_compile.specs.emitter.ExpPiece.{exp_piece, target_piece}
+use Rattle.pt_write_ops.specs.sem_compile.emitter.ExpPiece.{exp_piece, target_piece}
 use Rattle.pt_expr_forms.specs.Behind.{known, jump_act, behind_exp, behind_target}
 use Rattle.pt_expr_forms.proofs.Acts.{put-act, new_label-act, bind-act, move_has}
 use Rattle.pt_expr_forms.proofs.Forms.{acted, acts-exp}
-use Rattle.sem_compile.specs.stm_pieces.Needed as needed
-use Rattle.sem_compile.specs.stm_pieces.Needed.{Behind, free, in_front, is_needed, is_silent, leaves, needed_if, some_exits}
-use Rattle.sem_compile.specs.stm_pieces.StmPiece.{value_piece, all_piece, branches_piece, stm_piece}
+use Rattle.pt_write_ops.specs.sem_compile.stm_pieces.Needed as needed
+use Rattle.pt_write_ops.specs.sem_compile.stm_pieces.Needed.{Behind, free, in_front, is_needed, is_silent, leaves, needed_if, some_exits}
+use Rattle.pt_write_ops.specs.sem_compile.stm_pieces.StmPiece.{value_piece, all_piece, branches_piece, stm_piece}
 use Rattle.pt_stm_forms.specs.Simple.{behind_stm, behind_value}
 use Rattle.pt_stm_forms.specs.Compound.{behind_suite, behind_start, behind_untaken, behind_branch, behind_branches, behind_choice, behind_loop_body, behind_loop_else, tested_again, behind_tested, behind_while_body, behind_while, next_again, behind_iterator, behind_first, over_more, behind_deep_body, behind_for_body, behind_for}
 use Rattle.pt_stm_forms.proofs.StatementActs.{placed-act, put_start-act, numbered-act, begun_ends, stm_ends, all_ends}

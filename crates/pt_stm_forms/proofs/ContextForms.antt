@@ -9,12 +9,12 @@ use Rattle.pt_assembler.specs.declared.operation.Place.{Place}
 use Rattle.pt_assembler.specs.declared.operation.Operation.TheVariants.{Plain}
 use Rattle.pt_assembler.specs.Piece.{Piece}
 use Rattle.pt_assembler.specs.Layout.{Written, layout, at, put, put_act, act_of, placed, deeper_in}
-use Rattle.sem_compile.specs.emitter.ExpPiece.{target_piece}
+use Rattle.pt_write_ops.specs.sem_compile.emitter.ExpPiece.{target_piece}
 use Rattle.pt_expr_forms.specs.Behind.{known}
 use Rattle.pt_expr_forms.proofs.Acts.{put-act}
 use Rattle.pt_expr_forms.proofs.Forms.{acted}
-use Rattle.sem_compile.specs.stm_pieces.Needed.{Behind, free}
-use Rattle.sem_compile.specs.stm_pieces.StmPiece.{all_piece, items_piece}
+use Rattle.pt_write_ops.specs.sem_compile.stm_pieces.Needed.{Behind, free}
+use Rattle.pt_write_ops.specs.sem_compile.stm_pieces.StmPiece.{all_piece, items_piece}
 use Rattle.pt_stm_forms.specs.declared.contexts.OpenContext.{OpenContext}
 use Rattle.pt_stm_forms.specs.Simple.{behind_stm, behind_value}
 use Rattle.pt_stm_forms.specs.Compound.{over_more, ensured_from, behind_entered, open_context, behind_item, behind_left, behind_all_left, behind_items}

@@ -20,14 +20,14 @@ use Rattle.pt_assembler.specs.declared.operation.Label.{Label}
 use Rattle.pt_assembler.specs.declared.operation.Operation.TheVariants.{Plain, To}
 use Rattle.pt_assembler.specs.Piece.{Op, Piece, act, move, plain, with_text, ◌▸◌}
 use Rattle.pt_assembler.specs.Layout.{Written, layout, put, put_act, act_of, new_label, next_label, bind}
-use Rattle.sem_compile.specs.emitter.Ops.{operation, push_cell}
-use Rattle.sem_compile.specs.emitter.ExpPiece.{exp_piece, target_piece, made_piece}
+use Rattle.pt_write_ops.specs.sem_compile.emitter.Ops.{operation, push_cell}
+use Rattle.pt_write_ops.specs.sem_compile.emitter.ExpPiece.{exp_piece, target_piece, made_piece}
 use Rattle.pt_write_ops.specs.Written.{cells_piece}
 use Rattle.pt_expr_forms.specs.Behind.{known, plain_act, jump_act, no_value, behind_exp, behind_target}
 use Rattle.pt_expr_forms.proofs.Acts.{put-act, put_act-act, new_label-act, act_has, move_has}
 use Rattle.pt_expr_forms.proofs.Forms.{acted, null-act, acts-exp, acts-target, pair-acts, pair-laid}
-use Rattle.sem_compile.specs.stm_pieces.Needed.{Behind}
-use Rattle.sem_compile.specs.stm_pieces.StmPiece.{store_piece, assigned_piece, changed_piece, deleted_piece, all_deleted_piece, failed_piece, thrown_piece, imported_piece, imported_from_piece, bound_piece, defined_piece}
+use Rattle.pt_write_ops.specs.sem_compile.stm_pieces.Needed.{Behind}
+use Rattle.pt_write_ops.specs.sem_compile.stm_pieces.StmPiece.{store_piece, assigned_piece, changed_piece, deleted_piece, all_deleted_piece, failed_piece, thrown_piece, imported_piece, imported_from_piece, bound_piece, defined_piece}
 use Rattle.pt_stm_forms.specs.Simple.{behind_stm, behind_value, behind_store, behind_delete, behind_attribute, behind_assigned, behind_augmented, behind_annotated, behind_place_deleted, behind_deleted, behind_all_deleted, behind_failed, behind_assertion, behind_returned, behind_thrown, behind_exit, behind_module, behind_module_name, behind_imports, behind_module_names, behind_decorators, behind_calls, behind_function, behind_class, behind_named}
 use Rattle.pt_stm_forms.proofs.StatementActs.{deleted_ends}
 

@@ -20,10 +20,10 @@ use Rattle.pt_assembler.specs.declared.operation.Label.{Label}
 use Rattle.pt_assembler.specs.declared.operation.Place.{Place}
 use Rattle.pt_assembler.specs.Piece.{Op, plain, with_text, Piece, empty, act, move, block, headed, closed, looped, leave, ensured, caught, deeper, started, numbered, ◌▸◌}
 use Rattle.pt_assembler.specs.Layout.{Written, layout, put_row, put_start, new_label, next_label, placed, numbered_from}
-use Rattle.sem_compile.specs.emitter.ExpPiece.{made_piece, exp_piece, target_piece}
+use Rattle.pt_write_ops.specs.sem_compile.emitter.ExpPiece.{made_piece, exp_piece, target_piece}
 use Rattle.pt_expr_forms.proofs.Acts.{Has, put-act, put_act-act, new_label-act, bind-act, act_has, move_has, exp_has, target_has}
-use Rattle.sem_compile.specs.stm_pieces.Needed.{Behind, is_needed, is_silent, leaves, in_front, free}
-use Rattle.sem_compile.specs.stm_pieces.StmPiece.{guarded_piece, ensured_piece, begun_piece, store_piece, assigned_piece, changed_piece, augmented_piece, deleted_piece, all_deleted_piece, failed_piece, returned_piece, thrown_piece, imported_piece, imported_from_piece, bound_piece, definition_piece, defined_piece, handled_piece, items_piece, stm_piece, all_piece, branches_piece, handlers_piece}
+use Rattle.pt_write_ops.specs.sem_compile.stm_pieces.Needed.{Behind, is_needed, is_silent, leaves, in_front, free}
+use Rattle.pt_write_ops.specs.sem_compile.stm_pieces.StmPiece.{guarded_piece, ensured_piece, begun_piece, store_piece, assigned_piece, changed_piece, augmented_piece, deleted_piece, all_deleted_piece, failed_piece, returned_piece, thrown_piece, imported_piece, imported_from_piece, bound_piece, definition_piece, defined_piece, handled_piece, items_piece, stm_piece, all_piece, branches_piece, handlers_piece}
 
 pub put_row-act : (r : Handler) (w : Written) → (put_row r w).act ≡ w.act
 unfolding put_row

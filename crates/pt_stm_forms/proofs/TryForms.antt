@@ -13,14 +13,14 @@ use Rattle.pt_assembler.specs.declared.operation.Jump.TheVariants.{Always, IfFal
 use Rattle.pt_assembler.specs.declared.operation.Operation.TheVariants.{Plain, To}
 use Rattle.pt_assembler.specs.Piece.{Piece, move, closed, numbered, ◌▸◌}
 use Rattle.pt_assembler.specs.Layout.{Written, layout, at, put, put_act, act_of, new_label, next_label, bind, placed, numbered_from, operation_of, with_operand}
-use Rattle.sem_compile.specs.emitter.Ops.{store}
-use Rattle.sem_compile.specs.emitter.ExpPiece.{null_piece}
+use Rattle.pt_write_ops.specs.sem_compile.emitter.Ops.{store}
+use Rattle.pt_write_ops.specs.sem_compile.emitter.ExpPiece.{null_piece}
 use Rattle.pt_expr_forms.specs.Behind.{known, plain_act, no_value, behind_opt}
 use Rattle.pt_expr_forms.proofs.Acts.{put-act, new_label-act, bind-act, move_has}
 use Rattle.pt_expr_forms.proofs.Forms.{acted, null-act}
-use Rattle.sem_compile.specs.stm_pieces.Needed as needed
-use Rattle.sem_compile.specs.stm_pieces.Needed.{Behind, free, in_front, is_needed, needed_if}
-use Rattle.sem_compile.specs.stm_pieces.StmPiece.{delete, store_piece, guarded_piece, all_piece, handled_piece, handlers_piece}
+use Rattle.pt_write_ops.specs.sem_compile.stm_pieces.Needed as needed
+use Rattle.pt_write_ops.specs.sem_compile.stm_pieces.Needed.{Behind, free, in_front, is_needed, needed_if}
+use Rattle.pt_write_ops.specs.sem_compile.stm_pieces.StmPiece.{delete, store_piece, guarded_piece, all_piece, handled_piece, handlers_piece}
 use Rattle.pt_stm_forms.specs.Simple.{behind_stm, behind_store, behind_unbinding}
 use Rattle.pt_stm_forms.specs.Compound.{over_more, ensured_from, behind_covered, behind_handled, behind_handler, behind_handlers, behind_body, row_caught, behind_caught, behind_guarded, behind_try}
 use Rattle.pt_stm_forms.proofs.StatementActs.{placed-act, numbered-act}

@@ -13,8 +13,8 @@ use Rattle.pt_assembler.specs.Layout.{Written, layout, put, new_label, next_labe
 use Rattle.pt_expr_forms.specs.declared.comprehension.Innermost.{Innermost}
 use Rattle.pt_expr_forms.specs.Behind.{known, no_value, plain_act}
 use Rattle.pt_expr_forms.specs.Loops.{behind_clauses, behind_turn, last_loop}
-use Rattle.sem_compile.specs.stm_pieces.Needed.{free}
-use Rattle.sem_compile.specs.stm_pieces.StmPiece.{code_piece}
+use Rattle.pt_write_ops.specs.sem_compile.stm_pieces.Needed.{free}
+use Rattle.pt_write_ops.specs.sem_compile.stm_pieces.StmPiece.{code_piece}
 use Rattle.pt_stm_forms.specs.Simple.{behind_value}
 use Rattle.pt_stm_forms.specs.Compound.{behind_suite}
 

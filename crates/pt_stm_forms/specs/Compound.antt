@@ -15,9 +15,9 @@ use Rattle.pt_assembler.specs.Piece.{const, move, started}
 use Rattle.pt_assembler.specs.PieceAt.{row_of}
 use Rattle.pt_assembler.specs.Layout.{Written, layout, at, put, put_act, act_of, put_row, new_label, next_label, bind, placed, deeper_in, loop_in, numbered_from}
 use Rattle.pt_expr_forms.specs.Behind.{known, plain_act, jump_act, behind_exp, behind_target, behind_opt}
-use Rattle.sem_compile.specs.stm_pieces.Needed as needed
-use Rattle.sem_compile.specs.stm_pieces.Needed.{Behind, free, in_front, is_needed, needed_if, some_exits}
-use Rattle.sem_compile.specs.stm_pieces.StmPiece.{all_piece, begun_piece, stm_piece}
+use Rattle.pt_write_ops.specs.sem_compile.stm_pieces.Needed as needed
+use Rattle.pt_write_ops.specs.sem_compile.stm_pieces.Needed.{Behind, free, in_front, is_needed, needed_if, some_exits}
+use Rattle.pt_write_ops.specs.sem_compile.stm_pieces.StmPiece.{all_piece, begun_piece, stm_piece}
 use Rattle.pt_stm_forms.specs.declared.contexts.OpenContext.{OpenContext}
 use Rattle.pt_stm_forms.specs.Simple.{behind_stm, behind_store, behind_unbinding, behind_value}
 

@@ -13,12 +13,12 @@ use Rattle.pt_assembler.specs.declared.operation.Jump.TheVariants.{IfTrue, Leave
 use Rattle.pt_assembler.specs.declared.operation.Operation.TheVariants.{Plain}
 use Rattle.pt_assembler.specs.Piece.{act, move, with_text, ◌▸◌}
 use Rattle.pt_assembler.specs.Layout.{Written, layout, put, new_label, next_label, bind, exit_label}
-use Rattle.sem_compile.specs.emitter.Ops.{store}
-use Rattle.sem_compile.specs.emitter.ExpPiece.{null_piece}
+use Rattle.pt_write_ops.specs.sem_compile.emitter.Ops.{store}
+use Rattle.pt_write_ops.specs.sem_compile.emitter.ExpPiece.{null_piece}
 use Rattle.pt_write_ops.specs.Written.{cells_piece}
 use Rattle.pt_expr_forms.specs.Behind.{known, plain_act, jump_act, behind_exp, behind_target, behind_opt}
-use Rattle.sem_compile.specs.stm_pieces.Needed.{Behind}
-use Rattle.sem_compile.specs.stm_pieces.StmPiece.{delete, store_piece, stm_piece}
+use Rattle.pt_write_ops.specs.sem_compile.stm_pieces.Needed.{Behind}
+use Rattle.pt_write_ops.specs.sem_compile.stm_pieces.StmPiece.{delete, store_piece, stm_piece}
 
 -- A statement, as its piece is laid out, whatever is asked of the place behind it.
 unfoldable pub behind_stm : BlockNames → Stm → Behind → Written → Written

@@ -7,8 +7,8 @@ use Rattle.std.specs.Option.{option_or}
 use Rattle.pt_tree.specs.declared.expression.NamedParameter.{NamedParameter}
 use Rattle.pt_tree.specs.Syntax as S
 use Rattle.pt_tree.specs.Syntax.{Name, Exp, Exps, Opt, Links, Args, Place, Tgt, Tgts, Params, Formals, Decorators, Stm, Stms, Branches}
-use Rattle.pt_host.specs.Builtins as builtins
-use Rattle.pt_host.specs.Builtins.{Builtin, builtin}
+use Rattle.pt_builtins.specs.pt_host.Builtins as builtins
+use Rattle.pt_builtins.specs.pt_host.Builtins.{Builtin, builtin}
 
 -- whether a run has what a name means by itself, if it means something
 abbrev pub is_there : Builtin → Bool

@@ -19,3 +19,4 @@ pub use name_list::NameList;
 pub use nexts::NextTable;
 pub use places::{PlaceTable, dotted_name};
 pub use region_set::RegionSet;
+pub use sem_names::BlockShape;

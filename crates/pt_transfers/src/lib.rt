@@ -17,5 +17,8 @@ pub use calls::{give_back, open, resume};
 pub use events::{tell, tell_exception};
 pub use landings::{go_to, land, leave_place};
 pub use lines::{line, visible_line};
+pub use pt_machine_state::{
+    BlockCode, Blocks, Machine, MachineEnd, Standing, Stride, Write, Writes,
+};
 pub use raises::{active, raise};
 pub use writing::{event, print};

@@ -17,5 +17,6 @@ pub use leaves::{
 };
 pub use links::{begin_link, end_links};
 pub use parameters::defaulted_names;
+pub use pt_expr_forms::{Begun, Built, Display, Innermost};
 pub use renewal::renew_clauses;
 pub use surroundings::{Surroundings, still_due};

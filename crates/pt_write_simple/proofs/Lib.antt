@@ -1,1 +1,2 @@
 pub mod Rules
+pub use Rattle.pt_stm_forms.proofs as pt_stm_forms

@@ -8,7 +8,7 @@ use Rattle.pt_tree.specs.StatementFold.{decorators_of}
 use Rattle.pt_instr.specs.declared.Instr.TheVariants as instr
 use Rattle.pt_block_names.specs.declared.block_names.BlockNames.{BlockNames}
 use Rattle.pt_assembler.specs.Layout.{Written}
-use Rattle.pt_expr_forms.specs.Behind.{plain_act}
+use Rattle.pt_write_leaves.specs.pt_expr_forms.Behind.{plain_act}
 use Rattle.pt_stm_forms.specs.Simple.{behind_assigned, behind_calls, behind_each}
 
 -- targets that are there

@@ -16,4 +16,6 @@ pub use deletions::deletion;
 pub use imports::{import_from_statement, import_statement};
 pub use leaving::{assertion, exit_statement, raise_statement, return_statement};
 pub use names::{store_name, unbind_name};
+pub use pt_comp_expr::{Surroundings, clauses, turn};
+pub use pt_stm_forms::OpenContext;
 pub use values::{bind_target, expression_statement, optional_value, value_code};

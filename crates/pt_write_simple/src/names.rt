@@ -4,9 +4,9 @@ ghost use Rattle.std.specs.Prelude.{◌≡◌, [], false, IfOk, OnOk};
 ghost use Rattle.pt_assembler.specs.Piece.{act, move, ◌▸◌};
 ghost use Rattle.pt_assembler.specs.Layout.{layout, operation_of, with_operand};
 ghost use Rattle.pt_block_names.specs.Named.{variable_of};
-ghost use Rattle.sem_compile.specs.emitter.ExpPiece.{null_piece};
-ghost use Rattle.sem_compile.specs.emitter.Ops.{store as store_op};
-ghost use Rattle.sem_compile.specs.stm_pieces.StmPiece.{delete as delete_op};
+ghost use Rattle.pt_write_ops.specs.sem_compile.emitter.ExpPiece.{null_piece};
+ghost use Rattle.pt_write_ops.specs.sem_compile.emitter.Ops.{store as store_op};
+ghost use Rattle.pt_write_ops.specs.sem_compile.stm_pieces.StmPiece.{delete as delete_op};
 ghost use Rattle.pt_stm_forms.specs.Simple.{behind_delete, behind_delete_attribute, behind_store, behind_unbinding};
 
 use pt_assembler::{FreeUse, Operation, Writer};

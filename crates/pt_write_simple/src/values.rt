@@ -4,7 +4,7 @@ ghost use Rattle.std.specs.Prelude.{◌≡◌, [], false, OnOk};
 ghost use Rattle.pt_tree.specs.Syntax.{single};
 ghost use Rattle.pt_tree.specs.Fold.{exp_of, opt_exp, place_node_of, target_of};
 ghost use Rattle.pt_instr.specs.declared.Instr.TheVariants.{Pop};
-ghost use Rattle.pt_expr_forms.specs.Behind.{behind_exp, behind_opt, behind_target, plain_act};
+ghost use Rattle.pt_write_leaves.specs.pt_expr_forms.Behind.{behind_exp, behind_opt, behind_target, plain_act};
 ghost use Rattle.pt_stm_forms.specs.Simple.{behind_value};
 
 use pt_assembler::Writer;

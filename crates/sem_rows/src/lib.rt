@@ -4,3 +4,8 @@
 pub mod heap_rows;
 pub mod unsupported_rows;
 pub mod variables;
+
+pub use pt_host::{
+    RECURSION_ERROR, SYSTEM_EXIT, TYPE_ERROR, allot, binding_text, error, error_saying,
+    not_callable_text,
+};

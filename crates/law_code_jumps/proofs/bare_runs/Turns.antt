@@ -14,8 +14,8 @@ use Rattle.sem_code_machine.specs.code_machine.CodeBlocks.{CodeBlocks}
 use Rattle.pt_bare_code.specs.Turns.{AlikeTurns, alike_acts, alike_notes, alike_moves, alike_ends, alike_stuck, FollowsTurns}
 use Rattle.pt_bare_code.proofs.Runs.{have_the_same_bare_runs}
 use Rattle.pt_bare_code.proofs.Writes.{writes_nothing_else}
-use Rattle.law_code_runs.specs.code_run.CodeMachine as coded
-use Rattle.law_code_runs.specs.code_run.CodeMachine.{Position}
+use Rattle.pt_bare_code.specs.law_code_runs.code_run.CodeMachine as coded
+use Rattle.pt_bare_code.specs.law_code_runs.code_run.CodeMachine.{Position}
 use Rattle.law_code_jumps.specs.jump_answers.Known.{SlotsKnown}
 use Rattle.law_code_jumps.specs.told_code.Told.{told_code}
 use Rattle.law_code_jumps.specs.bare_runs.Laws.{BareRunsAreRuns, BareFrontsAreFronts}

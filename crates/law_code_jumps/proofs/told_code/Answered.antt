@@ -2,8 +2,8 @@
 use Rattle.std.proofs.Common.{ap, ◌∙◌}
 use Rattle.sem_fits.specs.fits.Block.{Block}
 use Rattle.sem_run.specs.run.Machine.{BlockId}
-use Rattle.law_code_runs.specs.code_run.CodeMachine.{CodeSource}
-use Rattle.law_code_runs.specs.code_run.Parts.{jump_of_answer}
+use Rattle.pt_bare_code.specs.law_code_runs.code_run.CodeMachine.{CodeSource}
+use Rattle.pt_bare_code.specs.law_code_runs.code_run.Parts.{jump_of_answer}
 use Rattle.law_code_jumps.specs.jump_answers.Known.{answer_by}
 use Rattle.law_code_jumps.proofs.jump_answers.Answering.{answers_by_slots}
 use Rattle.law_code_jumps.proofs.jump_answers.OneAnswer.{one_answer}

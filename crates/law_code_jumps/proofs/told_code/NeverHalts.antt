@@ -14,9 +14,9 @@ use Rattle.sem_run.specs.run.Machine as M
 use Rattle.sem_run.specs.run.Machine.{BlockId, Machine, is_act, turn_in, not_at_line}
 use Rattle.sem_run.specs.run.Follows.{TurnStays, JumpStays, Stays}
 use Rattle.sem_run.proofs.run.Staying.{stays_never_halts}
-use Rattle.law_code_runs.specs.code_run.CodeMachine as code_of
-use Rattle.law_code_runs.specs.code_run.CodeMachine.{Place, CodeSource, Position, at_statement, state_at, place_of, raised_at, start_of, landing, jump_from, machine}
-use Rattle.law_code_runs.specs.code_run.Parts.{jump_of_answer}
+use Rattle.pt_bare_code.specs.law_code_runs.code_run.CodeMachine as code_of
+use Rattle.pt_bare_code.specs.law_code_runs.code_run.CodeMachine.{Place, CodeSource, Position, at_statement, state_at, place_of, raised_at, start_of, landing, jump_from, machine}
+use Rattle.pt_bare_code.specs.law_code_runs.code_run.Parts.{jump_of_answer}
 use Rattle.law_code_jumps.specs.told_code.Laws.{AreFitting, FittingCodeNeverHalts}
 use Rattle.law_code_jumps.proofs.told_code.Sound.{raised, starts_sound, at_place}
 

@@ -21,7 +21,7 @@ use Rattle.sem_fits.specs.fits.Laws as laws
 use Rattle.sem_fits.specs.fits.Laws.{Runs, Stack, At, Rising, Sound, GoesOn}
 use Rattle.sem_fits.proofs.fits.Ways.{place_of as standing, first, within}
 use Rattle.sem_fits.proofs.fits.SlotLaw.{slots_fit, cut_stack}
-use Rattle.law_code_runs.specs.code_run.CodeMachine.{Place, place_of, raised_under, raised_at}
+use Rattle.pt_bare_code.specs.law_code_runs.code_run.CodeMachine.{Place, place_of, raised_under, raised_at}
 
 not_some : {A : Type 0} {x : A} → None ≡ Some x → ⊥
 not_some e = cc

@@ -9,7 +9,7 @@ use Rattle.pt_bare_runs.specs.Strides as bare
 use Rattle.pt_bare_writes.specs.Fronts.{RunWritesFirst}
 use Rattle.sem_code_machine.specs.code_machine.CodeBlocks as objects
 use Rattle.sem_code_machine.specs.code_machine.CodeBlocks.{CodeBlocks}
-use Rattle.law_code_runs.specs.code_run.CodeMachine as coded
+use Rattle.pt_bare_code.specs.law_code_runs.code_run.CodeMachine as coded
 use Rattle.law_code_jumps.specs.jump_answers.Known.{SlotsKnown}
 use Rattle.law_code_jumps.specs.told_code.Told.{told_code}
 

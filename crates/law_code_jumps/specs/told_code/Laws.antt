@@ -14,8 +14,8 @@ use Rattle.sem_run.specs.run.Laws.{NeverHalts, session}
 use Rattle.sem_run.specs.run.Machine.{BlockId}
 use Rattle.sem_run.specs.run.Run.{Debugger}
 use Rattle.sem_code_machine.specs.code_machine.CodeBlocks.{CodeBlocks}
-use Rattle.law_code_runs.specs.code_run.CodeMachine.{Place, CodeSource, start_of, machine}
-use Rattle.law_code_runs.specs.code_run.Parts.{jump_of_answer}
+use Rattle.pt_bare_code.specs.law_code_runs.code_run.CodeMachine.{Place, CodeSource, start_of, machine}
+use Rattle.pt_bare_code.specs.law_code_runs.code_run.Parts.{jump_of_answer}
 use Rattle.law_code_jumps.specs.jump_answers.Known.{SlotsKnown, KnowsSlots}
 use Rattle.law_code_jumps.specs.told_code.Told.{told_code}
 

@@ -8,8 +8,8 @@ use Rattle.sem_code.specs.silent_turns.Ahead.{turns_to_act}
 use Rattle.sem_run.specs.run.Machine.{BlockId}
 use Rattle.sem_code_machine.specs.code_machine.CodeBlocks.{CodeBlocks}
 use Rattle.law_pieces.specs.piece_acts.Counting.{acts_in}
-use Rattle.law_code_runs.specs.code_run.CodeMachine.{CodeSource}
-use Rattle.law_code_runs.specs.code_run.Parts.{jump_of_answer}
+use Rattle.pt_bare_code.specs.law_code_runs.code_run.CodeMachine.{CodeSource}
+use Rattle.pt_bare_code.specs.law_code_runs.code_run.Parts.{jump_of_answer}
 use Rattle.law_code_jumps.specs.jump_answers.Known.{SlotsKnown, answer_by}
 
 -- the tables of a block; a block that a code doesn't have has none

@@ -2,7 +2,7 @@
 
 ghost use Rattle.sem_fits.specs.fits.Block.{Block};
 ghost use Rattle.sem_run.specs.run.Machine.{BlockId};
-ghost use Rattle.law_code_runs.specs.code_run.CodeMachine.{CodeSource};
+ghost use Rattle.pt_bare_code.specs.law_code_runs.code_run.CodeMachine.{CodeSource};
 ghost use Rattle.law_code_jumps.specs.told_code.Laws.{AnswersAreJumps, FittingCodeNeverHalts, ToldCodeAnswersJumps};
 
 /// A machine of code that answers each jump as is said of slots jumps so, where the block fits

@@ -34,15 +34,15 @@ use Rattle.sem_fits.specs.fits.Places.{Gets}
 use Rattle.sem_fits.specs.fits.Standing.{may_stand}
 use Rattle.sem_fits.specs.fits.Fits.{AllArrive, TablesHold}
 use Rattle.pt_verify_depths.proofs.SizeLemmas.{kinds_have_sizes}
-use Rattle.sem_compile.specs.stm_pieces.Names.{TakesCells, Code_named}
-use Rattle.sem_compile.specs.stm_pieces.Laws.{StandsInLoops, slots_of}
-use Rattle.sem_compile.specs.stm_pieces.StmPiece.{code_piece}
-use Rattle.sem_compile.proofs.stm_pieces.Rising.{starts_rise}
+use Rattle.law_typed_pieces.specs.law_operands.law_files.sem_compile.stm_pieces.Names.{TakesCells, Code_named}
+use Rattle.law_typed_pieces.specs.law_operands.law_files.sem_compile.stm_pieces.Laws.{StandsInLoops, slots_of}
+use Rattle.law_typed_pieces.specs.law_operands.law_files.sem_compile.stm_pieces.StmPiece.{code_piece}
+use Rattle.law_typed_pieces.proofs.law_operands.law_files.sem_compile.stm_pieces.Rising.{starts_rise}
 use Rattle.law_pieces.proofs.script_pieces.Cells.{takes_cells}
 use Rattle.law_pieces.proofs.script_pieces.Statements.{exits_in_loops}
-use Rattle.sem_compile.specs.compile.ScriptCode.{Tables, begun_block, BlockLayout, layout_of, code_block, code_of, script_layouts}
-use Rattle.sem_compile.specs.compile.Laws.{IsLayoutIn}
-use Rattle.sem_compile.proofs.compile.Blocks.{blocks_are_laid_out}
+use Rattle.law_typed_pieces.specs.law_operands.law_files.sem_compile.compile.ScriptCode.{Tables, begun_block, BlockLayout, layout_of, code_block, code_of, script_layouts}
+use Rattle.law_typed_pieces.specs.law_operands.law_files.sem_compile.compile.Laws.{IsLayoutIn}
+use Rattle.law_typed_pieces.proofs.law_operands.law_files.sem_compile.compile.Blocks.{blocks_are_laid_out}
 use Rattle.law_pieces.proofs.script_code.Begun.{IsBegun, block_begun}
 use Rattle.law_pieces.specs.piece_kinds.Walk.{kinds_of}
 use Rattle.law_pieces.specs.piece_kinds.Exits.{is_leave}
@@ -58,16 +58,16 @@ use Rattle.law_typed_pieces.proofs.script_tables.Tables.{begins_so}
 use Rattle.law_compile.specs.loop_exits.Parts.{CodeHasParts}
 use Rattle.law_compile.proofs.loop_exits.Leading.{LeadAll, one_of}
 use Rattle.law_compile.proofs.script_depths.Sizes as sizes
-use Rattle.law_files.proofs.code_files.Each.{split}
-use Rattle.law_code_runs.proofs.code_follows.Agreement.{free_names_have_cells}
-use Rattle.law_operands.proofs.piece_names.Script.{names_are_found}
+use Rattle.law_typed_pieces.proofs.law_operands.law_files.code_files.Each.{split}
+use Rattle.pt_bare_code.proofs.law_code_runs.code_follows.Agreement.{free_names_have_cells}
+use Rattle.law_typed_pieces.proofs.law_operands.piece_names.Script.{names_are_found}
 use Rattle.law_compile.proofs.formed.Arguments.{arguments_plain}
 use Rattle.law_compile.proofs.formed.Statements.{statements_have_parts}
 use Rattle.law_compile.proofs.formed.Blocks.{blocks_are_formed}
 use Rattle.law_compile.proofs.formed_scripts.Statements.{scripts_are_formed}
-use Rattle.law_operands.proofs.free_pieces.Script.{blocks_have_free_names}
+use Rattle.law_typed_pieces.proofs.law_operands.free_pieces.Script.{blocks_have_free_names}
 use Rattle.law_front.proofs.script_numbers.Scripts.{numbered}
-use Rattle.law_files.proofs.operands_fit.Operands.{operands_fit}
+use Rattle.law_typed_pieces.proofs.law_operands.law_files.operands_fit.Operands.{operands_fit}
 use Rattle.law_compile.proofs.read_forms.Texts.{scripts_of_texts_are_formed}
 use Rattle.law_typed_pieces.specs.standing_pieces.Laws.{LeavesByLabel, StandsLaid}
 use Rattle.law_typed_pieces.proofs.standing_pieces.Script.{instructions_may_stand}

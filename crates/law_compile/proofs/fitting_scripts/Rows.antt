@@ -29,11 +29,11 @@ use Rattle.sem_fits.specs.fits.Tables.{in_order, is_laid, is_place, rows_hold}
 use Rattle.pt_tree.specs.Blocks.{function_body}
 use Rattle.pt_tree.specs.Sizes.{size, target_size}
 use Rattle.pt_assembler.specs.declared.operation.Jump.TheVariants.{AtEnd}
-use Rattle.sem_compile.specs.emitter.ExpPiece.{clauses_piece, null_piece, target_piece}
-use Rattle.sem_compile.specs.stm_pieces.Needed.{free}
-use Rattle.sem_compile.specs.stm_pieces.Laws.{AllBehind, Rise}
-use Rattle.sem_compile.specs.stm_pieces.StmPiece.{all_piece, code_piece, value_piece, yielded_piece}
-use Rattle.law_files.proofs.code_files.Each.{both, each_at, mapped, weaken}
+use Rattle.law_typed_pieces.specs.law_operands.law_files.sem_compile.emitter.ExpPiece.{clauses_piece, null_piece, target_piece}
+use Rattle.law_typed_pieces.specs.law_operands.law_files.sem_compile.stm_pieces.Needed.{free}
+use Rattle.law_typed_pieces.specs.law_operands.law_files.sem_compile.stm_pieces.Laws.{AllBehind, Rise}
+use Rattle.law_typed_pieces.specs.law_operands.law_files.sem_compile.stm_pieces.StmPiece.{all_piece, code_piece, value_piece, yielded_piece}
+use Rattle.law_typed_pieces.proofs.law_operands.law_files.code_files.Each.{both, each_at, mapped, weaken}
 
 both_true : (a b : Bool) → a ≡ true → b ≡ true → (a && b) ≡ true
 both_true a b e f = ap (λ x. x && b) e ∙ f

@@ -9,9 +9,9 @@ use Rattle.sem_control.specs.control.Turn.{Around}
 use Rattle.sem_control.specs.control.Expressions.{roles, target_names, clause_names}
 use Rattle.sem_control.specs.control.Numbers.{tested_body, behind_body, for_body, for_else, try_handlers, try_else, try_finally, handler_body}
 use Rattle.sem_control.specs.control.Statements.{places, all_places}
-use Rattle.sem_compile.specs.emitter.Ops.{is_plain, are_plain}
-use Rattle.sem_compile.specs.stm_pieces.Names.{AllOwn, Exp_named, Part_named, Exps_named, Pieces_named, Entries_named, Links_named, Operands_named, Args_named, Formals_named, Clauses_named, Made_named, Target_named, Targets_named, Place_named, Value_named, Opt_named, Changed_named, All_deleted_named, Definition_named, Parameters_named, Items_named, Stm_named, All_named, Branches_named, Handlers_named, Code_named}
-use Rattle.law_operands.specs.piece_names.Laws.{HasPlainArguments, all_local}
+use Rattle.law_typed_pieces.specs.law_operands.law_files.sem_compile.emitter.Ops.{is_plain, are_plain}
+use Rattle.law_typed_pieces.specs.law_operands.law_files.sem_compile.stm_pieces.Names.{AllOwn, Exp_named, Part_named, Exps_named, Pieces_named, Entries_named, Links_named, Operands_named, Args_named, Formals_named, Clauses_named, Made_named, Target_named, Targets_named, Place_named, Value_named, Opt_named, Changed_named, All_deleted_named, Definition_named, Parameters_named, Items_named, Stm_named, All_named, Branches_named, Handlers_named, Code_named}
+use Rattle.law_typed_pieces.specs.law_operands.piece_names.Laws.{HasPlainArguments, all_local}
 use Rattle.law_compile.specs.formed.Formed.{ExpFormed, ExpsFormed, OptFormed, PiecesFormed, EntriesFormed, LinksFormed, ArgsFormed, MadeFormed, ClausesFormed, PlaceFormed, TgtFormed, TgtsFormed, ParamsFormed, FormalsFormed, DecoratorsFormed, TakenFormed, ItemsFormed, StmFormed, StmsFormed, BranchesFormed, HandlersFormed}
 use Rattle.law_compile.specs.formed.Laws.{ArgumentsArePlain}
 

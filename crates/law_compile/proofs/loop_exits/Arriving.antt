@@ -17,11 +17,11 @@ use Rattle.pt_assembler.specs.declared.operation.Jump.TheVariants.{Always as Jum
 use Rattle.pt_assembler.specs.Piece as P
 use Rattle.pt_assembler.specs.Piece.{Piece}
 use Rattle.sem_fits.specs.fits.Block.{Links}
-use Rattle.sem_compile.specs.emitter.ExpPiece.{null_piece}
+use Rattle.law_typed_pieces.specs.law_operands.law_files.sem_compile.emitter.ExpPiece.{null_piece}
 use Rattle.sem_code.specs.slots.Slots.{or_else}
-use Rattle.sem_compile.specs.stm_pieces.Needed.{some_exits, is_bound, either, all_go_on, goes_on, some_branch_goes_on, some_handler_goes_on, is_silent, leaves, Behind, needed, free, reached, is_needed, needed_if, in_front, behind_branches, behind_loop, behind_tried, is_nowhere}
-use Rattle.sem_compile.specs.stm_pieces.StmPiece.{begun_piece, value_piece, all_deleted_piece, defined_piece, guarded_piece, ensured_piece, taken_piece, handled_piece, items_piece, stm_piece, all_piece, branches_piece, handlers_piece}
-use Rattle.sem_compile.specs.stm_pieces.Names.{TakesCells, Value_named, Opt_named, All_deleted_named, Definition_named, Parameters_named, Items_named, Stm_named, All_named, Branches_named, Handlers_named}
+use Rattle.law_typed_pieces.specs.law_operands.law_files.sem_compile.stm_pieces.Needed.{some_exits, is_bound, either, all_go_on, goes_on, some_branch_goes_on, some_handler_goes_on, is_silent, leaves, Behind, needed, free, reached, is_needed, needed_if, in_front, behind_branches, behind_loop, behind_tried, is_nowhere}
+use Rattle.law_typed_pieces.specs.law_operands.law_files.sem_compile.stm_pieces.StmPiece.{begun_piece, value_piece, all_deleted_piece, defined_piece, guarded_piece, ensured_piece, taken_piece, handled_piece, items_piece, stm_piece, all_piece, branches_piece, handlers_piece}
+use Rattle.law_typed_pieces.specs.law_operands.law_files.sem_compile.stm_pieces.Names.{TakesCells, Value_named, Opt_named, All_deleted_named, Definition_named, Parameters_named, Items_named, Stm_named, All_named, Branches_named, Handlers_named}
 use Rattle.law_pieces.specs.piece_kinds.Walk.{Known, StackMap, behind_op, aside_op, to_none, to_one, is_empty, deepened, Setting, with_label, with_none, with_loop, end_of, flow, behind}
 use Rattle.law_pieces.specs.piece_kinds.Typed.{Over}
 use Rattle.law_pieces.proofs.piece_kinds.ListLemmas.{over_itself, over_more}

@@ -20,11 +20,11 @@ use Rattle.pt_assembler.specs.declared.operation.Jump.TheVariants.{AtEnd, Always
 use Rattle.pt_assembler.specs.Piece as P
 use Rattle.pt_assembler.specs.Piece.{Piece, pick}
 use Rattle.sem_fits.specs.fits.Block.{Links}
-use Rattle.sem_compile.specs.emitter.ExpPiece.{null_piece, exp_piece, target_piece}
-use Rattle.sem_compile.specs.stm_pieces.Needed.{exits, some_exits, some_branch_exits, some_handler_exits, all_go_on, goes_on, some_branch_goes_on, some_handler_goes_on, is_silent, leaves, Behind, needed, free, reached, is_needed, needed_if, in_front, behind_branches, behind_loop, behind_tried}
-use Rattle.sem_compile.specs.stm_pieces.StmPiece.{begun_piece, value_piece, guarded_piece, ensured_piece, handled_piece, taken_piece, items_piece, stm_piece, all_piece, block_piece, branches_piece, handlers_piece, lambda_piece, generator_piece, code_piece}
-use Rattle.sem_compile.specs.stm_pieces.Names.{TakesCells, Value_named, Target_named, Items_named, Stm_named, All_named, Branches_named, Handlers_named, Code_named}
-use Rattle.sem_compile.specs.stm_pieces.Laws.{NoExits, StandsInLoops, slots_of}
+use Rattle.law_typed_pieces.specs.law_operands.law_files.sem_compile.emitter.ExpPiece.{null_piece, exp_piece, target_piece}
+use Rattle.law_typed_pieces.specs.law_operands.law_files.sem_compile.stm_pieces.Needed.{exits, some_exits, some_branch_exits, some_handler_exits, all_go_on, goes_on, some_branch_goes_on, some_handler_goes_on, is_silent, leaves, Behind, needed, free, reached, is_needed, needed_if, in_front, behind_branches, behind_loop, behind_tried}
+use Rattle.law_typed_pieces.specs.law_operands.law_files.sem_compile.stm_pieces.StmPiece.{begun_piece, value_piece, guarded_piece, ensured_piece, handled_piece, taken_piece, items_piece, stm_piece, all_piece, block_piece, branches_piece, handlers_piece, lambda_piece, generator_piece, code_piece}
+use Rattle.law_typed_pieces.specs.law_operands.law_files.sem_compile.stm_pieces.Names.{TakesCells, Value_named, Target_named, Items_named, Stm_named, All_named, Branches_named, Handlers_named, Code_named}
+use Rattle.law_typed_pieces.specs.law_operands.law_files.sem_compile.stm_pieces.Laws.{NoExits, StandsInLoops, slots_of}
 use Rattle.law_pieces.specs.piece_kinds.Walk.{Known, StackMap, behind_op, is_empty, some, Setting, with_label, with_none, with_loop, end_of, behind}
 use Rattle.law_pieces.specs.piece_kinds.Laws.{outermost}
 use Rattle.law_pieces.proofs.piece_kinds.ListLemmas.{over_itself, over_more}

@@ -31,15 +31,15 @@ use Rattle.sem_fits.specs.fits.Block.{Block, block_of, links_of, kinds_at_start}
 use Rattle.sem_fits.specs.fits.Agreement.{TooFew}
 use Rattle.pt_verify_depths.proofs.ObjectRuns.{sized_at}
 use Rattle.pt_verify_depths.proofs.SizeLemmas.{kinds_have_sizes}
-use Rattle.sem_compile.specs.stm_pieces.Names.{TakesCells, Code_named}
-use Rattle.sem_compile.specs.stm_pieces.Laws.{StandsInLoops, outermost, slots_of}
-use Rattle.sem_compile.specs.stm_pieces.StmPiece.{code_piece}
-use Rattle.sem_compile.proofs.stm_pieces.Fitting.{pieces_fit}
+use Rattle.law_typed_pieces.specs.law_operands.law_files.sem_compile.stm_pieces.Names.{TakesCells, Code_named}
+use Rattle.law_typed_pieces.specs.law_operands.law_files.sem_compile.stm_pieces.Laws.{StandsInLoops, outermost, slots_of}
+use Rattle.law_typed_pieces.specs.law_operands.law_files.sem_compile.stm_pieces.StmPiece.{code_piece}
+use Rattle.law_typed_pieces.proofs.law_operands.law_files.sem_compile.stm_pieces.Fitting.{pieces_fit}
 use Rattle.law_pieces.proofs.script_pieces.Cells.{takes_cells}
 use Rattle.law_pieces.proofs.script_pieces.Statements.{exits_in_loops}
-use Rattle.sem_compile.specs.compile.ScriptCode.{Tables, begun_block, BlockLayout, layout_of, code_block, code_of}
-use Rattle.sem_compile.specs.compile.Laws.{IsLayoutIn}
-use Rattle.sem_compile.proofs.compile.Blocks.{blocks_are_laid_out}
+use Rattle.law_typed_pieces.specs.law_operands.law_files.sem_compile.compile.ScriptCode.{Tables, begun_block, BlockLayout, layout_of, code_block, code_of}
+use Rattle.law_typed_pieces.specs.law_operands.law_files.sem_compile.compile.Laws.{IsLayoutIn}
+use Rattle.law_typed_pieces.proofs.law_operands.law_files.sem_compile.compile.Blocks.{blocks_are_laid_out}
 use Rattle.law_pieces.proofs.script_code.Begun.{IsBegun, block_begun}
 use Rattle.law_pieces.specs.piece_kinds.Walk.{StackMap, kinds_of}
 use Rattle.law_pieces.specs.piece_kinds.Table.{next_in, next_of, Rises, Table, IsTableOf}
@@ -54,7 +54,7 @@ use Rattle.law_typed_pieces.proofs.agreement.Agreement.{blocks_agree}
 use Rattle.law_typed_pieces.specs.script_tables.Laws.{around_block}
 use Rattle.law_typed_pieces.proofs.script_tables.Tables.{bytes_wide, laid_rise, begins_so}
 use Rattle.law_compile.specs.loop_exits.Parts.{CodeHasParts}
-use Rattle.law_code_runs.specs.code_follows.Laws.{ExitsAreReached}
+use Rattle.pt_bare_code.specs.law_code_runs.code_follows.Laws.{ExitsAreReached}
 use Rattle.law_compile.specs.loop_exits.Laws.{HasLayout, ScriptExitsAreReached, BlocksAreShown}
 use Rattle.law_compile.proofs.loop_exits.Leading.{Comes, LeadAll, one_of, leading}
 use Rattle.law_compile.proofs.loop_exits.Exits.{in_code}

@@ -11,7 +11,7 @@ use Rattle.pt_scopes.specs.declared.region.Mention.{Mention}
 use Rattle.pt_scopes.specs.Mentions.{places_script}
 use Rattle.pt_scopes.specs.Names.{underscore, is_private, is_empty, stripped, mangled}
 use Rattle.sem_names.specs.BlockNames.{class_name}
-use Rattle.law_operands.specs.free_names.FreeNames.{ClassNameIsUnused}
+use Rattle.law_typed_pieces.specs.law_operands.free_names.FreeNames.{ClassNameIsUnused}
 use Rattle.law_front.specs.parsed.Parsed.{StmsParsed}
 use Rattle.law_front.proofs.parsed.Statements.{mentions_are_parsed}
 use Rattle.law_front.specs.identifiers.Names.{begins_name}

@@ -4,7 +4,7 @@ use Rattle.std.proofs.lemmas.Bool.{cases_Bool}
 use Rattle.std.specs.Prelude.{if◌then◌else◌}
 use Rattle.std.specs.Cmp.Lexicographic.{bytes_decides}
 use Rattle.pt_tree.specs.Syntax.{Name}
-use Rattle.sem_compile.specs.emitter.Ops.{is_plain}
+use Rattle.law_typed_pieces.specs.law_operands.law_files.sem_compile.emitter.Ops.{is_plain}
 use Rattle.pt_wide.specs.Syntax as W
 use Rattle.pt_wide.specs.Syntax.{Exp, Exps, Opt, Pieces, Entry, Entries, Links, Args, Clauses, Params, Formals, Decorators, Items, Stm, Stms, Branches, Handlers}
 use Rattle.law_compile.specs.formed_scripts.Wide as F

@@ -17,7 +17,7 @@ use Rattle.law_front.proofs.parsed_scripts.Statements.{parsed}
 use Rattle.law_front.specs.identifiers.Names.{begins_name, BeginsIfName}
 use Rattle.law_front.proofs.identifiers.Words.{names_begin}
 use Rattle.law_front.proofs.script_numbers.Scripts.{numbered}
-use Rattle.law_files.proofs.operands_fit.Operands.{operands_fit}
+use Rattle.law_typed_pieces.proofs.law_operands.law_files.operands_fit.Operands.{operands_fit}
 use Rattle.law_compile.specs.read_forms.Laws.{OperandsOfTextsFit, ScriptsOfTextsAreFormed, ScriptsOfTextsAreRead}
 use Rattle.law_compile.proofs.read_forms.Formed.{IsName, statements}
 use Rattle.law_compile.proofs.read_forms.ClassName.{unused}

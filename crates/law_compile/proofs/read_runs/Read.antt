@@ -4,7 +4,7 @@ use Rattle.pt_tree.specs.Syntax.{Stms}
 use Rattle.pt_wide.specs.Syntax as wide
 use Rattle.sem_code.specs.slots.CodeObject.{CodeObject}
 use Rattle.law_front.proofs.script_numbers.Scripts.{numbered}
-use Rattle.law_operands.proofs.free_pieces.Script.{blocks_have_free_names}
+use Rattle.law_typed_pieces.proofs.law_operands.free_pieces.Script.{blocks_have_free_names}
 use Rattle.law_compile.proofs.formed_scripts.Statements.{scripts_are_formed}
 use Rattle.law_compile.proofs.script_objects.Objects.{objects_have_their_code}
 use Rattle.law_compile.specs.script_runs.Laws.{AreItsObjects}

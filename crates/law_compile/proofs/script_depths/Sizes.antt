@@ -26,15 +26,15 @@ use Rattle.sem_fits.specs.fits.Agreement.{Strays}
 use Rattle.sem_fits.proofs.fits.ViewLaid.{view_is_laid}
 use Rattle.sem_fits.proofs.fits.Ways.{place_of}
 use Rattle.pt_code.specs.View.{IsView}
-use Rattle.sem_compile.specs.stm_pieces.Names.{TakesCells, Code_named}
-use Rattle.sem_compile.specs.stm_pieces.Laws.{StandsInLoops, outermost, slots_of}
-use Rattle.sem_compile.specs.stm_pieces.StmPiece.{code_piece}
-use Rattle.sem_compile.proofs.stm_pieces.Fitting.{pieces_fit}
+use Rattle.law_typed_pieces.specs.law_operands.law_files.sem_compile.stm_pieces.Names.{TakesCells, Code_named}
+use Rattle.law_typed_pieces.specs.law_operands.law_files.sem_compile.stm_pieces.Laws.{StandsInLoops, outermost, slots_of}
+use Rattle.law_typed_pieces.specs.law_operands.law_files.sem_compile.stm_pieces.StmPiece.{code_piece}
+use Rattle.law_typed_pieces.proofs.law_operands.law_files.sem_compile.stm_pieces.Fitting.{pieces_fit}
 use Rattle.law_pieces.proofs.script_pieces.Cells.{takes_cells}
 use Rattle.law_pieces.proofs.script_pieces.Statements.{exits_in_loops}
-use Rattle.sem_compile.specs.compile.ScriptCode.{Tables, begun_block, BlockLayout, layout_of, code_block, code_of}
-use Rattle.sem_compile.specs.compile.Laws.{IsLayoutIn}
-use Rattle.sem_compile.proofs.compile.Blocks.{blocks_are_laid_out}
+use Rattle.law_typed_pieces.specs.law_operands.law_files.sem_compile.compile.ScriptCode.{Tables, begun_block, BlockLayout, layout_of, code_block, code_of}
+use Rattle.law_typed_pieces.specs.law_operands.law_files.sem_compile.compile.Laws.{IsLayoutIn}
+use Rattle.law_typed_pieces.proofs.law_operands.law_files.sem_compile.compile.Blocks.{blocks_are_laid_out}
 use Rattle.law_pieces.proofs.script_code.Begun.{IsBegun, block_begun}
 use Rattle.law_pieces.specs.piece_kinds.Walk.{StackMap, kinds_of}
 use Rattle.law_pieces.specs.piece_kinds.Table.{next_in, next_of, Rises, Table, IsTableOf}

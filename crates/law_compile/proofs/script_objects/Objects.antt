@@ -3,12 +3,12 @@ use Rattle.std.proofs.Common.{◌≡◌, ℕ, Some, None}
 use Rattle.pt_tree.specs.Syntax.{Stms}
 use Rattle.pt_tree.specs.Blocks.{Block}
 use Rattle.sem_code.specs.slots.CodeObject.{CodeObject}
-use Rattle.law_operands.proofs.piece_names.Script.{names_are_found}
+use Rattle.law_typed_pieces.proofs.law_operands.piece_names.Script.{names_are_found}
 use Rattle.law_front.proofs.script_numbers.Scripts.{numbered}
-use Rattle.law_operands.proofs.free_pieces.Script.{blocks_have_free_names}
-use Rattle.law_code_runs.specs.code_follows.Laws.{HasObject}
-use Rattle.law_code_runs.proofs.code_follows.Agreement.{free_names_have_cells}
-use Rattle.law_code_runs.proofs.code_follows.Objects.{script_has_its_code}
+use Rattle.law_typed_pieces.proofs.law_operands.free_pieces.Script.{blocks_have_free_names}
+use Rattle.pt_bare_code.specs.law_code_runs.code_follows.Laws.{HasObject}
+use Rattle.pt_bare_code.proofs.law_code_runs.code_follows.Agreement.{free_names_have_cells}
+use Rattle.pt_bare_code.proofs.law_code_runs.code_follows.Objects.{script_has_its_code}
 use Rattle.law_compile.proofs.loop_exits.Reached.{exits_are_reached}
 use Rattle.law_compile.proofs.formed.Arguments.{arguments_plain}
 use Rattle.law_compile.proofs.formed.Statements.{statements_have_parts}

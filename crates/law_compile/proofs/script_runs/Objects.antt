@@ -5,10 +5,10 @@ use Rattle.pt_tree.specs.Syntax.{Stms}
 use Rattle.pt_tree.specs.Blocks.{Block, blocks_script, yields}
 use Rattle.sem_names.specs.Around.{around_of}
 use Rattle.sem_code.specs.slots.CodeObject.{CodeObject}
-use Rattle.sem_compile.specs.compile.ScriptCode.{code_block}
-use Rattle.law_code_runs.specs.code_run.Law.{Of}
-use Rattle.law_code_runs.specs.code_follows.Laws.{iterates}
-use Rattle.law_code_runs.proofs.code_follows.Objects.{blocks_have_their_code, object_of}
+use Rattle.law_typed_pieces.specs.law_operands.law_files.sem_compile.compile.ScriptCode.{code_block}
+use Rattle.pt_bare_code.specs.law_code_runs.code_run.Law.{Of}
+use Rattle.pt_bare_code.specs.law_code_runs.code_follows.Laws.{iterates}
+use Rattle.pt_bare_code.proofs.law_code_runs.code_follows.Objects.{blocks_have_their_code, object_of}
 use Rattle.pt_bare_runs.proofs.BareRuns.{bare_runs_are_runs}
 use Rattle.pt_bare_code.specs.Law.{HaveTheirCode, NoneGivesOn}
 use Rattle.pt_bare_code.proofs.Coded.{has_the_bare_runs, is_stuck_nowhere_else, code_writes_nothing_else}

@@ -13,11 +13,11 @@ use Rattle.pt_assembler.specs.Layout.{instrs_of}
 use Rattle.sem_fits.specs.fits.Block.{Block, block_of}
 use Rattle.sem_fits.specs.fits.Fits.{Fits, MOST, TooDeep}
 use Rattle.pt_verify_depths.specs.Sizes.{Sized}
-use Rattle.sem_compile.specs.compile.ScriptCode.{BlockLayout, code_block, code_of, script_layouts}
-use Rattle.law_files.specs.code_files.Numbers.{NumbersFit}
-use Rattle.law_code_runs.specs.code_follows.Laws.{HasItsFreeNames}
+use Rattle.law_typed_pieces.specs.law_operands.law_files.sem_compile.compile.ScriptCode.{BlockLayout, code_block, code_of, script_layouts}
+use Rattle.law_typed_pieces.specs.law_operands.law_files.code_files.Numbers.{NumbersFit}
+use Rattle.pt_bare_code.specs.law_code_runs.code_follows.Laws.{HasItsFreeNames}
 use Rattle.law_compile.specs.formed.Formed.{StmsFormed}
-use Rattle.law_files.specs.operands_fit.Laws.{CellsFit}
+use Rattle.law_typed_pieces.specs.law_operands.law_files.operands_fit.Laws.{CellsFit}
 use Rattle.pt_front.specs.Text.{IsScript}
 
 -- it fits if no place gets more than 16,777,216 slots

@@ -5,7 +5,7 @@ use Rattle.pt_tree.specs.Syntax as S
 use Rattle.pt_tree.specs.Syntax.{Exp, Exps, Opt, Pieces, Entries, Links, Args, Made, Clauses, Place, Tgt, Tgts, Params, Formals, Decorators, Items, Stm, Stms, Branches, Handlers, none, more}
 use Rattle.pt_tree.specs.Blocks as B
 use Rattle.pt_tree.specs.Blocks.{Code}
-use Rattle.sem_compile.specs.emitter.Ops.{is_plain}
+use Rattle.law_typed_pieces.specs.law_operands.law_files.sem_compile.emitter.Ops.{is_plain}
 use Rattle.law_compile.specs.loop_exits.Parts.{HasStatement, HasItem}
 
 abbrev mutual

@@ -2,7 +2,7 @@
 use Rattle.std.specs.Prelude.{◌≡◌, ℕ, slice_get, Some}
 use Rattle.pt_tree.specs.Syntax.{Stms}
 use Rattle.pt_tree.specs.Blocks.{Block, Code, blocks_script}
-use Rattle.law_operands.specs.piece_names.Laws.{HasPlainArguments}
+use Rattle.law_typed_pieces.specs.law_operands.piece_names.Laws.{HasPlainArguments}
 use Rattle.law_compile.specs.loop_exits.Parts.{CodeHasParts}
 use Rattle.law_compile.specs.formed.Formed.{StmsFormed, CodeFormed}
 

@@ -1,7 +1,7 @@
 -- Trees of the wide grammar as the grammar forms them, in what the code of a script depends on: an argument by name has a name (Language Reference 6.3.4),
 -- the body of a `try` has a statement (8.4), and a `with` has an item (8.5). Annotations have no code.
 use Rattle.std.specs.Prelude.{◌≡◌, true}
-use Rattle.sem_compile.specs.emitter.Ops.{is_plain}
+use Rattle.law_typed_pieces.specs.law_operands.law_files.sem_compile.emitter.Ops.{is_plain}
 use Rattle.pt_wide.specs.Syntax as W
 use Rattle.pt_wide.specs.Syntax.{Exp, Exps, Opt, Pieces, Entry, Entries, Links, Args, Clauses, Params, Formals, Decorators, Items, Stm, Stms, Branches, Handlers, none, more}
 

@@ -10,10 +10,10 @@ use Rattle.sem_code.specs.slots.CodeObject.{CodeObject}
 use Rattle.sem_code.specs.slots.BlockObject.{IsBlockObject}
 use Rattle.pt_assembler.specs.Layout.{instrs_of}
 use Rattle.pt_assembler.specs.Laws.{Shows}
-use Rattle.sem_compile.specs.stm_pieces.Names.{Code_named}
-use Rattle.sem_compile.specs.compile.ScriptCode.{BlockLayout, code_block, code_of, script_layouts}
+use Rattle.law_typed_pieces.specs.law_operands.law_files.sem_compile.stm_pieces.Names.{Code_named}
+use Rattle.law_typed_pieces.specs.law_operands.law_files.sem_compile.compile.ScriptCode.{BlockLayout, code_block, code_of, script_layouts}
 use Rattle.law_typed_pieces.specs.script_tables.Laws.{around_block, block_in, TakesAll}
-use Rattle.law_code_runs.specs.code_follows.Laws.{ExitsAreReached}
+use Rattle.pt_bare_code.specs.law_code_runs.code_follows.Laws.{ExitsAreReached}
 use Rattle.law_compile.specs.loop_exits.Parts.{CodeHasParts}
 
 -- a block of a script, whose names are found as its pieces ask and whose statements have their parts; and a code object of it, where each operand has room in

@@ -8,14 +8,14 @@ use Rattle.pt_refine_expr.specs.StatementNarrow.{narrow_script}
 use Rattle.pt_instr.specs.Encoding.{Fits as InstrFits}
 use Rattle.sem_code.specs.slots.CodeObject.{CodeObject}
 use Rattle.pt_assembler.specs.Layout.{instrs_of}
-use Rattle.sem_compile.specs.compile.ScriptCode.{BlockLayout, code_of, script_layouts}
-use Rattle.law_files.specs.code_files.Numbers.{NumbersFit}
-use Rattle.law_operands.specs.free_names.FreeNames.{ClassNameIsUnused}
+use Rattle.law_typed_pieces.specs.law_operands.law_files.sem_compile.compile.ScriptCode.{BlockLayout, code_of, script_layouts}
+use Rattle.law_typed_pieces.specs.law_operands.law_files.code_files.Numbers.{NumbersFit}
+use Rattle.law_typed_pieces.specs.law_operands.free_names.FreeNames.{ClassNameIsUnused}
 use Rattle.law_compile.specs.formed_scripts.Wide as formed
 use Rattle.law_compile.specs.script_objects.Laws.{HasCode}
 use Rattle.law_compile.specs.read_runs.Laws.{IsReadWith}
 use Rattle.pt_front.specs.Text.{IsScript}
-use Rattle.law_files.specs.operands_fit.Laws.{CellsFit}
+use Rattle.law_typed_pieces.specs.law_operands.law_files.operands_fit.Laws.{CellsFit}
 
 -- the wide tree that a script's text is has the form that the grammar gives it, and no name of the script is `.class`
 pub record IsWideOf (wide_tree : wide.Stms) (script : Stms) : Type 0 where

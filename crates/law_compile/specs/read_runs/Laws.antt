@@ -14,7 +14,7 @@ use Rattle.sem_run.specs.run.Laws.{session}
 use Rattle.pt_bare_runs.specs.Strides as bare
 use Rattle.pt_bare_runs.specs.Strides.{Outcome}
 use Rattle.pt_bare_runs.specs.Laws.{IsAlike, NeverStuck, OpensOnly}
-use Rattle.law_operands.specs.free_names.FreeNames.{ClassNameIsUnused}
+use Rattle.law_typed_pieces.specs.law_operands.free_names.FreeNames.{ClassNameIsUnused}
 use Rattle.law_compile.specs.formed_scripts.Wide as formed
 use Rattle.law_compile.specs.script_objects.Laws.{HasCode}
 use Rattle.pt_bare_code.specs.Turns.{HaveTheSameBareRuns, WritesNothingElse}

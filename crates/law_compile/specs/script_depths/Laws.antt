@@ -13,8 +13,8 @@ use Rattle.sem_fits.specs.fits.Block as F
 use Rattle.pt_verify_depths.specs.Sizes.{Sized}
 use Rattle.pt_verify_depths.specs.PlaceTable.{SizesDisagree}
 use Rattle.pt_assembler.specs.Layout.{instrs_of}
-use Rattle.sem_compile.specs.stm_pieces.Names.{Code_named}
-use Rattle.sem_compile.specs.compile.ScriptCode.{BlockLayout, code_block, code_of, script_layouts}
+use Rattle.law_typed_pieces.specs.law_operands.law_files.sem_compile.stm_pieces.Names.{Code_named}
+use Rattle.law_typed_pieces.specs.law_operands.law_files.sem_compile.compile.ScriptCode.{BlockLayout, code_block, code_of, script_layouts}
 use Rattle.law_typed_pieces.specs.script_tables.Laws.{around_block, block_in, TakesAll}
 use Rattle.law_compile.specs.loop_exits.Parts.{CodeHasParts}
 

@@ -12,14 +12,14 @@ use Rattle.pt_instr.specs.Encoding.{Fits as InstrFits}
 use Rattle.sem_code.specs.slots.CodeObject.{CodeObject}
 use Rattle.sem_code.specs.slots.BlockObject.{IsBlockObject}
 use Rattle.pt_assembler.specs.Layout.{instrs_of}
-use Rattle.sem_compile.specs.stm_pieces.Laws.{KnowsTruths}
-use Rattle.sem_compile.specs.compile.ScriptCode.{BlockLayout, code_block, code_of, script_layouts}
+use Rattle.law_typed_pieces.specs.law_operands.law_files.sem_compile.stm_pieces.Laws.{KnowsTruths}
+use Rattle.law_typed_pieces.specs.law_operands.law_files.sem_compile.compile.ScriptCode.{BlockLayout, code_block, code_of, script_layouts}
 use Rattle.sem_run.specs.run.Machine.{BlockId}
 use Rattle.sem_run.specs.run.Source.{Source}
-use Rattle.law_code_runs.specs.code_run.CodeMachine.{CodeSource}
-use Rattle.law_code_runs.specs.code_run.Law.{IsCodeOf}
-use Rattle.law_code_runs.specs.code_follows.Laws.{HasItsFreeNames, HasObject, iterates}
-use Rattle.law_operands.specs.free_names.FreeNames.{ClassNameIsUnused}
+use Rattle.pt_bare_code.specs.law_code_runs.code_run.CodeMachine.{CodeSource}
+use Rattle.pt_bare_code.specs.law_code_runs.code_run.Law.{IsCodeOf}
+use Rattle.pt_bare_code.specs.law_code_runs.code_follows.Laws.{HasItsFreeNames, HasObject, iterates}
+use Rattle.law_typed_pieces.specs.law_operands.free_names.FreeNames.{ClassNameIsUnused}
 use Rattle.law_compile.specs.formed.Formed.{StmsFormed}
 use Rattle.law_compile.specs.formed_scripts.Wide as formed
 

@@ -7,7 +7,7 @@ use Rattle.sem_code.specs.slots.CodeObject.{CodeObject}
 use Rattle.sem_run.specs.run.Machine.{BlockId}
 use Rattle.sem_run.specs.run.Source.{Source}
 use Rattle.sem_code_machine.specs.code_machine.CodeBlocks.{CodeBlocks}
-use Rattle.law_code_runs.specs.code_follows.Laws.{iterates}
+use Rattle.pt_bare_code.specs.law_code_runs.code_follows.Laws.{iterates}
 
 -- by what stands at the number, if anything does
 abbrev pub number_or_module : {A : Type 0} → Option A → ℕ → ℕ

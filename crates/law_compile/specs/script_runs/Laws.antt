@@ -16,7 +16,7 @@ use Rattle.pt_bare_runs.specs.Strides as bare
 use Rattle.pt_bare_runs.specs.Strides.{Outcome}
 use Rattle.pt_bare_runs.specs.Laws.{IsAlike, NeverStuck, OpensOnly}
 use Rattle.sem_code_machine.specs.code_machine.CodeBlocks as coded
-use Rattle.law_code_runs.specs.code_follows.Laws.{HasObject, HasItsFreeNames}
+use Rattle.pt_bare_code.specs.law_code_runs.code_follows.Laws.{HasObject, HasItsFreeNames}
 use Rattle.pt_bare_code.specs.Turns.{HaveTheSameBareRuns, IsStuckNowhereElse, WritesNothingElse}
 use Rattle.law_compile.specs.script_runs.Blocks.{script_trees, script_code, the_module}
 

@@ -6,14 +6,14 @@ use Rattle.sem_run.specs.run.Run.{Write}
 use Rattle.pt_bare_runs.specs.Strides as bare
 use Rattle.pt_bare_runs.specs.Strides.{Ending, Outcome}
 use Rattle.pt_heap.specs.declared.value.Value.{Value}
-use Rattle.pt_host.specs.World.{Program, World, read_from}
+use Rattle.sem_rows.specs.pt_host.World.{Program, World, read_from}
 use Rattle.pt_tracebacks.specs.Summaries.{summaries}
 use Rattle.pt_machine_state.specs.Writing.{kept}
 use Rattle.pt_supported.specs.Built.{unbuilt_of}
 use Rattle.pt_front.proofs.Once.{never_both, one_script}
 use Rattle.pt_code.specs.declared.Code.{Code}
 use Rattle.pt_code.specs.File.{HasFile, file}
-use Rattle.sem_compile.specs.compile.ScriptCode.{code_of}
+use Rattle.law_typed_pieces.specs.law_operands.law_files.sem_compile.compile.ScriptCode.{code_of}
 use Rattle.law_code_ends.specs.pt_run_code.pt_runner.Ends.{block_name}
 use Rattle.law_code_ends.specs.pt_run_code.pt_runner.Work.{Work}
 use Rattle.law_code_ends.specs.pt_run_code.law_loading.script_program.ScriptProgram.{program_of}

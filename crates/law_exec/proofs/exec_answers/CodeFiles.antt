@@ -4,7 +4,7 @@ use Rattle.pt_base.specs.declared.numbers.Line.{Line}
 use Rattle.sem_run.specs.run.Run.{Write}
 use Rattle.pt_bare_runs.specs.Strides.{Outcome}
 use Rattle.pt_heap.specs.declared.value.Value.{Value}
-use Rattle.pt_host.specs.World.{World}
+use Rattle.sem_rows.specs.pt_host.World.{World}
 use Rattle.pt_code.specs.declared.Code.{Code}
 use Rattle.pt_code.specs.declared.refusing.CodeErr.{CodeErr}
 use Rattle.pt_code.specs.File.{file}

@@ -15,15 +15,15 @@ use Rattle.pt_instr.specs.declared.TextNo.{TextNo}
 use Rattle.pt_code.specs.declared.CodeBlock.{CodeBlock}
 use Rattle.sem_code.specs.slots.BlockObject.{text_in}
 use Rattle.pt_heap.proofs.HoleLemmas.{bytes_eq_equiv}
-use Rattle.sem_compile.specs.compile.ScriptCode.{BlockLayout, code_block, code_of, kind_of, script_layouts}
-use Rattle.sem_compile.specs.compile.Laws.{IsLayoutIn}
-use Rattle.sem_compile.proofs.compile.Blocks.{blocks_are_laid_out}
-use Rattle.law_files.specs.code_files.Laws.{HasTexts, TextIn}
-use Rattle.law_files.specs.code_files.Numbers.{NumbersFit}
-use Rattle.law_files.proofs.code_files.Each.{at_each, both, each_at}
-use Rattle.law_files.proofs.code_files.Named.{texts_are_known}
-use Rattle.law_files.specs.operands_fit.Laws.{CellsFit}
-use Rattle.law_operands.specs.free_names.FreeNames.{ClassNameIsUnused}
+use Rattle.law_typed_pieces.specs.law_operands.law_files.sem_compile.compile.ScriptCode.{BlockLayout, code_block, code_of, kind_of, script_layouts}
+use Rattle.law_typed_pieces.specs.law_operands.law_files.sem_compile.compile.Laws.{IsLayoutIn}
+use Rattle.law_typed_pieces.proofs.law_operands.law_files.sem_compile.compile.Blocks.{blocks_are_laid_out}
+use Rattle.law_typed_pieces.specs.law_operands.law_files.code_files.Laws.{HasTexts, TextIn}
+use Rattle.law_typed_pieces.specs.law_operands.law_files.code_files.Numbers.{NumbersFit}
+use Rattle.law_typed_pieces.proofs.law_operands.law_files.code_files.Each.{at_each, both, each_at}
+use Rattle.law_typed_pieces.proofs.law_operands.law_files.code_files.Named.{texts_are_known}
+use Rattle.law_typed_pieces.specs.law_operands.law_files.operands_fit.Laws.{CellsFit}
+use Rattle.law_typed_pieces.specs.law_operands.free_names.FreeNames.{ClassNameIsUnused}
 use Rattle.law_compile.proofs.read_forms.Texts.{scripts_of_texts_are_formed}
 use Rattle.law_front.proofs.script_numbers.Scripts.{numbered}
 use Rattle.law_supported.proofs.Different.{cells_are_different}

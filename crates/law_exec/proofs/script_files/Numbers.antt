@@ -6,8 +6,8 @@ use Rattle.pt_code.specs.declared.Code.{Code}
 use Rattle.pt_code.specs.declared.CodeBlock.{CodeBlock}
 use Rattle.pt_code.specs.declared.parts.Within.{Within}
 use Rattle.pt_code.specs.File.{AreBlocks, AreListed, HasFile, IsBelow, IsBlock, IsConstant, inside}
-use Rattle.law_files.specs.code_files.Numbers.{BlockFits, IntegerFits, IsCounted, NumbersFit}
-use Rattle.law_files.proofs.code_files.Each.{weaken}
+use Rattle.law_typed_pieces.specs.law_operands.law_files.code_files.Numbers.{BlockFits, IntegerFits, IsCounted, NumbersFit}
+use Rattle.law_typed_pieces.proofs.law_operands.law_files.code_files.Each.{weaken}
 
 constant_fits : (texts : ℕ) (k : Const) → IsConstant texts k → IntegerFits k
 constant_fits texts (const.Int n) h = h

@@ -10,8 +10,8 @@ use Rattle.sem_names.specs.Around.{names_of}
 use Rattle.sem_names.specs.Script.{naming_script, spelled_in}
 use Rattle.pt_code.specs.declared.Code.{Code}
 use Rattle.pt_code.specs.declared.CodeBlock.{CodeBlock}
-use Rattle.sem_compile.specs.compile.ScriptCode.{BlockLayout, code_block, code_of, script_layouts}
-use Rattle.sem_compile.proofs.compile.Blocks.{as_many_blocks}
+use Rattle.law_typed_pieces.specs.law_operands.law_files.sem_compile.compile.ScriptCode.{BlockLayout, code_block, code_of, script_layouts}
+use Rattle.law_typed_pieces.proofs.law_operands.law_files.sem_compile.compile.Blocks.{as_many_blocks}
 use Rattle.law_compile.specs.script_runs.Blocks as script
 use Rattle.law_code_ends.specs.pt_run_code.law_loading.script_program.ScriptProgram.{block_or_module, facts_at, facts_with, the_module_block}
 use Rattle.law_code_ends.proofs.pt_run_code.law_loading.script_program.Facts.{code_tells}

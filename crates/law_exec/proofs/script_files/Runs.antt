@@ -15,17 +15,17 @@ use Rattle.pt_code.specs.declared.CodeBlock.{CodeBlock}
 use Rattle.sem_code.specs.slots.CodeObject.{CodeObject}
 use Rattle.sem_code.specs.slots.BlockObject.{IsBlockObject}
 use Rattle.sem_fits.specs.fits.Fits.{AllFit}
-use Rattle.sem_compile.specs.compile.ScriptCode.{code_block, code_of}
-use Rattle.law_files.proofs.operands_fit.Operands.{operands_fit}
-use Rattle.sem_code_machine.specs.code_machine.CodeBlocks.{CodeBlocks, machine}
+use Rattle.law_typed_pieces.specs.law_operands.law_files.sem_compile.compile.ScriptCode.{code_block, code_of}
+use Rattle.law_typed_pieces.proofs.law_operands.law_files.operands_fit.Operands.{operands_fit}
+use Rattle.sem_rows.specs.sem_code_machine.code_machine.CodeBlocks.{CodeBlocks, machine}
 use Rattle.law_code_runs.specs.code_follows.Laws as follows
-use Rattle.pt_host.specs.HeapHost.{heap_host}
-use Rattle.pt_host.specs.World.{Program, World, no_names, start_world}
+use Rattle.sem_rows.specs.pt_host.HeapHost.{heap_host}
+use Rattle.sem_rows.specs.pt_host.World.{Program, World, no_names, start_world}
 use Rattle.sem_rows.specs.heap_rows.Leads.{HasHeapExtras, HasHeapTruths, known_truth}
 use Rattle.law_code_ends.specs.pt_run_code.pt_code_loader.Loaded.{iterates}
 use Rattle.law_code_ends.specs.pt_run_code.pt_runner.Work.{Work, RunDoes}
 use Rattle.law_code_ends.proofs.pt_run_code.pt_runner.GoesTo.{runs_so}
-use Rattle.law_operands.proofs.free_pieces.Script.{blocks_have_free_names}
+use Rattle.law_typed_pieces.proofs.law_operands.free_pieces.Script.{blocks_have_free_names}
 use Rattle.law_compile.proofs.read_forms.Texts.{scripts_of_texts_are_formed}
 use Rattle.law_compile.proofs.formed_scripts.Statements.{scripts_are_formed}
 use Rattle.law_compile.specs.script_objects.Laws.{HasCode}

@@ -26,9 +26,9 @@ use Rattle.pt_code.specs.View.{Ins, IsView, laid_from}
 use Rattle.pt_code.proofs.OneView.{one_view}
 use Rattle.sem_code.specs.slots.BlockObject.{text_in}
 use Rattle.pt_assembler.specs.Layout.{instrs_of}
-use Rattle.sem_compile.specs.compile.ScriptCode.{BlockLayout, code_block, code_of, kind_of, script_layouts}
-use Rattle.law_files.proofs.code_files.Each.{each_at}
-use Rattle.law_files.proofs.operands_fit.Operands.{operands_fit}
+use Rattle.law_typed_pieces.specs.law_operands.law_files.sem_compile.compile.ScriptCode.{BlockLayout, code_block, code_of, kind_of, script_layouts}
+use Rattle.law_typed_pieces.proofs.law_operands.law_files.code_files.Each.{each_at}
+use Rattle.law_typed_pieces.proofs.law_operands.law_files.operands_fit.Operands.{operands_fit}
 use Rattle.sem_fits.specs.fits.Block.{links_of}
 use Rattle.law_typed_pieces.proofs.standing_pieces.Script.{instructions_may_stand}
 use Rattle.pt_supported.specs.Laws.{is_class_code}

@@ -3,7 +3,7 @@
 use Rattle.std.specs.Prelude.{◌≡◌, List, ◌++◌, true, Some, None}
 use Rattle.pt_tree.specs.Syntax.{Stms}
 use Rattle.sem_run.specs.run.Run.{Write}
-use Rattle.sem_compile.specs.compile.ScriptCode.{code_of}
+use Rattle.law_typed_pieces.specs.law_operands.law_files.sem_compile.compile.ScriptCode.{code_of}
 use Rattle.law_exec.specs.script_files.Laws.{IsShallowCode}
 use Rattle.pt_tracebacks.specs.declared.summary.ExceptionSummary.{ExceptionSummary}
 use Rattle.pt_words.specs.Words.{Asked}

@@ -5,14 +5,14 @@ use Rattle.sem_run.specs.run.Run.{Write}
 use Rattle.pt_bare_runs.specs.Strides.{Outcome}
 use Rattle.pt_heap.specs.declared.value.Value.{Value}
 use Rattle.sem_fits.specs.fits.Fits.{AllFit}
-use Rattle.pt_host.specs.World.{World}
+use Rattle.sem_rows.specs.pt_host.World.{World}
 use Rattle.pt_supported.specs.Built.{Built}
 use Rattle.pt_front.specs.Text.{IsScript}
 use Rattle.pt_code.specs.declared.CodeBlock.{CodeBlock}
 use Rattle.pt_code.specs.declared.Code.{Code}
 use Rattle.pt_code.specs.File.{HasFile}
 use Rattle.pt_code.specs.View.{Ins, IsView}
-use Rattle.sem_compile.specs.compile.ScriptCode.{code_of}
+use Rattle.law_typed_pieces.specs.law_operands.law_files.sem_compile.compile.ScriptCode.{code_of}
 use Rattle.sem_fits.specs.fits.Block.{block_of}
 use Rattle.pt_supported_code.specs.Built.{BuiltCode}
 use Rattle.law_code_ends.specs.pt_run_code.pt_runner.Work.{Work}

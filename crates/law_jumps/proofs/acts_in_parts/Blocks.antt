@@ -26,8 +26,8 @@ use Rattle.sem_compile.specs.stm_pieces.StmPiece.{code_piece}
 use Rattle.law_typed_pieces.specs.typed_pieces.Laws.{first_slots}
 use Rattle.law_typed_pieces.specs.script_tables.Laws.{around_block}
 use Rattle.law_typed_pieces.proofs.script_tables.Tables.{begins_so, blocks_have_tables}
-use Rattle.law_operands.specs.piece_names.Laws.{HasPlainArguments}
-use Rattle.law_operands.proofs.piece_names.Script.{names_are_found}
+use Rattle.law_typed_pieces.specs.law_operands.piece_names.Laws.{HasPlainArguments}
+use Rattle.law_typed_pieces.proofs.law_operands.piece_names.Script.{names_are_found}
 use Rattle.sem_run.specs.run.Machine.{BlockId}
 use Rattle.sem_run.specs.run.Source.{Source, or_null}
 use Rattle.law_code_runs.specs.code_run.CodeMachine.{CodeSource, start_of}

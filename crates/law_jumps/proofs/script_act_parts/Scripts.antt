@@ -19,8 +19,8 @@ use Rattle.law_pieces.proofs.script_pieces.Statements.{exits_in_loops}
 use Rattle.sem_compile.specs.compile.ScriptCode.{Tables, begun_block, BlockLayout, layout_of, code_block, code_of}
 use Rattle.sem_compile.specs.compile.Laws.{IsLayoutIn}
 use Rattle.sem_compile.proofs.compile.Blocks.{blocks_are_laid_out}
-use Rattle.law_operands.specs.piece_names.Laws.{HasPlainArguments}
-use Rattle.law_operands.proofs.piece_names.Script.{names_are_found}
+use Rattle.law_typed_pieces.specs.law_operands.piece_names.Laws.{HasPlainArguments}
+use Rattle.law_typed_pieces.proofs.law_operands.piece_names.Script.{names_are_found}
 use Rattle.law_pieces.specs.piece_kinds.Walk.{kinds_of}
 use Rattle.law_pieces.specs.piece_kinds.Table.{Rises, IsTableOf}
 use Rattle.law_pieces.specs.piece_kinds.Laws.{table_of, HasKinds}

@@ -20,7 +20,7 @@ use Rattle.sem_compile.proofs.stm_pieces.Fitting.{pieces_fit}
 use Rattle.law_pieces.proofs.script_pieces.Cells.{takes_cells}
 use Rattle.law_pieces.proofs.script_pieces.Statements.{exits_in_loops}
 use Rattle.law_pieces.proofs.script_code.Begun.{IsBegun, block_begun, stands_whole}
-use Rattle.law_operands.proofs.piece_names.Script.{names_are_found}
+use Rattle.law_typed_pieces.proofs.law_operands.piece_names.Script.{names_are_found}
 use Rattle.sem_compile.specs.compile.ScriptCode.{begun_block, code_block, code_of}
 use Rattle.sem_compile.specs.compile.Laws.{IsLayoutIn}
 use Rattle.sem_compile.proofs.compile.Blocks.{blocks_are_laid_out}

@@ -11,13 +11,13 @@ use Rattle.pt_parser.specs.Script.{a_script}
 use Rattle.pt_front.specs.Syntax.{AreWide}
 use Rattle.pt_front.specs.Text.{IsScript}
 use Rattle.law_front.proofs.script_numbers.Scripts.{numbered}
-use Rattle.law_operands.proofs.free_pieces.Script.{blocks_have_free_names}
+use Rattle.law_typed_pieces.proofs.law_operands.free_pieces.Script.{blocks_have_free_names}
 use Rattle.law_compile.specs.formed.Formed.{CodeFormed}
 use Rattle.law_compile.proofs.formed.Arguments.{arguments_plain}
 use Rattle.law_compile.proofs.formed.Statements.{statements_have_parts}
 use Rattle.law_compile.proofs.formed.Blocks.{blocks_are_formed}
 use Rattle.law_compile.proofs.formed_scripts.Statements.{scripts_are_formed}
-use Rattle.law_operands.proofs.piece_names.Script.{names_are_found}
+use Rattle.law_typed_pieces.proofs.law_operands.piece_names.Script.{names_are_found}
 use Rattle.law_code_runs.specs.code_follows.Laws.{HasItsFreeNames}
 use Rattle.law_code_runs.proofs.code_follows.Agreement.{free_names_have_cells}
 use Rattle.law_compile.specs.read_forms.Laws.{IsWideOf}

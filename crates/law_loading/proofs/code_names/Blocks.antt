@@ -19,12 +19,12 @@ use Rattle.pt_code.proofs.OneView.{one_view}
 use Rattle.sem_code.specs.slots.CodeObject.{CodeObject, Pool}
 use Rattle.sem_code.specs.slots.BlockObject.{free_in, scope_of}
 use Rattle.pt_assembler.specs.Layout.{instrs_of}
-use Rattle.sem_compile.specs.compile.ScriptCode.{BlockLayout, code_block, code_of, kind_of, script_layouts}
-use Rattle.sem_compile.specs.compile.Laws.{IsLayoutIn}
-use Rattle.sem_compile.proofs.compile.Blocks.{as_many_blocks, blocks_are_laid_out}
+use Rattle.law_typed_pieces.specs.law_operands.law_files.sem_compile.compile.ScriptCode.{BlockLayout, code_block, code_of, kind_of, script_layouts}
+use Rattle.law_typed_pieces.specs.law_operands.law_files.sem_compile.compile.Laws.{IsLayoutIn}
+use Rattle.law_typed_pieces.proofs.law_operands.law_files.sem_compile.compile.Blocks.{as_many_blocks, blocks_are_laid_out}
 use Rattle.law_front.proofs.script_numbers.Scripts.{numbered}
 use Rattle.law_compile.specs.script_objects.Laws.{HasCode}
-use Rattle.pt_host.specs.World.{no_names, start_world}
+use Rattle.pt_builtins.specs.pt_host.World.{no_names, start_world}
 use Rattle.pt_supported.specs.Built.{Built}
 use Rattle.pt_supported.specs.Laws.{is_class_code}
 use Rattle.pt_supported.proofs.Silent.{built_blocks_are_no_classes}

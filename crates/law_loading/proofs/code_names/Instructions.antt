@@ -18,10 +18,10 @@ use Rattle.pt_code.specs.declared.parts.Within.{Within}
 use Rattle.pt_code.specs.File.{AreBelow, NamesAll, naming, inside, names_of as names_of_block, operands}
 use Rattle.pt_code.specs.View.{Ins, IsView, ins_at, laid_from}
 use Rattle.pt_code.proofs.OneView.{one_view}
-use Rattle.sem_compile.specs.compile.ScriptCode.{BlockLayout, script_layouts, code_block, code_of}
-use Rattle.law_files.specs.code_files.Laws.{NamesInside}
-use Rattle.law_files.proofs.code_files.Each.{each_at}
-use Rattle.law_files.proofs.code_files.Instructions.{instructions_name_inside}
+use Rattle.law_typed_pieces.specs.law_operands.law_files.sem_compile.compile.ScriptCode.{BlockLayout, script_layouts, code_block, code_of}
+use Rattle.law_typed_pieces.specs.law_operands.law_files.code_files.Laws.{NamesInside}
+use Rattle.law_typed_pieces.proofs.law_operands.law_files.code_files.Each.{each_at}
+use Rattle.law_typed_pieces.proofs.law_operands.law_files.code_files.Instructions.{instructions_name_inside}
 use Rattle.sem_fits.specs.fits.Block.{Links}
 use Rattle.sem_fits.specs.fits.Standing.{is_function, names_defaults, are_distinct, is_among, may_stand}
 use Rattle.law_typed_pieces.specs.standing_pieces.Laws.{StandsLaid}

@@ -16,7 +16,7 @@ use Rattle.sem_names.specs.BlockNames.{class_if, distinct, is_cell, is_local, ma
 use Rattle.sem_names.specs.Naming.{as_control, own, seen}
 use Rattle.sem_names.specs.Script.{functions_of, naming_script}
 use Rattle.law_names.proofs.module_names.Classes.{module_has_no_frees}
-use Rattle.law_files.proofs.code_files.Each.{mapped}
+use Rattle.law_typed_pieces.proofs.law_operands.law_files.code_files.Each.{mapped}
 use Rattle.pt_supported.specs.Built.{Built}
 use Rattle.law_supported.proofs.Homes.{home_is}
 use Rattle.law_supported.proofs.Written.{makes_none}

@@ -20,9 +20,9 @@ use Rattle.pt_code.specs.View.{Ins, IsView, ins_at, laid_from}
 use Rattle.pt_code.proofs.OneView.{one_view}
 use Rattle.sem_code.specs.slots.CodeObject.{CodeObject, Pool}
 use Rattle.sem_code.specs.slots.BlockObject.{free_in, pool_of, scope_of, text_in}
-use Rattle.pt_code_facts.specs.Facts.{facts_of, facts_view, named_texts}
-use Rattle.pt_code_facts.proofs.NameLemmas.{facts_know_names}
-use Rattle.sem_rows.specs.variables.Numbers.{KnowsNames}
+use Rattle.pt_code_loader.specs.pt_code_tables.pt_machine_state.pt_code_facts.Facts.{facts_of, facts_view, named_texts}
+use Rattle.pt_code_loader.proofs.pt_code_tables.pt_machine_state.pt_code_facts.NameLemmas.{facts_know_names}
+use Rattle.pt_code_loader.specs.pt_code_tables.pt_machine_state.pt_code_facts.sem_rows.variables.Numbers.{KnowsNames}
 use Rattle.law_frames.specs.Operands.{CodeNamesItsBlocks, OperandsName, OperandsNameIn}
 use Rattle.law_frames.proofs.Start.{begins_with_names}
 use Rattle.pt_supported_code.specs.Built.{TakesAsListed, has_slots_by_kind, is_plain_kind}

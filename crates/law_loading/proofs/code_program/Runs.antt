@@ -18,8 +18,8 @@ use Rattle.sem_fits.specs.fits.Laws as laws
 use Rattle.pt_verify_depths.proofs.ObjectRuns.{object_runs}
 use Rattle.sem_run.specs.run.Machine.{BlockId}
 use Rattle.sem_run.specs.run.Source.{or_null}
-use Rattle.pt_host.specs.World.{no_names, start_world}
-use Rattle.pt_host.specs.HeapHost.{heap_host}
+use Rattle.pt_builtins.specs.pt_host.World.{no_names, start_world}
+use Rattle.pt_builtins.specs.pt_host.HeapHost.{heap_host}
 use Rattle.pt_bare_host.proofs.BlocksOnly.{opens_only}
 use Rattle.sem_code_machine.specs.code_machine.CodeBlocks.{start_of}
 use Rattle.pt_code_loader.specs.Loaded.{iterates}

@@ -18,10 +18,10 @@ use Rattle.sem_fits.specs.fits.Block.{block_of}
 use Rattle.sem_fits.specs.fits.Fits.{Fits}
 use Rattle.sem_fits.proofs.fits.ViewLaid.{view_is_laid}
 use Rattle.sem_run.specs.run.Machine.{BlockId}
-use Rattle.sem_rows.specs.heap_rows.Leads.{HasHeapTruths, HasHeapExtras}
-use Rattle.pt_code_facts.specs.Facts.{facts_of, facts_view}
-use Rattle.pt_machine_state.specs.Blocks.{depth_of}
-use Rattle.pt_code_tables.specs.Tables.{AreTablesOf, HasDifferentNames, is_class_in}
+use Rattle.pt_code_loader.specs.pt_code_tables.pt_machine_state.pt_code_facts.sem_rows.heap_rows.Leads.{HasHeapTruths, HasHeapExtras}
+use Rattle.pt_code_loader.specs.pt_code_tables.pt_machine_state.pt_code_facts.Facts.{facts_of, facts_view}
+use Rattle.pt_code_loader.specs.pt_code_tables.pt_machine_state.Blocks.{depth_of}
+use Rattle.pt_code_loader.specs.pt_code_tables.Tables.{AreTablesOf, HasDifferentNames, is_class_in}
 use Rattle.pt_code_loader.specs.declared.loading.Loaded.{Loaded}
 use Rattle.pt_code_loader.specs.Loaded.{IsLoadedCode, is_class, iterates}
 use Rattle.law_compile.specs.script_depths.Laws.{HasItsSizes}

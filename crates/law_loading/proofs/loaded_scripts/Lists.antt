@@ -4,7 +4,7 @@ use Rattle.std.specs.Prelude.{slice_get, slice_index_or}
 use Rattle.pt_code.specs.declared.CodeBlock.{CodeBlock}
 use Rattle.pt_code.specs.declared.Code.{Code}
 use Rattle.sem_code.specs.slots.BlockObject.{free_in}
-use Rattle.pt_machine_state.specs.declared.blocks.BlockCode.{BlockCode}
+use Rattle.pt_code_loader.specs.pt_code_tables.pt_machine_state.declared.blocks.BlockCode.{BlockCode}
 use Rattle.pt_code_loader.specs.Loaded.{IsLoaded, AreLoaded, captures_of}
 
 pub same_some : {A : Type 0} (a b : A) → Some a ≡ Some b → a ≡ b

@@ -19,13 +19,13 @@ use Rattle.pt_code.specs.View.{IsView, laid_from}
 use Rattle.sem_code.specs.slots.CodeObject.{Pool, CodeObject, local}
 use Rattle.sem_code.specs.slots.BlockObject.{pool_of}
 use Rattle.pt_assembler.specs.Layout.{instrs_of}
-use Rattle.sem_compile.specs.compile.ScriptCode.{BlockLayout, code_block, code_of, kind_of, script_layouts}
-use Rattle.sem_compile.specs.compile.Laws.{IsLayoutIn}
-use Rattle.sem_compile.proofs.compile.Blocks.{as_many_blocks, blocks_are_laid_out}
-use Rattle.law_files.proofs.operands_fit.Operands.{operands_fit}
-use Rattle.law_operands.proofs.piece_names.Script.{names_are_found}
+use Rattle.law_typed_pieces.specs.law_operands.law_files.sem_compile.compile.ScriptCode.{BlockLayout, code_block, code_of, kind_of, script_layouts}
+use Rattle.law_typed_pieces.specs.law_operands.law_files.sem_compile.compile.Laws.{IsLayoutIn}
+use Rattle.law_typed_pieces.proofs.law_operands.law_files.sem_compile.compile.Blocks.{as_many_blocks, blocks_are_laid_out}
+use Rattle.law_typed_pieces.proofs.law_operands.law_files.operands_fit.Operands.{operands_fit}
+use Rattle.law_typed_pieces.proofs.law_operands.piece_names.Script.{names_are_found}
 use Rattle.law_front.proofs.script_numbers.Scripts.{numbered}
-use Rattle.law_operands.proofs.free_pieces.Script.{blocks_have_free_names}
+use Rattle.law_typed_pieces.proofs.law_operands.free_pieces.Script.{blocks_have_free_names}
 use Rattle.law_code_runs.specs.code_follows.Laws as follows
 use Rattle.law_code_runs.proofs.code_follows.Agreement.{free_names_have_cells}
 use Rattle.law_compile.proofs.formed.Arguments.{arguments_plain}
@@ -37,11 +37,11 @@ use Rattle.sem_run.specs.run.Machine.{BlockId}
 use Rattle.law_compile.specs.script_runs.Blocks.{code_or_module, number_or_module, script_code}
 use Rattle.law_compile.specs.script_depths.Laws.{IsSeenIn, HasItsSizes}
 use Rattle.law_compile.proofs.script_depths.Sizes.{script_has_its_sizes}
-use Rattle.pt_host.specs.World.{CodeFacts}
-use Rattle.pt_code_facts.specs.Facts.{facts_of, facts_view}
-use Rattle.pt_machine_state.specs.declared.blocks.BlockCode.{BlockCode}
-use Rattle.pt_machine_state.specs.Blocks.{depth_of}
-use Rattle.pt_code_tables.specs.Tables.{AreTablesOf, HasDifferentNames, is_class_in}
+use Rattle.pt_builtins.specs.pt_host.World.{CodeFacts}
+use Rattle.pt_code_loader.specs.pt_code_tables.pt_machine_state.pt_code_facts.Facts.{facts_of, facts_view}
+use Rattle.pt_code_loader.specs.pt_code_tables.pt_machine_state.declared.blocks.BlockCode.{BlockCode}
+use Rattle.pt_code_loader.specs.pt_code_tables.pt_machine_state.Blocks.{depth_of}
+use Rattle.pt_code_loader.specs.pt_code_tables.Tables.{AreTablesOf, HasDifferentNames, is_class_in}
 use Rattle.pt_code_loader.specs.declared.loading.Loaded.{Loaded}
 use Rattle.pt_code_loader.specs.Loaded.{IsLoadedCode, is_class, iterates}
 use Rattle.law_loading.specs.script_program.ScriptProgram.{block_or_module, facts_with, program_of, the_module_block}

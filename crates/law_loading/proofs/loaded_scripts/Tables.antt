@@ -21,21 +21,21 @@ use Rattle.sem_fits.specs.fits.Block.{block_of}
 use Rattle.sem_run.specs.run.Machine.{BlockId}
 use Rattle.sem_code_machine.specs.code_machine.CodeBlocks.{CodeBlocks}
 use Rattle.law_compile.specs.script_depths.Laws.{HasItsSizes}
-use Rattle.pt_host.specs.World.{CodeFacts, Program}
-use Rattle.pt_host.specs.Answers.{constant_value}
-use Rattle.pt_host.specs.Builtins.{builtin}
-use Rattle.sem_rows.specs.heap_rows.Leads.{HasHeapTruths, HasHeapExtras, known_truth}
-use Rattle.sem_rows.specs.variables.Numbers.{KnowsNames}
+use Rattle.pt_builtins.specs.pt_host.World.{CodeFacts, Program}
+use Rattle.pt_builtins.specs.pt_host.Answers.{constant_value}
+use Rattle.pt_builtins.specs.pt_host.Builtins.{builtin}
+use Rattle.pt_code_loader.specs.pt_code_tables.pt_machine_state.pt_code_facts.sem_rows.heap_rows.Leads.{HasHeapTruths, HasHeapExtras, known_truth}
+use Rattle.pt_code_loader.specs.pt_code_tables.pt_machine_state.pt_code_facts.sem_rows.variables.Numbers.{KnowsNames}
 use Rattle.pt_builtins.specs.declared.BuiltinLookup.TheVariants as lookup
 use Rattle.pt_builtins.specs.Lookups.{builtin_view}
-use Rattle.pt_code_facts.specs.declared.facts.BlockFacts.{BlockFacts}
-use Rattle.pt_code_facts.specs.Numbered.{by_number}
-use Rattle.pt_code_facts.specs.Facts.{facts_of, facts_view}
-use Rattle.pt_code_facts.proofs.NameLemmas.{facts_know_names}
-use Rattle.pt_machine_state.specs.declared.blocks.BlockCode.{BlockCode}
-use Rattle.pt_machine_state.specs.Blocks.{depth_of}
-use Rattle.pt_code_tables.specs.Tables.{AreTablesOf, HasDifferentNames, IsPoolIn, builtin_in, is_class_in, scope_by}
-use Rattle.pt_code_tables.specs.Tables as tables
+use Rattle.pt_code_loader.specs.pt_code_tables.pt_machine_state.pt_code_facts.declared.facts.BlockFacts.{BlockFacts}
+use Rattle.pt_code_loader.specs.pt_code_tables.pt_machine_state.pt_code_facts.Numbered.{by_number}
+use Rattle.pt_code_loader.specs.pt_code_tables.pt_machine_state.pt_code_facts.Facts.{facts_of, facts_view}
+use Rattle.pt_code_loader.proofs.pt_code_tables.pt_machine_state.pt_code_facts.NameLemmas.{facts_know_names}
+use Rattle.pt_code_loader.specs.pt_code_tables.pt_machine_state.declared.blocks.BlockCode.{BlockCode}
+use Rattle.pt_code_loader.specs.pt_code_tables.pt_machine_state.Blocks.{depth_of}
+use Rattle.pt_code_loader.specs.pt_code_tables.Tables.{AreTablesOf, HasDifferentNames, IsPoolIn, builtin_in, is_class_in, scope_by}
+use Rattle.pt_code_loader.specs.pt_code_tables.Tables as tables
 use Rattle.pt_code_loader.specs.declared.loading.Loaded.{Loaded}
 use Rattle.pt_code_loader.specs.Loaded.{IsLoaded, IsLoadedCode, is_class, iterates, listed_texts}
 use Rattle.law_loading.proofs.loaded_scripts.Lists.{same_some, index_map, index_is, index_none, mapped_at, captured, loaded_at, loaded_length}

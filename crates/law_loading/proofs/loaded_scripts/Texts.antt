@@ -11,8 +11,8 @@ use Rattle.pt_code.specs.declared.Const.TheVariants as const
 use Rattle.sem_code.specs.slots.CodeObject.{Pool}
 use Rattle.sem_code.specs.slots.BlockObject.{constant_of, text_in}
 use Rattle.pt_assembler.specs.Tables.{kept}
-use Rattle.sem_compile.specs.compile.ScriptCode.{code_of}
-use Rattle.law_operands.specs.free_names.FreeNames.{Among}
+use Rattle.law_typed_pieces.specs.law_operands.law_files.sem_compile.compile.ScriptCode.{code_of}
+use Rattle.law_typed_pieces.specs.law_operands.free_names.FreeNames.{Among}
 use Rattle.pt_code_loader.specs.Texts.{text_of, kept_texts}
 use Rattle.law_loading.specs.loaded_scripts.Laws.{ConstantsHaveTheirTexts}
 

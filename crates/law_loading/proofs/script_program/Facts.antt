@@ -27,15 +27,15 @@ use Rattle.pt_assembler.specs.Tables.{Begins}
 use Rattle.pt_assembler.specs.Layout.{number_of_text, with_text, layout}
 use Rattle.pt_assembler.proofs.TableLemmas.{item_kept, begins_then, bytes_same}
 use Rattle.pt_assembler.proofs.Growth.{Tabled, tabled_then, grows}
-use Rattle.sem_compile.specs.stm_pieces.StmPiece.{code_piece}
-use Rattle.sem_compile.specs.compile.ScriptCode.{Tables, kind_of, rest_of, plain_count, keyword_only_count, with_names, empty_block, BlockLayout, layout_of, code_block, code_of}
-use Rattle.sem_compile.specs.compile.Laws.{IsLayoutIn}
-use Rattle.sem_compile.proofs.compile.Blocks.{names_tabled, blocks_are_laid_out}
-use Rattle.law_files.proofs.code_files.Each.{weaken, both, each_at}
-use Rattle.law_files.proofs.code_files.Sound.{Differs, Apart, all_sound}
-use Rattle.law_files.proofs.code_files.Parameters.{OnceIn, each_stms}
-use Rattle.law_files.proofs.code_files.Regions.{as_many_regions}
-use Rattle.pt_code_facts.specs.Facts.{facts_of, facts_view, named_texts, is_generator}
+use Rattle.law_typed_pieces.specs.law_operands.law_files.sem_compile.stm_pieces.StmPiece.{code_piece}
+use Rattle.law_typed_pieces.specs.law_operands.law_files.sem_compile.compile.ScriptCode.{Tables, kind_of, rest_of, plain_count, keyword_only_count, with_names, empty_block, BlockLayout, layout_of, code_block, code_of}
+use Rattle.law_typed_pieces.specs.law_operands.law_files.sem_compile.compile.Laws.{IsLayoutIn}
+use Rattle.law_typed_pieces.proofs.law_operands.law_files.sem_compile.compile.Blocks.{names_tabled, blocks_are_laid_out}
+use Rattle.law_typed_pieces.proofs.law_operands.law_files.code_files.Each.{weaken, both, each_at}
+use Rattle.law_typed_pieces.proofs.law_operands.law_files.code_files.Sound.{Differs, Apart, all_sound}
+use Rattle.law_typed_pieces.proofs.law_operands.law_files.code_files.Parameters.{OnceIn, each_stms}
+use Rattle.law_typed_pieces.proofs.law_operands.law_files.code_files.Regions.{as_many_regions}
+use Rattle.pt_code_loader.specs.pt_code_tables.pt_machine_state.pt_code_facts.Facts.{facts_of, facts_view, named_texts, is_generator}
 use Rattle.law_loading.specs.script_program.ScriptProgram.{makes_generator, params_of, facts_with}
 use Rattle.law_loading.specs.script_program.Laws.{HasItsNames, CodeTellsOfBlocks, LocalsAreDifferent}
 

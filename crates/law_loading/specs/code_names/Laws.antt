@@ -4,8 +4,8 @@ use Rattle.pt_tree.specs.Syntax.{Stms}
 use Rattle.pt_wide.specs.Syntax as wide
 use Rattle.pt_heap.specs.declared.value.Value.{Value}
 use Rattle.sem_code.specs.slots.Slots.{State}
-use Rattle.pt_host.specs.World.{Names, World, no_names, start_world}
-use Rattle.pt_host.specs.HeapHost.{heap_host}
+use Rattle.pt_builtins.specs.pt_host.World.{Names, World, no_names, start_world}
+use Rattle.pt_builtins.specs.pt_host.HeapHost.{heap_host}
 use Rattle.pt_bare_runs.specs.Strides as bare
 use Rattle.pt_bare_runs.specs.Laws.{Reaches}
 use Rattle.sem_code_machine.specs.code_machine.CodeBlocks.{machine}

@@ -8,9 +8,9 @@ use Rattle.pt_code.specs.declared.Code.{Code}
 use Rattle.sem_code.specs.slots.CodeObject.{CodeObject}
 use Rattle.sem_code.specs.slots.BlockObject.{IsBlockObject}
 use Rattle.sem_code_machine.specs.code_machine.CodeBlocks.{CodeBlocks}
-use Rattle.pt_host.specs.World.{CodeFacts, Program}
-use Rattle.sem_rows.specs.heap_rows.Leads.{HasHeapTruths, HasHeapExtras}
-use Rattle.pt_code_facts.specs.Facts.{facts_of, facts_view}
+use Rattle.pt_builtins.specs.pt_host.World.{CodeFacts, Program}
+use Rattle.pt_code_loader.specs.pt_code_tables.pt_machine_state.pt_code_facts.sem_rows.heap_rows.Leads.{HasHeapTruths, HasHeapExtras}
+use Rattle.pt_code_loader.specs.pt_code_tables.pt_machine_state.pt_code_facts.Facts.{facts_of, facts_view}
 use Rattle.pt_code_loader.specs.Texts.{constant_texts}
 use Rattle.pt_code_loader.specs.Loaded.{iterates}
 pub use Rattle.law_compile.specs.script_runs.Blocks.{number_or_module, the_module}

@@ -5,13 +5,13 @@ use Rattle.pt_code.specs.declared.Code.{Code}
 use Rattle.pt_code.specs.File.{HasFile}
 use Rattle.sem_code.specs.slots.CodeObject.{CodeObject}
 use Rattle.sem_fits.specs.fits.Fits.{AllFit}
-use Rattle.pt_host.specs.World.{no_names, start_world}
-use Rattle.pt_host.specs.HeapHost.{heap_host}
+use Rattle.pt_builtins.specs.pt_host.World.{no_names, start_world}
+use Rattle.pt_builtins.specs.pt_host.HeapHost.{heap_host}
 use Rattle.pt_bare_runs.specs.Laws.{NeverStuck}
 use Rattle.sem_code_machine.specs.code_machine.CodeBlocks.{machine}
 use Rattle.law_frames.specs.RunNames.{StoresHaveNames}
 use Rattle.law_frames.specs.Operands.{CodeNamesItsBlocks}
-use Rattle.pt_code_tables.specs.Tables.{AreTablesOf}
+use Rattle.pt_code_loader.specs.pt_code_tables.Tables.{AreTablesOf}
 use Rattle.pt_code_loader.specs.declared.loading.Loaded.{Loaded}
 use Rattle.pt_code_loader.specs.Loaded.{IsLoadedCode}
 use Rattle.pt_supported_code.specs.Built.{BuiltCode}

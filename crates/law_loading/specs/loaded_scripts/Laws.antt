@@ -13,15 +13,15 @@ use Rattle.sem_names.specs.Around.{names_of}
 use Rattle.pt_heap.specs.declared.value.Value.{Value}
 use Rattle.pt_heap.specs.declared.value.Value.TheVariants as value
 use Rattle.sem_code.specs.slots.CodeObject.{CodeObject}
-use Rattle.sem_compile.specs.compile.ScriptCode.{code_of}
-use Rattle.law_files.specs.code_files.Numbers.{NumbersFit}
-use Rattle.law_files.specs.operands_fit.Laws.{CellsFit}
-use Rattle.law_operands.specs.free_names.FreeNames.{Among, ClassNameIsUnused}
+use Rattle.law_typed_pieces.specs.law_operands.law_files.sem_compile.compile.ScriptCode.{code_of}
+use Rattle.law_typed_pieces.specs.law_operands.law_files.code_files.Numbers.{NumbersFit}
+use Rattle.law_typed_pieces.specs.law_operands.law_files.operands_fit.Laws.{CellsFit}
+use Rattle.law_typed_pieces.specs.law_operands.free_names.FreeNames.{Among, ClassNameIsUnused}
 use Rattle.law_compile.specs.formed_scripts.Wide as formed
 use Rattle.law_compile.specs.script_objects.Laws.{HasCode}
 use Rattle.law_compile.specs.script_runs.Blocks.{script_code}
 use Rattle.law_compile.specs.read_runs.Laws.{IsReadWith}
-use Rattle.pt_code_tables.specs.Tables.{AreTablesOf}
+use Rattle.pt_code_loader.specs.pt_code_tables.Tables.{AreTablesOf}
 use Rattle.pt_code_loader.specs.declared.loading.Loaded.{Loaded}
 use Rattle.pt_code_loader.specs.Loaded.{IsLoadedCode}
 use Rattle.law_loading.specs.script_program.ScriptProgram.{program_of}

@@ -9,8 +9,8 @@ use Rattle.pt_scopes.specs.Refusals.{fault_of}
 use Rattle.sem_names.specs.Around.{names_of}
 use Rattle.sem_names.specs.Script.{naming_script, spelled_in}
 use Rattle.pt_code.specs.declared.CodeBlock.{CodeBlock}
-use Rattle.sem_compile.specs.compile.ScriptCode.{BlockLayout, code_block, code_of, script_layouts}
-use Rattle.pt_code_facts.specs.Facts.{facts_of, facts_view, named_texts}
+use Rattle.law_typed_pieces.specs.law_operands.law_files.sem_compile.compile.ScriptCode.{BlockLayout, code_block, code_of, script_layouts}
+use Rattle.pt_code_loader.specs.pt_code_tables.pt_machine_state.pt_code_facts.Facts.{facts_of, facts_view, named_texts}
 use Rattle.law_loading.specs.script_program.ScriptProgram.{facts_with}
 
 -- the code of a block has the names that the script's block is said to have, and no others (4.2.2)

@@ -9,9 +9,9 @@ use Rattle.sem_names.specs.Around.{Names, names_of}
 use Rattle.sem_names.specs.BlockNames.{formal_names}
 use Rattle.sem_names.specs.Script.{naming_script, spelled_in}
 use Rattle.pt_bind.specs.declared.arguments.Params as arguments
-use Rattle.sem_compile.specs.compile.ScriptCode.{code_of}
+use Rattle.law_typed_pieces.specs.law_operands.law_files.sem_compile.compile.ScriptCode.{code_of}
 use Rattle.sem_run.specs.run.Machine.{BlockId}
-use Rattle.pt_host.specs.World.{CodeFacts, Program}
+use Rattle.pt_builtins.specs.pt_host.World.{CodeFacts, Program}
 use Rattle.law_compile.specs.script_runs.Blocks.{block_of, number_of}
 use Rattle.pt_code_loader.specs.Texts.{constant_texts}
 

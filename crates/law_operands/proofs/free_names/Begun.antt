@@ -15,9 +15,9 @@ use Rattle.pt_assembler.specs.Piece.{Piece}
 use Rattle.pt_assembler.specs.Layout.{with_text, with_local, with_cell, with_free}
 use Rattle.pt_assembler.proofs.TableLemmas.{begins_same}
 use Rattle.pt_assembler.proofs.Growth.{tabled_same}
-use Rattle.sem_compile.specs.stm_pieces.StmPiece.{code_piece}
-use Rattle.sem_compile.specs.compile.ScriptCode.{Tables, with_all, empty_block, BlockLayout, layout_of}
-use Rattle.sem_compile.proofs.compile.Blocks.{blocks_are_laid_out}
+use Rattle.law_files.specs.sem_compile.stm_pieces.StmPiece.{code_piece}
+use Rattle.law_files.specs.sem_compile.compile.ScriptCode.{Tables, with_all, empty_block, BlockLayout, layout_of}
+use Rattle.law_files.proofs.sem_compile.compile.Blocks.{blocks_are_laid_out}
 use Rattle.law_files.proofs.code_files.NoFree.{text_free, local_free, cell_free, all_free}
 use Rattle.law_files.proofs.code_files.Sound.{Differs, Apart}
 use Rattle.law_operands.specs.free_names.FreeNames.{Among, FreeOperands, NamedOperand, NamedOperands, OnlyFree, OperandsLeaveFreeNames}

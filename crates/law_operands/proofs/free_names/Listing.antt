@@ -12,8 +12,8 @@ use Rattle.pt_assembler.specs.Tables.{Begins, is_text, kept, number_in}
 use Rattle.pt_assembler.specs.Layout.{Written, number_of_text, with_text, keep_local, keep_cell, keep_free, with_local, with_cell, with_free}
 use Rattle.pt_assembler.proofs.TableLemmas.{begins_get, begins_length, begins_then, bytes_same, item_kept, kept_begins, kept_item, text_same}
 use Rattle.pt_assembler.proofs.Growth.{Tabled, only_then, text_only, local_only}
-use Rattle.sem_compile.specs.compile.ScriptCode.{with_all}
-use Rattle.sem_compile.proofs.compile.Blocks.{all_tabled, cell_tabled, free_tabled}
+use Rattle.law_files.specs.sem_compile.compile.ScriptCode.{with_all}
+use Rattle.law_files.proofs.sem_compile.compile.Blocks.{all_tabled, cell_tabled, free_tabled}
 use Rattle.law_files.proofs.code_files.Each.{weaken, both}
 use Rattle.law_files.proofs.code_files.Known.{text_in as text_is_in}
 use Rattle.law_files.proofs.code_files.Sound.{Differs, Apart}

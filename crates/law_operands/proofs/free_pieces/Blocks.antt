@@ -17,8 +17,8 @@ use Rattle.sem_control.specs.control.Turn.{Around, Scope, Variable}
 use Rattle.sem_names.specs.Around.{around_by, captured_in}
 use Rattle.sem_names.specs.Naming.{variable_in}
 use Rattle.sem_names.specs.Script.{Naming, spelled_in}
-use Rattle.sem_compile.specs.emitter.Ops.{load, store}
-use Rattle.sem_compile.specs.stm_pieces.StmPiece.{code_piece}
+use Rattle.law_files.specs.sem_compile.emitter.Ops.{load, store}
+use Rattle.law_files.specs.sem_compile.stm_pieces.StmPiece.{code_piece}
 use Rattle.law_operands.specs.free_names.FreeNames.{NamedOperand, NamedOperands, StandsIn}
 use Rattle.law_operands.proofs.piece_names.Standing.{IsAt, IsComprehension, Mentioned, Starts}
 use Rattle.law_operands.proofs.free_pieces.Operands.{AllTaken, SlotIs, load_named, store_named}

@@ -22,9 +22,9 @@ use Rattle.sem_names.specs.Around.{captured_in}
 use Rattle.sem_names.specs.Nexts.{next_if, nexts_all, nexts_args, nexts_clauses, nexts_entries, nexts_exp, nexts_formals, nexts_links, nexts_made, nexts_operands, nexts_opt, nexts_params, nexts_pieces, nexts_place, nexts_target, nexts_targets}
 use Rattle.sem_names.specs.Script.{Naming, spelled_in}
 use Rattle.pt_assembler.specs.Piece.{Piece}
-use Rattle.sem_compile.specs.emitter.Ops.{last_names}
-use Rattle.sem_compile.specs.emitter.ExpPiece.{ands_piece, args_piece, clauses_piece, entries_piece, exp_piece, exps_piece, first_piece, formals_piece, item_piece, links_piece, op_piece, ors_piece, part_piece, pieces_piece, place_piece, spec_piece, target_piece, targets_piece}
-use Rattle.sem_compile.specs.stm_pieces.StmPiece.{yielded_piece}
+use Rattle.law_files.specs.sem_compile.emitter.Ops.{last_names}
+use Rattle.law_files.specs.sem_compile.emitter.ExpPiece.{ands_piece, args_piece, clauses_piece, entries_piece, exp_piece, exps_piece, first_piece, formals_piece, item_piece, links_piece, op_piece, ors_piece, part_piece, pieces_piece, place_piece, spec_piece, target_piece, targets_piece}
+use Rattle.law_files.specs.sem_compile.stm_pieces.StmPiece.{yielded_piece}
 use Rattle.law_operands.specs.free_names.FreeNames.{NamedOperands}
 use Rattle.law_operands.proofs.piece_names.Standing.{IsComprehension, Walked, comprehension_walked, function_walked, generator_walked, gives, leaf, left_four, number_if, parameter_walked, placed, regroup, same_lists, spelled_at, told, two, two_of, where_named}
 use Rattle.law_operands.proofs.free_pieces.Operands.{Done, all_renewed, built_named, call_named, made_named, unpack_named}

@@ -10,10 +10,10 @@ use Rattle.sem_control.specs.control.Turn.{Around, Operation, Role, Scope, Varia
 use Rattle.sem_control.specs.control.Expressions.{all_target_names, built_as, clause_names, target_names}
 use Rattle.pt_assembler.specs.Piece as P
 use Rattle.pt_assembler.specs.Piece.{Piece}
-use Rattle.sem_compile.specs.emitter.Ops.{are_plain, call_by, cell_in, load_in, operation, renew_in, store_in, text_of}
-use Rattle.sem_compile.specs.emitter.ExpPiece.{clauses_piece, made_piece, op_piece, renewed_piece, target_piece, targets_piece, unpack_op}
-use Rattle.sem_compile.specs.stm_pieces.Needed.{Behind, is_needed, is_silent, leaves, needed}
-use Rattle.sem_compile.specs.stm_pieces.StmPiece.{begun_piece, bound_piece, delete_in, ensured_piece, guarded_piece}
+use Rattle.law_files.specs.sem_compile.emitter.Ops.{are_plain, call_by, cell_in, load_in, operation, renew_in, store_in, text_of}
+use Rattle.law_files.specs.sem_compile.emitter.ExpPiece.{clauses_piece, made_piece, op_piece, renewed_piece, target_piece, targets_piece, unpack_op}
+use Rattle.law_files.specs.sem_compile.stm_pieces.Needed.{Behind, is_needed, is_silent, leaves, needed}
+use Rattle.law_files.specs.sem_compile.stm_pieces.StmPiece.{begun_piece, bound_piece, delete_in, ensured_piece, guarded_piece}
 use Rattle.law_operands.specs.free_names.FreeNames.{NamedOperand, NamedOperands}
 
 -- what is so of a variable that has a slot

@@ -17,8 +17,8 @@ use Rattle.sem_names.specs.Around.{around_of, captured_in, names_at}
 use Rattle.sem_names.specs.BlockNames.{free_names}
 use Rattle.sem_names.specs.Naming.{variable_in}
 use Rattle.sem_names.specs.Script.{Naming, class_name_of, functions_of, naming_script, shape_in}
-use Rattle.sem_compile.specs.stm_pieces.StmPiece.{code_piece}
-use Rattle.sem_compile.proofs.compile.Blocks.{blocks_are_laid_out}
+use Rattle.law_files.specs.sem_compile.stm_pieces.StmPiece.{code_piece}
+use Rattle.law_files.proofs.sem_compile.compile.Blocks.{blocks_are_laid_out}
 use Rattle.law_operands.specs.free_names.FreeNames.{Among, FreeOperands, NamedOperands, OnlyFree, StandsIn}
 use Rattle.law_operands.proofs.free_names.Begun.{operands_leave}
 use Rattle.law_operands.proofs.free_names.Lookups.{looked_up}

@@ -24,8 +24,8 @@ use Rattle.sem_names.specs.Around.{captured_in}
 use Rattle.sem_names.specs.Nexts.{behind_items, nexts_all_deleted, nexts_body, nexts_branches, nexts_decorators, nexts_deleted, nexts_exp, nexts_handlers, nexts_items, nexts_opt, nexts_params, nexts_place, nexts_stm, nexts_stms}
 use Rattle.sem_names.specs.Script.{Naming, class_name_of, spelled_in}
 use Rattle.pt_assembler.specs.Piece.{Piece}
-use Rattle.sem_compile.specs.stm_pieces.Needed.{Behind, in_front}
-use Rattle.sem_compile.specs.stm_pieces.StmPiece.{all_deleted_piece, all_piece, assigned_piece, augmented_piece, branches_piece, defined_piece, definition_piece, deleted_piece, failed_piece, handled_piece, handlers_piece, imported_from_piece, imported_piece, items_piece, returned_piece, stm_piece, thrown_piece}
+use Rattle.law_files.specs.sem_compile.stm_pieces.Needed.{Behind, in_front}
+use Rattle.law_files.specs.sem_compile.stm_pieces.StmPiece.{all_deleted_piece, all_piece, assigned_piece, augmented_piece, branches_piece, defined_piece, definition_piece, deleted_piece, failed_piece, handled_piece, handlers_piece, imported_from_piece, imported_piece, items_piece, returned_piece, stm_piece, thrown_piece}
 use Rattle.law_operands.specs.free_names.FreeNames.{NamedOperands}
 use Rattle.law_operands.proofs.piece_names.Standing.{Mentioned, class_walked, definition_list, function_walked, gives, leaf, names_walked, placed, regroup, same_lists, spelled_at, two, two_of, where_named}
 use Rattle.law_operands.proofs.free_pieces.Operands.{AllTaken, SlotIs, begun_named, bound_named, delete_named, ensured_named, guarded_named, load_named, made_named, store_named, stored_is}

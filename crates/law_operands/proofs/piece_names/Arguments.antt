@@ -4,7 +4,7 @@ use Rattle.pt_scopes.specs.Names.{is_empty, is_private, mangled, stripped, under
 use Rattle.pt_tree.specs.Syntax as S
 use Rattle.pt_tree.specs.Syntax.{Name, Args}
 use Rattle.sem_control.specs.control.Expressions.{roles}
-use Rattle.sem_compile.specs.emitter.Ops.{are_plain, is_plain}
+use Rattle.law_files.specs.sem_compile.emitter.Ops.{are_plain, is_plain}
 
 prefixed : (b : Bool) (c x : Name) → is_plain x ≡ true → is_plain (if b then underscore ∷ (stripped c ++ x) else x) ≡ true
 prefixed true c x is = refl

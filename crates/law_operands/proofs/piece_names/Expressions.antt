@@ -17,7 +17,7 @@ use Rattle.sem_control.specs.control.Expressions.{clause_names, target_names}
 use Rattle.sem_names.specs.Around.{around_by}
 use Rattle.sem_names.specs.Nexts.{next_if, nexts_all, nexts_args, nexts_clauses, nexts_entries, nexts_exp, nexts_formals, nexts_links, nexts_made, nexts_operands, nexts_opt, nexts_params, nexts_pieces, nexts_place, nexts_target, nexts_targets}
 use Rattle.sem_names.specs.Script.{Naming, spelled_in}
-use Rattle.sem_compile.specs.stm_pieces.Names.{Args_named, Code_named, Clauses_named, Entries_named, Exp_named, Exps_named, Formals_named, Links_named, Made_named, Operands_named, Part_named, Pieces_named, Place_named, Target_named, Targets_named}
+use Rattle.law_files.specs.sem_compile.stm_pieces.Names.{Args_named, Code_named, Clauses_named, Entries_named, Exp_named, Exps_named, Formals_named, Links_named, Made_named, Operands_named, Part_named, Pieces_named, Place_named, Target_named, Targets_named}
 use Rattle.law_names.proofs.next_numbers.Claims.{Every}
 use Rattle.law_operands.specs.piece_names.Laws.{all_local}
 use Rattle.law_operands.proofs.piece_names.Arguments.{plain_roles}

@@ -18,7 +18,7 @@ use Rattle.sem_names.specs.Naming.{cell_or_local, comprehension_in, is_captured,
 use Rattle.sem_names.specs.Regions.{numbered}
 use Rattle.sem_names.specs.Script.{Naming}
 use Rattle.sem_control.specs.control.Turn as T
-use Rattle.sem_compile.specs.stm_pieces.Names.{AllOwn, IsOwn}
+use Rattle.law_files.specs.sem_compile.stm_pieces.Names.{AllOwn, IsOwn}
 use Rattle.law_names.proofs.next_numbers.Claims.{Every}
 use Rattle.law_operands.proofs.piece_names.Standing.{IsAt, IsComprehension}
 

@@ -16,7 +16,7 @@ use Rattle.sem_control.specs.control.Statements.{all_places, places}
 use Rattle.sem_names.specs.Around.{around_by}
 use Rattle.sem_names.specs.Nexts.{behind_items, nexts_all_deleted, nexts_body, nexts_branches, nexts_decorators, nexts_deleted, nexts_exp, nexts_handlers, nexts_items, nexts_opt, nexts_params, nexts_place, nexts_stm, nexts_stms}
 use Rattle.sem_names.specs.Script.{Naming, class_name_of}
-use Rattle.sem_compile.specs.stm_pieces.Names.{All_deleted_named, All_named, Branches_named, Changed_named, Definition_named, Handlers_named, Items_named, Opt_named, Parameters_named, Stm_named, Target_named, Value_named}
+use Rattle.law_files.specs.sem_compile.stm_pieces.Names.{All_deleted_named, All_named, Branches_named, Changed_named, Definition_named, Handlers_named, Items_named, Opt_named, Parameters_named, Stm_named, Target_named, Value_named}
 use Rattle.law_operands.specs.piece_names.Laws.{all_local}
 use Rattle.law_operands.proofs.piece_names.Standing.{class_walked, definition_list, function_walked, gives, leaf, names_walked, placed, regroup, same_lists, spelled_at, told, two, two_of}
 use Rattle.law_operands.proofs.piece_names.Own.{Comprehends}

@@ -17,8 +17,8 @@ use Rattle.sem_names.specs.Naming.{variable_in}
 use Rattle.sem_names.specs.Script.{Naming, functions_of, naming_script}
 use Rattle.pt_assembler.specs.Piece as P
 use Rattle.pt_assembler.specs.Piece.{Op, Piece}
-use Rattle.sem_compile.specs.stm_pieces.StmPiece.{code_piece}
-use Rattle.sem_compile.specs.compile.ScriptCode.{BlockLayout, script_layouts}
+use Rattle.law_files.specs.sem_compile.stm_pieces.StmPiece.{code_piece}
+use Rattle.law_files.specs.sem_compile.compile.ScriptCode.{BlockLayout, script_layouts}
 
 abbrev pub Among : List Name → Name → Type 0
 Among xs x = list_any (λ y. bytes_eq y x) xs ≡ true

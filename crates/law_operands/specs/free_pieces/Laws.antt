@@ -5,7 +5,7 @@ use Rattle.sem_control.specs.numbering.Numbered.{IsNumbered}
 use Rattle.pt_scopes.specs.Mentions.{places_script}
 use Rattle.pt_scopes.specs.Refusals.{fault_of}
 use Rattle.sem_names.specs.Around.{names_of}
-use Rattle.sem_compile.specs.compile.ScriptCode.{BlockLayout, script_layouts}
+use Rattle.law_files.specs.sem_compile.compile.ScriptCode.{BlockLayout, script_layouts}
 use Rattle.law_operands.specs.free_names.FreeNames.{ClassNameIsUnused}
 
 -- In a script whose declarations have no fault and whose blocks have their numbers, each block of the code has as many free names as the script's block (4.2.2).

@@ -6,7 +6,7 @@ use Rattle.sem_control.specs.control.Turn as T
 use Rattle.sem_control.specs.control.Turn.{Around}
 use Rattle.sem_names.specs.Around.{around_of}
 use Rattle.sem_names.specs.Naming.{variable}
-use Rattle.sem_compile.specs.stm_pieces.Names.{Code_named}
+use Rattle.law_files.specs.sem_compile.stm_pieces.Names.{Code_named}
 
 -- a block whose names are all local, and are spelled as they stand
 abbrev pub all_local : {V : Type 0} → (null : V) → Around V

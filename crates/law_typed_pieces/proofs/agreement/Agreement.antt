@@ -31,7 +31,7 @@ use Rattle.law_pieces.proofs.piece_kinds.LeaveLaw.{take_less, over_front, found_
 use Rattle.law_pieces.proofs.piece_kinds.TableLaw.{found_at}
 use Rattle.law_typed_pieces.specs.typed_pieces.Laws.{first_slots}
 use Rattle.law_typed_pieces.proofs.typed_pieces.Tables.{have_tables, all_ready}
-use Rattle.sem_compile.specs.stm_pieces.StmPiece.{code_piece}
+use Rattle.law_operands.specs.law_files.sem_compile.stm_pieces.StmPiece.{code_piece}
 use Rattle.law_typed_pieces.specs.agreement.Laws.{Misplaced, StrayLeave, MostlyAgrees, BlocksAgree}
 
 is_itself : (k : Kind) → is_kind k k ≡ true

@@ -19,10 +19,10 @@ use Rattle.pt_assembler.specs.declared.operation.Target.{Target}
 use Rattle.pt_assembler.specs.Piece as P
 use Rattle.pt_assembler.specs.Piece.{Piece, pick}
 use Rattle.pt_assembler.specs.PieceAt.{target, start_of, Exits, exit_of, Context, in_loop, under, over, row_of, Exit_at, Piece_at}
-use Rattle.sem_compile.specs.emitter.ExpPiece.{null_piece}
+use Rattle.law_operands.specs.law_files.sem_compile.emitter.ExpPiece.{null_piece}
 use Rattle.sem_fits.specs.fits.Block.{Block}
-use Rattle.sem_compile.specs.stm_pieces.Needed.{free}
-use Rattle.sem_compile.specs.stm_pieces.StmPiece.{all_piece, block_piece, lambda_piece, generator_piece, code_piece}
+use Rattle.law_operands.specs.law_files.sem_compile.stm_pieces.Needed.{free}
+use Rattle.law_operands.specs.law_files.sem_compile.stm_pieces.StmPiece.{all_piece, block_piece, lambda_piece, generator_piece, code_piece}
 use Rattle.law_pieces.specs.piece_kinds.Walk.{Loop, StackMap, some, deepened, Setting, with_label, with_none, with_loop, end_of, behind}
 use Rattle.law_pieces.specs.piece_kinds.Table.{next_of, Rises, Table}
 use Rattle.law_pieces.specs.piece_kinds.Exits.{exit_in, ExitsAre}

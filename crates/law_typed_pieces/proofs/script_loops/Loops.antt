@@ -10,15 +10,15 @@ use Rattle.pt_assembler.specs.Layout.{Written, instrs_of}
 use Rattle.pt_assembler.specs.Laws.{IsBlockOf, Shows}
 use Rattle.sem_names.specs.Around.{names_of}
 use Rattle.sem_fits.specs.fits.Fits.{SilentLoop}
-use Rattle.sem_compile.specs.stm_pieces.Names.{Code_named}
-use Rattle.sem_compile.specs.stm_pieces.Laws.{outermost, slots_of}
-use Rattle.sem_compile.specs.stm_pieces.StmPiece.{code_piece}
-use Rattle.sem_compile.proofs.stm_pieces.Fitting.{pieces_fit}
+use Rattle.law_operands.specs.law_files.sem_compile.stm_pieces.Names.{Code_named}
+use Rattle.law_operands.specs.law_files.sem_compile.stm_pieces.Laws.{outermost, slots_of}
+use Rattle.law_operands.specs.law_files.sem_compile.stm_pieces.StmPiece.{code_piece}
+use Rattle.law_operands.proofs.law_files.sem_compile.stm_pieces.Fitting.{pieces_fit}
 use Rattle.law_pieces.proofs.script_pieces.Cells.{takes_cells}
 use Rattle.law_pieces.proofs.script_pieces.Statements.{exits_in_loops}
-use Rattle.sem_compile.specs.compile.ScriptCode.{Tables, begun_block, BlockLayout, layout_of, code_block, code_of}
-use Rattle.sem_compile.specs.compile.Laws.{IsLayoutIn}
-use Rattle.sem_compile.proofs.compile.Blocks.{blocks_are_laid_out}
+use Rattle.law_operands.specs.law_files.sem_compile.compile.ScriptCode.{Tables, begun_block, BlockLayout, layout_of, code_block, code_of}
+use Rattle.law_operands.specs.law_files.sem_compile.compile.Laws.{IsLayoutIn}
+use Rattle.law_operands.proofs.law_files.sem_compile.compile.Blocks.{blocks_are_laid_out}
 use Rattle.law_pieces.proofs.piece_kinds.PieceLaw.{is_some_of}
 use Rattle.law_pieces.proofs.script_code.Begun.{block_begun, stands_whole}
 use Rattle.law_typed_pieces.specs.script_tables.Laws.{around_block, block_in, TakesAll}

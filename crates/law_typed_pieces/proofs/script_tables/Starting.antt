@@ -7,11 +7,11 @@ use Rattle.sem_code.specs.slots.CodeObject.{CodeObject}
 use Rattle.pt_assembler.specs.Layout.{layout}
 use Rattle.sem_names.specs.Around.{names_of}
 use Rattle.sem_fits.specs.fits.Jumps.{Starts}
-use Rattle.sem_compile.specs.stm_pieces.Laws.{slots_of}
-use Rattle.sem_compile.specs.stm_pieces.StmPiece.{code_piece}
-use Rattle.sem_compile.specs.compile.ScriptCode.{Tables, begun_block, layout_of}
-use Rattle.sem_compile.specs.compile.Laws.{IsLayoutIn}
-use Rattle.sem_compile.proofs.compile.Blocks.{blocks_are_laid_out}
+use Rattle.law_operands.specs.law_files.sem_compile.stm_pieces.Laws.{slots_of}
+use Rattle.law_operands.specs.law_files.sem_compile.stm_pieces.StmPiece.{code_piece}
+use Rattle.law_operands.specs.law_files.sem_compile.compile.ScriptCode.{Tables, begun_block, layout_of}
+use Rattle.law_operands.specs.law_files.sem_compile.compile.Laws.{IsLayoutIn}
+use Rattle.law_operands.proofs.law_files.sem_compile.compile.Blocks.{blocks_are_laid_out}
 use Rattle.law_pieces.proofs.piece_kinds.PieceLaw.{is_some_of}
 use Rattle.law_typed_pieces.proofs.start_lines.Pieces.{starts_have_statements}
 use Rattle.law_pieces.proofs.script_code.Begun.{IsBegun, block_begun}

@@ -16,18 +16,18 @@ use Rattle.pt_assembler.specs.Laws.{IsBlockOf, Shows}
 use Rattle.pt_assembler.proofs.Shown.{width_in}
 use Rattle.sem_names.specs.Around.{names_of}
 use Rattle.sem_fits.specs.fits.Block.{kinds_at_start}
-use Rattle.sem_compile.specs.stm_pieces.Laws.{outermost, slots_of}
-use Rattle.sem_compile.specs.stm_pieces.StmPiece.{code_piece}
-use Rattle.sem_compile.proofs.stm_pieces.Fitting.{pieces_fit}
+use Rattle.law_operands.specs.law_files.sem_compile.stm_pieces.Laws.{outermost, slots_of}
+use Rattle.law_operands.specs.law_files.sem_compile.stm_pieces.StmPiece.{code_piece}
+use Rattle.law_operands.proofs.law_files.sem_compile.stm_pieces.Fitting.{pieces_fit}
 use Rattle.law_pieces.proofs.script_pieces.Cells.{takes_cells}
 use Rattle.law_pieces.proofs.script_pieces.Statements.{exits_in_loops}
-use Rattle.sem_compile.specs.compile.ScriptCode.{Tables, kind_of, begun_block, BlockLayout, layout_of, code_block, code_of}
-use Rattle.sem_compile.specs.compile.Laws.{IsLayoutIn}
-use Rattle.sem_compile.proofs.compile.Blocks.{blocks_are_laid_out}
+use Rattle.law_operands.specs.law_files.sem_compile.compile.ScriptCode.{Tables, kind_of, begun_block, BlockLayout, layout_of, code_block, code_of}
+use Rattle.law_operands.specs.law_files.sem_compile.compile.Laws.{IsLayoutIn}
+use Rattle.law_operands.proofs.law_files.sem_compile.compile.Blocks.{blocks_are_laid_out}
 use Rattle.law_pieces.proofs.piece_kinds.PieceLaw.{is_some_of}
 use Rattle.pt_scopes.specs.Mentions.{places_script}
 use Rattle.pt_scopes.specs.Refusals.{fault_of}
-use Rattle.sem_compile.specs.stm_pieces.Names.{Code_named}
+use Rattle.law_operands.specs.law_files.sem_compile.stm_pieces.Names.{Code_named}
 use Rattle.pt_code.specs.declared.BlockKind.TheVariants as block
 use Rattle.law_pieces.specs.piece_kinds.Walk.{kinds_of}
 use Rattle.law_pieces.specs.piece_kinds.Table.{Rises, IsTableOf}

@@ -18,9 +18,9 @@ use Rattle.sem_fits.specs.fits.Leaves as L
 use Rattle.sem_fits.specs.fits.Leaves.{Departs, Goes}
 use Rattle.sem_fits.specs.fits.Fits as fits
 use Rattle.sem_fits.specs.fits.Fits.{Unmarked, Silent, SilentLoop}
-use Rattle.sem_compile.specs.stm_pieces.Names.{TakesCells, Code_named}
-use Rattle.sem_compile.specs.stm_pieces.Laws.{outermost, slots_of}
-use Rattle.sem_compile.specs.stm_pieces.StmPiece.{code_piece}
+use Rattle.law_operands.specs.law_files.sem_compile.stm_pieces.Names.{TakesCells, Code_named}
+use Rattle.law_operands.specs.law_files.sem_compile.stm_pieces.Laws.{outermost, slots_of}
+use Rattle.law_operands.specs.law_files.sem_compile.stm_pieces.StmPiece.{code_piece}
 use Rattle.law_pieces.specs.piece_kinds.Walk.{Known, StackMap, kinds_of}
 use Rattle.law_pieces.specs.piece_kinds.Table.{Rises, Table, slot_of, IsTableOf}
 use Rattle.law_pieces.specs.piece_kinds.Exits.{LeadsBelow}

@@ -27,14 +27,14 @@ use Rattle.pt_assembler.specs.Piece as P
 use Rattle.pt_assembler.specs.Piece.{Piece}
 use Rattle.pt_instr.specs.declared.Instr.TheVariants as instr
 use Rattle.pt_code.specs.declared.BlockKind.TheVariants as block
-use Rattle.sem_compile.specs.emitter.Ops.{operation}
-use Rattle.sem_compile.specs.emitter.ExpPiece.{ands_piece, args_piece, clauses_piece, entries_piece, exp_piece, exps_piece, first_piece, formals_piece, item_piece, links_piece, made_piece, op_piece, ors_piece, part_piece, pieces_piece, place_piece, renewed_piece, spec_piece, target_piece, targets_piece}
-use Rattle.sem_compile.specs.stm_pieces.StmPiece.{code_piece, yielded_piece}
+use Rattle.law_operands.specs.law_files.sem_compile.emitter.Ops.{operation}
+use Rattle.law_operands.specs.law_files.sem_compile.emitter.ExpPiece.{ands_piece, args_piece, clauses_piece, entries_piece, exp_piece, exps_piece, first_piece, formals_piece, item_piece, links_piece, made_piece, op_piece, ors_piece, part_piece, pieces_piece, place_piece, renewed_piece, spec_piece, target_piece, targets_piece}
+use Rattle.law_operands.specs.law_files.sem_compile.stm_pieces.StmPiece.{code_piece, yielded_piece}
 use Rattle.sem_fits.specs.fits.Block.{Links}
 use Rattle.sem_fits.specs.fits.Standing.{is_function, may_yield}
-use Rattle.sem_compile.specs.compile.ScriptCode.{kind_of}
+use Rattle.law_operands.specs.law_files.sem_compile.compile.ScriptCode.{kind_of}
 use Rattle.law_typed_pieces.proofs.standing_pieces.Placed.{gives_there, into_comprehension, into_function, into_generator}
-use Rattle.law_files.proofs.code_files.Each.{split, split3, split4, split5}
+use Rattle.law_operands.proofs.law_files.code_files.Each.{split, split3, split4, split5}
 use Rattle.law_typed_pieces.specs.standing_pieces.Pieces.{StandsOp}
 use Rattle.law_typed_pieces.proofs.standing_pieces.Walked.{IsMade, May, Runs, Stands, Walked, four, gives, leaf, may_none, same_lists, starts, three, told, two, within}
 use Rattle.law_typed_pieces.proofs.standing_pieces.Operations.{calls, delegating, lambda_is, loads, makes_function, makes_generator, pushes, renews, stores, unpacks, yielding}

@@ -25,7 +25,7 @@ use Rattle.pt_assembler.proofs.Named.{operand_is}
 use Rattle.sem_fits.specs.fits.Block.{Links, links_of}
 use Rattle.sem_fits.specs.fits.Standing.{may_stand}
 use Rattle.law_pieces.specs.piece_kinds.Exits.{is_leave}
-use Rattle.law_files.proofs.code_files.Each.{both}
+use Rattle.law_operands.proofs.law_files.code_files.Each.{both}
 use Rattle.law_typed_pieces.specs.standing_pieces.Pieces.{StandsOp, StandsPiece, stands}
 use Rattle.law_typed_pieces.specs.standing_pieces.Laws.{StandsLaid}
 

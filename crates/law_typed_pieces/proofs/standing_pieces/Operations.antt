@@ -21,13 +21,13 @@ use Rattle.sem_control.specs.control.Turn.{Operation, Role, Scope, Variable}
 use Rattle.sem_control.specs.control.Expressions.{defaulted}
 use Rattle.sem_names.specs.BlockNames.{formal_names, named, param_names}
 use Rattle.pt_assembler.specs.Piece as P
-use Rattle.sem_compile.specs.emitter.Ops.{are_plain, call, call_by, cell_in, last_names, load_in, names_alone, renew_in, store_in, text_of}
-use Rattle.sem_compile.specs.emitter.ExpPiece.{unpack_op}
-use Rattle.sem_compile.specs.stm_pieces.StmPiece.{delete_in}
+use Rattle.law_operands.specs.law_files.sem_compile.emitter.Ops.{are_plain, call, call_by, cell_in, last_names, load_in, names_alone, renew_in, store_in, text_of}
+use Rattle.law_operands.specs.law_files.sem_compile.emitter.ExpPiece.{unpack_op}
+use Rattle.law_operands.specs.law_files.sem_compile.stm_pieces.StmPiece.{delete_in}
 use Rattle.sem_fits.specs.fits.Block.{Links}
 use Rattle.sem_fits.specs.fits.Standing.{are_distinct, has_names, is_among, is_class, is_function, is_generator_expression, may_yield, names_defaults}
-use Rattle.sem_compile.specs.compile.ScriptCode.{kind_of}
-use Rattle.law_files.proofs.code_files.Sound.{Apart, Differs}
+use Rattle.law_operands.specs.law_files.sem_compile.compile.ScriptCode.{kind_of}
+use Rattle.law_operands.proofs.law_files.code_files.Sound.{Apart, Differs}
 use Rattle.law_typed_pieces.specs.standing_pieces.Pieces.{StandsOp}
 use Rattle.law_typed_pieces.proofs.standing_pieces.Walked.{IsMade, formals_of}
 

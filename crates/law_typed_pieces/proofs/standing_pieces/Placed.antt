@@ -11,7 +11,7 @@ use Rattle.pt_scopes.specs.declared.scope.ScopeErr.{ScopeErr}
 use Rattle.pt_scopes.specs.Places.{Part, ◌⨾◌, block, class_context, comprehension, comprehension_context, function_context, generator_context, in_class, in_comprehension, in_function, in_generator, mention, misplaced, nothing}
 use Rattle.pt_scopes.specs.Refusals.{earlier, fault, fault_at, first_fault, is_offered, or_else}
 use Rattle.pt_tree.specs.Syntax.{Name}
-use Rattle.law_files.proofs.code_files.Each.{split}
+use Rattle.law_operands.proofs.law_files.code_files.Each.{split}
 
 abbrev NotMisplaced : Mention → Type 0
 NotMisplaced m = m.role ≡ Misplaced → ⊥

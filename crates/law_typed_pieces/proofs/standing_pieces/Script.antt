@@ -37,17 +37,17 @@ use Rattle.pt_assembler.proofs.Growth.{Tabled, grows, tabled_same, tabled_then}
 use Rattle.pt_assembler.proofs.TableLemmas.{begins_more, begins_same, begins_then}
 use Rattle.sem_fits.specs.fits.Block.{Links, links_of, parameters_of}
 use Rattle.sem_fits.specs.fits.Standing.{has_names}
-use Rattle.sem_compile.specs.stm_pieces.StmPiece.{code_piece}
-use Rattle.sem_compile.specs.stm_pieces.Laws.{slots_of}
-use Rattle.sem_compile.specs.stm_pieces.Needed.{free}
-use Rattle.sem_compile.specs.compile.ScriptCode.{BlockLayout, Tables, begun_block, code_block, code_of, empty_block, keyword_only_count, kind_of, layout_of, plain_count, script_layouts, with_all}
-use Rattle.sem_compile.specs.compile.Laws.{IsLayoutIn}
-use Rattle.sem_compile.proofs.compile.Blocks.{all_tabled, as_many_blocks, blocks_are_laid_out}
+use Rattle.law_operands.specs.law_files.sem_compile.stm_pieces.StmPiece.{code_piece}
+use Rattle.law_operands.specs.law_files.sem_compile.stm_pieces.Laws.{slots_of}
+use Rattle.law_operands.specs.law_files.sem_compile.stm_pieces.Needed.{free}
+use Rattle.law_operands.specs.law_files.sem_compile.compile.ScriptCode.{BlockLayout, Tables, begun_block, code_block, code_of, empty_block, keyword_only_count, kind_of, layout_of, plain_count, script_layouts, with_all}
+use Rattle.law_operands.specs.law_files.sem_compile.compile.Laws.{IsLayoutIn}
+use Rattle.law_operands.proofs.law_files.sem_compile.compile.Blocks.{all_tabled, as_many_blocks, blocks_are_laid_out}
 use Rattle.law_pieces.proofs.script_code.Begun.{IsBegun, block_begun}
 use Rattle.law_typed_pieces.proofs.standing_pieces.Placed.{Placed, all_placed}
-use Rattle.law_files.proofs.code_files.Each.{both, each_at, weaken}
-use Rattle.law_files.proofs.code_files.Sound.{Apart, Differs, all_sound}
-use Rattle.law_files.proofs.code_files.Parameters.{OnceIn, each_stms}
+use Rattle.law_operands.proofs.law_files.code_files.Each.{both, each_at, weaken}
+use Rattle.law_operands.proofs.law_files.code_files.Sound.{Apart, Differs, all_sound}
+use Rattle.law_operands.proofs.law_files.code_files.Parameters.{OnceIn, each_stms}
 use Rattle.law_operands.proofs.free_names.Distinct.{apart_behind}
 use Rattle.law_operands.proofs.free_names.Kept.{the_locals}
 use Rattle.law_operands.proofs.free_names.Listing.{listed, lists_cell, lists_free, lists_local, texts_of}

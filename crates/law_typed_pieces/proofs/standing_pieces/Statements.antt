@@ -22,13 +22,13 @@ use Rattle.sem_control.specs.control.Frames.{Definition, a_class, a_function}
 use Rattle.sem_control.specs.control.Statements.{all_places, bound_name, places}
 use Rattle.pt_assembler.specs.Piece.{Piece}
 use Rattle.sem_fits.specs.fits.Block.{Links}
-use Rattle.sem_compile.specs.compile.ScriptCode.{kind_of}
-use Rattle.sem_compile.specs.stm_pieces.Needed.{Behind, free, in_front, is_needed, is_silent, leaves, needed}
-use Rattle.sem_compile.specs.emitter.Ops.{operation, store}
-use Rattle.sem_compile.specs.emitter.ExpPiece.{exp_piece, place_piece, targets_piece}
-use Rattle.sem_compile.specs.stm_pieces.StmPiece.{all_deleted_piece, all_piece, assigned_piece, augmented_piece, begun_piece, behind_taken, bound_piece, branches_piece, code_piece, defined_piece, definition_piece, delete, deleted_piece, ensured_piece, failed_piece, guarded_piece, handled_piece, handlers_piece, imported_from_piece, imported_piece, items_piece, returned_piece, stm_piece, taken_piece, thrown_piece}
+use Rattle.law_operands.specs.law_files.sem_compile.compile.ScriptCode.{kind_of}
+use Rattle.law_operands.specs.law_files.sem_compile.stm_pieces.Needed.{Behind, free, in_front, is_needed, is_silent, leaves, needed}
+use Rattle.law_operands.specs.law_files.sem_compile.emitter.Ops.{operation, store}
+use Rattle.law_operands.specs.law_files.sem_compile.emitter.ExpPiece.{exp_piece, place_piece, targets_piece}
+use Rattle.law_operands.specs.law_files.sem_compile.stm_pieces.StmPiece.{all_deleted_piece, all_piece, assigned_piece, augmented_piece, begun_piece, behind_taken, bound_piece, branches_piece, code_piece, defined_piece, definition_piece, delete, deleted_piece, ensured_piece, failed_piece, guarded_piece, handled_piece, handlers_piece, imported_from_piece, imported_piece, items_piece, returned_piece, stm_piece, taken_piece, thrown_piece}
 use Rattle.law_typed_pieces.proofs.standing_pieces.Placed.{into_class, into_function}
-use Rattle.law_files.proofs.code_files.Each.{both, split, split3, split4, split5}
+use Rattle.law_operands.proofs.law_files.code_files.Each.{both, split, split3, split4, split5}
 use Rattle.law_operands.proofs.piece_names.Standing.{definition_list}
 use Rattle.law_typed_pieces.specs.standing_pieces.Pieces.{StandsOp}
 use Rattle.law_typed_pieces.proofs.standing_pieces.Walked.{IsMade, May, Runs, Stands, Walked, four, gives, in_body, leaf, may_none, same_lists, starts, three, two}

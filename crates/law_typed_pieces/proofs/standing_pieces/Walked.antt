@@ -18,10 +18,10 @@ use Rattle.sem_names.specs.BlockNames.{formal_names, param_names}
 use Rattle.sem_fits.specs.fits.Block.{Links}
 use Rattle.sem_fits.specs.fits.Standing.{has_names, may_yield}
 use Rattle.pt_assembler.specs.Piece.{Piece}
-use Rattle.sem_compile.specs.stm_pieces.StmPiece.{code_piece}
-use Rattle.sem_compile.specs.compile.ScriptCode.{kind_of}
-use Rattle.law_files.proofs.code_files.Each.{both, both3, both4}
-use Rattle.law_files.proofs.code_files.Sound.{Apart}
+use Rattle.law_operands.specs.law_files.sem_compile.stm_pieces.StmPiece.{code_piece}
+use Rattle.law_operands.specs.law_files.sem_compile.compile.ScriptCode.{kind_of}
+use Rattle.law_operands.proofs.law_files.code_files.Each.{both, both3, both4}
+use Rattle.law_operands.proofs.law_files.code_files.Sound.{Apart}
 use Rattle.law_typed_pieces.specs.standing_pieces.Pieces.{StandsPiece}
 use Rattle.law_typed_pieces.proofs.standing_pieces.Placed.{Placed, split_part}
 

@@ -14,9 +14,9 @@ use Rattle.sem_control.specs.control.Jump.{Shape, with_name, body_at, within_ite
 use Rattle.pt_assembler.specs.declared.operation.Exit.TheVariants.{Break, Continue}
 use Rattle.pt_assembler.specs.Piece as P
 use Rattle.pt_assembler.specs.Piece.{Piece}
-use Rattle.sem_compile.specs.emitter.ExpPiece.{exp_piece, target_piece}
-use Rattle.sem_compile.specs.stm_pieces.Needed.{some_exits, some_branch_goes_on, is_silent, leaves, Behind, needed, free, is_needed, needed_if, in_front, behind_branches, behind_loop, behind_tried}
-use Rattle.sem_compile.specs.stm_pieces.StmPiece.{begun_piece, value_piece, guarded_piece, ensured_piece, handled_piece, items_piece, stm_piece, all_piece, branches_piece, handlers_piece, block_piece, code_piece}
+use Rattle.law_operands.specs.law_files.sem_compile.emitter.ExpPiece.{exp_piece, target_piece}
+use Rattle.law_operands.specs.law_files.sem_compile.stm_pieces.Needed.{some_exits, some_branch_goes_on, is_silent, leaves, Behind, needed, free, is_needed, needed_if, in_front, behind_branches, behind_loop, behind_tried}
+use Rattle.law_operands.specs.law_files.sem_compile.stm_pieces.StmPiece.{begun_piece, value_piece, guarded_piece, ensured_piece, handled_piece, items_piece, stm_piece, all_piece, branches_piece, handlers_piece, block_piece, code_piece}
 use Rattle.law_typed_pieces.proofs.typed_pieces.Plain as plain
 use Rattle.law_typed_pieces.proofs.typed_pieces.Statements.{HoldsNone}
 use Rattle.law_typed_pieces.proofs.typed_pieces.LeadsForms.{val_plain, assigned_plain, augmented_plain, all_deleted_plain, failed_plain, returned_plain, thrown_plain, imported_plain, imported_from_plain, defined_plain}

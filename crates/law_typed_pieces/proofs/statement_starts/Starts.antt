@@ -13,9 +13,9 @@ use Rattle.pt_assembler.specs.Piece as P
 use Rattle.pt_assembler.specs.Piece.{Piece, pick}
 use Rattle.pt_assembler.specs.PieceAt.{target, start_of, Context, in_loop, under, over, row_of, Piece_at}
 use Rattle.sem_fits.specs.fits.Block.{Block}
-use Rattle.sem_compile.specs.stm_pieces.Needed.{free}
-use Rattle.sem_compile.specs.stm_pieces.Laws.{outermost, slots_of}
-use Rattle.sem_compile.specs.stm_pieces.StmPiece.{all_piece, block_piece, lambda_piece, generator_piece, code_piece}
+use Rattle.law_operands.specs.law_files.sem_compile.stm_pieces.Needed.{free}
+use Rattle.law_operands.specs.law_files.sem_compile.stm_pieces.Laws.{outermost, slots_of}
+use Rattle.law_operands.specs.law_files.sem_compile.stm_pieces.StmPiece.{all_piece, block_piece, lambda_piece, generator_piece, code_piece}
 use Rattle.law_typed_pieces.proofs.typed_pieces.Tables.{lambda_plain, generator_plain}
 use Rattle.law_typed_pieces.proofs.start_lines.Lines.{EachLine, plain_lines}
 use Rattle.law_typed_pieces.proofs.leave_targets.Targets.{Holds, holds, front}

@@ -13,8 +13,8 @@ use Rattle.sem_control.specs.control.Jump.{Shape, Target, with_name, body_at, wi
 use Rattle.pt_assembler.specs.declared.operation.Exit.TheVariants.{Break, Continue}
 use Rattle.pt_assembler.specs.Piece as P
 use Rattle.pt_assembler.specs.Piece.{Piece}
-use Rattle.sem_compile.specs.stm_pieces.Needed.{some_exits, some_branch_goes_on, is_silent, leaves, Behind, needed, free, is_needed, needed_if, in_front, behind_branches, behind_loop, behind_tried}
-use Rattle.sem_compile.specs.stm_pieces.StmPiece.{begun_piece, guarded_piece, ensured_piece, handled_piece, items_piece, stm_piece, all_piece, branches_piece, handlers_piece, code_piece}
+use Rattle.law_operands.specs.law_files.sem_compile.stm_pieces.Needed.{some_exits, some_branch_goes_on, is_silent, leaves, Behind, needed, free, is_needed, needed_if, in_front, behind_branches, behind_loop, behind_tried}
+use Rattle.law_operands.specs.law_files.sem_compile.stm_pieces.StmPiece.{begun_piece, guarded_piece, ensured_piece, handled_piece, items_piece, stm_piece, all_piece, branches_piece, handlers_piece, code_piece}
 use Rattle.law_pieces.proofs.piece_kinds.PieceLaw.{not_both}
 use Rattle.law_typed_pieces.proofs.start_lines.Lines.{EachLine, EachTarget}
 

@@ -5,8 +5,8 @@ use Rattle.pt_tree.specs.Blocks.{function_body}
 use Rattle.pt_tree.specs.Syntax.{Stms}
 use Rattle.sem_control.specs.control.Turn.{Around}
 use Rattle.sem_fits.specs.fits.Block.{Block}
-use Rattle.sem_compile.specs.stm_pieces.Names.{TakesCells, All_named}
-use Rattle.sem_compile.specs.stm_pieces.StmPiece.{block_piece}
+use Rattle.law_operands.specs.law_files.sem_compile.stm_pieces.Names.{TakesCells, All_named}
+use Rattle.law_operands.specs.law_files.sem_compile.stm_pieces.StmPiece.{block_piece}
 use Rattle.law_pieces.specs.piece_kinds.Table.{next_of}
 use Rattle.law_pieces.specs.piece_kinds.Laws.{outermost}
 use Rattle.law_typed_pieces.specs.typed_pieces.Laws.{IsWhole, PiecesAreTyped}

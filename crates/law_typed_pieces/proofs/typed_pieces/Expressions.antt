@@ -17,9 +17,9 @@ use Rattle.pt_assembler.specs.declared.operation.Jump.TheVariants.{AtEnd, Always
 use Rattle.pt_assembler.specs.Piece as P
 use Rattle.pt_assembler.specs.Piece.{Piece, pick}
 use Rattle.sem_fits.specs.fits.Block.{Links}
-use Rattle.sem_compile.specs.emitter.Ops.{operation}
-use Rattle.sem_compile.specs.emitter.ExpPiece.{null_piece, made_piece, op_piece, renewed_piece, exp_piece, part_piece, exps_piece, entries_piece, args_piece, pieces_piece, spec_piece, links_piece, ands_piece, ors_piece, formals_piece, first_piece, clauses_piece, item_piece, target_piece, targets_piece, place_piece}
-use Rattle.sem_compile.specs.stm_pieces.Names.{AllOwn, AllCells, TakesCells, Exp_named, Part_named, Exps_named, Pieces_named, Entries_named, Links_named, Operands_named, Args_named, Formals_named, Clauses_named, Made_named, Target_named, Targets_named, Place_named}
+use Rattle.law_operands.specs.law_files.sem_compile.emitter.Ops.{operation}
+use Rattle.law_operands.specs.law_files.sem_compile.emitter.ExpPiece.{null_piece, made_piece, op_piece, renewed_piece, exp_piece, part_piece, exps_piece, entries_piece, args_piece, pieces_piece, spec_piece, links_piece, ands_piece, ors_piece, formals_piece, first_piece, clauses_piece, item_piece, target_piece, targets_piece, place_piece}
+use Rattle.law_operands.specs.law_files.sem_compile.stm_pieces.Names.{AllOwn, AllCells, TakesCells, Exp_named, Part_named, Exps_named, Pieces_named, Entries_named, Links_named, Operands_named, Args_named, Formals_named, Clauses_named, Made_named, Target_named, Targets_named, Place_named}
 use Rattle.law_pieces.specs.piece_kinds.Walk.{Loop, Known, StackMap, to_none, to_one, Setting, end_of}
 use Rattle.law_pieces.specs.piece_kinds.Typed.{Over, plainly, turned}
 use Rattle.law_pieces.proofs.piece_kinds.ListLemmas.{over_more, over_all}

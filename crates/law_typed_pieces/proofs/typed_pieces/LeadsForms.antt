@@ -23,10 +23,10 @@ use Rattle.pt_assembler.specs.Piece.{Piece, pick}
 use Rattle.pt_assembler.specs.declared.operation.Target.{Target}
 use Rattle.pt_assembler.specs.PieceAt.{Context, Piece_at}
 use Rattle.sem_fits.specs.fits.Block.{Block}
-use Rattle.sem_compile.specs.emitter.ExpPiece.{null_piece, exp_piece, target_piece}
-use Rattle.sem_compile.specs.stm_pieces.Needed.{some_exits, some_branch_goes_on, is_silent, leaves, Behind, needed, free, is_needed, needed_if, in_front, behind_branches, behind_loop, behind_tried}
-use Rattle.sem_compile.specs.stm_pieces.StmPiece.{delete_in, begun_piece, value_piece, store_piece, assigned_piece, augmented_piece, deleted_piece, all_deleted_piece, failed_piece, returned_piece, thrown_piece, imported_piece, imported_from_piece, bound_piece, definition_piece, defined_piece, guarded_piece, ensured_piece, handled_piece, taken_piece, items_piece, stm_piece, all_piece, branches_piece, handlers_piece}
-use Rattle.sem_compile.specs.stm_pieces.Names.{TakesCells, Value_named, Items_named, Target_named, Stm_named, All_named, Branches_named, Handlers_named}
+use Rattle.law_operands.specs.law_files.sem_compile.emitter.ExpPiece.{null_piece, exp_piece, target_piece}
+use Rattle.law_operands.specs.law_files.sem_compile.stm_pieces.Needed.{some_exits, some_branch_goes_on, is_silent, leaves, Behind, needed, free, is_needed, needed_if, in_front, behind_branches, behind_loop, behind_tried}
+use Rattle.law_operands.specs.law_files.sem_compile.stm_pieces.StmPiece.{delete_in, begun_piece, value_piece, store_piece, assigned_piece, augmented_piece, deleted_piece, all_deleted_piece, failed_piece, returned_piece, thrown_piece, imported_piece, imported_from_piece, bound_piece, definition_piece, defined_piece, guarded_piece, ensured_piece, handled_piece, taken_piece, items_piece, stm_piece, all_piece, branches_piece, handlers_piece}
+use Rattle.law_operands.specs.law_files.sem_compile.stm_pieces.Names.{TakesCells, Value_named, Items_named, Target_named, Stm_named, All_named, Branches_named, Handlers_named}
 use Rattle.law_pieces.specs.piece_kinds.Walk.{Loop, Known, StackMap, behind_op, to_none, is_empty, Setting, with_label, with_none, with_loop, end_of, behind}
 use Rattle.law_pieces.specs.piece_kinds.Typed.{Over}
 use Rattle.law_pieces.specs.piece_kinds.Table.{next_of, Rises, Table}

@@ -16,10 +16,10 @@ use Rattle.pt_assembler.specs.Piece as P
 use Rattle.pt_assembler.specs.Piece.{Op}
 use Rattle.sem_fits.specs.fits.Block.{Links, effect}
 use Rattle.sem_fits.proofs.fits.KindLemmas.{reverse_replicate}
-use Rattle.sem_compile.specs.emitter.Ops.{load_in, store_in, renew_in, cell_in, text_of, last_names, are_plain, call_by, call}
-use Rattle.sem_compile.specs.emitter.ExpPiece.{unpack_op}
-use Rattle.sem_compile.specs.stm_pieces.StmPiece.{delete_in}
-use Rattle.sem_compile.specs.stm_pieces.Names.{IsOwn, IsCell}
+use Rattle.law_operands.specs.law_files.sem_compile.emitter.Ops.{load_in, store_in, renew_in, cell_in, text_of, last_names, are_plain, call_by, call}
+use Rattle.law_operands.specs.law_files.sem_compile.emitter.ExpPiece.{unpack_op}
+use Rattle.law_operands.specs.law_files.sem_compile.stm_pieces.StmPiece.{delete_in}
+use Rattle.law_operands.specs.law_files.sem_compile.stm_pieces.Names.{IsOwn, IsCell}
 use Rattle.law_pieces.specs.piece_kinds.Walk.{Loop, Known, StackMap, kinds_of, some, made, instr_of, to_none}
 use Rattle.law_pieces.specs.piece_kinds.Typed.{Over, IsUniform, AllHoldIn}
 use Rattle.law_pieces.proofs.piece_kinds.ListLemmas.{kind as kind_of, kinds_append}

@@ -15,8 +15,8 @@ use Rattle.pt_assembler.specs.declared.operation.Exit.{Exit}
 use Rattle.pt_assembler.specs.Piece as P
 use Rattle.pt_assembler.specs.Piece.{Piece}
 use Rattle.sem_fits.specs.fits.Block.{Links}
-use Rattle.sem_compile.specs.emitter.Ops.{load_in, store_in, renew_in, cell_in, text_of, last_names, are_plain, call_by, operation}
-use Rattle.sem_compile.specs.emitter.ExpPiece.{unpack_op, made_piece, op_piece, renewed_piece, exp_piece, part_piece, exps_piece, entries_piece, args_piece, pieces_piece, spec_piece, links_piece, ands_piece, ors_piece, formals_piece, first_piece, clauses_piece, item_piece, target_piece, targets_piece, place_piece}
+use Rattle.law_operands.specs.law_files.sem_compile.emitter.Ops.{load_in, store_in, renew_in, cell_in, text_of, last_names, are_plain, call_by, operation}
+use Rattle.law_operands.specs.law_files.sem_compile.emitter.ExpPiece.{unpack_op, made_piece, op_piece, renewed_piece, exp_piece, part_piece, exps_piece, entries_piece, args_piece, pieces_piece, spec_piece, links_piece, ands_piece, ors_piece, formals_piece, first_piece, clauses_piece, item_piece, target_piece, targets_piece, place_piece}
 use Rattle.law_pieces.specs.piece_kinds.Walk.{Loop, StackMap, Setting, with_label, with_none, end_of, deepened, behind}
 use Rattle.law_pieces.specs.piece_kinds.Exits.{NeverLeaves, ExitsAre}
 

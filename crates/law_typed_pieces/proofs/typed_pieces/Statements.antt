@@ -22,10 +22,10 @@ use Rattle.pt_assembler.specs.declared.operation.Jump.TheVariants.{AtEnd, Always
 use Rattle.pt_assembler.specs.Piece as P
 use Rattle.pt_assembler.specs.Piece.{Piece, pick}
 use Rattle.sem_fits.specs.fits.Block.{Links}
-use Rattle.sem_compile.specs.emitter.ExpPiece.{null_piece, exp_piece, target_piece}
-use Rattle.sem_compile.specs.stm_pieces.Needed.{some_exits, some_branch_goes_on, is_silent, leaves, Behind, needed, free, is_needed, needed_if, in_front, behind_branches, behind_loop, behind_tried}
-use Rattle.sem_compile.specs.stm_pieces.StmPiece.{begun_piece, value_piece, store_piece, assigned_piece, changed_piece, augmented_piece, deleted_piece, all_deleted_piece, failed_piece, returned_piece, thrown_piece, imported_piece, imported_from_piece, bound_piece, definition_piece, defined_piece, guarded_piece, ensured_piece, handled_piece, taken_piece, items_piece, stm_piece, all_piece, branches_piece, handlers_piece, block_piece, lambda_piece, yielded_piece, generator_piece}
-use Rattle.sem_compile.specs.stm_pieces.Names.{TakesCells, Value_named, Opt_named, Changed_named, All_deleted_named, Definition_named, Parameters_named, Items_named, Place_named, Target_named, Targets_named, Clauses_named, Stm_named, All_named, Branches_named, Handlers_named}
+use Rattle.law_operands.specs.law_files.sem_compile.emitter.ExpPiece.{null_piece, exp_piece, target_piece}
+use Rattle.law_operands.specs.law_files.sem_compile.stm_pieces.Needed.{some_exits, some_branch_goes_on, is_silent, leaves, Behind, needed, free, is_needed, needed_if, in_front, behind_branches, behind_loop, behind_tried}
+use Rattle.law_operands.specs.law_files.sem_compile.stm_pieces.StmPiece.{begun_piece, value_piece, store_piece, assigned_piece, changed_piece, augmented_piece, deleted_piece, all_deleted_piece, failed_piece, returned_piece, thrown_piece, imported_piece, imported_from_piece, bound_piece, definition_piece, defined_piece, guarded_piece, ensured_piece, handled_piece, taken_piece, items_piece, stm_piece, all_piece, branches_piece, handlers_piece, block_piece, lambda_piece, yielded_piece, generator_piece}
+use Rattle.law_operands.specs.law_files.sem_compile.stm_pieces.Names.{TakesCells, Value_named, Opt_named, Changed_named, All_deleted_named, Definition_named, Parameters_named, Items_named, Place_named, Target_named, Targets_named, Clauses_named, Stm_named, All_named, Branches_named, Handlers_named}
 use Rattle.sem_code.specs.slots.Slots.{or_else}
 use Rattle.law_pieces.specs.piece_kinds.Walk.{Loop, Known, StackMap, made, held, to_none, to_one, is_empty, Setting, with_none, with_label, with_loop, end_of, flow, behind}
 use Rattle.law_pieces.specs.piece_kinds.Typed.{Over, EndsAt, plainly, Typed}

@@ -15,10 +15,10 @@ use Rattle.pt_assembler.specs.Piece as P
 use Rattle.pt_assembler.specs.Piece.{Op, Piece, pick}
 use Rattle.pt_assembler.specs.PieceAt.{instr_to, target, start_of, Is, Context, over, Piece_at}
 use Rattle.sem_fits.specs.fits.Block.{Block, kinds_at_start}
-use Rattle.sem_compile.specs.stm_pieces.Laws.{slots_of}
-use Rattle.sem_compile.specs.stm_pieces.Needed.{free}
-use Rattle.sem_compile.specs.stm_pieces.StmPiece.{all_piece, block_piece, lambda_piece, yielded_piece, generator_piece, code_piece}
-use Rattle.sem_compile.specs.stm_pieces.Names.{TakesCells, All_named, Code_named}
+use Rattle.law_operands.specs.law_files.sem_compile.stm_pieces.Laws.{slots_of}
+use Rattle.law_operands.specs.law_files.sem_compile.stm_pieces.Needed.{free}
+use Rattle.law_operands.specs.law_files.sem_compile.stm_pieces.StmPiece.{all_piece, block_piece, lambda_piece, yielded_piece, generator_piece, code_piece}
+use Rattle.law_operands.specs.law_files.sem_compile.stm_pieces.Names.{TakesCells, All_named, Code_named}
 use Rattle.law_pieces.specs.piece_kinds.Walk.{StackMap, kinds_of, some}
 use Rattle.law_pieces.specs.piece_kinds.Table.{next_of, Rises, Table}
 use Rattle.law_pieces.specs.piece_kinds.Exits.{LeadsBelow}

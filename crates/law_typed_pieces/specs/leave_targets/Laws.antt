@@ -7,9 +7,9 @@ use Rattle.sem_code.specs.slots.CodeObject.{CodeObject}
 use Rattle.pt_assembler.specs.PieceAt.{Piece_at}
 use Rattle.sem_fits.specs.fits.Block.{Block, kinds_at_start}
 use Rattle.sem_fits.specs.fits.Agreement.{Agrees}
-use Rattle.sem_compile.specs.stm_pieces.Names.{TakesCells, Code_named}
-use Rattle.sem_compile.specs.stm_pieces.Laws.{outermost, slots_of}
-use Rattle.sem_compile.specs.stm_pieces.StmPiece.{code_piece}
+use Rattle.law_operands.specs.law_files.sem_compile.stm_pieces.Names.{TakesCells, Code_named}
+use Rattle.law_operands.specs.law_files.sem_compile.stm_pieces.Laws.{outermost, slots_of}
+use Rattle.law_operands.specs.law_files.sem_compile.stm_pieces.StmPiece.{code_piece}
 use Rattle.law_pieces.specs.piece_kinds.Walk.{kinds_of}
 use Rattle.law_pieces.specs.piece_kinds.Table.{Rises}
 use Rattle.law_typed_pieces.specs.typed_pieces.Laws.{first_slots}

@@ -7,8 +7,8 @@ use Rattle.pt_scopes.specs.Refusals.{fault_of}
 use Rattle.sem_code.specs.slots.CodeObject.{CodeObject}
 use Rattle.pt_assembler.specs.Laws.{Shows}
 use Rattle.sem_fits.specs.fits.Fits.{SilentLoop}
-use Rattle.sem_compile.specs.stm_pieces.Names.{Code_named}
-use Rattle.sem_compile.specs.compile.ScriptCode.{BlockLayout, script_layouts, code_block, code_of}
+use Rattle.law_operands.specs.law_files.sem_compile.stm_pieces.Names.{Code_named}
+use Rattle.law_operands.specs.law_files.sem_compile.compile.ScriptCode.{BlockLayout, script_layouts, code_block, code_of}
 use Rattle.law_typed_pieces.specs.script_tables.Laws.{around_block, block_in, TakesAll}
 
 -- each loop of a block of a script has an act

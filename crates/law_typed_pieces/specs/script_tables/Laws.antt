@@ -11,9 +11,9 @@ use Rattle.pt_assembler.specs.Laws.{Shows}
 use Rattle.sem_names.specs.Around.{around_of}
 use Rattle.sem_fits.specs.fits.Block as F
 use Rattle.sem_fits.specs.fits.Jumps.{Starts}
-use Rattle.sem_compile.specs.stm_pieces.Names.{Code_named}
-use Rattle.sem_compile.specs.stm_pieces.StmPiece.{code_piece}
-use Rattle.sem_compile.specs.compile.ScriptCode.{BlockLayout, script_layouts, code_block, code_of}
+use Rattle.law_operands.specs.law_files.sem_compile.stm_pieces.Names.{Code_named}
+use Rattle.law_operands.specs.law_files.sem_compile.stm_pieces.StmPiece.{code_piece}
+use Rattle.law_operands.specs.law_files.sem_compile.compile.ScriptCode.{BlockLayout, script_layouts, code_block, code_of}
 use Rattle.law_pieces.specs.piece_kinds.Table.{IsTableOf}
 use Rattle.law_pieces.specs.piece_kinds.Laws.{table_of}
 use Rattle.law_typed_pieces.specs.typed_pieces.Laws.{first_slots}

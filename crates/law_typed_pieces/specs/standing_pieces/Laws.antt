@@ -13,7 +13,7 @@ use Rattle.sem_fits.specs.fits.Block.{Links, links_of}
 use Rattle.sem_fits.specs.fits.Standing.{may_stand}
 use Rattle.law_pieces.specs.piece_kinds.Exits.{is_leave}
 use Rattle.pt_code.specs.declared.BlockKind.{BlockKind}
-use Rattle.sem_compile.specs.compile.ScriptCode.{BlockLayout, code_of, script_layouts}
+use Rattle.law_operands.specs.law_files.sem_compile.compile.ScriptCode.{BlockLayout, code_of, script_layouts}
 
 -- an exit of a loop is written with its label
 abbrev pub LeavesByLabel : Operation → Type 0

@@ -7,8 +7,8 @@ use Rattle.pt_code.specs.declared.Const.{Const}
 use Rattle.sem_control.specs.control.Turn.{Around}
 use Rattle.sem_control.specs.control.Jump.{starts_of, on_line}
 use Rattle.pt_assembler.specs.Layout.{begun, layout}
-use Rattle.sem_compile.specs.stm_pieces.Laws.{slots_of}
-use Rattle.sem_compile.specs.stm_pieces.StmPiece.{code_piece}
+use Rattle.law_operands.specs.law_files.sem_compile.stm_pieces.Laws.{slots_of}
+use Rattle.law_operands.specs.law_files.sem_compile.stm_pieces.StmPiece.{code_piece}
 
 abbrev pub StartsHaveStatements : (V : Type 0) → Type 0
 StartsHaveStatements V = (around : Around V) (c : Code) (texts : List Name) (constants : List Const) (lists : List (List ℕ)) (locals cells free : List TextNo) (pc line : ℕ)

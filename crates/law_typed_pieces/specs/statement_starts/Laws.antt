@@ -7,8 +7,8 @@ use Rattle.sem_control.specs.control.Jump.{Target, starts_of, on_line}
 use Rattle.sem_code.specs.slots.CodeObject.{CodeObject}
 use Rattle.pt_assembler.specs.PieceAt.{Piece_at}
 use Rattle.sem_fits.specs.fits.Block.{Block}
-use Rattle.sem_compile.specs.stm_pieces.Laws.{outermost, slots_of}
-use Rattle.sem_compile.specs.stm_pieces.StmPiece.{code_piece}
+use Rattle.law_operands.specs.law_files.sem_compile.stm_pieces.Laws.{outermost, slots_of}
+use Rattle.law_operands.specs.law_files.sem_compile.stm_pieces.StmPiece.{code_piece}
 
 -- a place that the table of starts has for a line, and an instruction stands there
 pub record HasStart (b : Block) (starts : List Start) (line : ℕ) : Type 0 where

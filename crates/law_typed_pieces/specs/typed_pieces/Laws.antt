@@ -9,9 +9,9 @@ use Rattle.sem_code.specs.slots.CodeObject.{CodeObject}
 use Rattle.pt_assembler.specs.Piece.{Piece}
 use Rattle.pt_assembler.specs.PieceAt.{Piece_at}
 use Rattle.sem_fits.specs.fits.Block.{Block, kinds_at_start}
-use Rattle.sem_compile.specs.stm_pieces.Names.{TakesCells, Code_named}
-use Rattle.sem_compile.specs.stm_pieces.StmPiece.{code_piece}
-use Rattle.sem_compile.specs.stm_pieces.Laws.{outermost, slots_of}
+use Rattle.law_operands.specs.law_files.sem_compile.stm_pieces.Names.{TakesCells, Code_named}
+use Rattle.law_operands.specs.law_files.sem_compile.stm_pieces.StmPiece.{code_piece}
+use Rattle.law_operands.specs.law_files.sem_compile.stm_pieces.Laws.{outermost, slots_of}
 use Rattle.law_pieces.specs.piece_kinds.Walk.{StackMap, kinds_of, some}
 use Rattle.law_pieces.specs.piece_kinds.Table.{Rises, IsTableOf}
 use Rattle.law_pieces.specs.piece_kinds.Laws.{table_of, IsTyped, Ends}

@@ -1,10 +1,10 @@
 use Rattle.std.proofs.Common.{arith}
 use Rattle.std.proofs.lemmas.Grind.{common_steps}
 use Rattle.pt_tree.proofs.StatementFolds.{branch_of-parts, handler_of-parts, stm_of-Annotated, stm_of-Assert, stm_of-Assign, stm_of-Augmented, stm_of-Break, stm_of-Class, stm_of-Continue, stm_of-Def, stm_of-Del, stm_of-Expr, stm_of-For, stm_of-Global, stm_of-If, stm_of-Import, stm_of-ImportFrom, stm_of-Nonlocal, stm_of-Pass, stm_of-Raise, stm_of-RaiseAgain, stm_of-Return, stm_of-Try, stm_of-While, stm_of-With}
-use Rattle.pt_stm_forms.proofs.SimpleForms.{expr-form, assign-form, augmented-form, annotated-form, assert-form, pass-form, del-form, return-form, raise-form, raise_again-form, break-form, continue-form, import-form, import_from-form, global-form, nonlocal-form, def-form, class-form}
-use Rattle.pt_stm_forms.proofs.ContextForms.{with-form}
-use Rattle.pt_stm_forms.proofs.CompoundForms.{choice-form, while-form, for-form, suite-act}
-use Rattle.pt_stm_forms.proofs.TryForms.{try-form}
+use Rattle.pt_write_simple.proofs.pt_stm_forms.SimpleForms.{expr-form, assign-form, augmented-form, annotated-form, assert-form, pass-form, del-form, return-form, raise-form, raise_again-form, break-form, continue-form, import-form, import_from-form, global-form, nonlocal-form, def-form, class-form}
+use Rattle.pt_write_simple.proofs.pt_stm_forms.ContextForms.{with-form}
+use Rattle.pt_write_simple.proofs.pt_stm_forms.CompoundForms.{choice-form, while-form, for-form, suite-act}
+use Rattle.pt_write_simple.proofs.pt_stm_forms.TryForms.{try-form}
 use Rattle.pt_comp.proofs.Rules.{caught-is, guarded-none, guarded-some, last-number, new_label-place, none-size}
 use Rattle.pt_comp.proofs.+statements.Goals as goal
 

@@ -3,7 +3,7 @@ use Rattle.pt_tree.specs.Syntax as S
 use Rattle.pt_tree.specs.Fold.{chained}
 use Rattle.pt_tree.specs.StatementFold.{branch_of, handler_of, items_of, stms_of}
 use Rattle.pt_exits.specs.Asked.{asked}
-use Rattle.pt_stm_forms.specs.Compound.{behind_branches, behind_handlers, behind_items, behind_suite}
+use Rattle.pt_write_simple.specs.pt_stm_forms.Compound.{behind_branches, behind_handlers, behind_items, behind_suite}
 use Rattle.pt_comp.proofs.Rules.{suite_from}
 use Rattle.pt_comp.proofs.+statements.Given as goal
 

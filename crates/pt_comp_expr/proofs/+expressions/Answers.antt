@@ -15,12 +15,12 @@ use Rattle.pt_tree.specs.declared.expression.Target.{Target}
 use Rattle.pt_tree.specs.Fold.{ClauseOf, all_of, argument_of, chained, clause_of, entry_of, exp_of, formal_of, parameters_of, piece_of, target_of, targets_of}
 use Rattle.pt_tree.proofs.Folds.{exp_of-Constant, exp_of-Name, exp_of-Joined, exp_of-Tuple, exp_of-List, exp_of-Set, exp_of-Dict, exp_of-Attribute, exp_of-Item, exp_of-Slice, exp_of-Unary, exp_of-Not, exp_of-Binary, exp_of-Compare, exp_of-And, exp_of-Or, exp_of-Conditional, exp_of-Call, exp_of-Lambda, exp_of-ListComprehension, exp_of-SetComprehension, exp_of-DictComprehension, exp_of-Generator, exp_of-Yield, exp_of-YieldFrom, piece_of-Literal, place_node_of-Name, clause_of-parts, entry_of-parts, link_of-parts, parameters_of-parts}
 use Rattle.sem_control.specs.control.Expressions.{all_defaulted}
-use Rattle.pt_expr_forms.specs.Behind.{known, behind_all, behind_args, behind_defaults, behind_entries, behind_exp, behind_literal, behind_operands, behind_pieces, behind_target, behind_targets, defaults_count, entries_count, exps_count, pieces_count}
-use Rattle.pt_expr_forms.specs.Loops.{behind_iterator, behind_turn}
-use Rattle.pt_expr_forms.proofs.Counts.{exps_count-all, entries_count-all, pieces_count-all}
-use Rattle.pt_expr_forms.proofs.Forms.{constant-form, joined-form, attribute-form, item-form, slice-form, unary-form, not-form, binary-form, compare-form, and-form, or-form, conditional-form, call-form, generator-form, yield-form, yield_from-form, name_at-form, function-written}
-use Rattle.pt_expr_forms.proofs.LoopForms.{list-form, set-form, dict-made-form}
-use Rattle.pt_expr_forms.proofs.LoopSteps.{iterator-written, turn-written, begun-written}
+use Rattle.pt_write_leaves.specs.pt_expr_forms.Behind.{known, behind_all, behind_args, behind_defaults, behind_entries, behind_exp, behind_literal, behind_operands, behind_pieces, behind_target, behind_targets, defaults_count, entries_count, exps_count, pieces_count}
+use Rattle.pt_write_leaves.specs.pt_expr_forms.Loops.{behind_iterator, behind_turn}
+use Rattle.pt_write_leaves.proofs.pt_expr_forms.Counts.{exps_count-all, entries_count-all, pieces_count-all}
+use Rattle.pt_write_leaves.proofs.pt_expr_forms.Forms.{constant-form, joined-form, attribute-form, item-form, slice-form, unary-form, not-form, binary-form, compare-form, and-form, or-form, conditional-form, call-form, generator-form, yield-form, yield_from-form, name_at-form, function-written}
+use Rattle.pt_write_leaves.proofs.pt_expr_forms.LoopForms.{list-form, set-form, dict-made-form}
+use Rattle.pt_write_leaves.proofs.pt_expr_forms.LoopSteps.{iterator-written, turn-written, begun-written}
 use Rattle.pt_comp_expr.proofs.Rules.{parts, conditions-left, default-none, default-some, default-left, display-written, dictionary-written}
 use Rattle.pt_comp_expr.proofs.+expressions.Goals as goal
 

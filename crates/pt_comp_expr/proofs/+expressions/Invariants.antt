@@ -1,8 +1,8 @@
 use Rattle.std.proofs.Common.{◌≡◌, ◌+◌, drop, map}
 use Rattle.pt_tree.specs.Syntax as S
 use Rattle.pt_tree.specs.Fold.{all_of, argument_of, chained, clause_of, entry_of, exp_of, formal_of, link_of, piece_of, target_of, targets_of}
-use Rattle.pt_expr_forms.specs.Behind.{behind_all, behind_args, behind_defaults, behind_entries, behind_links, behind_operands, behind_pieces, behind_targets, defaults_count, links_ended}
-use Rattle.pt_expr_forms.specs.Loops.{behind_clauses, behind_conditions, last_loop}
+use Rattle.pt_write_leaves.specs.pt_expr_forms.Behind.{behind_all, behind_args, behind_defaults, behind_entries, behind_links, behind_operands, behind_pieces, behind_targets, defaults_count, links_ended}
+use Rattle.pt_write_leaves.specs.pt_expr_forms.Loops.{behind_clauses, behind_conditions, last_loop}
 use Rattle.pt_comp_expr.proofs.+expressions.Given as goal
 
 abbrev pub invariant-operands::display_code-loop-item : goal.invariant-operands::display_code-loop-item

@@ -1,7 +1,7 @@
 use Rattle.std.proofs.Common.{◌∙◌, ap, sym}
 use Rattle.pt_tree.specs.declared.expression.Constant.TheVariants as constant
 use Rattle.sem_code.specs.slots.BlockObject.{constant_of}
-use Rattle.pt_host.specs.Answers.{constant_value}
+use Rattle.pt_code_tables.specs.pt_builtins.pt_host.Answers.{constant_value}
 use Rattle.pt_code_loader.proofs.TextLemmas.{text_value, id_at}
 use Rattle.pt_code_loader.proofs.constants.value_of.Goals as goal
 

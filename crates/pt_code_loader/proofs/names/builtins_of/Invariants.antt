@@ -1,6 +1,6 @@
 use Rattle.std.proofs.Common.{◌≡◌, map, take}
-use Rattle.pt_host.specs.Builtins.{builtin}
-use Rattle.pt_builtins.specs.Lookups.{builtin_view}
+use Rattle.pt_code_tables.specs.pt_builtins.pt_host.Builtins.{builtin}
+use Rattle.pt_code_tables.specs.pt_builtins.Lookups.{builtin_view}
 use Rattle.pt_code_loader.proofs.names.builtins_of.Given as goal
 
 abbrev pub invariant-loop-text : goal.invariant-loop-text

@@ -1,8 +1,8 @@
 use Rattle.std.proofs.Common.{◌+◌, ◌++◌, map, ap, ◌∙◌, refl}
 use Rattle.pt_heap.specs.declared.object.Object.TheVariants.{Str}
 use Rattle.pt_builtin_objects.specs.Start.{start_objects}
-use Rattle.pt_machine_state.specs.declared.machine.Machine.{Machine}
-use Rattle.pt_machine_state.specs.declared.machine.Standing.TheVariants as standing
+use Rattle.pt_code_tables.specs.pt_machine_state.declared.machine.Machine.{Machine}
+use Rattle.pt_code_tables.specs.pt_machine_state.declared.machine.Standing.TheVariants as standing
 use Rattle.pt_code_loader.proofs.StartLemmas.{begun}
 use Rattle.pt_code_loader.proofs.starting.start.Goals as goal
 

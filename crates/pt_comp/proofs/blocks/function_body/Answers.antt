@@ -1,7 +1,7 @@
 use Rattle.std.proofs.Common.{◌≡◌, ◌∙◌, sym, subst}
 use Rattle.std.specs.Prelude.{OnOk}
 use Rattle.pt_assembler.specs.Layout.{Written}
-use Rattle.sem_compile.specs.stm_pieces.Needed.{free}
+use Rattle.pt_write_ops.specs.sem_compile.stm_pieces.Needed.{free}
 use Rattle.pt_comp.proofs.Bodies.{documented}
 use Rattle.pt_comp.proofs.blocks.function_body.Goals as goal
 

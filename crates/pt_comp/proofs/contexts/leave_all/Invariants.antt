@@ -1,5 +1,5 @@
 use Rattle.std.proofs.Common.{◌≡◌, length}
-use Rattle.pt_stm_forms.specs.Compound.{behind_all_left}
+use Rattle.pt_write_simple.specs.pt_stm_forms.Compound.{behind_all_left}
 use Rattle.pt_comp.proofs.contexts.leave_all.Given as goal
 
 abbrev pub invariant-loop-context : goal.invariant-loop-context

@@ -1,6 +1,6 @@
 use Rattle.std.proofs.Common.{ap, sym, arith}
 use Rattle.pt_tree.proofs.StatementFolds.{stm_of-Pass, stm_of-RaiseAgain, stm_of-Break, stm_of-Continue, stm_of-Expr, stm_of-Assign, stm_of-Augmented, stm_of-Annotated, stm_of-Assert, stm_of-Del, stm_of-Return, stm_of-Raise, stm_of-Import, stm_of-ImportFrom, stm_of-Global, stm_of-Nonlocal, stm_of-If, stm_of-While, stm_of-For, stm_of-Try, stm_of-With, stm_of-Def, stm_of-Class}
-use Rattle.pt_stm_forms.specs.Blocks.{is_docstring}
+use Rattle.pt_write_simple.specs.pt_stm_forms.Blocks.{is_docstring}
 use Rattle.pt_comp.proofs.docstrings.is_docstring.Goals as goal
 
 pub returns-in-Expr : goal.returns-in-Expr

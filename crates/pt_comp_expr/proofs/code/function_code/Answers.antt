@@ -6,7 +6,7 @@ use Rattle.pt_tree.specs.Syntax.{Exp}
 use Rattle.pt_tree.specs.Fold.{parameters_of}
 use Rattle.pt_tree.specs.Sizes.{params_size}
 use Rattle.pt_assembler.specs.Layout.{Written}
-use Rattle.pt_expr_forms.proofs.Forms.{exp-laid, acts-exp}
+use Rattle.pt_write_leaves.proofs.pt_expr_forms.Forms.{exp-laid, acts-exp}
 use Rattle.pt_comp_expr.proofs.code.function_code.Goals as goal
 
 pub returns-clause-code : goal.returns-clause-code

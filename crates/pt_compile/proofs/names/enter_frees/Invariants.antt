@@ -1,6 +1,6 @@
 use Rattle.std.proofs.Common.{◌≡◌, drop}
 use Rattle.pt_assembler.specs.Layout.{with_free}
-use Rattle.sem_compile.specs.compile.ScriptCode.{with_all}
+use Rattle.law_files.specs.sem_compile.compile.ScriptCode.{with_all}
 use Rattle.pt_compile.proofs.names.enter_frees.Given as goal
 
 abbrev pub invariant-loop-name : goal.invariant-loop-name

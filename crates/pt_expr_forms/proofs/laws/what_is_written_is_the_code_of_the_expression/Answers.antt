@@ -1,7 +1,7 @@
 use Rattle.std.proofs.Common.{sym, subst}
 use Rattle.pt_assembler.specs.PieceAt.{Piece_at}
 use Rattle.pt_block_names.specs.Named.{around}
-use Rattle.sem_compile.proofs.emitter.Expressions.{piece_is_code}
+use Rattle.pt_write_ops.proofs.sem_compile.emitter.Expressions.{piece_is_code}
 use Rattle.pt_expr_forms.proofs.SameCode.{same-exp}
 use Rattle.pt_expr_forms.proofs.laws.what_is_written_is_the_code_of_the_expression.Goals as goal
 

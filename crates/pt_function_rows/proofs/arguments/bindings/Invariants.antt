@@ -1,5 +1,5 @@
 use Rattle.std.proofs.Common.{◌≡◌, ◌++◌, drop}
-use Rattle.pt_host.specs.Calls.{defaults_of}
+use Rattle.pt_moves.specs.sem_rows.pt_host.Calls.{defaults_of}
 use Rattle.pt_function_rows.proofs.arguments.bindings.Given as goal
 
 abbrev pub invariant-loop-at : goal.invariant-loop-at

@@ -1,7 +1,7 @@
 use Rattle.std.proofs.Common.{◌≡◌, drop}
 use Rattle.std.specs.Map.{lookup}
 use Rattle.std.specs.Str.{bytes_eq}
-use Rattle.pt_host.specs.Calls.{parameters_given}
+use Rattle.pt_moves.specs.sem_rows.pt_host.Calls.{parameters_given}
 use Rattle.pt_function_rows.proofs.opening.given.Given as goal
 
 abbrev pub invariant-loop-at : goal.invariant-loop-at

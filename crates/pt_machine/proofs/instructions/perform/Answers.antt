@@ -1,7 +1,7 @@
 use Rattle.std.proofs.Common.{◌≡◌, false, refl}
 use Rattle.pt_instr.specs.declared.Instr.{Instr}
 use Rattle.pt_instr.specs.declared.Instr.TheVariants as instr
-use Rattle.sem_rows.specs.unsupported_rows.Unsupported.{is_supported}
+use Rattle.pt_code_tables.specs.pt_machine_state.pt_code_facts.sem_rows.unsupported_rows.Unsupported.{is_supported}
 use Rattle.pt_machine.proofs.RowLemmas.{outside_row}
 use Rattle.pt_machine.proofs.instructions.perform.Goals as goal
 

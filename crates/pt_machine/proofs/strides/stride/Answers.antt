@@ -1,4 +1,4 @@
-use Rattle.pt_machine_state.specs.declared.machine.Stride.TheVariants as stride
+use Rattle.pt_code_tables.specs.pt_machine_state.declared.machine.Stride.TheVariants as stride
 use Rattle.pt_machine.proofs.StepLemmas.{none_there, stuck_stride}
 use Rattle.pt_machine.proofs.strides.stride.Goals as goal
 

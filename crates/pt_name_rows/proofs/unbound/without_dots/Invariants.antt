@@ -1,7 +1,7 @@
 use Rattle.std.proofs.Common.{◌≡◌, length}
 use denote.Shadow.{shadow}
 use denote.Text.{Utf8}
-use Rattle.pt_host.specs.Texts.{without_dots}
+use Rattle.pt_builtins.specs.pt_host.Texts.{without_dots}
 use Rattle.pt_name_rows.proofs.unbound.without_dots.Given as goal
 
 abbrev pub invariant-loop-behind : goal.invariant-loop-behind

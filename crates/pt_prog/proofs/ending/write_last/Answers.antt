@@ -3,7 +3,7 @@ use Rattle.std.proofs.Common.{◌≡◌, ◌∙◌, ℕ, List, Option, Result, O
 use Rattle.std.specs.Prelude.{IfOk}
 use Rattle.std.specs.Option.{option_map}
 use Rattle.sem_run.specs.run.Run.{Write}
-use Rattle.pt_run_code.specs.pt_runner.declared.ending.RunEnd.{RunEnd}
+use Rattle.pt_run_script.specs.pt_run_code.pt_runner.declared.ending.RunEnd.{RunEnd}
 use Rattle.pt_sinks.specs.Writing.{Took}
 use Rattle.pt_prog.specs.declared.end.End.{End}
 use Rattle.pt_prog.specs.LogText.{Text, final}

@@ -1,5 +1,5 @@
 use Rattle.std.proofs.Common.{◌≡◌, refl, subst}
-use Rattle.pt_run_code.specs.CodeRun.{CodeBrokeOff, CodeFinished}
+use Rattle.pt_run_script.specs.pt_run_code.CodeRun.{CodeBrokeOff, CodeFinished}
 use Rattle.pt_words.specs.Asked.{asked}
 use Rattle.pt_prog.specs.LogText.{final}
 use Rattle.pt_prog.specs.Answer.{IsRunnableFile, code_read, of_code, unbuilt_code}

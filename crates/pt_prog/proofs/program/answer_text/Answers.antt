@@ -1,6 +1,6 @@
 use Rattle.std.proofs.Common.{rules, ◌≡◌, ◌∙◌, ◌∷◌, [], ap, refl, string_bytes, subst, sym, true≢false}
 use Rattle.pt_base.specs.Failures.{IfRefused}
-use Rattle.sem_compile.specs.compile.ScriptCode.{code_of}
+use Rattle.law_files.specs.sem_compile.compile.ScriptCode.{code_of}
 use Rattle.pt_front.specs.Text.{IsRefused}
 use Rattle.pt_listing.specs.Listing.{IsListing}
 use Rattle.sem_run.specs.run.Run.{to_out, write}

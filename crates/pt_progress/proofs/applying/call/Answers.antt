@@ -1,20 +1,20 @@
 use Rattle.std.proofs.Common.{◌≡◌, ◌∙◌, ◌+◌, ◌<◌, ◌≤◌, [], ap, arith, length, rules, subst, sym}
 use Rattle.std.specs.Prelude.{codes, None}
 use Rattle.std.proofs.lemmas.Result.{IfOk-weaker}
-use Rattle.pt_host.specs.Errors.{error_saying}
-use Rattle.pt_host.specs.declared.places.TheConstants.{RECURSION_ERROR}
+use Rattle.sem_rows.specs.pt_host.Errors.{error_saying}
+use Rattle.sem_rows.specs.pt_host.declared.places.TheConstants.{RECURSION_ERROR}
 use Rattle.sem_run.specs.run.State.{most_activations}
 use Rattle.sem_rows.specs.heap_rows.Told.{block_id}
 use Rattle.sem_rows.specs.declared.heap_rows.progress.Progress.TheVariants.{Calls}
-use Rattle.pt_machine_state.specs.declared.blocks.BlockCode.{BlockCode}
-use Rattle.pt_machine_state.specs.declared.machine.Machine.{Machine}
-use Rattle.pt_machine_state.specs.declared.machine.Stride.TheVariants.{Goes}
-use Rattle.pt_machine_state.specs.Applies.{Applied}
-use Rattle.pt_machine_state.specs.Blocks.{block_at}
-use Rattle.pt_machine_state.specs.Changes.{events_of, opened}
-use Rattle.pt_machine_state.specs.Writing.{Adds}
-use Rattle.pt_machine_state.proofs.CallLemmas.{applied_calls}
-use Rattle.pt_machine_state.specs.Views.{active_of}
+use Rattle.pt_transfers.specs.pt_machine_state.declared.blocks.BlockCode.{BlockCode}
+use Rattle.pt_transfers.specs.pt_machine_state.declared.machine.Machine.{Machine}
+use Rattle.pt_transfers.specs.pt_machine_state.declared.machine.Stride.TheVariants.{Goes}
+use Rattle.pt_transfers.specs.pt_machine_state.Applies.{Applied}
+use Rattle.pt_transfers.specs.pt_machine_state.Blocks.{block_at}
+use Rattle.pt_transfers.specs.pt_machine_state.Changes.{events_of, opened}
+use Rattle.pt_transfers.specs.pt_machine_state.Writing.{Adds}
+use Rattle.pt_transfers.proofs.pt_machine_state.CallLemmas.{applied_calls}
+use Rattle.pt_transfers.specs.pt_machine_state.Views.{active_of}
 use Rattle.pt_progress.specs.Arising.{ArisesOf}
 use Rattle.pt_progress.proofs.ArisenLemmas.{too_deep_arisen}
 use Rattle.pt_progress.proofs.applying.call.Goals as goal

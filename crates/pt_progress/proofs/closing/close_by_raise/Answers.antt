@@ -1,10 +1,10 @@
 use Rattle.std.proofs.Common.{◌≡◌, refl, rules}
 use Rattle.std.specs.Prelude.{Some}
 use Rattle.pt_places.specs.PlaceTable.{entry}
-use Rattle.pt_machine_state.specs.Blocks.{block_at}
-use Rattle.pt_machine_state.specs.Changes.{raise_events, raised_at}
-use Rattle.pt_machine_state.specs.Views.{block_of}
-use Rattle.pt_machine_state.specs.Writing.{Adds}
+use Rattle.pt_transfers.specs.pt_machine_state.Blocks.{block_at}
+use Rattle.pt_transfers.specs.pt_machine_state.Changes.{raise_events, raised_at}
+use Rattle.pt_transfers.specs.pt_machine_state.Views.{block_of}
+use Rattle.pt_transfers.specs.pt_machine_state.Writing.{Adds}
 use Rattle.pt_progress.proofs.CallerLemmas.{raises_on}
 use Rattle.pt_progress.proofs.closing.close_by_raise.Goals as goal
 

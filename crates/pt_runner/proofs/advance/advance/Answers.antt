@@ -1,6 +1,6 @@
 use Rattle.std.proofs.Common.{rules}
 use Rattle.pt_machine.specs.Strides.{Strides}
-use Rattle.pt_machine_state.specs.declared.machine.Stride.TheVariants as stride
+use Rattle.pt_transfers.specs.pt_machine_state.declared.machine.Stride.TheVariants as stride
 use Rattle.pt_sinks.specs.declared.writing.WriteErr.TheVariants as error
 use Rattle.pt_runner.proofs.AdvanceLemmas.{broken_before, went_silently, if_err}
 use Rattle.pt_runner.proofs.advance.advance.Goals as goal

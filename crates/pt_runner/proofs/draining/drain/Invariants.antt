@@ -1,6 +1,6 @@
 use Rattle.std.proofs.Common.{◌≡◌, ◌≤◌, take}
 use Rattle.std.specs.Prelude.{map}
-use Rattle.pt_machine_state.specs.Writing.{piece_of}
+use Rattle.pt_transfers.specs.pt_machine_state.Writing.{piece_of}
 use Rattle.pt_sinks.specs.Writing.{Took}
 use Rattle.pt_runner.proofs.draining.drain.Given as goal
 

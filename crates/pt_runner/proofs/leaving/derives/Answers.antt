@@ -2,7 +2,7 @@ use Rattle.std.proofs.Common.{◌∙◌, ◌+◌, ◌-◌, sym, ap, slice_get}
 use Rattle.std.specs.Prelude.{◌||◌}
 use Rattle.std.specs.Option.{option_copied}
 use Rattle.pt_dicts.specs.Chain.{class_in}
-use Rattle.pt_host.specs.Leaving.{base_of, or_base, derives_within}
+use Rattle.sem_rows.specs.pt_host.Leaving.{base_of, or_base, derives_within}
 use Rattle.pt_runner.proofs.ChainLemmas.{within-more, other-class}
 use Rattle.pt_runner.proofs.leaving.derives.Goals as goal
 

@@ -1,5 +1,5 @@
 use Rattle.std.proofs.Common.{◌≡◌, ◌+◌, ◌-◌}
-use Rattle.pt_host.specs.Leaving.{derives_within}
+use Rattle.sem_rows.specs.pt_host.Leaving.{derives_within}
 use Rattle.pt_runner.proofs.leaving.derives.Given as goal
 
 abbrev pub invariant-loop-step : goal.invariant-loop-step

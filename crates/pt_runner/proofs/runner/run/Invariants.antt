@@ -1,5 +1,5 @@
 use Rattle.std.proofs.Common.{◌≡◌, ◌≤◌, []}
-use Rattle.pt_machine_state.specs.Writing.{pieces_of}
+use Rattle.pt_transfers.specs.pt_machine_state.Writing.{pieces_of}
 use Rattle.pt_runner.specs.Runs.{ModuleRun, IsReady}
 use Rattle.pt_runner.proofs.RunLemmas.{Reached}
 use Rattle.pt_runner.proofs.runner.run.Given as goal

@@ -3,7 +3,7 @@ use Rattle.std.proofs.lemmas.Result.{on_ok_weaker}
 use Rattle.sem_control.specs.control.Turn.{Variable}
 use Rattle.pt_assembler.specs.Piece.{act}
 use Rattle.pt_assembler.specs.Layout.{layout}
-use Rattle.sem_compile.specs.emitter.Ops.{store}
+use Rattle.pt_write_ops.specs.sem_compile.emitter.Ops.{store}
 use Rattle.pt_write_leaves.proofs.leaves.bind_name.Goals as goal
 
 pub returns : goal.returns

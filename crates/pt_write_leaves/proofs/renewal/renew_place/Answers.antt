@@ -6,7 +6,7 @@ use Rattle.sem_control.specs.control.Turn.{Variable}
 use Rattle.sem_control.specs.control.Expressions.{target_names}
 use Rattle.pt_assembler.specs.Piece.{move}
 use Rattle.pt_assembler.specs.Layout.{Written, layout}
-use Rattle.sem_compile.specs.emitter.Ops.{renew}
+use Rattle.pt_write_ops.specs.sem_compile.emitter.Ops.{renew}
 use Rattle.pt_expr_forms.specs.Behind.{known, numbers}
 use Rattle.pt_expr_forms.specs.Loops.{behind_renewal}
 use Rattle.pt_write_leaves.proofs.renewal.renew_place.Goals as goal

@@ -2,7 +2,7 @@ use Rattle.std.proofs.Common.{ap}
 use Rattle.pt_instr.specs.declared.Instr.TheVariants as instr
 use Rattle.pt_assembler.specs.declared.operation.FreeUse.TheVariants as use_of
 use Rattle.pt_block_names.specs.Named.{scope_of}
-use Rattle.sem_compile.specs.emitter.Ops.{store_in}
+use Rattle.pt_write_ops.specs.sem_compile.emitter.Ops.{store_in}
 use Rattle.pt_write_ops.proofs.SlotLemmas.{on_cell, on_free, on_local}
 use Rattle.pt_write_simple.proofs.names.store_operation.Goals as goal
 

@@ -1,6 +1,6 @@
 use Rattle.std.proofs.Common.{◌≡◌, map, drop}
-use Rattle.sem_names.specs.BlockNames.{distinct_behind, formal_names}
-use Rattle.sem_names.specs.Script.{spelled_in}
+use Rattle.pt_symbols.specs.sem_names.BlockNames.{distinct_behind, formal_names}
+use Rattle.pt_symbols.specs.sem_names.Script.{spelled_in}
 use Rattle.pt_tree.specs.Fold.{chained, formal_of}
 use Rattle.pt_tree.specs.Syntax.{no_formals}
 use Rattle.pt_block_names.proofs.script_names.ScriptNames.add_formals.Given as goal

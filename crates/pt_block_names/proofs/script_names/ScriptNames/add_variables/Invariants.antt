@@ -1,5 +1,5 @@
 use Rattle.std.proofs.Common.{◌≡◌, map, drop, List, ℕ}
-use Rattle.sem_names.specs.BlockNames.{distinct_behind, is_cell, is_local, named_at, names_in}
+use Rattle.pt_symbols.specs.sem_names.BlockNames.{distinct_behind, is_cell, is_local, named_at, names_in}
 use Rattle.pt_symbols.specs.Tables.{mentions_at}
 use Rattle.pt_block_names.proofs.script_names.ScriptNames.add_variables.Given as goal
 

@@ -1,8 +1,8 @@
 use Rattle.std.proofs.Common.{◌≡◌, ◌++◌, ◌∙◌, [], List, ℕ, ap, map, sym}
 use Rattle.std.specs.Option.{option_copied}
 use Rattle.std.specs.Prelude.{slice_get, Some}
-use Rattle.sem_names.specs.BlockNames.{cell_names, class_if, distinct_behind, is_cell, is_local, local_names, makes_class, names_in, param_names, variables_of}
-use Rattle.sem_names.specs.Script.{Naming, functions_of, spelled_in}
+use Rattle.pt_symbols.specs.sem_names.BlockNames.{cell_names, class_if, distinct_behind, is_cell, is_local, local_names, makes_class, names_in, param_names, variables_of}
+use Rattle.pt_symbols.specs.sem_names.Script.{Naming, functions_of, spelled_in}
 use Rattle.pt_block_names.specs.Named.{names_in_region, params_of}
 use Rattle.pt_block_names.proofs.ListLemmas.{distinct_both}
 use Rattle.pt_block_names.proofs.script_names.ScriptNames.lists.Goals as goal

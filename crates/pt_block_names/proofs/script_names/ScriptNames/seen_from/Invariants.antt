@@ -1,5 +1,5 @@
 use Rattle.std.proofs.Common.{◌≡◌, map, take}
-use Rattle.sem_names.specs.Naming.{seen}
+use Rattle.pt_symbols.specs.sem_names.Naming.{seen}
 use Rattle.pt_block_names.specs.Named.{variable_of}
 use Rattle.pt_block_names.proofs.script_names.ScriptNames.seen_from.Given as goal
 

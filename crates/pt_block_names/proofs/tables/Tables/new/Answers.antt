@@ -1,10 +1,10 @@
 use Rattle.std.proofs.Common.{◌∙◌, ap, List, ℕ, Option}
 use Rattle.std.specs.Prelude.{◌&&◌, slice_get}
 use Rattle.std.specs.List.{list_any}
-use Rattle.sem_names.specs.declared.block_shape.BlockShape.{BlockShape}
-use Rattle.sem_names.specs.BlockNames.{has_class, is_class_of}
-use Rattle.sem_names.specs.Regions.{numbered}
-use Rattle.sem_names.specs.Script.{functions_among}
+use Rattle.pt_symbols.specs.sem_names.declared.block_shape.BlockShape.{BlockShape}
+use Rattle.pt_symbols.specs.sem_names.BlockNames.{has_class, is_class_of}
+use Rattle.pt_symbols.specs.sem_names.Regions.{numbered}
+use Rattle.pt_symbols.specs.sem_names.Script.{functions_among}
 use Rattle.pt_block_names.proofs.tables.Tables.new.Goals as goal
 
 pub returns : goal.returns

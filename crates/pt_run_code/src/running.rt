@@ -5,9 +5,9 @@ ghost use Rattle.pt_run_code.specs.CodeRun.{CodeBrokeOff, CodeFinished};
 ghost use Rattle.pt_sinks.specs.declared.writing.Out.TheVariants as stream;
 
 use crate::texts::names_too_much;
+use law_loading::{load, start};
 use pt_base::Sink;
 use pt_code::Code;
-use pt_code_loader::{load, start};
 use pt_heap::Seed;
 use pt_runner::{Ended, run};
 use pt_sinks::WriteErr;

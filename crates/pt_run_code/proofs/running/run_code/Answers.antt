@@ -1,7 +1,7 @@
 use Rattle.pt_sinks.specs.declared.writing.WriteErr.TheVariants as error
 use Rattle.pt_runner.proofs.AdvanceLemmas.{if_err}
 use Rattle.pt_run_code.proofs.JoinLemmas.{code_run, has_blocks, is_ready, all_finished, all_broke_off, broke_off_at_once}
-use Rattle.pt_run_code.proofs.run.run_code.Goals as goal
+use Rattle.pt_run_code.proofs.running.run_code.Goals as goal
 
 pub returns-then-names_too_much-clause-err : goal.returns-then-names_too_much-clause-err
 returns-then-names_too_much-clause-err g c =

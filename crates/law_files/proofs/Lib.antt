@@ -1,0 +1,1 @@
+pub use Rattle.sem_compile.proofs as sem_compile

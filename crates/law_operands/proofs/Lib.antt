@@ -1,0 +1,1 @@
+pub use Rattle.law_files.proofs as law_files

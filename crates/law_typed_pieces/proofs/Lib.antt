@@ -1,0 +1,1 @@
+pub use Rattle.law_operands.proofs as law_operands

@@ -1,0 +1,1 @@
+pub use Rattle.pt_machine_state.specs as pt_machine_state

@@ -1,0 +1,1 @@
+pub use Rattle.pt_host.proofs as pt_host
