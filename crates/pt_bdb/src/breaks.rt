@@ -14,7 +14,7 @@ use std::alloc::Global;
 use std::marker::Model;
 
 /// The greatest number of a breakpoint.
-const LAST_NUMBER: u32 = u32::MAX;
+pub const LAST_NUMBER: u32 = u32::MAX;
 
 /// Why a breakpoint isn't set or changed.
 #[derive(Clone, Copy, Debug, PartialEq, Eq)]

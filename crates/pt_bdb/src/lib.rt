@@ -9,7 +9,7 @@ mod row;
 mod stops;
 mod trial;
 
-pub use breaks::{BreakErr, Breaks};
+pub use breaks::{BreakErr, Breaks, LAST_NUMBER};
 pub use event::{Event, EventKind};
 pub use judge::{Judge, Verdict};
 pub use laws::{breakpoints_have_their_turns, commands_stop_where_they_say};

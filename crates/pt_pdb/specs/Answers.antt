@@ -31,14 +31,20 @@ break_answer_text file (break.Enabled n line) = placed_text (codes "Enabled brea
 break_answer_text file (break.Disabled n line) = placed_text (codes "Disabled breakpoint") n file line
 break_answer_text file (break.NoBreakpoint n) = concat (codes "*** No breakpoint numbered " ∷ decimal n ∷ codes "\n" ∷ [])
 
+abbrev pub not_after_text : Line → List ℕ
+not_after_text line = concat (codes "*** Line " ∷ decimal line.0 ∷ codes " is not after the current line\n" ∷ [])
+
+abbrev pub unknown_text : (line : List ℕ) → List ℕ
+unknown_text line = concat (codes "*** Unknown command: " ∷ line ∷ codes "\n" ∷ [])
+
 -- of the others
 abbrev pub answer_text : Answer → List ℕ
 answer_text (answer.Shown text) = concat (text.now ∷ codes "\n" ∷ [])
 answer_text (answer.Raised text) = concat (codes "*** " ∷ text.now ∷ codes "\n" ∷ [])
 answer_text answer.Refused = codes "*** Refused: a call\n"
 answer_text answer.SyntaxError = codes "*** SyntaxError\n"
-answer_text (answer.NotAfter line) = concat (codes "*** Line " ∷ decimal line.0 ∷ codes " is not after the current line\n" ∷ [])
+answer_text (answer.NotAfter line) = not_after_text line
 answer_text (answer.JumpFailed reason) = jump_failed_text reason
 answer_text answer.OldestFrame = codes "*** Oldest frame\n"
 answer_text answer.NewestFrame = codes "*** Newest frame\n"
-answer_text (answer.Unknown line) = concat (codes "*** Unknown command: " ∷ line.now ∷ codes "\n" ∷ [])
+answer_text (answer.Unknown line) = unknown_text line.now

@@ -1,0 +1,12 @@
+use Rattle.pt_bdb.specs.declared.row.BreakRow.{BreakRow}
+use Rattle.pt_bdb.specs.Breakpoints.{row_of}
+use Rattle.pt_pdb.specs.declared.answer.BreakAnswer.TheVariants as break
+use Rattle.pt_break_commands.proofs.AnswerLemmas.{told_some, told_none}
+use Rattle.pt_break_commands.proofs.answers.clear_answer.Goals as goal
+
+pub returns-in-Some : goal.returns-in-Some
+returns-in-Some c =
+    told_some c.args.number (λ (r : BreakRow). break.Deleted c.args.number r.line) (row_of c.args.number c.args.breaks.now.rows) c.in-Some.row.now c.in-Some.ensures
+
+pub returns-in-None : goal.returns-in-None
+returns-in-None c = told_none c.args.number (λ (r : BreakRow). break.Deleted c.args.number r.line) (row_of c.args.number c.args.breaks.now.rows) c.in-None.ensures

@@ -1,0 +1,3 @@
+pub mod Resumptions
+pub mod Views
+pub mod Laws
