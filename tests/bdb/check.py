@@ -18,6 +18,7 @@ import rules
 HERE = Path(__file__).resolve().parent
 sys.path.insert(0, str(HERE.parent / "run"))
 import definitions
+from counting import Count
 from definitions import items, listed
 
 CRATES = HERE.parent.parent / "crates"
@@ -109,17 +110,6 @@ def command_of(value):
     if name == "Print":
         return ("p", text(args[0]))
     return (name.lower(), *args)
-
-
-class Count:
-    def __init__(self):
-        self.all, self.differ = 0, 0
-
-    def see(self, what, got, expected):
-        self.all += 1
-        if got != expected:
-            self.differ += 1
-            print(f"{what!r}\n  definitions: {got!r}\n  rules: {expected!r}")
 
 
 def check_commands(given, count, many):
@@ -238,7 +228,7 @@ def main():
     sys.setrecursionlimit(100_000)
     many = int(sys.argv[2]) if sys.argv[1:2] == ["--many"] else 1000
     random.seed(20)
-    given, count = Given(), Count()
+    given, count = Given(), Count("definitions", "rules")
     check_words(count)
     check_commands(given, count, 3 * many)
     check_files(given, count, 2 * many)

@@ -9,9 +9,13 @@ import io
 import operator
 import random
 import sys
+from pathlib import Path
 
 import primitives
 import texts
+
+sys.path.insert(0, str(Path(__file__).resolve().parent.parent / "run"))
+from counting import Count
 
 SCRIPT = '''
 class Truth:
@@ -119,17 +123,7 @@ def shown(v):
     return (type(v).__name__, repr(sorted(v, key=repr)) if type(v) is set else repr(v))
 
 
-class Count:
-    def __init__(self):
-        self.all, self.differ = 0, 0
-
-    def see(self, what, got, expected):
-        self.all += 1
-        if got != expected:
-            self.differ += 1
-            if self.differ < 20:
-                print(f"{what}\n  prelude: {got!r}\n  CPython: {expected!r}")
-
+class Answers(Count):
     def both(self, what, f, g):
         self.see(what, answer(f), answer(g))
 
@@ -260,7 +254,7 @@ def of_nothing(p, count):
 def main(words):
     many = int(words[words.index("--many") + 1]) if "--many" in words else 200
     random.seed(11)
-    count, p, s = Count(), prelude(texts.whole()), script()
+    count, p, s = Answers("prelude", "CPython"), prelude(texts.whole()), script()
     of_nothing(p, count)
     for _ in range(many):
         of_iterables(p, count)

@@ -738,6 +738,17 @@ def number(z):
     return z[1] if z[0] == "pos" else -z[1] - 1
 
 
+def value_of(thing, put):
+    """A value of a run for a thing of CPython: itself, or an object, for which put gives its place in the heap."""
+    if thing is None or thing is ... or thing is NotImplemented:
+        return ({None: "None", ...: "Ellipsis", NotImplemented: "NotImplemented"}[thing],)
+    if isinstance(thing, bool):
+        return ("Bool", thing)
+    if isinstance(thing, int):
+        return ("Int", integer(thing))
+    return ("Obj", {"0": put(thing)})
+
+
 STD = {
     "true": "True", "false": "False", "zero": "0", "suc": lambda n: n + 1,
     "Some": "constructor", "None": "constructor", "pos": "constructor", "negsuc": "constructor", "inl": "constructor", "inr": "constructor",

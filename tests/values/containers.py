@@ -12,7 +12,7 @@ from pathlib import Path
 HERE = Path(__file__).resolve().parent
 sys.path.insert(0, str(HERE.parent / "run"))
 import definitions
-from definitions import integer, items, listed, number
+from definitions import integer, items, listed, number, value_of
 
 CRATES = HERE.parent.parent / "crates"
 CLASSES = ("object type int bool str list tuple set dict range slice NoneType ellipsis NotImplementedType function method "
@@ -140,13 +140,7 @@ class Heap:
         return {type(len): ("Builtin", {}), type(module): ("Function", {}), type: ("Class", {"name": listed(b"C"), "scripted": False})}[kind]
 
     def value(self, thing):
-        if thing is None or thing is ... or thing is NotImplemented:
-            return ({None: "None", ...: "Ellipsis", NotImplemented: "NotImplemented"}[thing],)
-        if isinstance(thing, bool):
-            return ("Bool", thing)
-        if isinstance(thing, int):
-            return ("Int", integer(thing))
-        return ("Obj", {"0": self.put(thing)})
+        return value_of(thing, self.put)
 
     # back to things of CPython
     def thing(self, value, after=()):

@@ -12,7 +12,7 @@ import prims
 HERE = Path(__file__).resolve().parent
 sys.path.insert(0, str(HERE.parent / "run"))
 import definitions
-from definitions import integer, items, listed, number
+from definitions import integer, items, listed, number, value_of
 
 OPERATORS = {"+": "Add", "-": "Sub", "*": "Mul", "/": "Div", "//": "FloorDiv", "%": "Mod", "**": "Pow", "&": "BitAnd", "|": "BitOr",
              "^": "BitXor", "<<": "LeftShift", ">>": "RightShift"}
@@ -75,13 +75,7 @@ class Heap:
                 object: ("Instance", {"class": {"0": 0}}), type(sys): ("Module", ("Sys",))}[type(thing)]
 
     def value(self, thing):
-        if thing is None or thing is ... or thing is NotImplemented:
-            return ({None: "None", ...: "Ellipsis", NotImplemented: "NotImplemented"}[thing],)
-        if isinstance(thing, bool):
-            return ("Bool", thing)
-        if isinstance(thing, int):
-            return ("Int", integer(thing))
-        return ("Obj", {"0": self.put(thing)})
+        return value_of(thing, self.put)
 
 
 class Rows:

@@ -12,7 +12,8 @@ use Rattle.sem_run.specs.run.Host.{Host, GeneratorResult}
 use Rattle.sem_run.specs.run.State.{Activation, OpenYield, Rest, Generator, fresh, suspended, running, finished, going_on, State}
 use Rattle.sem_run.specs.run.Requests.{give, wake, send_early, with_generator, resume_by}
 use Rattle.pt_resumptions.specs.Resumptions.{resumption}
-use Rattle.pt_resumptions.specs.Views.{how_view, state_of, unless_none}
+use Rattle.pt_settrace.specs.Tracing.{unless_none}
+use Rattle.pt_resumptions.specs.Views.{how_view, state_of}
 use Rattle.pt_resumptions.specs.Laws.{resumed, KnowsNone, GoesOnByState}
 
 module _ {S N W : Type 0} (machine : Machine S Value) (host : Host N Value W)

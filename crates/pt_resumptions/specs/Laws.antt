@@ -14,7 +14,8 @@ use Rattle.sem_run.specs.run.Requests.{give, wake, throw_exit, with_generator, r
 use Rattle.pt_resumptions.specs.declared.resumption.Resumption.{Resumption}
 use Rattle.pt_resumptions.specs.declared.resumption.Resumption.TheVariants as by
 use Rattle.pt_resumptions.specs.Resumptions.{resumption}
-use Rattle.pt_resumptions.specs.Views.{how_view, obstacle_view, state_of, unless_none}
+use Rattle.pt_settrace.specs.Tracing.{unless_none}
+use Rattle.pt_resumptions.specs.Views.{how_view, obstacle_view, state_of}
 
 module _ {S N W : Type 0} (machine : Machine S Value) (host : Host N Value W) (g : ℕ)
     (r : Rest S N Value W (GeneratorResult Value)) (s : State S N Value W) where

@@ -1,7 +1,5 @@
 -- Generators, and how they go on, as a run sees them.
-use Rattle.std.specs.Prelude.{Option, None, Some}
 use Rattle.pt_heap.specs.declared.value.Value.{Value}
-use Rattle.pt_heap.specs.declared.value.Value.TheVariants as value
 use Rattle.pt_gen.specs.declared.generator.How.{How}
 use Rattle.pt_gen.specs.declared.generator.How.TheVariants.{Next, Send, Throw, Close}
 use Rattle.pt_gen.specs.declared.generator.GenState.{GenState}
@@ -27,8 +25,3 @@ state_of (fresh a) = Fresh
 state_of (suspended a y) = Suspended
 state_of running = Running
 state_of finished = Finished
-
--- None stands for nothing
-abbrev pub unless_none : Value → Option Value
-unless_none value.None = None
-unless_none v = Some v
