@@ -1,2 +1,2 @@
 print("nothing is run where a form is not built")
-squares = {1: 1, 2: 4, 3: 9}
+squares = (n * n for n in range(4))

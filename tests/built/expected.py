@@ -5,15 +5,12 @@ import ast
 SUPPORTED = (
     ast.Module, ast.Expr, ast.Assign, ast.AugAssign, ast.AnnAssign, ast.Delete, ast.Pass, ast.Break, ast.Continue, ast.If, ast.While, ast.For,
     ast.Return, ast.Global, ast.Nonlocal, ast.FunctionDef, ast.Constant, ast.Name, ast.UnaryOp, ast.BinOp, ast.BoolOp, ast.Compare, ast.IfExp, ast.Call,
-    ast.keyword, ast.Lambda, ast.arg, ast.Tuple, ast.List, ast.Subscript)
+    ast.keyword, ast.Lambda, ast.arg, ast.Tuple, ast.List, ast.Set, ast.Dict, ast.Attribute, ast.Subscript, ast.Slice, ast.Starred, ast.JoinedStr,
+    ast.FormattedValue, ast.ListComp, ast.SetComp, ast.DictComp, ast.Assert, ast.Raise, ast.Try, ast.ExceptHandler,
+    ast.Import, ast.ImportFrom, ast.alias)
 
-# what means something in CPython and isn't there yet: builtins that are left out, those that are functions written in Python, and the module's name
-UNAVAILABLE = frozenset("""
-    open input eval exec id hash dir vars globals locals compile bytes bytearray complex float frozenset memoryview slice property staticmethod
-    classmethod round pow format bin hex oct ascii help delattr
-    sum min max any all sorted map filter zip enumerate reversed
-    __name__
-    """.split())
+# builtins that are functions written in Python, and aren't there yet
+UNAVAILABLE = frozenset("sum min max any all sorted map filter zip enumerate reversed".split())
 
 
 def place(node):
@@ -21,12 +18,12 @@ def place(node):
 
 
 def parts(node):
-    """The parts of a node in the order of the source; annotations are none, and the parameters of a function are."""
+    """The parts of a node in the order of the source; annotations are none, and the parameters of a function and those of clauses are."""
     found = []
     for field, value in ast.iter_fields(node):
         if field not in ("annotation", "returns"):
             found += [x for x in (value if isinstance(value, list) else [value]) if isinstance(x, ast.AST)]
-    found += [x for a in found if isinstance(a, ast.arguments) for x in ast.iter_child_nodes(a)]
+    found += [x for a in found if isinstance(a, (ast.arguments, ast.comprehension)) for x in ast.iter_child_nodes(a)]
     return sorted((x for x in found if hasattr(x, "lineno")), key=place)
 
 
@@ -36,6 +33,15 @@ def nodes(node):
         yield from nodes(part)
 
 
+def of_module(node):
+    """The nodes of the module's own code: not those in bodies of functions and lambdas."""
+    yield node
+    inside = getattr(node, "body", []) if isinstance(node, (ast.FunctionDef, ast.Lambda)) else []
+    for part in parts(node):
+        if part is not inside and not (isinstance(inside, list) and part in inside):
+            yield from of_module(part)
+
+
 def names(node):
     """The names that a node reads, binds, deletes or declares."""
     match node:
@@ -43,16 +49,18 @@ def names(node):
             return [x]
         case ast.Global(xs) | ast.Nonlocal(xs):
             return xs
+        case ast.ExceptHandler(_, str(x)):
+            return [x]
+        case ast.Import(xs) | ast.ImportFrom(_, xs):
+            return [a.asname or a.name for a in xs]
     return []
 
 
-def is_supported(node, stars):
+def is_supported(node, outside):
     match node:
-        case ast.Subscript(_, _, ast.Store() | ast.Del()):
-            return False
-        case ast.Call(_, arguments, keywords) if any(isinstance(a, ast.Starred) for a in arguments) or any(k.arg is None for k in keywords):
-            return False
-        case ast.arg() if node in stars:
+        case ast.ListComp() | ast.SetComp() | ast.DictComp():
+            return node not in outside
+        case ast.Attribute(ctx=ast.Store() | ast.Del()):
             return False
     return isinstance(node, SUPPORTED) and UNAVAILABLE.isdisjoint(names(node))
 
@@ -63,5 +71,5 @@ def line_of(node):
 
 def first_unsupported(tree):
     """None where there is none."""
-    stars = {p for a in ast.walk(tree) if isinstance(a, ast.arguments) for p in (a.vararg, a.kwarg)}
-    return next((line_of(n) for n in nodes(tree) if not is_supported(n, stars)), None)
+    outside = set(of_module(tree))
+    return next((line_of(n) for n in nodes(tree) if not is_supported(n, outside)), None)

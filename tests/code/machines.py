@@ -168,7 +168,7 @@ class Script:
         if not isinstance(node, (ast.FunctionDef, ast.Lambda)):
             return []
         a = node.args
-        return [p.arg for p in a.args + a.kwonlyargs]
+        return [p.arg for p in [*a.args, *a.kwonlyargs, a.vararg, a.kwarg] if p]
 
     def kind_of(self, node, code):
         match node:

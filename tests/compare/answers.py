@@ -12,6 +12,7 @@ sys.path[:0] = [os.path.join(HERE, ".."), os.path.join(HERE, "..", "run")]
 from check import RULES, Plan, of_ended_iteration, of_one_line  # noqa: E402
 from check_objects import Check, as_here, by_class, traceback_by_python  # noqa: E402
 from layout import compared_traceback  # noqa: E402
+from objects import NamesRunner  # noqa: E402
 from record import Recorder  # noqa: E402
 
 # `log` is the lines that it has
@@ -39,7 +40,7 @@ class ByDefinitions:
     """The definitions of a run and of its host, which stand for the program where it isn't built."""
 
     def __init__(self, most=20000):
-        self.check, self.most = Check(os.path.join(TOP, "crates")), most
+        self.check, self.most = Check(os.path.join(TOP, "crates"), NamesRunner), most
 
     def answer(self, word, text):
         told, out, end, acts = self.check.run(text, self.most)
@@ -99,7 +100,9 @@ def tracebacks(text, last):
 def by_cpython(text):
     """What CPython prints, how it ends ("done", or the exception's class), and its events. The line of a `return` that gives None is None,
     since CPython has none where several ways lead to the end of a block."""
-    recorder = Recorder(text, Plan(streams=("trace",)), RULES).run()
+    recorder = Recorder(text, Plan(streams=("trace",)), RULES)
+    recorder.space["__name__"] = "__main__"
+    recorder.run()
     events = []
     for kind, block, line, told, _, _ in recorder.heard["trace"]:
         error = told.strip("<>") if kind == "exception" else ""

@@ -1,7 +1,9 @@
 """Compares what the program answers to `run` and `trace` of scripts of the supported forms with what CPython 3.12.1 tells of them: output,
 ending, traceback and events, but for what docs/DECISIONS.md lists under "What CPython tells otherwise".
 
-  check.py [--definitions] [--from N] [--many N] [--show SEED] [--jobs N]
+  check.py [--definitions] [--from N] [--many N] [--show SEED] [--jobs N] [--forms]
+
+With --forms a table tells to how many scripts each form came.
 """
 import argparse
 import collections
@@ -13,6 +15,7 @@ import warnings
 
 from answers import DONE, HERE, OUTSIDE, RAISED, SPENT, ByDefinitions, ByProgram, by_cpython, events_of, tracebacks
 import deep
+from form_counts import forms_of, table
 from layout import broken, compared
 from programs import program
 
@@ -64,8 +67,8 @@ def differences(run, trace, text):
 
 
 def random_script(seed):
-    """Every second one has line ends within parentheses, and most have lists, tuples and ranges."""
-    text = program(seed, containers=seed % 4 > 0)
+    """Every second one has line ends within parentheses, most have containers, and some exceptions, comprehensions, stars and orders of sequences."""
+    text = program(seed, containers=seed % 4 > 0, exceptions=seed % 5 == 0, forms=seed % 4 > 1)
     return broken(text, seed) if seed % 2 else text
 
 
@@ -74,13 +77,14 @@ class Compare:
         self.by = by
 
     def one(self, text):
-        """How a script ended, how many events it told, and what differs."""
+        """How a script ended, how many events it told, the forms that it came to, and what differs."""
         try:
             run, trace = self.by.answer("run", text), self.by.answer("trace", text)
             found = differences(run, trace, text)
+            forms = forms_of(text, {event[2] for event in events_of(text, trace.log)[0] if event[0] == "line"})
         except Exception as e:
-            return "broke", 0, [repr(e)]
-        return ENDINGS.get(trace.status, str(trace.status)), len(trace.log), found
+            return "broke", 0, set(), [repr(e)]
+        return ENDINGS.get(trace.status, str(trace.status)), len(trace.log), forms, found
 
 
 def asked(one):
@@ -98,21 +102,25 @@ def main():
     p.add_argument("--many", type=int, default=2000)
     p.add_argument("--show", type=int)
     p.add_argument("--jobs", type=int, default=2)
+    p.add_argument("--forms", action="store_true")
     a = p.parse_args()
     COMPARE = Compare(ByDefinitions() if a.definitions else ByProgram())
     seeds = [a.show] if a.show is not None else range(a.first, a.first + a.many)
     written = [] if a.show is not None else sorted(glob.glob(os.path.join(HERE, "scripts", "*.py")))
     scripts = [(os.path.basename(f), open(f, encoding="utf-8").read()) for f in written] + [(f"seed {s}", random_script(s)) for s in seeds]
-    endings, events, bad = collections.Counter(), 0, 0
+    endings, forms, events, bad = collections.Counter(), collections.Counter(), 0, 0
     with multiprocessing.get_context("fork").Pool(a.jobs) as pool:
-        for name, (ending, told, found) in pool.imap(asked, scripts, chunksize=8):
+        for name, (ending, told, its_forms, found) in pool.imap(asked, scripts, chunksize=8):
             endings[ending] += 1
+            forms.update(its_forms)
             events += told
             bad += bool(found)
             for line in found:
                 print(f"{name}: {line}")
     if a.show is not None:
         print("\n".join(f"{i + 1:3} {line}" for i, line in enumerate(scripts[0][1].split("\n"))))
+    if a.forms:
+        print(table(forms))
     print(", ".join(f"{k} {n}" for k, n in sorted(endings.items())))
     print(f"{len(written)} written and {len(seeds)} random scripts, {events} events, {bad} with a difference")
     return bad > 0

@@ -1,13 +1,34 @@
 """Scripts with line ends within parentheses, and which of their lines are told otherwise by CPython, as docs/DECISIONS.md lists it."""
 import ast
+import io
 import random
 import re
+import tokenize
+
+
+def places_in_texts(text):
+    """The places of a script that lie in texts between quotes, or in the fields of an f-string."""
+    starts, begins, found = [0], [], set()
+    for line in io.StringIO(text):
+        starts.append(starts[-1] + len(line))
+    for token in tokenize.generate_tokens(io.StringIO(text).readline):
+        first, last = (starts[line - 1] + column for line, column in (token.start, token.end))
+        if token.type == tokenize.STRING:
+            found.update(range(first, last))
+        elif token.type == tokenize.FSTRING_START:
+            begins.append(first)
+        elif token.type == tokenize.FSTRING_END:
+            found.update(range(begins.pop(), last))
+    return found
 
 
 def broken(text, seed, often=0.2):
-    """The same script with some of its blanks between parentheses as line ends; a text between quotes has no blanks there."""
-    r, depth, out = random.Random(seed), 0, []
-    for c in text:
+    """The same script with some of its blanks between parentheses as line ends, but for those in texts."""
+    r, depth, out, kept = random.Random(seed), 0, [], places_in_texts(text)
+    for place, c in enumerate(text):
+        if place in kept:
+            out.append(c)
+            continue
         depth += (c == "(") - (c == ")")
         out.append("\n" + " " * r.randrange(9) if c == " " and depth and r.random() < often else c)
     return "".join(out)

@@ -18,8 +18,9 @@ import warnings
 from check import EVENTS, RULES, TRACED, Plan, alike, first_difference, of_ended_iteration, of_one_line, of_spread_call
 from coded import CodedRunner
 from definitions import items, listed, number
-from objects import ObjectRunner, text_of
-from programs import program
+from exceptions import EXCEPTIONS
+from objects import NamesRunner, ObjectRunner, text_of
+from programs import WORDED, program
 from record import CALLS, Recorder
 
 sys.path.append(os.path.join(os.path.dirname(os.path.abspath(__file__)), "..", "tracebacks"))
@@ -28,12 +29,14 @@ import deep  # noqa: E402
 from raising import exception_of, printed as traceback_of  # noqa: E402
 
 # exceptions whose texts are CPython's
-NAMED = ("<NameError>", "<UnboundLocalError>")
+NAMED = ("<NameError>", "<UnboundLocalError>", "<AttributeError>")
 
 
 def as_here(text):
     """What CPython prints, in which functions have no text of their own here."""
-    return re.sub(r"<built-in function \w+>", "<builtin_function_or_method object>", re.sub(r"<function \S+ at 0x\w+>", "<function object>", text))
+    text = text.replace("No active exception to reraise", "no active exception")
+    text = re.sub(r"<function \S+ at 0x\w+>", "<function object>", text)
+    return re.sub(r"<built-in (function \w+|method \w+ of \w+ object at 0x\w+)>", "<builtin_function_or_method object>", text)
 
 
 def traceback_by_python(text):
@@ -44,7 +47,7 @@ def traceback_by_python(text):
 
 def by_class(traceback):
     """A traceback in which exceptions stand by their classes alone, but for those whose texts are CPython's."""
-    lines = [re.sub(r"^(\w+): .*", lambda m: m[0] if f"<{m[1]}>" in NAMED else m[1], line) for line in traceback.splitlines()]
+    lines = [re.sub(r"^(\w+): .*", lambda m: m[0] if m[1] in WORDED else m[1], line) for line in traceback.splitlines()]
     return "\n".join(lines)
 
 
@@ -61,8 +64,8 @@ class Told:
 
 
 class Check:
-    def __init__(self, crates):
-        self.runner = ObjectRunner(crates)
+    def __init__(self, crates, runner=ObjectRunner):
+        self.runner = runner(crates)
 
     def run(self, text, most=20000):
         blocks, outputs, state, step = self.runner.run(text, most)
@@ -94,6 +97,7 @@ class Check:
         """What differs, if anything does, and how the run ended. One that leaves the profile is compared as far as it comes."""
         told, out, end, acts = self.run(text)
         recorder = Recorder(text, Plan(), RULES)
+        recorder.space["__name__"] = "__main__"
         recorder.run()
         left = end[0] == "outside"
         difference = None
@@ -106,6 +110,8 @@ class Check:
         if not (printed.startswith(out) if left else printed == out):
             difference = difference or ["out", printed[-200:], out[-200:]]
         wanted = recorder.end if end[0] == "done" else "done" if recorder.end == "done" else ("raised", recorder.end)
+        if end[0] == "exited":
+            wanted = ("exited",) if recorder.end == "<SystemExit>" else wanted
         if not left and (end[0] if end[0] == "done" else end[:2]) != wanted:
             difference = difference or ["end", recorder.end, end]
         if not left and end[:2] == ("raised", recorder.end) and recorder.end in NAMED and recorder.error != end[2]:
@@ -154,7 +160,7 @@ WRITTEN = [
      ("outside", "Integer", 3)),
     ("x = 1\nprint(x / 2)\n", 99, "", [1, 2], 6, ("outside", "Float", 2)),
     ("print('a' * 2)\n", 99, "aa\n", [1], 6, ("done",)),
-    ("print({1})\n", 99, "", [1], 3, ("outside", "Feature", 1)),
+    ("print((i for i in ()))\n", 99, "", [1], 4, ("outside", "Feature", 1)),
 ]
 
 
@@ -185,11 +191,48 @@ CONTAINERS = [
 ]
 
 
+# scripts of imports, and of exits
+IMPORTS = [
+    "import sys\nprint(sys.exit, callable(sys.exit), callable(sys))\n", "import sys as s, sys\nprint(s is sys, s == sys)\n",
+    "from sys import exit, exit as leave\nprint(exit is leave)\n", "def f():\n    import sys\n    return sys.exit\nprint(f() is f())\n",
+    "import sys\nfor v in (None, 0, -1, True, 'a', [1]):\n    try: sys.exit(v)\n    except SystemExit as e: print(repr(e), e)\n",
+    "import nosuch\n", "import sys, nosuch as n\n", "from nosuch import n\n", "def f():\n    import nosuch\ntry: f()\nexcept ImportError as e: print(e, repr(e))\nf()\n",
+    "try: import nosuch\nexcept ModuleNotFoundError:\n    import sys\n    print(sys is sys)\n", "try: from sys import nosuch\nexcept ImportError: print('none')\n",
+    "import sys\ntry: sys.nosuch\nexcept AttributeError: print('none')\n", "import sys\nsys.exit(1, 2)\n", "import sys\nsys.exit(status=1)\n",
+    "import sys\nprint(1)\nsys.settrace\n", "from sys import exit, monitoring\n", "from sys import _getframe, gettrace\n",
+]
+EXITS = [
+    "import sys\nsys.exit(3)\n", "import sys\nsys.exit('bye')\n", "from sys import exit\nexit()\n", "import sys\ndef f(): return sys.exit\nf()(257)\n",
+    "import sys\ntry:\n    1 // 0\nfinally:\n    sys.exit(None)\n", "import sys\ntry: sys.exit(1)\nexcept Exception: print('never')\nfinally: print('left')\n",
+    "import sys\nsys.exit([1])\n", "raise SystemExit(-1)\n",
+]
+
+
+# scripts of comprehensions in functions, whose names are those of `sem_names`, and of the names of builtins
+NAMES = [
+    "def f(i): return [lambda: i for i in (1, i)]\nprint([f(3)[0](), f(3)[1]()])\n", "def f(a):\n    x = 1\n    return [(x, z) for x in a for z in a if x < z], x\nprint(f((1, 2, 3)))\n",
+    "def f(xs): return [lambda j=j: i + j for i in xs for j in xs]\nprint(f((1, 2))[1]())\n", "def f(): return [1 // i for i in (1, 0)]\nf()\n",
+    "def f(): return __name__\nprint(__name__, f())\n__name__ = 1\nprint(__name__, f())\n",
+    "open = 3\nprint(open)\ndel open\nopen\n", "def f(id, hash=2): return id + hash\nprint(f(1), f(1, hash=3))\ndir\n",
+]
+
+
 def containers(check):
-    """How many of those scripts differ from CPython."""
+    """How many of those scripts, and of those of exceptions, imports and exits, differ from CPython."""
     bad = 0
-    for text in CONTAINERS:
+    for text in CONTAINERS + EXCEPTIONS + IMPORTS + EXITS:
         difference, end, _, _ = check.compare(text)
+        if difference:
+            bad += 1
+            print(text, *difference, sep="\n    ")
+    return bad
+
+
+def by_names(crates):
+    """How many of those differ from CPython."""
+    check, bad = Check(crates, NamesRunner), 0
+    for text in NAMES:
+        difference, _, _, _ = check.compare(text)
         if difference:
             bad += 1
             print(text, *difference, sep="\n    ")
@@ -281,17 +324,17 @@ def main():
     p.add_argument("--bare", action="store_true")
     p.add_argument("--coded", action="store_true")
     a = p.parse_args()
-    plain = CALLING + [w[:2] for w in WRITTEN] + [(t, 999) for t in CONTAINERS] + [(program(s, containers=s % 2 > 0), 20000) for s in range(a.first, a.first + a.many)]
+    plain = CALLING + [w[:2] for w in WRITTEN] + [(t, 999) for t in CONTAINERS + EXCEPTIONS + IMPORTS + EXITS] + [(program(s, containers=s % 2 > 0, exceptions=s % 4 > 1), 20000) for s in range(a.first, a.first + a.many)]
     if a.coded:
         return by_code(a.crates, plain)
     check = Check(a.crates)
     if a.bare:
         return bare(check, plain)
-    bad = 0 if a.show is not None else written(check) + containers(check)
+    bad = 0 if a.show is not None else written(check) + containers(check) + by_names(a.crates)
     ends, acts, events = collections.Counter(), 0, 0
     seeds = [a.show] if a.show is not None else range(a.first, a.first + a.many)
     calling = [] if a.show is not None else sorted({(text, text) for text, _ in CALLING})
-    for seed, text in [(seed, program(seed, containers=seed % 4 > 0)) for seed in seeds] + calling:
+    for seed, text in [(seed, program(seed, containers=seed % 4 > 0, exceptions=seed % 3 > 0)) for seed in seeds] + calling:
         difference, end, taken, told = check.compare(text)
         ends[" ".join(str(e) for e in end[:2])] += 1
         acts, events = acts + taken, events + told
@@ -301,7 +344,8 @@ def main():
         if a.show is not None:
             print("\n".join(f"{i + 1:3} {line}" for i, line in enumerate(text.split("\n"))), end)
     print(", ".join(f"{k} {n}" for k, n in sorted(ends.items())))
-    print(f"{len(WRITTEN) + len(CONTAINERS) + len(calling)} written scripts, {len(seeds)} random ones, {acts} acts, {events} events, {bad} with a difference")
+    print(f"{len(WRITTEN) + len(CONTAINERS) + len(EXCEPTIONS) + len(IMPORTS) + len(EXITS) + len(NAMES) + len(calling)} written scripts, {len(seeds)} random ones, "
+          f"{acts} acts, {events} events, {bad} with a difference")
     return bad > 0
 
 

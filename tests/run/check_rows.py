@@ -14,7 +14,7 @@ HERE = os.path.dirname(os.path.abspath(__file__))
 sys.path[:0] = [HERE, os.path.join(HERE, ".."), os.path.join(HERE, "..", "code")]
 
 import deep  # noqa: E402
-from check_objects import CONTAINERS, WRITTEN, Check  # noqa: E402
+from check_objects import CONTAINERS, IMPORTS, WRITTEN, Check  # noqa: E402
 from definitions import STD, integer, items, listed  # noqa: E402
 from follow import Checked  # noqa: E402
 from machines import NONE, WORDS, Pieces, Script, Specs  # noqa: E402
@@ -52,7 +52,7 @@ class Rows:
     def objects(self, script):
         """The code objects of the blocks."""
         constants = [("Int", integer(c[1])) if c[0] == "Int" else c for c in items(script.code["constants"])]
-        code = {**script.code, "texts": listed(map(word, items(script.code["texts"]))), "constants": listed(constants)}
+        code = {**script.code, "texts": listed(t if isinstance(t, tuple) else word(t) for t in items(script.code["texts"])), "constants": listed(constants)}
         for b, plain in zip(script.blocks, script.plain["blocks"]):
             lists = dict(Checked(script.plain, plain).gets(len(plain["code"])))
             yield {
@@ -185,8 +185,8 @@ def main():
     a = p.parse_args()
     check = Check(a.crates)
     rows, bad, ends, acts = Rows(a.crates, check.runner), 0, collections.Counter(), 0
-    scripts = [w[:2] for w in WRITTEN] + [(t, a.most) for t in CONTAINERS]
-    scripts += [(program(seed, containers=seed % 4 > 0), a.most) for seed in range(a.first, a.first + a.many)]
+    scripts = [w[:2] for w in WRITTEN] + [(t, a.most) for t in CONTAINERS + IMPORTS]
+    scripts += [(program(seed, containers=seed % 4 > 0, exceptions=seed % 3 > 0), a.most) for seed in range(a.first, a.first + a.many)]
     for text, most in scripts:
         found, wanted = rows.run(text, most), by_tree(check, text, most)
         ends[" ".join(map(str, found[2][:2]))] += 1
@@ -195,7 +195,7 @@ def main():
             bad += 1
             print(text, found, wanted, sep="\n    ")
     print(", ".join(f"{k} {n}" for k, n in sorted(ends.items())))
-    print(f"{len(WRITTEN) + len(CONTAINERS)} written scripts, {a.many} random ones, {acts} acts, {bad} with a difference")
+    print(f"{len(WRITTEN) + len(CONTAINERS) + len(IMPORTS)} written scripts, {a.many} random ones, {acts} acts, {bad} with a difference")
     return bad > 0
 
 

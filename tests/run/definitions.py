@@ -226,27 +226,35 @@ class Definitions:
     """Those of a folder of crates."""
 
     def __init__(self, crates, primitives):
-        self.crates, self.modules, self.primitives, self.constants = crates, {}, primitives, {}
+        self.crates, self.modules, self.primitives, self.constants, self.handed_on = crates, {}, primitives, {}, {}
         self.space = {"Bare": Bare, "field": field, "wrong": wrong, "once": once, "quotient": quotient}
         self.count = 0
 
-    def file_of(self, path):
+    def direct(self, path):
+        """The path of what a crate hands on of one below it, in that crate."""
         parts = path.split(".")
+        if parts[0] != "Rattle" or len(parts) < 5 or parts[2] != "specs":
+            return path
+        crate = parts[1]
+        if crate not in self.handed_on:
+            name = os.path.join(self.crates, crate, "specs", "Lib.antt")
+            self.handed_on[crate] = {}
+            if os.path.exists(name):
+                with open(name, encoding="utf-8") as lib:
+                    found = re.findall(r"pub use (Rattle\.\w+\.specs(?:\.\w+)*) as (\w+)", lib.read())
+                self.handed_on[crate] = {own: below for below, own in found}
+        below = self.handed_on[crate].get(parts[3])
+        return self.direct(".".join([below, *parts[4:]])) if below else path
+
+    def file_of(self, path):
+        parts = self.direct(path).split(".")
         if parts[0] != "Rattle" or parts[1] == "std" or "specs" not in parts or "declared" in parts:
             return None
-        folder = os.path.join(self.crates, parts[1], "specs")
-        name = os.path.join(folder, *parts[3:]) + ".antt"
-        if os.path.exists(name):
-            return name
-        # what the crate hands on of one below it
-        handed_on = os.path.join(folder, "Lib.antt")
-        if len(parts) < 5 or not os.path.exists(handed_on):
-            return None
-        with open(handed_on, encoding="utf-8") as lib:
-            below = {own: path for path, own in re.findall(r"pub use (Rattle\.\w+\.specs) as (\w+)", lib.read())}
-        return self.file_of(".".join([below[parts[3]], *parts[4:]])) if parts[3] in below else None
+        name = os.path.join(self.crates, parts[1], "specs", *parts[3:]) + ".antt"
+        return name if os.path.exists(name) else None
 
     def module(self, path):
+        path = self.direct(path)
         if path not in self.modules:
             self.modules[path] = Module(path)
             self.read(self.modules[path], self.file_of(path))
@@ -338,6 +346,7 @@ class Definitions:
         return None, parts
 
     def meaning(self, path, name):
+        path = self.direct(path)
         if self.file_of(path):
             m = self.module(path)
             if name in m.constructors:
@@ -349,7 +358,7 @@ class Definitions:
         if path.startswith(("Rattle.std.", "Rattle.indexmap.")):
             return ("primitive", name) if name in self.primitives else None
         if path.endswith(".TheConstants"):
-            return ("constant", self.constant(path.split(".")[1], name))
+            return ("constant", self.constant(re.search(r"(\w+)(?:\.specs)?\.declared\.", path)[1], name))
         return ("constructor", name, None)
 
     def constant(self, crate, name):
@@ -729,6 +738,10 @@ def insert_entry(same, entries, key, value):
     return listed(entries + [("×", key, value)])
 
 
+def insert_key(same, keys, key):
+    return keys if any(map(same(key), items(keys))) else listed(items(keys) + [key])
+
+
 def integer(n):
     """An integer as `pos n` or `negsuc n`, which is -(n + 1)."""
     return ("pos", n) if n >= 0 else ("negsuc", -n - 1)
@@ -758,6 +771,7 @@ STD = {
     "length": lambda xs: len(items(xs)),
     "drop": lambda n, xs: listed(items(xs)[n:]),
     "take": lambda n, xs: listed(items(xs)[:n]),
+    "list_all": lambda f, xs: all(map(f, items(xs))),
     "list_any": lambda f, xs: any(map(f, items(xs))),
     "filter": lambda f, xs: listed(filter(f, items(xs))),
     "flat_map": lambda f, xs: listed(y for x in items(xs) for y in items(f(x))),
@@ -791,6 +805,15 @@ STD = {
     "bit_xor": lambda a, b: a ^ b,
     "bytes_eq": lambda a, b: a == b,
     "chars": lambda a: listed(map(ord, bytes(items(a)).decode())),
+    "encode_utf8_all": lambda a: listed("".join(map(chr, items(a))).encode()),
+    "is_in_range": lambda a, b, c: a <= c <= b,
+    "is_whitespace": lambda c: chr(c).isspace() and not 28 <= c <= 31,
+    "starts_with": lambda same, xs, ys: items(xs)[:len(items(ys))] == items(ys),
+    "ends_with": lambda same, xs, ys: items(xs)[max(0, len(items(xs)) - len(items(ys))):] == items(ys),
+    "insert": lambda xs, i, x: listed([*items(xs)[:i], x, *items(xs)[i:]]),
+    "remove": lambda xs, i: listed([*items(xs)[:i], *items(xs)[i + 1:]]),
+    "replicate": lambda n, x: listed([x] * n),
+    "insert_key": insert_key,
     "signed_decimal": lambda a: listed(str(number(a)).encode()),
 }
 

@@ -44,6 +44,7 @@ class ObjectRunner(Runner):
         self.no_names = self.get("pt_host", "World", "no_names")
         self.texts_of = self.get("pt_host", "Constants", "texts_of")
         self.class_name = self.get("pt_content", "Classes", "class_name")
+        self.error_text = self.get("pt_tracebacks", "Summaries", "error_text")
         self.writes = self.get("sem_run", "run.Run", "writes")
         self.bare_start = self.get("pt_bare_runs", "Strides", "start")
         self.first_logged = self.get("pt_bare_runs", "Strides", "logged")
@@ -63,11 +64,14 @@ class ObjectRunner(Runner):
             "captured": lambda number: listed(map(bytes_of, items(plain["captured"](number)))),
         }
 
+    def facts(self, blocks):
+        return [facts_of(b) for b in blocks]
+
     def begin(self, text):
         """The blocks of a script, it as a machine, its host, and how its module begins: block, names and world."""
         blocks = self.blocks(text)
         around = [self.around(blocks, b) for b in blocks]
-        facts = [facts_of(b) for b in blocks]
+        facts = self.facts(blocks)
         self.program = program = {"facts": lambda b: facts[b["number"]], "texts": self.texts_of(self.trees(text).tree),
                                   "file": word("script.py"), "source": ("Some", word(text))}
         machine = self.machine({
@@ -125,10 +129,41 @@ class ObjectRunner(Runner):
                     case "List" | "Tuple":
                         inner = ", ".join(self.describe(v, heap, depth - 1) for v in items(thing[1])) if depth else ""
                         return f"{thing[0].lower()}({inner})" if depth else "..."
+                    case "Set":
+                        inner = ", ".join(sorted(self.describe(e["first"], heap, depth - 1) for e in items(thing[1]))) if depth else ""
+                        return f"set({inner})" if depth else "..."
+                    case "Dict":
+                        told = lambda e: f"{self.describe(e['first'], heap)}: {self.describe(e['value'], heap, depth - 1)}"
+                        return f"dict({', '.join(map(told, items(thing[1])))})" if depth else "..."
         return f"<{text_of(self.class_name(heap, value))}>"
 
-    @staticmethod
-    def text_of_error(value, heap):
-        heap = items(heap)
-        arguments = items(heap[value[1]["0"]][1]["args"])
-        return text_of(heap[arguments[0][1]["0"]][1]) if arguments else ""
+    def text_of_error(self, value, heap):
+        """The text of an exception, as a traceback has it."""
+        return text_of(self.error_text(heap, items(heap)[value[1]["0"]][1]))
+
+
+class NamesRunner(ObjectRunner):
+    """One that has the names of blocks, those of comprehensions too, by the definitions of `sem_names`."""
+
+    def __init__(self, crates):
+        super().__init__(crates)
+        self.around_of = self.get("sem_names", "Around", "around_of")
+        self.names_of = self.get("sem_names", "Around", "names_of")
+
+    def blocks(self, text):
+        self.tree = self.trees(text).tree
+        return super().blocks(text)
+
+    def around(self, blocks, block):
+        said, known = self.around_of(("None",), self.tree, block.number), {}
+
+        def variable(within):
+            def named(name):
+                if (within, name) not in known:
+                    known[within, name] = said["variable"](within)(name)
+                return known[within, name]
+            return named
+        return {**said, "variable": variable}
+
+    def facts(self, blocks):
+        return [{**facts_of(b), **self.names_of(self.tree, b.number)} for b in blocks]

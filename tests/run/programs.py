@@ -1,6 +1,8 @@
 """Random scripts of numbers, texts, names, branches, `while` loops and functions: closures, `nonlocal` and `global`, defaults, arguments
-by name, decorators and recursion; some of lists, tuples and ranges as well, with `for` loops, unpacking and subscripts. One statement
-stands on a line. Loops and recursions end, and some scripts raise."""
+by name, decorators and recursion; some of lists, tuples and ranges as well, with `for` loops, unpacking and subscripts, starred parameters and
+arguments that are spread, and of f-strings,
+slices, dictionaries, sets, items that are assigned to and deleted, and methods of all these. One statement stands on a line. Loops and recursions end, and some
+scripts raise. Sets aren't printed: their order is CPython's own. Where asked for, there are comprehensions and orders of lists and tuples as well."""
 import random
 
 HEAD = """\
@@ -13,6 +15,10 @@ def rest(n):
         return n
     return rest(n - 1)
 """.split("\n")[:-1]
+# classes of exceptions; a run raises some of them with texts of its own
+WORDED = ["AssertionError", "KeyError", "NameError", "UnboundLocalError", "ImportError", "ModuleNotFoundError", "NotImplementedError", "StopIteration",
+          "AttributeError", "GeneratorExit"]
+ERRORS = WORDED + ["ValueError", "IndexError", "LookupError", "RuntimeError", "ArithmeticError", "ZeroDivisionError", "TypeError", "Exception", "BaseException"]
 UNARY, BINARY = ["-", "+", "~", "not "], ["+", "-", "*", "&", "|", "^"]
 COMPARE = ["<", "<=", "==", "!=", ">", ">=", "is", "is not"]
 
@@ -22,7 +28,8 @@ class Block:
 
     def __init__(self, depth, around=None):
         self.depth, self.around = depth, around
-        self.names, self.functions, self.sequences, self.loops = [], [], [], 0
+        self.names, self.functions, self.sequences, self.lists = [], [], [], []
+        self.dicts, self.sets, self.errors, self.loops = [], [], [], 0
 
     def all(self, kind):
         block, found = self, []
@@ -33,11 +40,14 @@ class Block:
 
 
 class Program:
-    """`containers` says that there are lists, tuples and ranges."""
+    """`containers` says that there are lists, tuples, ranges, f-strings, slices, dictionaries and sets; `exceptions` that there are `try`,
+    `raise`, `assert` and exceptions; `forms` that there are comprehensions and orders of sequences."""
 
-    def __init__(self, seed, containers=False):
+    def __init__(self, seed, containers=False, exceptions=False, forms=False):
         self.r = random.Random(seed)
-        self.lines, self.fresh, self.containers = list(HEAD), 0, containers
+        self.forms = forms
+        self.lines, self.fresh, self.containers, self.exceptions, self.handling = list(HEAD), 0, containers, exceptions, 0
+        self.starred = {}
 
     def name(self, stem):
         self.fresh += 1
@@ -96,6 +106,8 @@ class Program:
         names = block.all("sequences")
         if names and self.r.random() < 0.4:
             return self.r.choice(names)
+        if self.forms and room and self.r.random() < 0.25:
+            return self.comprehension(block)
         match self.r.randrange(8):
             case 0 | 1 | 2:
                 return f"[{', '.join(self.items(block, room))}]"
@@ -109,12 +121,245 @@ class Program:
                 return f"range({self.r.randrange(-2, 6)}, {self.r.randrange(-2, 6)}{step})"
         return self.r.choice(["'abc'", "'\u00e9x'", "''"]) if self.r.random() < 0.3 else "(1, 2, 3)"
 
+    # f-strings, slices, dictionaries and sets, mostly of atoms
+    def part(self, block):
+        return self.exp(block, 0) if self.r.random() < 0.3 else self.atom(block)
+
+    def joined(self, block):
+        """An f-string, without blanks but in its fields."""
+        word = lambda: self.r.choice(["", "x", "\u00e9=", "{{", "}}"])
+        return f"f'{''.join(word() if self.r.random() < 0.4 else self.field(block) for _ in range(self.r.randrange(4)))}'"
+
+    def field(self, block):
+        """One of any value, and by a spec one of an integer or a text."""
+        match self.r.randrange(6):
+            case 0:
+                return f"{{{self.r.choice(['\'ab\'', '\'\u00e9x\''])}{self.r.choice(['', '!r', '!s'])}{self.spec('s')}}}"
+            case 1:
+                return f"{{{self.sequence(block, 0)}{self.r.choice(['', '!r', '!s', '!r:>9', '!s:*<20'])}}}"
+            case 2:
+                return f"{{{self.part(block)}{self.r.choice(['', '!r', '!s'])}}}"
+            case 3:
+                return f"{{{self.part(block)}{self.r.choice(['!r', '!s'])}{self.spec('s')}}}"
+        constant = self.r.choice(["0", "42", "-7", "255", "True", str(2 ** 70)])
+        number = self.r.choice([constant, f"len({self.sequence(block, 0)})", f"({self.atom(block)} - {self.atom(block)})"])
+        return f"{{{number}{self.spec('dxXbo')}}}"
+
+    def spec(self, types):
+        """None, or a format spec, mostly one that fits, and now and then with a field for the width."""
+        if self.r.random() < 0.4:
+            return ""
+        align = self.r.choice(["", "", "<", ">", "^"] + ["="] * (types != "s"))
+        fill = self.r.choice(["", "*", "0", "_", "\u4e16"]) if align else ""
+        sign = self.r.choice(["", "+", "-"]) if types != "s" else ""
+        width = self.r.choice(["", "0", "1", "4", "9", "{3}", "{12}"])
+        return f":{fill}{align}{sign}{self.r.choice(['', '0']) if types != 's' and width else ''}{width}{self.r.choice(['', *types])}"
+
+    def sliced(self, block):
+        """A sequence, cut."""
+        bound = lambda: self.r.choice(["", "", "0", "1", "2", "-1", "-2", "5", "-7", "None"] + ["'a'"] * (self.r.random() < 0.02))
+        step = self.r.choice(["", "", ":", ":1", ":2", ":-1", ":-2"] + [":0"] * (self.r.random() < 0.05))
+        return f"{self.sequence(block, 0)}[{bound()}:{bound()}{step}]"
+
+    def key(self):
+        return self.r.choice(["0", "1", "2", "3", "True", "'a'", "'b'", "(1, 'a')", "None"] + ["[]"] * (self.r.random() < 0.01))
+
+    def dictionary(self, block, most=4):
+        return f"{{{', '.join(f'{self.key()}: {self.part(block)}' for _ in range(self.r.randrange(most)))}}}"
+
+    def mapping(self, block):
+        names = block.all("dicts")
+        return self.r.choice(names) if names and self.r.random() < 0.7 else self.dictionary(block)
+
+    def set_of(self, block):
+        return f"{{{', '.join(self.r.choice([self.key(), self.atom(block)]) for _ in range(self.r.randint(1, 4)))}}}"
+
+    def of_mapping(self, block):
+        """A number or a truth, of an f-string, a slice, a dictionary or a set."""
+        match self.r.randrange(12):
+            case 0:
+                return f"len({self.joined(block)})"
+            case 1:
+                return f"({self.joined(block)} == {self.joined(block)})"
+            case 2:
+                return f"len({self.sliced(block)})"
+            case 3:
+                return f"({self.sliced(block)} == {self.r.choice(['[]', repr('b'), '(1,)'])})"
+            case 4 | 5:
+                d, k = self.mapping(block), self.key()
+                return f"({d}[{k}] if {k} in {d} else {self.atom(block)})" if self.r.random() < 0.95 else f"({d}[{k}])"
+            case 6:
+                return f"({self.key()} {self.r.choice(['in', 'not in'])} {self.mapping(block)})"
+            case 7:
+                return f"({self.mapping(block)} {self.r.choice(['==', '!='])} {self.mapping(block)})"
+            case 8:
+                return f"({self.atom(block)} {self.r.choice(['in', 'not in'])} {self.set_of(block)})"
+            case 9:
+                return f"({self.set_of(block)} == {self.set_of(block)})"
+            case 10:
+                return f"len(str({self.mapping(block)}))"
+        return f"{self.r.choice(['len', 'bool'])}({self.r.choice([self.mapping, self.set_of])(block)})"
+
+    # comprehensions and orders
+    def clauses(self, block, inner):
+        """The clauses of a comprehension, whose names stand in `inner`, and the first iterable of which is read in `block`."""
+        text = ""
+        for i in range(self.r.choice([1, 1, 1, 2])):
+            over, x = self.sequence(inner if i else block, 0), self.name("c")
+            if self.r.random() < 0.2:
+                x, over = f"{x}, {self.name('c')}", f"[({self.atom(block)}, {self.atom(block)}), (1, 2)]"
+            inner.names += x.split(", ")
+            text += f" for {x} in {over}"
+            if self.r.random() < 0.4:
+                text += f" if {self.test(inner)}"
+        return text
+
+    def comprehension(self, block):
+        """One of a list, mostly of atoms, and some of functions or of further comprehensions."""
+        inner = Block(block.depth, block)
+        clauses = self.clauses(block, inner)
+        match self.r.randrange(8):
+            case 0:
+                return f"[f() for f in [lambda: {self.atom(inner)}{clauses}]]"
+            case 1:
+                return f"[{self.comprehension(inner)}{clauses}]" if self.r.random() < 0.5 else f"[({self.atom(inner)}, 'x'){clauses}]"
+        return f"[{self.exp(inner, 1)}{clauses}]"
+
+    def of_forms(self, block):
+        """A number or a truth, of comprehensions, orders of sequences and texts of numbers."""
+        inner, order = Block(block.depth, block), self.r.choice(["<", "<=", ">", ">=", "==", "!="])
+        match self.r.randrange(9):
+            case 0:
+                clauses = self.clauses(block, inner)
+                return f"len({{{self.r.choice([self.key(), self.atom(inner)])}{clauses}}})"
+            case 1:
+                clauses = self.clauses(block, inner)
+                return f"len({{{self.atom(inner)}: {self.part(inner)}{clauses}}})"
+            case 2:
+                return f"len({self.comprehension(block)})"
+            case 3 | 4:
+                display = self.r.choice(["[{}]", "({},)"])
+                one, other = ([self.r.choice(["1", "2", "True", "(1, 2)", "[3]", self.atom(block)]) for _ in range(self.r.randint(1, 3))] for _ in range(2))
+                return f"({display.format(', '.join(one))} {order} {display.format(', '.join(other))})"
+            case 5:
+                return f"({self.mapping(block)} {self.r.choice(['==', '!='])} {self.mapping(block)})"
+            case 6:
+                return f"int({self.r.choice(['7', ' -12 ', '+1_000', '0', '\\t5\\n'])!r})".replace("\\\\", "\\")
+            case 7:
+                return f"isinstance({self.part(block)}, (int, (str, (list,))))"
+        return f"hasattr({self.sequence(block, 0)}, {self.r.choice(['append', 'index', 'items'])!r})"
+
+    # methods
+    def plain_text(self):
+        return repr(self.r.choice(["", "a", "ab", " a b ", "a,b,,c", "\u00e9x\t\u00e9", "aXbXa", "  "]))
+
+    def of_text(self, block):
+        """What a method of a text gives."""
+        t, part = self.plain_text(), self.r.choice(["'a'", "','", "'X'", "'\u00e9'", "'ab'", "' '"] + ["''", "1"] * (self.r.random() < 0.02))
+        match self.r.randrange(7):
+            case 0:
+                return f"{t}.split({self.r.choice(['', part, 'None'])})"
+            case 1:
+                return f"{t}.{self.r.choice(['strip', 'lstrip', 'rstrip'])}({self.r.choice(['', part, 'None'])})"
+            case 2:
+                return f"{t}.replace({part}, {self.plain_text()})"
+            case 3:
+                return f"{t}.{self.r.choice(['find', 'count'])}({part})"
+            case 4:
+                return f"{t}.{self.r.choice(['startswith', 'endswith'])}({self.r.choice([part, f'({part}, {self.plain_text()})'])})"
+            case 5:
+                return f"({part}).join({t}.split({self.r.choice(['', part])}))"
+        of = [self.plain_text() for _ in range(self.r.randrange(4))] + ["0"] * (self.r.random() < 0.02)
+        return f"{t}.join({self.r.choice([f'[{', '.join(of)}]', f'({', '.join(of)}{',' * (len(of) == 1)})'])})"
+
+    def of_method(self, block):
+        """A number, a truth or an item, which a method gives, or the attribute of what has none."""
+        lists, dicts = block.all("lists") or ["[1, 2, 3]"], block.all("dicts") or [f"({self.dictionary(block)})"]
+        match self.r.randrange(9):
+            case 0 | 1:
+                return f"({self.of_text(block)} == {self.of_text(block)})"
+            case 2:
+                return f"len(str({self.of_text(block)}))"
+            case 3:
+                return f"{self.r.choice([*lists, '(1, True, 2)', '()'])}.count({self.atom(block)})"
+            case 4:
+                x, v = self.r.choice([*lists, "(1, 2, 3)"]), self.atom(block)
+                return f"({x}.index({v}) if {v} in {x} else {self.atom(block)})" if self.r.random() < 0.95 else f"{x}.index({v})"
+            case 5 | 6:
+                d, k = self.r.choice(dicts), self.key()
+                return self.r.choice([f"{d}.get({k})", f"{d}.get({k}, {self.atom(block)})", f"{d}.setdefault({k}, {self.atom(block)})",
+                                      f"len({d}.{self.r.choice(['keys', 'values', 'items', 'copy'])}())", f"{d}.pop({k}, {self.atom(block)})"])
+            case 7:
+                return f"len({self.set_of(block)}.copy())"
+        of, name = self.r.choice([self.atom(block), *lists, *dicts, "'a'", "print", "(1,)", "None"]), self.r.choice(["other", "push", "keys", "_x"])
+        return f"({of}).{name}" if self.r.random() < 0.04 else f"bool({self.r.choice(lists)}.{self.r.choice(['pop', 'append', 'copy'])})"
+
+    def of_methods(self, block, deeper):
+        """A statement that calls methods. A list keeps three items at least."""
+        put = lambda text, more=0: self.put(block, text, deeper + more)
+        lists, dicts, sets = block.all("lists"), block.all("dicts"), block.all("sets")
+        value = lambda: self.exp(block, 1)
+        index = lambda: self.r.choice(["0", "1", "-1", "9", "-9", "True"] + ["'a'", "None"] * (self.r.random() < 0.02))
+        match self.r.randrange(11):
+            case 0 if lists:
+                put(f"{self.r.choice(lists)}.append({value()})")
+            case 1 if lists:
+                put(f"{self.r.choice(lists)}.insert({index()}, {value()})")
+            case 2 if lists:
+                put(f"{self.r.choice(lists)}.extend({self.r.choice([f'[{value()}]', f'({value()}, {value()})', '()', self.r.choice(lists)])})")
+            case 3 if lists:
+                x = self.r.choice(lists)
+                put(f"if len({x}) > 3:")
+                v = self.r.choice([f"{x}[1]", "2"])
+                put(self.r.choice([f"print({x}.pop(), {x})", f"{x}.pop({self.r.choice(['0', '-1', '2', 'True'])})", f"{x}.remove({v})" if v[0] != "2" else
+                                   f"print({v} in {x} and {x}.remove({v}), {x})", f"del {x}[{x}.index({x}[2])]"]), 1)
+            case 4 if lists:
+                x = self.r.choice(lists)
+                put(f"{x}.reverse()")
+                put(f"print({x}, {x}.copy(), {x}.copy() is {x})")
+            case 5 if lists:
+                m = self.name("m")
+                put(f"{m} = {self.r.choice(lists)}.{self.r.choice(['append', 'count', 'copy'])}")
+                put(f"print({m}({'' if self.lines[-1].endswith('copy') else value()}), {m})")
+            case 6 if dicts:
+                d, made = self.r.choice(dicts), [self.name("v"), self.name("v")]
+                put(f"for {', '.join(made)} in {d}.items():")
+                put(f"print({made[0]}, {made[1]})", 1)
+                if self.r.random() < 0.05:
+                    put(f"{d}.clear()", 1)
+            case 7 if dicts:
+                d, v = self.r.choice(dicts), self.name("v")
+                put(f"for {v} in {d}.{self.r.choice(['keys', 'values'])}():")
+                put(f"print({v})", 1)
+            case 8 if dicts:
+                d, name = self.r.choice(dicts), self.name("d")
+                put(f"{name} = {d}.copy()")
+                put(f"print({d}.pop({self.key()}, None), len({name}), {name} == {d})")
+            case 9 if sets:
+                s, k = self.r.choice(sets), self.key()
+                put(f"{s}.{self.r.choice(['add', 'add', 'discard'])}({self.r.choice([k, self.atom(block)])})")
+                put(f"print(len({s}), {k} in {s}, {s} == {s}.copy())")
+                if self.r.random() < 0.1:
+                    put(self.r.choice([f"{s}.clear()", f"{s}.remove({k})"]))
+            case 10 if not deeper:
+                name = self.name("s")
+                put(f"{name} = {self.set_of(block)}")
+                block.sets.append(name)
+            case _:
+                put(f"print({self.of_text(block)}, {self.of_method(block)})")
+
     def items(self, block, room):
         item = lambda: self.sequence(block, room - 1) if room and self.r.random() < 0.2 else self.exp(block, room)
         return [item() for _ in range(self.r.randrange(4))]
 
     def of_sequence(self, block):
-        """A number, a truth or an item, of a sequence."""
+        """A number, a truth or an item, of a sequence or of what is like one."""
+        if self.forms and self.r.random() < 0.3:
+            return self.of_forms(block)
+        if self.r.random() < 0.3:
+            return self.of_mapping(block)
+        if self.r.random() < 0.25:
+            return self.of_method(block)
         s = self.sequence(block)
         match self.r.randrange(6):
             case 0 | 1:
@@ -130,8 +375,55 @@ class Program:
         """A name that the statement binds, which isn't bound before."""
         if block.names and self.r.random() < 0.5:
             return self.r.choice(block.names)
+        if self.r.random() < 0.2:
+            return self.item_target(block) or self.fresh_target(block, made)
         made.append(self.name("v"))
         return made[-1]
+
+    def item_target(self, block):
+        """An item of a list, which has at least three, or of a dictionary; None where there are neither."""
+        lists, dicts = block.all("lists"), block.all("dicts")
+        if dicts and (not lists or self.r.random() < 0.5):
+            return f"{self.r.choice(dicts)}[{self.key()}]"
+        index = self.r.choice(["0", "1", "-1", "-3", "True"] + ["3", "'a'"] * (self.r.random() < 0.05))
+        return f"{self.r.choice(lists)}[{index}]" if lists else None
+
+    def of_items(self, block, deeper):
+        """A statement that changes items, or makes a list or a dictionary that has them."""
+        put = lambda text, more=0: self.put(block, text, deeper + more)
+        target, lists, dicts = self.item_target(block), block.all("lists"), block.all("dicts")
+        match self.r.randrange(9):
+            case 0 | 1 if target:
+                put(f"{target} = {self.exp(block, 1)}")
+            case 2 if target and block.names:
+                put(f"{self.r.choice(block.names)} = {target} = {self.exp(block, 1)}")
+            case 3 if lists:
+                put(f"{self.r.choice(lists)}[{self.r.choice(['0', '-1', '1'])}] {self.r.choice(['+', '-', '*', '|'])}= {self.exp(block, 1)}")
+            case 4 if dicts:
+                d, k = self.r.choice(dicts), self.key()
+                put(f"if {k} in {d}:")
+                put(self.r.choice([f"{d}[{k}] += {self.atom(block)}", f"del {d}[{k}]"]), 1)
+            case 5 if lists:
+                x = self.r.choice(lists)
+                put(f"{x} += [{self.exp(block, 1)}]")
+                put(f"if len({x}) > 3:")
+                put(f"del {x}[{self.r.choice(['0', '-1', '1'])}]", 1)
+            case 6 if target and self.r.random() < 0.1:
+                put(f"del {target}")
+            case 7 if lists or dicts:
+                put(f"print({self.r.choice(lists + dicts)}, {self.joined(block)})")
+            case 8:
+                put(f"print({self.joined(block)}, {self.r.choice([self.joined, self.sliced, self.mapping])(block)})")
+            case _ if deeper:
+                put(f"{self.mapping(block)}[{self.key()}] = {self.atom(block)}")
+            case n if n % 2:
+                name = self.name("d")
+                put(f"{name} = {self.dictionary(block, 5)}")
+                block.dicts.append(name)
+            case _:
+                name = self.name("s")
+                put(f"{name} = [{', '.join(self.part(block) for _ in range(self.r.randint(3, 5)))}]")
+                block.lists.append(name)
 
     def pattern(self, block, made, room=1):
         """A target, and a display that fits it, mostly."""
@@ -164,6 +456,10 @@ class Program:
 
     def of_containers(self, block, deeper, room):
         put = lambda text: self.put(block, text, deeper)
+        if self.r.random() < 0.35:
+            return self.of_items(block, deeper)
+        if self.r.random() < 0.3:
+            return self.of_methods(block, deeper)
         match self.r.randrange(8):
             case 0 | 1 if room > 0:
                 self.for_loop(block, deeper, room)
@@ -199,14 +495,139 @@ class Program:
             given = given[:len(plain) - self.r.randint(1, defaults)]
         cut = self.r.randint(0, len(given))
         named = [f"{x}={e}" for x, e in zip(plain[cut:], given[cut:])] + [f"{x}={self.exp(block, room)}" for x in only if self.r.random() < 0.99]
+        words = given[:cut]
+        if self.containers:
+            words, named = self.starred_arguments(block, f, words, named, cut == len(plain))
         self.r.shuffle(named)
-        words = given[:cut] + named
+        words += named
         if self.r.random() < 0.02:
             words = self.r.choice([words + ["other=1"], ["1", "2", "3"] + words, words[1:]])
         return f"{f}({', '.join(words)})"
 
+    def starred_arguments(self, block, f, words, named, is_filled):
+        """Some arguments more where `*NAME` or `**NAME` takes them, and some of all spread."""
+        star, stars = self.starred.get(f, (False, False))
+        if star and is_filled:
+            words = words + [self.atom(block) for _ in range(self.r.randrange(3))]
+        if stars and self.r.random() < 0.6:
+            named = named + [f"{self.name('n')}={self.atom(block)}"]
+        if self.r.random() < 0.15:
+            i = self.r.randint(0, len(words))
+            j = self.r.randint(i, len(words))
+            group = "".join(f"{w}, " for w in words[i:j])
+            words = words[:i] + [f"*{self.r.choice(['[%s]', '(%s)'])}" % group] + words[j:]
+        if self.r.random() < 0.1:
+            k = self.r.randint(0, len(named))
+            entries = ", ".join("'{}': {}".format(*w.split("=", 1)) for w in named[k:])
+            named = named[:k] + [f"**{{{entries}}}"]
+        return words, named
+
     def test(self, block):
         return f"{self.exp(block, 1)} {self.r.choice(COMPARE[:6])} {self.atom(block)}" if self.r.random() < 0.7 else self.exp(block, 1)
+
+    # exceptions
+    def error(self, block, room=1):
+        """A class of exceptions, one that it makes, or one that is held."""
+        if block.all("errors") and self.r.random() < 0.35:
+            return self.r.choice(block.all("errors"))
+        name = self.r.choice(ERRORS)
+        # what `assert` calls isn't told from a call of its class
+        if self.r.random() < 0.25 or name == "AssertionError":
+            return name
+        args = [self.argument(block, room) for _ in range(self.r.choice([0, 1, 1, 1, 2, 3]))]
+        return f"{name}({', '.join(args)})"
+
+    def argument(self, block, room):
+        match self.r.randrange(6):
+            case 0 if room:
+                return self.error(block, room - 1)
+            case 1:
+                return self.r.choice(["'it\\'s'", "''", "None", "[]", "('a',)"])
+            case 2 if self.containers:
+                return self.sequence(block)
+            case 3 | 4:
+                return repr(self.r.choice(["a", "b", "\u00e9"]))
+        return self.atom(block)
+
+    def raising(self, block, deeper):
+        put = lambda text: self.put(block, text, deeper)
+        chance = self.r.random()
+        if chance < 0.12 or self.handling and chance < 0.3:
+            return put("raise")
+        if chance < 0.33:
+            return put(f"raise {self.r.choice(['5', 'int', 'None', 'print', '()'])}" if self.r.random() < 0.3 else f"assert {self.test(block)}, {self.argument(block, 1)}")
+        cause = "" if self.r.random() < 0.6 else f" from {self.r.choice(['None', '5', self.error(block), self.error(block), self.error(block)])}"
+        put(f"raise {self.error(block)}{cause}")
+
+    def handled(self):
+        """What a handler takes."""
+        match self.r.randrange(12):
+            case 0 | 1:
+                return f"({', '.join(self.r.choice(ERRORS) for _ in range(self.r.randrange(1, 4)))},)"
+            case 2:
+                return self.r.choice(["()", "int", "5", "(5,)", "((KeyError,),)"]) if self.r.random() < 0.5 else "BaseException"
+            case 3 | 4 | 5:
+                return self.r.choice(["Exception", "BaseException", "LookupError", "ArithmeticError"])
+        return self.r.choice(ERRORS)
+
+    def try_of(self, block, deeper, room):
+        put = lambda text, more=0: self.put(block, text, deeper + more)
+        names, errors = list(block.names), list(block.errors)
+        put("try:")
+        self.body(block, deeper + 1, room - 1)
+        if self.r.random() < 0.75:
+            self.raising(block, deeper + 1)
+        handlers = self.r.choice([0, 1, 1, 2, 3])
+        self.handling += 1
+        for i in range(handlers):
+            if i == handlers - 1 and self.r.random() < 0.2:
+                put("except:")
+            else:
+                taken = self.handled()
+                name = self.name("e") if self.r.random() < 0.7 else None
+                put(f"except {taken}{f' as {name}' if name else ''}:")
+                if name:
+                    put(f"print({self.r.choice([name, f'repr({name})', f'[{name}]', f'({name}, 1)']) if taken in WORDED else f'type({name})'})", 1)
+                    if self.r.random() < 0.3:
+                        put(f"h{self.fresh} = {name}", 1)
+                        block.errors.append(f"h{self.fresh}")
+                    if self.r.random() < 0.2:
+                        block.errors.append(name)
+            self.body(block, deeper + 1, 0)
+            if self.r.random() < 0.3:
+                self.raising(block, deeper + 1)
+            elif self.r.random() < 0.2 and block.depth:
+                put(f"return {self.atom(block)}", 1)
+        self.handling -= 1
+        if handlers and self.r.random() < 0.4:
+            put("else:")
+            self.body(block, deeper + 1, 0)
+        if not handlers or self.r.random() < 0.4:
+            put("finally:")
+            self.body(block, deeper + 1, 0)
+            if self.r.random() < 0.2:
+                self.raising(block, deeper + 1)
+            elif self.r.random() < 0.2 and block.depth:
+                put(f"return {self.atom(block)}", 1)
+        if self.r.random() < 0.98:
+            block.names = names
+        if self.r.random() < 0.9:
+            block.errors = errors
+
+    def of_exceptions(self, block, deeper, room):
+        match self.r.randrange(10):
+            case 0:
+                return self.raising(block, deeper) if self.r.random() < 0.4 else self.put(block, f"assert {self.test(block)} or True", deeper)
+            case 1:
+                x = self.name("x")
+                self.put(block, f"{x} = {self.error(block, 2)}", deeper)
+                return block.errors.append(x) if not deeper else None
+            case 2 if block.all("errors"):
+                x, y = self.r.choice(block.all("errors")), self.r.choice(block.all("errors"))
+                return self.put(block, f"print({self.r.choice([f'{x} is {y}', f'{x} == {y}', f'not {x}', f'type({x})', f'{x} in [{y}]'])})", deeper)
+        if room > 0:
+            return self.try_of(block, deeper, room)
+        return self.put(block, f"print({self.error(block)})" if self.r.random() < 0.5 else "pass", deeper)
 
     # statements
     def target(self, block, among=None):
@@ -218,6 +639,8 @@ class Program:
 
     def statement(self, block, deeper, room):
         put = lambda text: self.put(block, text, deeper)
+        if self.exceptions and self.r.random() < 0.3:
+            return self.of_exceptions(block, deeper, room)
         if self.containers and self.r.random() < 0.45:
             return self.of_containers(block, deeper, room)
         match self.r.randrange(16):
@@ -286,8 +709,11 @@ class Program:
         only = [self.name("k") for _ in range(self.r.choice([0, 0, 1, 2]))]
         defaults = self.r.randint(0, len(plain))
         words = [x if i < len(plain) - defaults else f"{x}={self.exp(block, 1)}" for i, x in enumerate(plain)]
-        if only:
-            words += ["*"] + [x if self.r.random() < 0.5 else f"{x}={self.exp(block, 1)}" for x in only]
+        star, stars = (self.name(x) if self.containers and self.r.random() < 0.15 else None for x in ("r", "w"))
+        if star or only:
+            words += [f"*{star or ''}"] + [x if self.r.random() < 0.5 else f"{x}={self.exp(block, 1)}" for x in only]
+        if stars:
+            words.append(f"**{stars}")
         if self.r.random() < 0.15:
             self.put(block, "@same")
         self.put(block, f"def {f}({', '.join(words)}):")
@@ -304,7 +730,7 @@ class Program:
             self.put(inner, f"global {x}")
             self.put(inner, f"{x} = {self.exp(block, 1)}")
             self.put(inner, f"{x} += 1")
-        inner.names = plain + only
+        inner.names, inner.sequences, inner.dicts = plain + only, [star] * bool(star), [stars] * bool(stars)
         for _ in range(self.r.randint(1, 4)):
             self.statement(inner, 0, room - 1)
         if inner.functions and self.r.random() < 0.4:
@@ -315,8 +741,10 @@ class Program:
             made = self.name("f")
             self.put(block, f"{made} = {f}({', '.join([self.atom(block) for _ in plain] + [f'{x}={self.atom(block)}' for x in only])})")
             block.functions.append((made, *inner.functions[-1][1:]))
+            self.starred[made] = self.starred[inner.functions[-1][0]]
         else:
             block.functions.append((f, plain, only, defaults))
+            self.starred[f] = bool(star), bool(stars)
 
     def text(self):
         module = Block(0)
@@ -325,5 +753,5 @@ class Program:
         return "\n".join(self.lines) + "\n"
 
 
-def program(seed, containers=False):
-    return Program(seed, containers).text()
+def program(seed, containers=False, exceptions=False, forms=False):
+    return Program(seed, containers, exceptions, forms).text()

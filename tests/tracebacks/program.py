@@ -33,7 +33,7 @@ def text_of(notation):
         elif m[3] == ">":
             out = out[:start] + out[start:] * times
         else:
-            out += {"n": b"\n", "r": b"\r", "t": b"\t"}[m[3]]
+            out += {"n": b"\n", "r": b"\r", "t": b"\t", "\\": b"\\"}[m[3]]
     return (out + notation[at:].encode()).decode()
 
 

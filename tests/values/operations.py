@@ -3,6 +3,7 @@
 Run with CPython 3.12 in this folder.
 """
 
+import builtins
 import sys
 import warnings
 from pathlib import Path
@@ -20,24 +21,30 @@ UNARY = {"+": "Plus", "-": "Minus", "~": "Invert"}
 COMPARISONS = {"<": "Less", "<=": "LessEqual", ">": "Greater", ">=": "GreaterEqual", "==": "Equal", "!=": "NotEqual", "in": "In",
                "not in": "NotIn", "is": "Is", "is not": "IsNot"}
 HELPERS = {"TruthOf": "truth", "PrintOf": "print", "StrOf": "str", "ReprOf": "repr", "LenOf": "len", "IterOf": "iter", "NextOf": "next",
-           "NextOrOf": "next_or", "InOf": "in", "SameOf": "same", "ExtendOf": "extend"}
+           "NextOrOf": "next_or", "InOf": "in", "SameOf": "same", "PairsOf": "pairs", "ExtendOf": "extend"}
 
 CRATES = HERE.parent.parent / "crates"
 # the classes that a run starts with, as far as they are asked for here
 CLASSES = ("object type int bool str list tuple set dict range slice NoneType ellipsis NotImplementedType function method "
            "builtin_function_or_method generator frame code module super dict_keys dict_values dict_items iterator").split()
-ERRORS = {31: "ZeroDivisionError", 37: "IndexError", 43: "RecursionError", 44: "StopIteration", 45: "TypeError", 46: "ValueError"}
+ERRORS = {31: "ZeroDivisionError", 33: "AttributeError", 37: "IndexError", 38: "KeyError", 43: "RecursionError", 44: "StopIteration", 45: "TypeError", 46: "ValueError"}
 SCRIPTED = {"Scripted": 48, "ScriptedError": 49}
+
+
+def base_of(name):
+    """The base of a class, of `bool` alone: no row asks for another."""
+    return ("Some", {"0": CLASSES.index("int")}) if name == "bool" else ("None",)
 
 
 class Heap:
     """The objects of a row: those of the start, one for each word of OBJECTS, and what those hold."""
 
-    def __init__(self):
-        self.objects = [("Module", ("Sys",))] * 50
+    def __init__(self, coded):
+        self.coded, self.objects = coded, [("Module", ("Sys",))] * 50
         for place, name in [*enumerate(CLASSES), *ERRORS.items(), *((place, name) for name, place in SCRIPTED.items())]:
-            self.objects[place] = ("Class", {"name": listed(name.encode()), "scripted": name in SCRIPTED})
-        self.places, self.known = {"C": 2}, {}
+            self.objects[place] = ("Class", {"name": listed(name.encode()), "scripted": name in SCRIPTED, "base": base_of(name), "names": ()})
+        self.places = {"C": 2}
+        self.known = {id(getattr(builtins, name)): (place, name) for place, name in enumerate(CLASSES) if hasattr(builtins, name)}
         named = prims.objects()
         for word, thing in named.items():
             if word != "C":
@@ -64,15 +71,17 @@ class Heap:
         if isinstance(thing, range):
             return ("Range", {"start": integer(thing.start), "stop": integer(thing.stop), "step": integer(thing.step)})
         if isinstance(thing, slice):
-            return ("Slice", {"start": ("None",), "stop": ("None",), "step": ("None",)})
+            return ("Slice", {name: self.value(getattr(thing, name)) for name in ("start", "stop", "step")})
+        if isinstance(thing, dict):
+            return ("Dict", listed([{"key": self.coded(self, key), "first": self.value(key), "value": self.value(value)} for key, value in thing.items()]))
         if isinstance(thing, prims.Iterator):
             over = ("None",) if thing.over is None else ("Some", {"0": self.put(thing.over)})
             return ("Cursor", {"over": over, "place": thing.place, "count": 0})
         if isinstance(thing, (prims.Scripted, prims.ScriptedError)):
-            return ("Instance" if isinstance(thing, prims.Scripted) else "Error", {"class": {"0": SCRIPTED[type(thing).__name__]}})
-        return {dict: ("Dict", ()), set: ("Set", ()), type({}.keys()): ("View", {"part": ("Keys",), "dict": {"0": 0}}),
-                ValueError: ("Error", {"class": {"0": 46}}), type(prims.first): ("Function", {}), type(print): ("Builtin", {}),
-                object: ("Instance", {"class": {"0": 0}}), type(sys): ("Module", ("Sys",))}[type(thing)]
+            return ("Instance" if isinstance(thing, prims.Scripted) else "Error", {"class": {"0": SCRIPTED[type(thing).__name__]}, "args": (), "cause": ("None",), "context": ("None",), "names": ()})
+        return {set: ("Set", ()), type({}.keys()): ("View", {"part": ("Keys",), "dict": {"0": self.places.get("D", 0)}}),
+                ValueError: ("Error", {"class": {"0": 46}, "args": (), "cause": ("None",), "context": ("None",), "names": ()}), type(prims.first): ("Function", {}), type(print): ("Builtin", {}),
+                object: ("Instance", {"class": {"0": 0}, "names": ()}), type(sys): ("Module", ("Sys",))}[type(thing)]
 
     def value(self, thing):
         return value_of(thing, self.put)
@@ -84,8 +93,18 @@ class Rows:
         self.content = self.get("prim_answer")
         self.grown = self.get("prim_heap")
 
+        keys = "Rattle.pt_dicts.specs.Keys"
+        self.key_codes, self.key_value = self.all.get(keys, "coded"), self.all.get(keys, "key_value")
+
     def get(self, name):
         return self.all.get("Rattle.pt_prims.specs.Operations", name)
+
+    def coded(self, heap, key):
+        """A value of CPython as a key."""
+        value = heap.value(key)
+        codes = self.key_codes(self.key_value(listed(heap.objects), prims.DEPTH, value))
+        assert codes[0] == "Ok", key
+        return codes[1]
 
     @staticmethod
     def operand(word, heap):
@@ -97,6 +116,13 @@ class Rows:
             place = heap.add(("List", ()))
             for _ in range(int(word[1:]) - 1):
                 place = heap.add(("List", listed([("Obj", {"0": place})])))
+            return ("Obj", {"0": place})
+        if word[0] == "u":
+            return ("Obj", {"0": heap.add(("Str", listed(word[1:].encode())))})
+        if word[0] == "k":
+            place = CLASSES.index("int")
+            for _ in range(int(word[1:])):
+                place = heap.add(("Tuple", listed([("Obj", {"0": place})])))
             return ("Obj", {"0": place})
         if word[0] == "i":
             return ("Int", integer(int(word[1:])))
@@ -119,7 +145,7 @@ class Rows:
 
     def answer(self, row):
         kind, *words = row.split(" ")
-        self.heap = heap = Heap()
+        self.heap = heap = Heap(self.coded)
         operands = [self.operand(word, heap) for word in words]
         self.words = {value[1]["0"]: word for value, word in zip(operands, words) if value[0] == "Obj"}
         self.words = {**{place: word for word, place in heap.places.items()}, **self.words}
@@ -152,6 +178,8 @@ class Rows:
         kind, what = self.after[place]
         if kind in ("List", "Tuple"):
             return f"{kind.lower()}({','.join(map(self.item, items(what)))})"
+        if kind == "Set":
+            return f"set({','.join(self.item(e['first']) for e in items(what))})"
         if kind == "Range":
             return "range({},{},{})".format(*(number(what[x]) for x in ("start", "stop", "step")))
         assert kind == "Cursor"
@@ -183,6 +211,8 @@ class Rows:
             error = self.text(self.after[answer[1]["0"]][1]["name"])
             if answer[2][0] == "None":
                 return error
+            if error == "KeyError":
+                return f"{error}: {self.item(answer[2][1])}"
             assert answer[2] == ("Some", ("Obj", {"0": len(self.before)}))
             return f"{error}: {self.text(self.after[-1][1])}"
         if answer[0] == "End":

@@ -3,7 +3,8 @@
 Run with CPython 3.12 in this folder. A row is an operation and its operands: `truth not`, `u-` a unary operator, `b+` a binary
 one, `i+` that of an augmented assignment, `c<` a comparison with `_` for a blank, `tuple list item iter next`, `unpack2` of so many
 items, and `call_NAME` of a builtin function, of which `call_print` has a separator and an end first. An operand is `n t f e N`, `i` and
-an integer, `s` and a text, `s*N*TEXT` that so many times, `d` and how many lists stand inside one another, or a word of OBJECTS. An
+an integer, `s` and a text with `_` for a blank, `s*N*TEXT` that so many times, `u` and a text as it stands, `d` and how many lists stand
+inside one another, `k` and how many tuples stand around the class of integers, or a word of OBJECTS. An
 answer that changes a list or an iterator is followed by what that is then. What the project has otherwise than CPython is said where it
 is answered.
 """
@@ -76,24 +77,28 @@ def objects():
     """A function, another, a builtin one, an object that only stands for itself, a module, a class; what holds values; instances of a
     script's classes; then lists and tuples, of which some hold others or an instance, ranges and iterators."""
     x = Scripted()
-    one, ended, self_a, self_b = [1], made([], 0), [], []
+    one, three, ended, self_a, self_b = [1], (3,), made([], 0), [], []
     self_a.append(self_a)
     self_b.append(self_b)
     ended.over = None
     return {"F": first, "G": second, "P": print, "O": PLAIN, "M": types, "C": int, "L": one, "T": (), "D": {}, "S": set(), "R": range(3),
-            "V": {}.keys(), "E": ValueError("x"), "X": x, "Y": ScriptedError("x"),
+            "V": {}.keys(), "E": ValueError(), "X": x, "Y": ScriptedError("x"),
             "oE": [], "oA": [1, "ab", None], "oB": [1, "ab", None], "oT": (1, "ab", None), "oI": [True, 2], "oJ": [1, 2], "oQ": [one], "oU": [[1]],
-            "oX": [x], "oY": (x,), "oS": self_a, "oP": self_b, "oO": (3,), "oW": ([1], (2, "h\u00e9")), "oR": range(0, 10, 3), "oM": range(0, 12, 3),
+            "oX": [x], "oY": (x,), "oS": self_a, "oP": self_b, "oO": three, "oW": ([1], (2, "h\u00e9")), "oR": range(0, 10, 3), "oM": range(0, 12, 3),
             "oN": range(5, 5), "oK": range(7, 0, -2), "oL": slice(None), "oC": made([4, 5], 1), "oZ": made("h\u00e9l", 1), "oF": made(range(9, 1, -3), 1),
-            "oH": made((6,), 1), "oV": ended}
+            "oH": made((6,), 1), "oV": ended,
+            "oD": {1: 2, "a": one}, "oDe": {"a": [1], True: 2}, "oDk": {1: 2, "a": one, None: 3}, "oDl": {1: 2, "b": one}, "oDv": {1: 3, "a": one},
+            "oDx": {1: x}, "oLa": slice(1, three, None), "oLb": slice(1, (*[3],), None), "oLc": slice(1, 2, 3),
+            "oG": [1, 3], "oGa": [1, 2, 0], "oGb": [[1, 2], 3], "oGc": [[1, 3], 0], "oGd": ([1], (2, "b")), "oGm": [1, "x"],
+            "oKa": (str, int), "oKb": ((str, (bool,)), list), "oKc": (int, 5), "oKd": (5, int), "oKe": ((), (str, ((int,),)))}
 
 
 PLAIN = object()
 OBJECTS = objects()
 COMPOUND = "LTDSRVE"
 INSTANCES = "XY"
-HELPED = ["X", "Y", "oX", "oY"]
-UNTOLD = (dict, set, type({}.keys()), slice, BaseException)
+HELPED = ["X", "Y", "oX", "oY", "oDx"]
+UNTOLD = (type({}.keys()), slice)
 
 
 def spelled(text):
@@ -108,6 +113,14 @@ def nested(depth):
     value = []
     for _ in range(depth - 1):
         value = [value]
+    return value
+
+
+def around(depth):
+    """So many tuples around the class of integers."""
+    value = int
+    for _ in range(depth):
+        value = (value,)
     return value
 
 
@@ -128,6 +141,10 @@ class Row:
             return text * int(count) if word[1:2] == "*" else word[1:].replace("_", " ")
         if word[0] == "d":
             return nested(int(word[1:]))
+        if word[0] == "u":
+            return word[1:]
+        if word[0] == "k":
+            return around(int(word[1:]))
         return self.objects[word] if word in self.objects else {"n": None, "t": True, "f": False, "e": ..., "N": NotImplemented}[word]
 
     def is_instance(self, value):
@@ -169,6 +186,8 @@ class Row:
             if len(value) > ENTRIES:
                 raise Other("outside length")
             return f"{type(value).__name__}({','.join(map(self.item, value))})"
+        if isinstance(value, set):
+            return f"set({','.join(map(self.item, value))})"
         if isinstance(value, range):
             return f"range({value.start},{value.stop},{value.step})"
         if isinstance(value, Iterator):
@@ -188,7 +207,7 @@ class Row:
             return f"class {name_of(value)}"
         if value is ... or value is NotImplemented:
             return {...: "e", NotImplemented: "N"}[value]
-        if isinstance(value, (list, tuple, range, Iterator)) and not any(value is v for v in [*self.values, *self.objects.values()]):
+        if isinstance(value, (list, tuple, set, range, Iterator)) and not any(value is v for v in [*self.values, *self.objects.values()]):
             return self.made(value) + " new"
         # CPython has one empty tuple, and hands out an operand that it would have to copy
         if isinstance(value, tuple) and (is_new or self.kind == "tuple"):
@@ -246,7 +265,7 @@ def binary(row, sign, a, b):
         return f"help binary {sign}"
     if isinstance(a, int) and isinstance(b, int):
         return computed(row, sign, a, b)
-    if sign == "%" and isinstance(a, str) or sign in "-&|^" and isinstance(a, set) and isinstance(b, set):
+    if sign == "%" and isinstance(a, str):
         return FEATURE
     wrong = f"TypeError: unsupported operand type(s) for {sign}: '{row.class_name(a)}' and '{row.class_name(b)}'"
     if sign == "*" and is_long(a, b):
@@ -277,7 +296,13 @@ def in_place(row, sign, a, b):
             return "outside length"
         a *= b
         return row.shown(a)
+    if isinstance(a, set) and isinstance(b, set) and sign in "-&|^":
+        IN_PLACE[sign](a, b)
+        return row.shown(a)
     return binary(row, sign, a, b)
+
+
+IN_PLACE = {"-": set.difference_update, "&": set.intersection_update, "|": set.update, "^": set.symmetric_difference_update}
 
 
 def unary(row, sign, a):
@@ -295,11 +320,9 @@ def is_same(a, b):
 
 
 def equal(row, a, b):
-    for kind in (dict, set, slice):
-        if isinstance(a, kind) and isinstance(b, kind):
-            return is_same(a, b) or FEATURE
-    if type(a) is type(b) and isinstance(a, (list, tuple)) and (row.needs_help(a) or row.needs_help(b)):
-        return "help same"
+    for kind, helper in ((list, "same"), (tuple, "same"), (dict, "pairs")):
+        if isinstance(a, kind) and isinstance(b, kind) and (row.needs_help(a) or row.needs_help(b)):
+            return f"help {helper}"
     if a is not b and row.is_deep(a, b):
         return TOO_DEEP
     if isinstance(a, type({}.keys())) or isinstance(b, type({}.keys())):
@@ -312,20 +335,28 @@ def turned(told):
 
 
 def order(row, sign, a, b):
-    if type(a) is type(b) and isinstance(a, (list, tuple, slice)):
+    """The text names the classes of the items that differ first."""
+    held = type(a) is type(b) and isinstance(a, (list, tuple, slice))
+    if held and (row.needs_help(a) or row.needs_help(b)):
         return FEATURE
+    if a is not b and row.is_deep(a, b):
+        return TOO_DEEP
     try:
         if isinstance(a, (set, type({}.keys()))) or isinstance(b, (set, type({}.keys()))):
             raise TypeError
         return ORDERS[sign](a, b)
-    except TypeError:
-        return f"TypeError: '{sign}' not supported between instances of '{row.class_name(a)}' and '{row.class_name(b)}'"
+    except TypeError as error:
+        return f"TypeError: {error}" if held else f"TypeError: '{sign}' not supported between instances of '{row.class_name(a)}' and '{row.class_name(b)}'"
 
 
 def is_in(row, a, b):
     """A helper looks in what is no container; an instance is looked for by a helper too."""
-    if isinstance(b, (dict, set, type({}.keys()))) or isinstance(b, range) and row.is_instance(a):
+    if isinstance(b, range) and row.is_instance(a):
         return FEATURE
+    if isinstance(b, type({}.keys())) and row.needs_help(a):
+        return "help in"
+    if isinstance(b, (dict, set, type({}.keys()))):
+        return not isinstance(a, type({}.keys())) and found(row, a, b)
     if isinstance(b, (list, tuple)):
         if row.needs_help(a) or row.needs_help(b):
             return "help in"
@@ -342,6 +373,14 @@ def is_in(row, a, b):
         except TypeError:
             return f"TypeError: {BAD}"
     return "help in"
+
+
+def found(row, a, b):
+    """Whether a key is there; a view is one by object."""
+    try:
+        return a in b
+    except TypeError as error:
+        return f"TypeError: {error}"
 
 
 def comparison(row, sign, a, b):
@@ -368,10 +407,12 @@ def text_of(row, value, is_repr):
         raise Other(TOO_DEEP)
     if isinstance(value, type):
         return f"<class '{name_of(value)}'>"
-    if value is None or isinstance(value, (int, list, tuple, range)) or value is ... or value is NotImplemented:
+    if value is None or isinstance(value, (int, list, tuple, dict, set, range)) or value is ... or value is NotImplemented:
         return repr(value)
     if isinstance(value, str):
         return escaped(value) if is_repr else value
+    if isinstance(value, BaseException):
+        return repr(value) if is_repr else str(value)
     return f"<{row.class_name(value)} object>"
 
 
@@ -405,11 +446,9 @@ def length(row, a):
 def iterator(row, a):
     if row.is_instance(a):
         return "help iter"
-    if isinstance(a, (dict, set, type({}.keys()))):
-        return FEATURE
     if isinstance(a, Iterator):
         return row.shown(a)
-    if isinstance(a, (str, list, tuple, range)):
+    if isinstance(a, (str, list, tuple, range, dict, set, type({}.keys()))):
         return row.shown(Iterator(a, 0))
     return f"TypeError: '{row.class_name(a)}' object is not iterable"
 
@@ -440,13 +479,15 @@ def unpacked(row, count, a):
 
 
 def item(row, a, i):
-    """An index is an integer; the method of an instance isn't asked yet."""
-    if isinstance(i, slice):
-        return FEATURE
-    if not isinstance(a, (str, list, tuple, range, dict)):
-        return FEATURE if row.is_instance(a) else f"TypeError: '{row.class_name(a)}' object is not subscriptable"
+    """An index is an integer or a slice; the method of an instance isn't asked yet."""
     if isinstance(a, dict):
-        return FEATURE
+        told = found(row, i, a) if not isinstance(i, type({}.keys())) else False
+        return told or f"KeyError: {row.item(i)}"
+    if not isinstance(a, (str, list, tuple, range)):
+        return FEATURE if row.is_instance(a) else f"TypeError: '{row.class_name(a)}' object is not subscriptable"
+    if isinstance(i, slice):
+        # CPython hands out an operand that it would have to copy
+        return (f"s{spelled(a[i])}" if isinstance(a, str) else row.made(a[i])) + " new"
     if not isinstance(i, int):
         return f"TypeError: {BAD}"
     try:
@@ -486,9 +527,17 @@ def code(row, a):
 
 
 def integer(row, *values):
+    """A text has decimal digits of ASCII alone, and the blanks of `strip` around them, of which CPython's `int` doesn't take 0x1c to 0x1f."""
     if not values:
         return "i0"
-    return FEATURE if isinstance(values[0], str) else row.shown(int(values[0])) if isinstance(values[0], int) else f"TypeError: {BAD}"
+    if not isinstance(values[0], (int, str)):
+        return f"TypeError: {BAD}"
+    try:
+        if isinstance(values[0], str) and any(c.isdecimal() and not c.isascii() for c in values[0]):
+            raise ValueError
+        return row.shown(int(values[0].strip() if isinstance(values[0], str) else values[0]))
+    except ValueError:
+        return f"ValueError: {BAD}"
 
 
 def ranged(row, *values):
@@ -522,10 +571,54 @@ def written(helper, is_repr):
     return call
 
 
+def of_class(asked):
+    """What is asked has to be a class, also of an empty tuple."""
+    def call(row, a, b):
+        if asked is issubclass and not isinstance(a, type):
+            return f"TypeError: {BAD}"
+        if isinstance(b, tuple) and tuples_around(b) > DEPTH:
+            return TOO_DEEP
+        try:
+            return row.shown(asked(a, b))
+        except TypeError:
+            return f"TypeError: {BAD}"
+    return call
+
+
+def tuples_around(value):
+    depth = 0
+    while isinstance(value, tuple):
+        depth += 1
+        value = value[0] if value else None
+    return depth
+
+
+HELD = ("__cause__", "__context__")
+
+
+def attribute(row, a, name, *default):
+    """What a method is isn't given yet."""
+    if not isinstance(name, str):
+        return f"TypeError: {BAD}"
+    if isinstance(a, BaseException) and name in HELD:
+        return row.shown(getattr(a, name))
+    if hasattr(a, name):
+        return FEATURE
+    return row.shown(default[0]) if default else f"AttributeError: '{row.class_name(a)}' object has no attribute '{name}'"
+
+
+def has_attribute(row, a, name):
+    if not isinstance(name, str):
+        return f"TypeError: {BAD}"
+    return row.shown(hasattr(a, name))
+
+
 CALLS = {"print": (2, 9, printed), "len": (1, 1, length), "repr": (1, 1, written("repr", True)), "str": (0, 1, written("str", False)),
          "int": (0, 1, integer), "bool": (0, 1, told_truth), "range": (1, 3, ranged), "iter": (1, 1, iterator),
          "next": (1, 2, lambda row, *vs: next_of(row, "StopIteration", *vs)), "abs": (1, 1, numbers(lambda row, a: row.shown(abs(a)))),
          "divmod": (2, 2, division), "ord": (1, 1, code), "chr": (1, 1, char), "type": (1, 1, lambda row, a: row.shown(type(a))),
+         "isinstance": (2, 2, of_class(isinstance)), "issubclass": (2, 2, of_class(issubclass)),
+         "hasattr": (2, 2, has_attribute), "getattr": (2, 3, attribute),
          "callable": (1, 1, lambda row, a: FEATURE if row.is_instance(a) else row.shown(callable(a)))}
 
 
@@ -573,8 +666,16 @@ SIMPLE = ["n", "t", "f", "i0", "i5", "i-3", "e", "N", "s", "sab", "s\u20ac", "F"
 NUMBERS = [0, 1, -1, 2, -2, 3, 7, -7, 10, 63, 64, 126, 127, 128, -128, 255, 2 ** 63, -(2 ** 64), 10 ** 20, 2 ** 126, -(2 ** 126),
            GREATEST, GREATEST - 1, LEAST, LEAST + 1]
 OTHERS = [*COMPOUND, *INSTANCES]
-HOLDERS = [word for word in OBJECTS if word[0] == "o"]
+COMPARED = ["oD", "oDe", "oDk", "oDl", "oDv", "oDx", "oLa", "oLb", "oLc", "oG", "oGa", "oGb", "oGc", "oGd", "oGm"]
+HOLDERS = [word for word in OBJECTS if word[0] == "o" and word[:2] != "oK" and word not in COMPARED]
 TEXTS = ["s", "sa", "sab", "sb", "s\u20ac", "sa\u20acb", "sA", "sabc", "s'", "s\"", "s'\"", "s\\", "s\u00e9\u00a0\u00ad\x7f", "s\u0100\ud7ff\U0001f600", "sh\u00e9"]
+
+
+# what `int` reads, and what it doesn't
+INTEGER_TEXTS = [*(f"u{n}" for n in NUMBERS), "s_12_", "s__-7", "s_+_7", "s-_7", "s+7", "s+-7", "s--7", "s+", "s-", "s1_2", "u1_000", "u_1", "u1_", "u1__0", "u-1_0",
+                 "u-_1", "u+0_0", "u007", "u0x1f", "u1.5", "u1e3", "u\t5\x1c", "u\u2003\x1f6\xa0", "u\u200b6", "u\u0663", "u\xb2", "u170141183460469231731687303715884105728",
+                 "u-170141183460469231731687303715884105729", "u340282366920938463463374607431768211456", "u" + "9" * 60, "u" + "9" * 60 + "x",
+                 "u-" + "9" * 60, "u" + "0" * 90 + "8", "u" + "1_" * 30 + "1"]
 
 
 def operations():
@@ -586,7 +687,7 @@ def of_one():
     """Operations of one operand."""
     yield from ("truth", "not", "iter", "next", "unpack0", "unpack1", "unpack2", "unpack3")
     yield from (f"u{sign}" for sign in UNARY)
-    yield from (f"call_{name}" for name in [*CALLS, "object", "isinstance"] if name != "print")
+    yield from (f"call_{name}" for name in [*CALLS, "object"] if name != "print")
 
 
 def all_rows():
@@ -618,6 +719,19 @@ def all_rows():
     for a in ["L", "T", "R", "D", "V", "X", "oA", "oT", "oR", "oN", "oK", "oW", "oC", "oX", "sh\u00e9", "s", "n", "F"]:
         for b in [*(f"i{n}" for n in (0, 1, 2, 3, 4, -1, -2, -3, -4, -5, GREATEST, LEAST)), "t", "n", "sa", "oL", "L", "X"]:
             yield f"item {a} {b}"
+    for a in [*SIMPLE, "C", *OTHERS, *HOLDERS]:
+        for b in ["C", "T", "oT", "oW", "oY", "oKa", "oKb", "oKc", "oKd", "oKe", "k3", "i1", "sa", "n", "X", "L", "P"]:
+            yield f"call_isinstance {a} {b}"
+            yield f"call_issubclass {a} {b}"
+    yield from compared_rows()
+    for a in [*SIMPLE, "C", *OTHERS, "oA", "oT", "oR", "oC", "oD"]:
+        for name in ("sappend", "sget", "sadd", "sjoin", "snothing", "s", "i1", "n"):
+            yield from (f"call_hasattr {a} {name}", f"call_getattr {a} {name}", f"call_getattr {a} {name} i7")
+    for a in ("E", "Y", "i5"):
+        for name in HELD:
+            yield from (f"call_hasattr {a} u{name}", f"call_getattr {a} u{name}", f"call_getattr {a} u{name} i7")
+    for text in INTEGER_TEXTS:
+        yield f"call_int {text}"
     for words in ("", " n", " i1 sab", " oA oA", " X t", " L T D S R"):
         yield f"tuple{words}"
         yield f"list{words}"
@@ -638,10 +752,19 @@ def all_rows():
         yield f"call_ord s{text}"
 
 
+def compared_rows():
+    """Dictionaries, slices, lists and tuples beside one another and beside other containers."""
+    for kind in ("c==", "c<", "c!=", "c<=", "c>", "c>=", "cin"):
+        for a in COMPARED:
+            for b in [*COMPARED, "oA", "oI", "oJ", "oQ", "oU", "oW", "L", "T", "D", "oX", "X", "n", "oL"]:
+                yield f"{kind} {a} {b}"
+
+
 def deep_rows():
     """Containers that stand as deep inside one another as may be, and deeper."""
     for a in (999, 1000, 1001):
-        yield from (f"{kind} d{a} d{b}" for kind in ("c==", "c!=", "cin", "cis") for b in (999, 1000, 1001))
+        yield from (f"{kind} d{a} d{b}" for kind in ("c==", "c!=", "cin", "cis", "c<", "c>=") for b in (999, 1000, 1001))
+        yield from (f"call_isinstance {value} k{a}" for value in ("i1", "n"))
         yield from (f"{kind} d{a}" for kind in ("truth", "call_repr", "call_str", "call_len", "call_print n n", "iter", "unpack2"))
         yield f"c== d{a} oS"
 
@@ -671,6 +794,7 @@ def rows():
         few = kind not in FREQUENT and (kind[0] != "i" or kind in ("item", "iter", "i+", "i*"))
         if few or source.random() < 0.08:
             yield row
+    yield from (row for row in compared_rows() if row.split(" ")[0] in ("c==", "c<") or source.random() < 0.08)
     yield from deep_rows()
     yield from long_rows()
 

@@ -1,23 +1,28 @@
 -- Each answer of the host keeps the names of the activation that asks, and opens blocks with theirs.
-use Rattle.std.proofs.Common.{◌≡◌, ◌∙◌, ◌+◌, ◌-◌, ℕ, Bool, true, false, List, [], ◌∷◌, ◌++◌, length, map, drop, Option, Some, None, if◌then◌else◌, refl, sym, ap, arith}
-use Rattle.std.specs.Prelude.{Result, Ok, Err, slice_get, slice_set}
+use Rattle.std.proofs.Common.{◌≡◌, ◌∙◌, ◌+◌, ◌-◌, ℕ, Bool, true, false, List, [], ◌∷◌, ◌++◌, length, map, drop, Option, Some, None, if◌then◌else◌, refl, sym, ap, arith, zero, suc}
+use Rattle.std.specs.Prelude.{Result, Ok, Err, option_map, slice_get, slice_set, ◌==◌, codes}
+use Rattle.std.specs.List.{list_all, list_any}
+use Rattle.std.specs.Str.{bytes_eq}
 use Rattle.std.specs.Map.{keys_of}
 use Rattle.std.proofs.lemmas.List.{length-map, length-drop, map-append}
 use Rattle.pt_base.specs.declared.numbers.ObjId.{ObjId}
 use Rattle.pt_base.specs.declared.what.What.TheVariants.{Feature}
 use Rattle.sem_control.specs.control.Turn as T
-use Rattle.sem_control.specs.control.Turn.{Ask, Seek, Deed, Operation, Role, Scope, Variable, End, gave, left_by}
+use Rattle.sem_control.specs.control.Turn.{Ask, Seek, Deed, Throw, Operation, Role, Scope, Variable, End, gave, left_by}
 use Rattle.pt_tree.specs.Syntax.{Name}
 use Rattle.pt_heap.specs.declared.value.Value.{Value}
 use Rattle.pt_heap.specs.declared.value.Value.TheVariants as value
+use Rattle.pt_heap.specs.declared.object.Builtin.{Builtin as BuiltinObject}
+use Rattle.pt_heap.specs.declared.object.Class.{Class as ClassObject}
 use Rattle.pt_heap.specs.declared.object.Function.{Function}
 use Rattle.pt_heap.specs.declared.object.Object.{Object}
 use Rattle.pt_heap.specs.declared.object.Object.TheVariants as object
 use Rattle.pt_names.specs.Names.{Named}
-use Rattle.pt_bind.specs.Binding.{names_of, binding_with}
+use Rattle.pt_bind.specs.Binding.{binding_with}
 use Rattle.pt_bind.specs.declared.arguments.Args.{Args}
 use Rattle.pt_bind.specs.declared.arguments.BindErr.{BindErr}
 use Rattle.pt_bind.specs.declared.arguments.Locals.{Locals}
+use Rattle.pt_bind.specs.declared.arguments.Params.{Params}
 use Rattle.pt_content.specs.Changes.{added, changed, has_kind, has_room, holding, made as new_object, replaced}
 use Rattle.pt_content.specs.Classes.{class_name}
 use Rattle.pt_content.specs.Functions.{of_function}
@@ -31,10 +36,15 @@ use Rattle.pt_content.specs.declared.content.NewObject.{NewObject}
 use Rattle.pt_content.specs.declared.content.NewObject.TheVariants as new
 use Rattle.pt_content.specs.declared.content.Replacement.{Replacement}
 use Rattle.pt_content.specs.declared.function.Function.{Function as BuiltinFunction}
+use Rattle.pt_content.specs.declared.method_name.MethodName.{MethodName}
 use Rattle.pt_content.specs.declared.op.Op.{Op}
 use Rattle.pt_content.specs.declared.op.Op.TheVariants as op
 use Rattle.pt_content.specs.declared.operand.Operand.{Operand}
 use Rattle.pt_content.specs.declared.operand.Operand.TheVariants as operand
+use Rattle.sem_rows.specs.pt_host.pt_methods.declared.attribute.Attribute.{Attribute}
+use Rattle.sem_rows.specs.pt_host.pt_methods.declared.attribute.Attribute.TheVariants as attribute
+use Rattle.sem_rows.specs.pt_host.pt_methods.Attributes.{attribute_of}
+use Rattle.sem_rows.specs.pt_host.pt_methods.Names.{of_method_number}
 use Rattle.pt_prims.specs.Operations.{content_of, grown, prim_heap}
 use Rattle.sem_run.specs.run.Machine.{BlockId}
 use Rattle.sem_run.specs.run.Host.{Here, BlockResult, answer, raise, print, leave, request, opens, made, beyond}
@@ -42,15 +52,23 @@ use Rattle.sem_rows.specs.pt_host.World.{Names, Stores, CodeFacts, Program, Allo
 use Rattle.sem_rows.specs.pt_host.Trees.{Tree, answer_with, raise_with}
 use Rattle.sem_rows.specs.pt_host.Builtins as B
 use Rattle.sem_rows.specs.pt_host.Builtins.{builtin}
-use Rattle.sem_rows.specs.pt_host.Errors.{error_saying, raise_saying}
-use Rattle.sem_rows.specs.pt_host.declared.places.TheConstants.{TYPE_ERROR}
-use Rattle.sem_rows.specs.pt_host.Texts.{unbound_text, unbound_class, binding_text, not_callable_text}
+use Rattle.sem_rows.specs.pt_host.Errors.{error_saying, raise_saying, arise_while, context_in, cut, cut_at, cut_within, error, in_context, object_place, with_context}
+use Rattle.sem_rows.specs.pt_host.declared.places.TheConstants.{ATTRIBUTE_ERROR, IMPORT_ERROR, MODULE_NOT_FOUND_ERROR, SYS, TYPE_ERROR, ASSERTION_ERROR, RUNTIME_ERROR}
+use Rattle.sem_rows.specs.pt_host.Texts.{unbound_text, unbound_class, binding_text, missing_text, no_module_text, no_name_text, not_callable_text}
 use Rattle.sem_rows.specs.pt_host.Variables.{cell_number, with_cell, put, make_anew, raise_unbound, by_builtin, unless_bound, readable_value, variable_value, load_by, delete_by}
-use Rattle.sem_rows.specs.pt_host.Primitives.{Awaited, asked, one_value, done, a_truth, so_many, item_or_end}
-use Rattle.sem_rows.specs.pt_host.Calls.{not_callable, number_of, function_object, first_value, cells_from, cells_along, result_of, block_of, parameters_given, run_block, call_bound, is_simple, call_function, operands_of, call_with, call_builtin, class_function, call_other, call_object, call_value, call, has_spread, arguments}
+use Rattle.sem_rows.specs.pt_host.Primitives.{Awaited, asked, one_value, done, a_truth, so_many, item_or_end, arguments_of}
+use Rattle.sem_rows.specs.pt_host.Calls.{not_callable, number_of, function_object, first_value, cells_from, cells_along, result_of, block_of, parameters_given, run_block, run_given, call_bound, call_function, Values, values_given, operands_of, method_operands, operate_on, call_builtin, call_method, call_builtin_object, class_function, call_other, call_object, call_value, call, are_arguments, arguments, unnamed_operands, exception_class, make_exception, call_class}
+use Rattle.sem_rows.specs.pt_host.Attributes.{method_object, by_attribute}
+use Rattle.sem_rows.specs.pt_host.Imports.{import_module, by_imported}
+use Rattle.pt_content.specs.pt_attrs.Look.{object_of}
+use Rattle.sem_rows.specs.pt_host.Leaving.{error_at}
+use Rattle.sem_rows.specs.pt_host.Raising.{Standing, as_standing, raisable, standing, with_cause, raise_object, raise_neither, raise_caused, raise_from, raise_with_cause, raise_standing, raise_active, throws, handler_classes, is_exception_class, is_of_class, is_taken, matches}
+use Rattle.sem_rows.specs.pt_host.declared.raising.Raisable.{Raisable}
+use Rattle.sem_rows.specs.pt_host.declared.raising.Raisable.TheVariants as raisables
 use Rattle.sem_rows.specs.pt_host.Answers.{change_of, by_change, unpacking, deeds, operation_of, by_operation, operate, seeks, answers}
 use Rattle.sem_rows.proofs.pt_host.AskedEnds.{Ends, AllotsIn, asked-ends}
 use Rattle.law_frames.specs.RunNames.{HasItsNames, TakesCells, AllTakeCells, StoresHaveNames}
+use Rattle.law_frames.proofs.StarredCells.{values-take, ValuesTakeCells}
 use Rattle.law_frames.proofs.Stores.{IsOneOf, put-keeps, all-both, all-set, all-get, AllotsCells, allotted, error-allotted, saying-allotted, other-objects}
 
 -- what an ask of a block's code names: a name that is written is one of the block's, and a function gets as many cells as its block has free names
@@ -284,25 +302,167 @@ module _ (program : Program) (b : BlockId) where
     ),
   )
 
+  given-keeps : (f : Function) (v : Values) (st : Stores) → Has st → ValuesTakeCells program v → TakesCells program (object.Function f)
+      → K (run_given (program.facts (block_of f)) f v st)
+  given-keeps f (made vs k) st s w t =
+      block-keeps f (parameters_given (program.facts (block_of f)).locals vs) (with_objects k st) (other-objects program b st k s w) t
+  given-keeps f (beyond what) st s w t = tt
+
   bound-keeps : (f : Function) (r : Result Locals BindErr) (h : Here Value) (st : Stores) → Has st → TakesCells program (object.Function f)
       → K (call_bound (program.facts (block_of f)) f r h st)
-  bound-keeps f (Ok ls) h st s t = block-keeps f (parameters_given (names_of (program.facts (block_of f)).params) ls.values) st s t
+  bound-keeps f (Ok ls) h st s t =
+      let params : Params = (program.facts (block_of f)).params in
+      given-keeps f (values_given params ls st.world.heap) st s (values-take program params ls st.world.heap s.functions) t
   bound-keeps f (Err e) h st s t = saying-keeps Value TYPE_ERROR (binding_text (program.facts (block_of f)).name e) h st s
 
   function-keeps : (f : Function) (args : Args) (h : Here Value) (st : Stores) → Has st → TakesCells program (object.Function f)
       → K (call_function (program.facts (block_of f)) f args h st)
   function-keeps f args h st s t =
       let facts : CodeFacts = program.facts (block_of f) in
-      either-tree (is_simple facts) (call_bound facts f (binding_with facts.params f.defaults args) h st) (leave Feature)
-      (bound-keeps f (binding_with facts.params f.defaults args) h st s t) tt
+      either-tree facts.yields (leave Feature) (call_bound facts f (binding_with facts.params f.defaults args) h st) tt
+      (bound-keeps f (binding_with facts.params f.defaults args) h st s t)
 
-  with-keeps : (f : BuiltinFunction) (o : Option (List Value)) (h : Here Value) (st : Stores) → Has st → K (call_with f o h st)
-  with-keeps f (Some vs) h st s = asked-keeps one_value (op.Call f) vs h st s
-  with-keeps f None h st s = tt
+  operate-on-keeps : (f : Op) (o : Option (List Value)) (h : Here Value) (st : Stores) → Has st → K (operate_on f o h st)
+  operate-on-keeps f (Some vs) h st s = asked-keeps one_value f vs h st s
+  operate-on-keeps f None h st s = tt
 
   builtin-keeps : (o : Option BuiltinFunction) (args : Args) (h : Here Value) (st : Stores) → Has st → K (call_builtin o args h st)
-  builtin-keeps (Some f) args h st s = with-keeps f (operands_of f args) h st s
+  builtin-keeps (Some f) args h st s = operate-on-keeps (op.Call f) (operands_of f args) h st s
   builtin-keeps None args h st s = tt
+
+  method-keeps : (o : Option MethodName) (v : Value) (args : Args) (h : Here Value) (st : Stores) → Has st → K (call_method o v args h st)
+  method-keeps (Some m) v args h st s = operate-on-keeps (op.CallMethod m) (option_map (λ vs. v ∷ vs) (method_operands m args)) h st s
+  method-keeps None v args h st s = tt
+
+  builtin-object-keeps : (u : BuiltinObject) (o : Option Value) (args : Args) (h : Here Value) (st : Stores) → Has st → K (call_builtin_object u o args h st)
+  builtin-object-keeps u None args h st s = builtin-keeps (of_function u.number) args h st s
+  builtin-object-keeps u (Some v) args h st s = method-keeps (of_method_number u.number) v args h st s
+
+  -- attributes: a method of a builtin value takes no cells
+  attribute-keeps : (x : Name) (v : Value) (a : Attribute) (h : Here Value) (st : Stores) → Has st → K (by_attribute x v a h st)
+  attribute-keeps x v (attribute.Method m) h st s =
+      answered (allot (method_object m v) st.world.heap) st s (allotted program (method_object m v) st.world.heap s.functions tt)
+  attribute-keeps x v (attribute.Held u) h st s = s
+  attribute-keeps x v attribute.Missing h st s = saying-keeps Value ATTRIBUTE_ERROR (missing_text (class_name st.world.heap v) x) h st s
+  attribute-keeps x v attribute.Unbuilt h st s = tt
+
+  -- modules and their names
+  import-keeps : (x : Name) (h : Here Value) (st : Stores) → Has st → K (import_module x h st)
+  import-keeps x h st s =
+      either-tree (bytes_eq x (codes "sys")) (answer (value.Obj SYS) st) (raise_saying MODULE_NOT_FOUND_ERROR (no_module_text x) h st) s
+      (saying-keeps Value MODULE_NOT_FOUND_ERROR (no_module_text x) h st s)
+
+  imported-keeps : (x : Name) (m : Value) (a : Attribute) (h : Here Value) (st : Stores) → Has st → K (by_imported x m a h st)
+  imported-keeps x m attribute.Missing h st s = saying-keeps Value IMPORT_ERROR (no_name_text x) h st s
+  imported-keeps x m a h st s = attribute-keeps x m a h st s
+
+  -- classes of exceptions
+  made-keeps : (o : Option ObjId) (vs : Option (List Value)) (st : Stores) → Has st → K (make_exception o vs st)
+  made-keeps (Some id) (Some vs) st s = answered (allot (error id vs None None) st.world.heap) st s (error-allotted program id vs None None st.world.heap s.functions)
+  made-keeps (Some id) None st s = tt
+  made-keeps None vs st s = tt
+
+  class-keeps : (o : Option BuiltinFunction) (c : ClassObject) (v : Value) (args : Args) (h : Here Value) (st : Stores) → Has st → K (call_class o c v args h st)
+  class-keeps (Some f) c v args h st s = operate-on-keeps (op.Call f) (operands_of f args) h st s
+  class-keeps None c v args h st s = made-keeps (exception_class st.world.heap v c) (unnamed_operands args.named args.plain) st s
+
+  -- a context or a cause makes no function
+  context-keeps : (c : Option ObjId) (id : ObjId) (o : Option Object) (h : List Object) → AllTakeCells program h → AllTakeCells program (with_context c id o h)
+  context-keeps c id (Some (object.Error x)) h all = all-set (TakesCells program) h id.0 (object.Error (record x { context = c })) all tt
+  context-keeps c id o h all = all
+
+  cause-keeps : (c : Option ObjId) (id : ObjId) (o : Option Object) (h : List Object) → AllTakeCells program h → AllTakeCells program (with_cause c id o h)
+  cause-keeps c id (Some (object.Error x)) h all = all-set (TakesCells program) h id.0 (object.Error (record x { cause = c; hides_context = true })) all tt
+  cause-keeps c id o h all = all
+
+  unless-keeps : (c : Bool) (h k : List Object) → AllTakeCells program h → AllTakeCells program k → AllTakeCells program (if c then h else k)
+  unless-keeps true h k p q = p
+  unless-keeps false h k p q = q
+
+  cut-at-keeps : (further : ObjId → List Object) (back id : ObjId) (o : Option ObjId) (h : List Object) → ((c : ObjId) → AllTakeCells program (further c)) → AllTakeCells program h
+      → AllTakeCells program (cut_at further back id o h)
+  cut-at-keeps further back id None h f all = all
+  cut-at-keeps further back id (Some c) h f all =
+      unless-keeps (c.0 == back.0) (with_context None id (slice_get h id.0) h) (further c) (context-keeps None id (slice_get h id.0) h all) (f c)
+
+  cut-keeps : (h : List Object) (most : ℕ) (back id : ObjId) → AllTakeCells program h → AllTakeCells program (cut_within h most back id)
+  unfolding cut_within
+  cut-keeps h zero back id all = all
+  cut-keeps h (suc most) back id all = cut-at-keeps (cut_within h most back) back id (context_in (slice_get h id.0)) h (λ c. cut-keeps h most back c all) all
+
+  arise-keeps : (o : Option ObjId) (id : ObjId) (h : List Object) → AllTakeCells program h → AllTakeCells program (arise_while o id h)
+  arise-keeps None id h all = all
+  arise-keeps (Some c) id h all =
+      let k : List Object = cut id c h in
+      unless-keeps (c.0 == id.0) h (in_context c id k) all (context-keeps (Some c) id (slice_get k id.0) k (cut-keeps h (length h) id c all))
+
+  -- what a value stands for
+  abbrev StandsSo : Standing → Type 0
+  StandsSo (made o k) = AllTakeCells program k
+  StandsSo (beyond what) = Unit {0}
+
+  as-stands : (a : Allotted) → AllotsCells program a → StandsSo (as_standing a)
+  as-stands (made v k) all = all
+  as-stands (beyond what) all = tt
+
+  stands : (r : Raisable) (h : List Object) → AllTakeCells program h → StandsSo (standing r h)
+  stands (raisables.Exception id) h all = all
+  stands (raisables.Class id true) h all = tt
+  stands (raisables.Class id false) h all = as-stands (allot (error id [] None None) h) (error-allotted program id [] None None h all)
+  stands raisables.Neither h all = all
+
+  module _ (A : Type 0) (h : Here Value) (st : Stores) (s : Has st) where
+    object-raised : (id : ObjId) (k : List Object) → AllTakeCells program k → K (raise_object {A = A} id k h st)
+    object-raised id k all = other-objects program b st (arise_while (object_place h.active) id k) s (arise-keeps (object_place h.active) id k all)
+
+    neither-raised : (k : List Object) → AllTakeCells program k → K (raise_neither {A = A} k h st)
+    neither-raised k all = saying-keeps A TYPE_ERROR (codes "exceptions must derive from BaseException") h (with_objects k st) (other-objects program b st k s all)
+
+    caused-raised : (c : Option ObjId) (id : ObjId) (k : List Object) → AllTakeCells program k → K (raise_caused {A = A} c id k h st)
+    caused-raised c id k all = object-raised id (with_cause c id (slice_get k id.0) k) (cause-keeps c id (slice_get k id.0) k all)
+
+    from-raised : (id : ObjId) (t : Standing) → StandsSo t → K (raise_from {A = A} id t h st)
+    from-raised id (made (Some c) k) all = caused-raised (Some c) id k all
+    from-raised id (made None k) all = neither-raised k all
+    from-raised id (beyond what) all = tt
+
+    with-cause-raised : (id : ObjId) (c : Option Value) (k : List Object) → AllTakeCells program k → K (raise_with_cause {A = A} id c k h st)
+    with-cause-raised id None k all = object-raised id k all
+    with-cause-raised id (Some value.None) k all = caused-raised None id k all
+    with-cause-raised id (Some (value.Obj c)) k all = from-raised id (standing (raisable k (value.Obj c)) k) (stands (raisable k (value.Obj c)) k all)
+    with-cause-raised id (Some (value.Bool x)) k all = from-raised id (standing (raisable k (value.Bool x)) k) (stands (raisable k (value.Bool x)) k all)
+    with-cause-raised id (Some (value.Int z)) k all = from-raised id (standing (raisable k (value.Int z)) k) (stands (raisable k (value.Int z)) k all)
+    with-cause-raised id (Some value.Ellipsis) k all = from-raised id (standing (raisable k value.Ellipsis) k) (stands (raisable k value.Ellipsis) k all)
+    with-cause-raised id (Some value.NotImplemented) k all = from-raised id (standing (raisable k value.NotImplemented) k) (stands (raisable k value.NotImplemented) k all)
+
+    standing-raised : (t : Standing) (c : Option Value) → StandsSo t → K (raise_standing {A = A} t c h st)
+    standing-raised (made (Some id) k) c all = with-cause-raised id c k all
+    standing-raised (made None k) c all = neither-raised k all
+    standing-raised (beyond what) c all = tt
+
+    again-raised : (a : Option Value) → K (raise_active {A = A} a h st)
+    again-raised (Some v) = s
+    again-raised None = saying-keeps A RUNTIME_ERROR (codes "no active exception") h st s
+
+    throws-keep : (t : Throw Value) → K (throws {A = A} t h st)
+    throws-keep (T.raising v c) = standing-raised (standing (raisable st.world.heap v) st.world.heap) c (stands (raisable st.world.heap v) st.world.heap s.functions)
+    throws-keep T.raising_again = again-raised h.active
+    throws-keep (T.failing m) =
+        raised A (allot (error ASSERTION_ERROR (arguments_of m) None h.active) st.world.heap) st s
+        (error-allotted program ASSERTION_ERROR (arguments_of m) None h.active st.world.heap s.functions)
+
+  taken-keeps : (e : Value) (cs : List Value) (h : Here Value) (st : Stores) → Has st → K (is_taken e cs h st)
+  taken-keeps e cs h st s =
+      either-tree (list_all (is_exception_class st.world.heap) cs) (answer (list_any (is_of_class st.world.heap (error_at st.world.heap e)) cs) st)
+      (raise_saying TYPE_ERROR (codes "bad argument") h st) s (saying-keeps Bool TYPE_ERROR (codes "bad argument") h st s)
+
+  matches-keep : (e c : Value) (h : Here Value) (st : Stores) → Has st → K (matches e c h st)
+  matches-keep e value.None h st s = s
+  matches-keep e (value.Obj c) h st s = taken-keeps e (handler_classes (value.Obj c) (object_of st.world.heap (value.Obj c))) h st s
+  matches-keep e (value.Bool x) h st s = taken-keeps e (handler_classes (value.Bool x) None) h st s
+  matches-keep e (value.Int z) h st s = taken-keeps e (handler_classes (value.Int z) None) h st s
+  matches-keep e value.Ellipsis h st s = taken-keeps e (handler_classes value.Ellipsis None) h st s
+  matches-keep e value.NotImplemented h st s = taken-keeps e (handler_classes value.NotImplemented None) h st s
 
   other-keeps : (k : Operand) (v : Value) (h : Here Value) (st : Stores) → Has st → K (call_other k v h st)
   other-keeps operand.Instance v h st s = tt
@@ -312,8 +472,8 @@ module _ (program : Program) (b : BlockId) where
       → K (call_object program o v args h st)
   object-keeps (Some (object.Function f)) i v args h st e s = function-keeps f args h st s
       (all-get (TakesCells program) st.world.heap i (object.Function f) s.functions e)
-  object-keeps (Some (object.Builtin u)) i v args h st e s = builtin-keeps (of_function u.number) args h st s
-  object-keeps (Some (object.Class c)) i v args h st e s = builtin-keeps (class_function v) args h st s
+  object-keeps (Some (object.Builtin u)) i v args h st e s = builtin-object-keeps u u.receiver args h st s
+  object-keeps (Some (object.Class c)) i v args h st e s = class-keeps (class_function v) c v args h st s
   object-keeps (Some (object.Method m)) i v args h st e s = tt
   object-keeps o i v args h st e s = other-keeps (operand_of st.world.heap v) v h st s
 
@@ -322,8 +482,10 @@ module _ (program : Program) (b : BlockId) where
   value-keeps v args h st s = not-callable-keeps v h st s
 
   call-keeps : (rs : List Role) (f : Value) (vs : List Value) (h : Here Value) (st : Stores) → Has st → K (call program rs f vs h st)
-  call-keeps rs f vs h st s = either-tree (has_spread rs) (leave Feature) (call_value program f (arguments rs vs) h st) tt
-      (value-keeps f (arguments rs vs) h st s)
+  call-keeps rs f vs h st s =
+      let heap : List Object = st.world.heap in
+      either-tree (are_arguments heap rs vs) (call_value program f (arguments heap rs vs) h st) (leave Feature)
+      (value-keeps f (arguments heap rs vs) h st s) tt
 
   module _ (h : Here Value) (is : h.block ≡ b) (st : Stores) (s : Has st) where
     function-made : (n : ℕ) (xs : List Name) (vs : List Value) → NamesInOperation program b (T.function n xs) vs
@@ -342,6 +504,14 @@ module _ (program : Program) (b : BlockId) where
     operate-keeps (T.function n xs) vs i =
         answered (allot (function_object n h.block.hidden xs vs) st.world.heap) st s
         (allotted program (function_object n h.block.hidden xs vs) st.world.heap s.functions (function-made n xs vs i))
+    operate-keeps (T.get x) [] i = tt
+    operate-keeps (T.get x) (v ∷ []) i = attribute-keeps x v (attribute_of st.world.heap v x) h st s
+    operate-keeps (T.get x) (v ∷ u ∷ vs) i = tt
+    operate-keeps (T.import x) [] i = import-keeps x h st s
+    operate-keeps (T.import x) (v ∷ vs) i = tt
+    operate-keeps (T.import_name x) [] i = tt
+    operate-keeps (T.import_name x) (m ∷ []) i = imported-keeps x m (attribute_of st.world.heap m x) h st s
+    operate-keeps (T.import_name x) (m ∷ u ∷ vs) i = tt
     operate-keeps o vs i = operation-keeps (operation_of o) vs
 
     seeks-keep : (a : Seek Value) → NamesInSeek program b a → K (seeks program a h st)
@@ -367,6 +537,8 @@ module _ (program : Program) (b : BlockId) where
     answers-keep (T.seek a) i = seeks-keep a i
     answers-keep (T.deed d) i = deeds-keep d i
     answers-keep (T.leave l) i = s
+    answers-keep (T.throw t) i = throws-keep ⊥ h st s t
+    answers-keep (T.test (T.matches e c)) i = matches-keep e c h st s
     answers-keep (T.test (T.branch v)) i = asked-keeps a_truth op.Truth (v ∷ []) h st s
     answers-keep (T.iter_of v) i = asked-keeps one_value op.Iter (v ∷ []) h st s
     answers-keep (T.next_of v) i = asked-keeps item_or_end op.Next (v ∷ []) h st s

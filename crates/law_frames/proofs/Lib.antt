@@ -1,4 +1,5 @@
 pub mod Stores
+pub mod StarredCells
 pub mod Answers
 pub mod Turns
 pub mod Strides

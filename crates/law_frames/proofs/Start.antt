@@ -15,7 +15,7 @@ module _ (program : Program) where
   no-function x (kind.Function number) = tt
   no-function x kind.Mark = tt
   no-function x (kind.Module m) = tt
-  no-function x kind.Event = tt
+  no-function x kind.Text = tt
 
   no-functions : (rs : List (List ℕ × Kind)) → AllTakeCells program (objects_of rs)
   no-functions [] = tt

@@ -1,5 +1,5 @@
--- No name in a cell of a block is a free one of the block: a function has the one, and only others the other.
-use Rattle.std.proofs.Common.{if◌then◌else◌, ◌≡◌, ℕ, zero, suc, Bool, true, false, not, cond, List, [], ◌∷◌, ◌++◌, map, filter, length, Option, Some, None, refl, sym, ap, ◌∙◌, subst, append-nil, eq-eqb, eqb-true, bytes_eq}
+-- No name in a cell of a block is a free one of the block: a function has the one, or it begins with a dot, and only other functions the other.
+use Rattle.std.proofs.Common.{if◌then◌else◌, ◌≡◌, ◌⊎◌, inl, inr, ℕ, zero, suc, Bool, true, false, not, cond, List, [], ◌∷◌, ◌++◌, map, filter, length, Option, Some, None, refl, sym, ap, ◌∙◌, subst, append-nil, eq-eqb, eqb-true, bytes_eq}
 use Rattle.std.specs.Prelude.{◌==◌, ◌&&◌, ◌||◌, slice_get}
 use Rattle.std.specs.List.{AllByRecursion, IsDistinct}
 use Rattle.std.proofs.lemmas.Slice.Eq.{bytes_eq-Decides}
@@ -18,7 +18,8 @@ use Rattle.pt_scopes.specs.Scope.{bound_scope, facts, home_of, is_captured, mean
 use Rattle.sem_control.specs.control.Turn.{Scope, Variable}
 use Rattle.sem_names.specs.Around.{names_at}
 use Rattle.sem_names.specs.BlockNames.{cell_names, class_if, distinct, free_names, has_class, is_cell, is_up_to, named_at, names_in, read_free, variables_of}
-use Rattle.sem_names.specs.Naming.{as_control, is_between, is_free_at, own, scope_or_global, seen}
+use Rattle.sem_names.specs.Naming.{as_control, dot, dotted, is_between, is_free_at, of_owner, own, owned, scope_or_global, seen, variable}
+use Rattle.sem_control.specs.control.Turn as T
 use Rattle.sem_names.specs.Regions.{before, class_of, further, is_among, outside}
 use Rattle.sem_names.specs.Script.{Naming, functions_of, naming_script}
 use Rattle.law_operands.proofs.law_files.code_files.Each.{both, mapped, weaken}
@@ -27,10 +28,10 @@ use Rattle.pt_supported.specs.Built.{Built}
 use Rattle.law_operands.proofs.free_names.Distinct.{apart_behind, each_distinct, each_mention}
 use Rattle.law_operands.proofs.free_names.Outwards.{never}
 use Rattle.law_operands.proofs.free_names.Searches.{class_is, owner_found, seen_too}
-use Rattle.law_supported.specs.Laws.{BuiltCellsAreDifferent}
-use Rattle.law_supported.proofs.Homes.{Owner, home_is, is_plain}
-use Rattle.law_supported.proofs.Listed.{each_of}
-use Rattle.law_supported.proofs.Plain.{IsPlain}
+use Rattle.law_supported.specs.Laws.{BuiltCellsAreDifferent, NamesBeginWithoutDot}
+use Rattle.law_supported.proofs.Homes.{Owner, OwnerWithin, Standing, block_stands, function_stands, has_depth, home_is, is_plain, no_depth, owner_is}
+use Rattle.law_supported.proofs.Listed.{for_all}
+use Rattle.law_supported.proofs.Plain.{IsBlock, IsPlain}
 use Rattle.law_supported.proofs.Written.{makes_none, none_of}
 
 -- lists of which no item stands twice
@@ -69,7 +70,7 @@ all_filtered {A} R f (x ∷ xs) g = by (f x) refl (all_filtered R f xs g)
     by false e rest = rest
 
 -- a name in a cell of its block is owned by it
-cell_parts : (b g n c : Bool) (k : Kind) (o : Option ℕ) → IsPlain k
+cell_parts : (b g n c : Bool) (k : Kind) (o : Option ℕ) → IsBlock k
     → is_cell (as_control (if g then scope.Global else if n then scope.Free else if b then bound_scope c k else unbound_scope o)) ≡ true
     → (k ≡ kind.Function) × ((b && not g && not n) ≡ true)
 cell_parts b true n c k o i e = never e
@@ -117,7 +118,11 @@ module _ (rs : List Region) (look : ℕ → Facts) (h q : ℕ) (o : Owner rs loo
   passes_none zero r inside is = inside
   passes_none (suc n) r inside is = at_end n r (r == q) refl is inside (λ p there found. passes_none n p there found)
 
-module _ (ss : Stms) (built : Built ss) where
+-- the name of a comprehension, as its block calls it
+abbrev IsDotted : Name → Type 0
+IsDotted x = (y : Name) × (x ≡ dot ∷ y)
+
+module _ (ss : Stms) (undotted : NamesBeginWithoutDot ss) (built : Built ss) where
   abbrev g : Naming
   g = naming_script ss
 
@@ -134,33 +139,61 @@ module _ (ss : Stms) (built : Built ss) where
   fs = functions_of g
 
   module _ (b h : ℕ) (at : slice_get p.blocks b ≡ Some h) where
-    owner_in : (x : Name) (o : Option Region) → slice_get rs h ≡ o
-        → is_cell (scope_or_global (scope_in rs (facts p.mentions) (is_captured rs (facts p.mentions) p.mentions) h x o)) ≡ true → Owner rs (look x) h
-    owner_in x None is e = never e
-    owner_in x (Some here) is e =
+    owner_in : (x : Name) (s : Standing rs h)
+        → is_cell (scope_or_global (scope_in rs (facts p.mentions) (is_captured rs (facts p.mentions) p.mentions) h x (Some s.here))) ≡ true
+        → Owner rs (look x) h
+    owner_in x s e =
         let f = look x h in
         let c = is_captured rs (facts p.mentions) p.mentions h x in
-        let parts = cell_parts f.binds f.global f.nonlocal c here.kind (owner_from rs (look x) here.around) (is_plain ss built h here is) e in
-        record { here = here; at = is; is_function = parts.0; owns_it = parts.1 }
+        let parts = cell_parts f.binds f.global f.nonlocal c s.here.kind (owner_from rs (look x) s.here.around) s.is_block e in
+        record { here = s.here; at = s.at; is_function = parts.0; owns_it = parts.1 }
 
     owner_own : (x : Name) → is_cell (own p b x).scope ≡ true → Owner rs (look x) h
     owner_own x e =
         let C = is_captured rs (facts p.mentions) p.mentions in
-        owner_in x (slice_get rs h) refl (sym (ap (λ r. is_cell (scope_or_global (scope_at rs (facts p.mentions) C x r))) at) ∙ e)
+        let s = block_stands ss built b h at in
+        owner_in x s
+        (sym (ap (λ r. is_cell (scope_or_global (scope_at rs (facts p.mentions) C x r))) at
+        ∙ ap (λ r. is_cell (scope_or_global (scope_in rs (facts p.mentions) C h x r))) s.at) ∙ e)
 
-    owner_named : (m : Mention) → (home_of rs m.region == h) ≡ true → is_cell (named_at p b h m).scope ≡ true → Owner rs (look (named_at p b h m).name) h
-    owner_named m home e =
-        let region : m.region ≡ h = sym (home_is ss built m.region) ∙ eqb-true (home_of rs m.region) h home in
-        let named : named_at p b h m ≡ own p b m.name =
-        ap (λ (i : Bool). if i then own p b m.name else seen p m.region m.name) (eq-eqb m.region h region) in
-        subst (λ (v : Variable). Owner rs (look v.name) h) (sym named) (owner_own m.name (ap (λ (v : Variable). is_cell v.scope) (sym named) ∙ e))
+    -- a name in a cell is the block's own, or one of a comprehension of the block
+    abbrev InCell : Name → Type 0
+    InCell x = Owner rs (look x) h ⊎ IsDotted x
+
+    by_owner : (q : ℕ) (x : Name) → home_of rs q ≡ h → Owner rs (look x) q ⊎ OwnerWithin rs (look x) q → InCell (owned p q x).name
+    by_owner q x home (inl o) =
+        let stands = function_stands ss built (look x) q o in
+        let same : q ≡ h = sym (home_is ss built q stands) ∙ home in
+        subst InCell (sym (ap (λ d. dotted d x) (no_depth ss built q stands))) (inl (subst (Owner rs (look x)) same o))
+    by_owner q x home (inr o) =
+        let deep = has_depth ss built q o.here o.at o.is_comprehension in
+        inr (dotted deep.0 x, ap (λ d. dotted d x) deep.1)
+
+    by_home : (q r : ℕ) (x : Name) → home_of rs r ≡ h → owner_from rs (look x) r ≡ Some q → (c : Bool) → (home_of rs q == home_of rs r) ≡ c
+        → is_cell (if c then owned p q x else variable T.free x).scope ≡ true → InCell (if c then owned p q x else variable T.free x).name
+    by_home q r x home found true same e =
+        by_owner q x (eqb-true (home_of rs q) (home_of rs r) same ∙ home) (owner_is rs (is_plain ss built) (look x) q (length rs) r found)
+    by_home q r x home found false same e = never e
+
+    owner_seen : (r : ℕ) (x : Name) → home_of rs r ≡ h → (o : Option ℕ) → owner_from rs (look x) r ≡ o
+        → is_cell (of_owner p (home_of rs r) x o).scope ≡ true → InCell (of_owner p (home_of rs r) x o).name
+    owner_seen r x home None found e = never e
+    owner_seen r x home (Some q) found e = by_home q r x home found (home_of rs q == home_of rs r) refl e
+
+    by_place : (m : Mention) → home_of rs m.region ≡ h → (c : Bool) → is_cell (if c then own p b m.name else seen p m.region m.name).scope ≡ true
+        → InCell (if c then own p b m.name else seen p m.region m.name).name
+    by_place m home true e = inl (owner_own m.name e)
+    by_place m home false e = owner_seen m.region m.name home (owner_from rs (look m.name) m.region) refl e
+
+    owner_named : (m : Mention) → (home_of rs m.region == h) ≡ true → is_cell (named_at p b h m).scope ≡ true → InCell (named_at p b h m).name
+    owner_named m home e = by_place m (eqb-true (home_of rs m.region) h home) (m.region == h) e
 
     abbrev own_cells : List Name
     own_cells = names_in is_cell (variables_of p b h)
 
-    cells_owned : AllByRecursion (λ x. Owner rs (look x) h) (distinct own_cells)
+    cells_owned : AllByRecursion InCell (distinct own_cells)
     cells_owned =
-        let P : Name → Type 0 = λ x. Owner rs (look x) h in
+        let P : Name → Type 0 = λ x. InCell x in
         let Q : Variable → Type 0 = λ v. is_cell v.scope ≡ true → P v.name in
         let f : Mention → Bool = λ m. home_of rs m.region == h in
         each_distinct P [] own_cells tt (each_name P is_cell (variables_of p b h)
@@ -174,17 +207,32 @@ module _ (ss : Stms) (built : Built ss) where
         by (Some q) e inside =
             never (passes_none rs (look m.name) h q o (length rs) m.region inside (seen_too rs (look m.name) m.region q (slice_get rs m.region) e))
 
-    frees_not_owned : AllByRecursion (λ x. Owner rs (look x) h → ⊥) (read_free p h)
-    frees_not_owned =
-        let Q : Name → Type 0 = λ x. Owner rs (look x) h → ⊥ in
-        each_distinct Q [] (map (λ (m : Mention). m.name) (filter (is_free_at p h) p.mentions)) tt
-        (each_mention Q (is_free_at p h) p.mentions (each_of (λ (m : Mention). is_free_at p h m ≡ true → Q m.name) not_owned p.mentions))
+    -- a free name is neither
+    record Elsewhere (x : Name) : Type 0 where
+      not_own : Owner rs (look x) h → ⊥
+      not_dotted : IsDotted x → ⊥
+
+    free_elsewhere : (m : Mention) → ((x : Name) → bytes_eq m.name (dot ∷ x) ≡ false) → is_free_at p h m ≡ true → Elsewhere m.name
+    free_elsewhere m f free = record {
+      not_own = not_owned m free;
+      not_dotted = λ d. never (sym (f d.0) ∙ (bytes_eq-Decides m.name (dot ∷ d.0)).1 d.1);
+    }
+
+    frees_elsewhere : AllByRecursion Elsewhere (read_free p h)
+    frees_elsewhere =
+        each_distinct Elsewhere [] (map (λ (m : Mention). m.name) (filter (is_free_at p h) p.mentions)) tt
+        (each_mention Elsewhere (is_free_at p h) p.mentions
+        (weaken (λ (m : Mention). (x : Name) → bytes_eq m.name (dot ∷ x) ≡ false) (λ (m : Mention). is_free_at p h m ≡ true → Elsewhere m.name) free_elsewhere
+        p.mentions (for_all (λ (x : Name) (m : Mention). bytes_eq m.name (dot ∷ x) ≡ false) p.mentions undotted)))
+
+    differs : (x y : Name) → InCell x → Elsewhere y → x ≡ y → ⊥
+    differs x y (inl o) f same = f.not_own (subst (λ z. Owner rs (look z) h) same o)
+    differs x y (inr d) f same = f.not_dotted (subst IsDotted same d)
 
     all_differ : AllByRecursion (λ x. Differs x (read_free p h)) (distinct own_cells)
     all_differ =
-        weaken (λ x. Owner rs (look x) h) (λ x. Differs x (read_free p h))
-        (λ x o. weaken (λ y. Owner rs (look y) h → ⊥) (λ y. x ≡ y → ⊥) (λ y f e. f (subst (λ z. Owner rs (look z) h) e o)) (read_free p h) frees_not_owned)
-        (distinct own_cells) cells_owned
+        weaken InCell (λ x. Differs x (read_free p h))
+        (λ x i. weaken Elsewhere (λ y. x ≡ y → ⊥) (λ y f. differs x y i f) (read_free p h) frees_elsewhere) (distinct own_cells) cells_owned
 
     no_class_at : (f : ℕ) (o : Option ℕ) → class_of rs f ≡ o → is_up_to rs h o f ≡ false
     no_class_at f None e = refl
@@ -213,4 +261,4 @@ module _ (ss : Stms) (built : Built ss) where
   by_region n (Some k) None at = tt
 
 pub cells_are_different : BuiltCellsAreDifferent
-cells_are_different ss built n = by_region ss built n (slice_get (blocks_script ss) n) (slice_get (places_script ss).blocks n) refl
+cells_are_different ss undotted built n = by_region ss undotted built n (slice_get (blocks_script ss) n) (slice_get (places_script ss).blocks n) refl

@@ -2,6 +2,7 @@
 use Rattle.std.proofs.Common.{if◌then◌else◌, ◌≡◌, ℕ, Bool, true, false, List, [], ◌∷◌, ◌++◌, map, Option, Some, None, refl, sym, ap, ◌∙◌, subst, eq-eqb, bytes_eq}
 use Rattle.std.specs.Prelude.{◌==◌, slice_get}
 use Rattle.std.specs.List.{AllByRecursion}
+use Rattle.std.specs.Option.{unwrap_or}
 use Rattle.pt_tree.specs.Syntax.{Name, Params, Stms}
 use Rattle.sem_control.specs.numbering.Numbered.{IsNumbered, numbers_stms}
 use Rattle.pt_scopes.specs.declared.region.Kind.{Kind}
@@ -11,13 +12,15 @@ use Rattle.pt_scopes.specs.declared.region.Region.{Region}
 use Rattle.pt_scopes.specs.Mentions.{places_script}
 use Rattle.pt_scopes.specs.Places.{Places}
 use Rattle.pt_scopes.specs.Refusals.{fault_of}
-use Rattle.pt_scopes.specs.Scope.{facts, home_of, is_captured, scope_at}
+use Rattle.pt_scopes.specs.Scope.{facts, home_at, home_of, is_captured, scope_at}
 use Rattle.sem_control.specs.control.Turn as T
 use Rattle.sem_control.specs.control.Turn.{Scope, Variable}
 use Rattle.sem_names.specs.Around.{captured_in}
 use Rattle.sem_names.specs.BlockNames.{captured_at, cell_names, class_if, class_taken, distinct, free_names, has_class, is_cell, is_local, local_names, makes_class, named_at, names_in, param_names, read_free, taken_along, variables_of}
-use Rattle.sem_names.specs.Naming.{own, scope_or_global, seen, variable, variable_in}
+use Rattle.sem_names.specs.Naming.{comprehension_in, own, scope_or_global, seen, seen_if, variable, variable_in}
+use Rattle.sem_names.specs.Regions.{numbered}
 use Rattle.sem_names.specs.Script.{Naming, functions_of, naming_script, spelled_in}
+use Rattle.law_names.proofs.next_numbers.Found.{found}
 use Rattle.law_operands.proofs.law_files.code_files.Each.{both, everywhere, mapped, weaken}
 use Rattle.pt_supported.specs.Built.{Built}
 use Rattle.law_operands.specs.free_names.FreeNames.{Among, StandsIn}
@@ -28,7 +31,7 @@ use Rattle.law_operands.proofs.free_pieces.Blocks.{KnowsNames, LooksUp, Slots}
 use Rattle.law_operands.proofs.free_pieces.Operands.{CellIs, SlotIs}
 use Rattle.law_operands.proofs.free_pieces.Script.{place_is_number}
 use Rattle.law_supported.proofs.Plain.{IsPlain}
-use Rattle.law_supported.proofs.Homes.{home_is, is_plain}
+use Rattle.law_supported.proofs.Homes.{apart, block_stands, home_is, is_plain}
 use Rattle.law_supported.proofs.Owned.{seen_cell}
 use Rattle.law_supported.proofs.Shown.{Has, all_shown, among_distinct, among_right}
 
@@ -53,7 +56,7 @@ cell Q T.free x c f = f refl
 cell Q T.global x c f = tt
 cell Q T.of_class x c f = tt
 
-for_all : {A I : Type 0} (P : I → A → Type 0) (xs : List A) → ((i : I) → AllByRecursion (P i) xs) → AllByRecursion (λ x. (i : I) → P i x) xs
+pub for_all : {A I : Type 0} (P : I → A → Type 0) (xs : List A) → ((i : I) → AllByRecursion (P i) xs) → AllByRecursion (λ x. (i : I) → P i x) xs
 for_all P [] f = tt
 for_all P (x ∷ xs) f = (λ i. (f i).0, for_all P xs (λ i. (f i).1))
 
@@ -91,27 +94,58 @@ module _ (ss : Stms) (built : Built ss) where
         let named : named_at p c h m ≡ own p b m.name =
         ap (λ (i : Bool). if i then own p c m.name else seen p m.region m.name) (eq-eqb m.region h region) ∙ own_same c there m.name in
         subst (λ (v : Variable). Among (names_in is (variables_of p c h)) v.name) named
-        (f c (eq-eqb (home_of p.regions m.region) h (home_is ss built m.region ∙ region)) (ap (λ (v : Variable). is v.scope) named ∙ so))
+        (f c (eq-eqb (home_of p.regions m.region) h (ap (home_of p.regions) region ∙ home_is ss built h (block_stands ss built b h at))) (ap (λ (v : Variable). is v.scope) named ∙ so))
 
     abbrev Frees : (within : List ℕ) → Mention → Type 0
     Frees within m =
         StandsIn g h within m.region → (variable_in g b within m.name).scope ≡ T.free
         → Among (free_names p (functions_of g) h) (variable_in g b within m.name).name
 
-    looks_up : (within : List ℕ) (m : Mention) → (Shown is_local m × Shown is_cell m) × Frees within m → LooksUp g (Listed g) b h within m
-    looks_up [] m f stands =
-        let v = own p b m.name in
+    -- a variable whose name is shown has a slot
+    abbrev IsShown : (Scope → Bool) → Variable → Type 0
+    IsShown is v = is v.scope ≡ true → (c : ℕ) → slice_get p.blocks c ≡ Some h → Among (names_in is (variables_of p c h)) v.name
+
+    has_slot : (v : Variable) → IsShown is_local v → IsShown is_cell v → (v.scope ≡ T.free → Listed g h T.free v.name) → SlotIs (Listed g h) v.scope v.name
+    has_slot v local in_cell free =
         slot (Listed g h) v.scope v.name
         (λ e c ps there.
         let xs = map (spelled_in g c) (param_names ps) in
         let ys = names_in is_local (variables_of p c h) in
-        among_distinct (xs ++ ys) v.name (among_right xs ys v.name (own_shown is_local m stands f.0.0 (ap is_local e) c there)))
+        among_distinct (xs ++ ys) v.name (among_right xs ys v.name (local (ap is_local e) c there)))
         (λ e c there.
         let ys = names_in is_cell (variables_of p c h) in
         any_front (λ y. bytes_eq y v.name) (distinct ys) (class_if (makes_class p (functions_of g) h))
-        (among_distinct ys v.name (own_shown is_cell m stands f.0.1 (ap is_cell e) c there)))
-        (λ e. f.1 stands e)
-    looks_up (n ∷ w) m f stands = absurd (subst IsPlain stands.2 (is_plain ss built m.region stands.0 stands.1))
+        (among_distinct ys v.name (in_cell (ap is_cell e) c there)))
+        free
+
+    -- a name that is mentioned in a comprehension of the block
+    within_shown : (is : Scope → Bool) (m : Mention) (here : Region) → slice_get p.regions m.region ≡ Some here → here.kind ≡ kind.Comprehension → here.home ≡ h
+        → Shown is m → IsShown is (seen p m.region m.name)
+    within_shown is m here at_region comprehension home f so c there =
+        let other : (m.region == h) ≡ false = apart ss built h m.region here (block_stands ss built b h at) at_region comprehension in
+        let named : named_at p c h m ≡ seen p m.region m.name = ap (λ (i : Bool). if i then own p c m.name else seen p m.region m.name) other in
+        subst (λ (v : Variable). Among (names_in is (variables_of p c h)) v.name) named
+        (f c (eq-eqb (home_of p.regions m.region) h (ap (home_at m.region) at_region ∙ home)) (ap (λ (v : Variable). is v.scope) named ∙ so))
+
+    -- which the number of the comprehension's first Next tells
+    is_seen : (n : ℕ) (w : List ℕ) (r : ℕ) (here : Region) → slice_get p.regions r ≡ Some here → here.home ≡ h → slice_get g.nexts r ≡ Some (Some n) → (x : Name)
+        → variable_in g b (n ∷ w) x ≡ seen p r x
+    is_seen n w r here at_region home number x =
+        let there : numbered p.regions g.nexts h n ≡ Some r = ap (λ k. numbered p.regions g.nexts k n) (sym home) ∙ found ss r n here at_region number in
+        let place : comprehension_in g (slice_get p.blocks b) n ≡ Some r =
+        ap (λ o. comprehension_in g o n) at ∙ ap (λ o. Some (unwrap_or o h)) there in
+        ap (λ o. seen_if p o x) place
+
+    looks_up : (within : List ℕ) (m : Mention) → (Shown is_local m × Shown is_cell m) × Frees within m → LooksUp g (Listed g) b h within m
+    looks_up [] m f stands =
+        has_slot (own p b m.name) (own_shown is_local m stands f.0.0) (own_shown is_cell m stands f.0.1) (λ e. f.1 stands e)
+    looks_up (n ∷ w) m f stands =
+        let v = seen p m.region m.name in
+        let same : variable_in g b (n ∷ w) m.name ≡ v = is_seen n w m.region stands.0 stands.1 stands.3 stands.4 m.name in
+        let frees : v.scope ≡ T.free → Listed g h T.free v.name =
+        subst (λ (v : Variable). v.scope ≡ T.free → Listed g h T.free v.name) same (f.1 stands) in
+        subst (λ (v : Variable). SlotIs (Listed g h) v.scope v.name) (sym same)
+        (has_slot v (within_shown is_local m stands.0 stands.1 stands.2 stands.3 f.0.0) (within_shown is_cell m stands.0 stands.1 stands.2 stands.3 f.0.1) frees)
 
     pub all_looked_up : fault_of p ≡ None → (within : List ℕ) → AllByRecursion (LooksUp g (Listed g) b h within) p.mentions
     all_looked_up none within =
@@ -125,7 +159,7 @@ module _ (ss : Stms) (built : Built ss) where
   class_never true kind.Module i Q = (λ e. let no : T.free ≡ T.cell = e in absurd cc, tt)
   class_never true kind.Function i Q = (λ e. let no : T.free ≡ T.cell = e in absurd cc, tt)
   class_never true kind.Class i Q = absurd i
-  class_never true kind.Comprehension i Q = absurd i
+  class_never true kind.Comprehension i Q = (λ e. let no : T.free ≡ T.cell = e in absurd cc, tt)
 
   abbrev InCell : (region : ℕ) → Variable → Type 0
   InCell h v = v.scope ≡ T.cell → Listed g h T.cell v.name

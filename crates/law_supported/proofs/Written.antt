@@ -157,7 +157,7 @@ module _ (ss : Stms) (built : Built ss) where
   no_class kind.Module i = refl
   no_class kind.Function i = refl
   no_class kind.Class i = absurd i
-  no_class kind.Comprehension i = absurd i
+  no_class kind.Comprehension i = refl
 
   makes_at : (h c : ℕ) (o : Option Region) → slice_get g.places.regions c ≡ o → is_class_of g.places.regions h o ≡ false
   makes_at h c None at = refl

@@ -1,12 +1,14 @@
 -- What the laws say of the names of the blocks of a supported script.
-use Rattle.std.specs.Prelude.{◌≡◌, ℕ, List, ◌++◌, map, slice_get, Some, None}
-use Rattle.std.specs.List.{IsDistinct}
+use Rattle.std.specs.Prelude.{◌≡◌, ℕ, false, List, ◌∷◌, ◌++◌, map, slice_get, Some, None}
+use Rattle.std.specs.List.{AllByRecursion, IsDistinct}
 use Rattle.std.specs.Str.{bytes_eq}
 use Rattle.pt_tree.specs.Syntax.{Name, Stms}
 use Rattle.sem_control.specs.numbering.Numbered.{IsNumbered}
+use Rattle.pt_scopes.specs.declared.region.Mention.{Mention}
 use Rattle.pt_scopes.specs.Mentions.{places_script}
 use Rattle.pt_scopes.specs.Refusals.{fault_of}
 use Rattle.sem_names.specs.Around.{names_of}
+use Rattle.sem_names.specs.Naming.{dot}
 use Rattle.pt_instr.specs.declared.TextNo.{TextNo}
 use Rattle.sem_code.specs.slots.BlockObject.{text_in}
 use Rattle.pt_assembler.specs.Layout.{Written}
@@ -28,6 +30,11 @@ abbrev pub BuiltBlocksHaveTheirNames : Type 0
 BuiltBlocksHaveTheirNames = (ss : Stms) → fault_of (places_script ss) ≡ None → IsNumbered ss → ClassNameIsUnused ss → Built ss
     → (n : ℕ) (b : BlockLayout) → slice_get (script_layouts ss) n ≡ Some b → HasNames ss n b.written
 
+-- no name that is mentioned begins with a dot, as those of comprehensions do in code: no name of a script has one
+abbrev pub NamesBeginWithoutDot : Stms → Type 0
+NamesBeginWithoutDot ss = (x : Name) → AllByRecursion (λ (m : Mention). bytes_eq m.name (dot ∷ x) ≡ false) (places_script ss).mentions
+
 -- no name in a cell of a block stands twice, as its own or as a free one
 abbrev pub BuiltCellsAreDifferent : Type 0
-BuiltCellsAreDifferent = (ss : Stms) → Built ss → (n : ℕ) → IsDistinct bytes_eq ((names_of ss n).cells ++ (names_of ss n).frees)
+BuiltCellsAreDifferent =
+    (ss : Stms) → NamesBeginWithoutDot ss → Built ss → (n : ℕ) → IsDistinct bytes_eq ((names_of ss n).cells ++ (names_of ss n).frees)

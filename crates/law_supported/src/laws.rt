@@ -13,8 +13,9 @@ pub fn blocks_of_a_supported_script_have_their_names()
     ensures { BuiltBlocksHaveTheirNames }
 {}
 
-/// In a supported script the names in cells of a block and its free names are different (Language
-/// Reference 4.2.2).
+/// In a supported script in which no name begins with a dot, as that of a comprehension does in
+/// code, the names in cells of a block and its free names are different (Language Reference 4.2.2,
+/// 6.2.4).
 pub fn names_in_cells_of_a_supported_script_differ()
     ensures { BuiltCellsAreDifferent }
 {}

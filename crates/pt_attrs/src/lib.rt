@@ -7,3 +7,4 @@ mod unbuilt;
 
 pub use look::{Found, NoAttr, lookup, object_of, super_of};
 pub use names::{delete, store};
+pub use pt_dicts::{class_at, combine, object_at};

@@ -9,7 +9,7 @@ use Rattle.pt_heap.specs.declared.object.Object.TheVariants.{Class as ClassOf}
 use Rattle.pt_heap.specs.declared.object.Class.{Class as ClassObject}
 use Rattle.pt_heap.specs.Sound.{IsClassAt, Fits, IsSound}
 use Rattle.pt_builtin_objects.specs.declared.Kind.{Kind}
-use Rattle.pt_builtin_objects.specs.declared.Kind.TheVariants.{Class, Function, Mark, Module, Event}
+use Rattle.pt_builtin_objects.specs.declared.Kind.TheVariants.{Class, Function, Mark, Module, Text}
 use Rattle.pt_builtin_objects.specs.Start.{object_of, start_rows, start_objects}
 
 -- the kinds of the objects, in order
@@ -22,7 +22,7 @@ is_class (Some (Class base)) = true
 is_class (Some (Function number)) = false
 is_class (Some Mark) = false
 is_class (Some (Module m)) = false
-is_class (Some Event) = false
+is_class (Some Text) = false
 
 -- what a kind at i asks for stands there
 abbrev is_placed : List Kind → ℕ → Kind → Bool
@@ -31,7 +31,7 @@ is_placed ks i (Class (Some base)) = nat_lt base.0 i && is_class (slice_get ks b
 is_placed ks i (Function number) = true
 is_placed ks i Mark = is_class (slice_get ks 0)
 is_placed ks i (Module m) = true
-is_placed ks i Event = true
+is_placed ks i Text = true
 
 abbrev are_placed : List Kind → ℕ → List Kind → Bool
 are_placed ks i [] = true
@@ -61,7 +61,7 @@ class-of name (Class base) h = (_, refl)
 class-of name (Function number) h = absurd (true≢false (sym h))
 class-of name Mark h = absurd (true≢false (sym h))
 class-of name (Module m) h = absurd (true≢false (sym h))
-class-of name Event h = absurd (true≢false (sym h))
+class-of name Text h = absurd (true≢false (sym h))
 
 class-at : (p : ℕ) → is_class (slice_get kinds p) ≡ true → IsClassAt start_objects p
 class-at p h = by (slice_get start_rows p) refl
@@ -91,7 +91,7 @@ fits-kind i name (Class (Some base)) l h =
 fits-kind i name (Function number) l h = record { places = λ p c. absurd (omega (arith, c.1)); classes = tt }
 fits-kind i name Mark l h = record { places = λ p c. omega (arith, single 0 p c, l); classes = class-at 0 h }
 fits-kind i name (Module m) l h = record { places = λ p c. absurd (omega (arith, c.1)); classes = tt }
-fits-kind i name Event l h = record { places = λ p c. absurd (omega (arith, c.1)); classes = tt }
+fits-kind i name Text l h = record { places = λ p c. absurd (omega (arith, c.1)); classes = tt }
 
 pub start-is-sound : IsSound start_objects start_objects
 start-is-sound =

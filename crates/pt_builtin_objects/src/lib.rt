@@ -1,4 +1,5 @@
-//! The objects that each run starts with: classes, functions, modules and the names of events.
+//! The objects that each run starts with: classes, functions, modules, the names of events
+//! and of the module that runs.
 #![tactic(auto)]
 
 ghost use Rattle.std.specs.Prelude.{◌≡◌, ◌+◌, ◌++◌, ◌≤◌, IfErr, IfOk, OnOk, length, map};
@@ -20,14 +21,15 @@ pub enum Kind {
     /// An object of class `object` that only stands for itself.
     Mark,
     Module(Module),
-    /// The text by which a trace function is told of an event.
-    Event,
+    /// A text that runs give.
+    Text,
 }
 
 /// The names of the objects that a run starts with, in the order of their places (Library
 /// Reference, "Built-in Types", "Exception hierarchy", "Built-in Functions", `types`, `sys`,
-/// `sys.monitoring`).
-pub const START: [(&str, Kind); 84] = [
+/// `sys.monitoring`). The texts at the end are those by which a trace function is told of events,
+/// and the name of the module that runs ("__main__").
+pub const START: [(&str, Kind); 85] = [
     ("object", Kind::Class(None)),
     ("type", Kind::Class(Some(ObjId(0)))),
     ("int", Kind::Class(Some(ObjId(0)))),
@@ -108,10 +110,11 @@ pub const START: [(&str, Kind); 84] = [
     ("sys", Kind::Module(Module::Sys)),
     ("monitoring", Kind::Module(Module::Monitoring)),
     ("events", Kind::Module(Module::Events)),
-    ("call", Kind::Event),
-    ("line", Kind::Event),
-    ("return", Kind::Event),
-    ("exception", Kind::Event),
+    ("call", Kind::Text),
+    ("line", Kind::Text),
+    ("return", Kind::Text),
+    ("exception", Kind::Text),
+    ("__main__", Kind::Text),
 ];
 
 /// The places of the classes of lists, sets and dictionaries.
@@ -144,7 +147,7 @@ fn made(alloc: Global, seed: Seed, name: &str, kind: Kind) -> Result<Object, Mem
             names: Dict::new(alloc, seed),
         })),
         Kind::Module(module) => Ok(Object::Module(module)),
-        Kind::Event => {
+        Kind::Text => {
             let text = Text::from_str(alloc, name)?;
             Ok(Object::Str(Str::new(text)))
         }

@@ -1,6 +1,6 @@
 -- What code answers of a builtin's name, as a host has it.
 use Rattle.std.specs.Prelude.{Bool}
-use Rattle.pt_tables.specs.Names.{builtin_names}
+use Rattle.pt_tables.specs.Names.{builtin_names, unbuilt_names}
 use Rattle.pt_tree.specs.Syntax.{Name}
 use Rattle.pt_bind.specs.NameSets.{is_among}
 use Rattle.pt_host.specs.Builtins.{Builtin, is, unavailable, no_builtin}
@@ -14,3 +14,7 @@ builtin_view lookup.Unbound = no_builtin
 
 abbrev pub is_builtin_name : Name → Bool
 is_builtin_name x = is_among builtin_names x
+
+-- one of the Library Reference that runs don't have
+abbrev pub is_unbuilt_name : Name → Bool
+is_unbuilt_name x = is_among unbuilt_names x

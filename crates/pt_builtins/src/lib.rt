@@ -5,9 +5,8 @@
 ghost use Rattle.std.specs.Prelude.{◌≡◌, ◌<◌, length, map, position, IfSome};
 ghost use Rattle.std.specs.Str.{bytes_eq};
 ghost use Rattle.pt_bind.specs.NameSets.{is_among};
-ghost use Rattle.pt_builtins.specs.Lookups.{builtin_view, is_builtin_name};
+ghost use Rattle.pt_builtins.specs.Lookups.{builtin_view, is_builtin_name, is_unbuilt_name};
 ghost use Rattle.pt_host.specs.Builtins.{builtin, listed_builtin, start_object};
-ghost use Rattle.pt_tables.specs.Names.{unbuilt_names};
 
 use pt_base::ObjId;
 use pt_builtin_objects::{Kind, START};
@@ -70,8 +69,10 @@ fn is_listed(names: &[&str], name: &str) -> bool
     false
 }
 
-fn is_unbuilt(name: &str) -> bool
-    ensures { result ≡ is_among unbuilt_names name.now }
+/// Whether a name is one of the Library Reference that runs don't have. They leave the profile
+/// where such a name is read and nothing binds it.
+pub fn is_unbuilt_name(name: &str) -> bool
+    ensures { result ≡ is_unbuilt_name name.now }
 {
     is_listed(&UNBUILT, name)
 }
@@ -108,7 +109,7 @@ fn listed_builtin(name: &str) -> BuiltinLookup
     if name == "Ellipsis" {
         return BuiltinLookup::Found(Value::Ellipsis);
     }
-    if is_unbuilt(name) {
+    if is_unbuilt_name(name) {
         return BuiltinLookup::Unavailable;
     }
     start_object(name)
@@ -123,7 +124,8 @@ fn is_builtin_name(name: &str) -> bool
     }
 }
 
-/// What a name means by itself, the same throughout a run. It takes a search through the tables of
+/// What a name means by itself, the same throughout a run: also `__name__`, the name of the
+/// module that runs (Library Reference, "__main__"). It takes a search through the tables of
 /// builtins, of which there are about 90.
 pub fn builtin(name: &str) -> BuiltinLookup
     ensures { builtin_view result ≡ builtin name.now }
@@ -132,7 +134,7 @@ pub fn builtin(name: &str) -> BuiltinLookup
         return listed_builtin(name);
     }
     if name == "__name__" {
-        BuiltinLookup::Unavailable
+        start_object("__main__")
     } else {
         BuiltinLookup::Unbound
     }

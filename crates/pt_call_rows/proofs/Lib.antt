@@ -2,3 +2,4 @@ mod CallLemmas
 mod RowLemmas
 mod RoleLemmas
 pub mod OperandLemmas
+pub mod ExceptionLemmas

@@ -18,7 +18,7 @@ use Rattle.sem_code.specs.slots.Steps.{gives}
 use Rattle.sem_code.specs.slots.Pops as P
 use Rattle.sem_run.specs.run.Host.{Here, leave}
 use Rattle.pt_operators.specs.pt_moves.sem_rows.pt_host.World.{Stores, Program}
-use Rattle.pt_operators.specs.pt_moves.sem_rows.pt_host.Calls.{arguments, has_spread, call_value}
+use Rattle.pt_operators.specs.pt_moves.sem_rows.pt_host.Calls.{are_arguments, arguments, call_value}
 use Rattle.pt_operators.specs.pt_moves.sem_rows.declared.heap_rows.progress.Progress.{Progress}
 use Rattle.pt_operators.specs.pt_moves.sem_rows.declared.heap_rows.progress.Progress.TheVariants as progress
 use Rattle.pt_operators.specs.pt_moves.sem_rows.heap_rows.Laws.{reached}
@@ -32,19 +32,19 @@ use Rattle.pt_operators.proofs.pt_moves.MoveLemmas.{stuck_row}
 use Rattle.pt_function_rows.specs.Operands.{many_values}
 use Rattle.pt_function_rows.specs.Arguments.{named_last}
 use Rattle.pt_call_rows.specs.CallRows.{Calls, CallsValue, RowsCall, RowsNamedCall, with_parts}
-use Rattle.pt_function_rows.proofs.ArgumentLemmas.{all_spread_none, last_spread_none, all_plain_is, named_last_is}
+use Rattle.pt_function_rows.proofs.ArgumentLemmas.{all_are_given, last_are_given, all_plain_is, named_last_is}
 use Rattle.pt_function_rows.proofs.TakeLemmas.{one_more, value_below, none_below, still_none, length_taken, values_taken, values_missing}
 
 -- a call whose arguments aren't spread leads where the call of the value does
 module _ (program : Program) (code : CodeObject Value) (i : Ins) (h : Here Value) (st : Stores) (below : List Slot) (rs : List Role) (f : Value)
     (vs : List Value) (args : Args) where
-  call_leads : has_spread rs ≡ false → arguments rs vs ≡ args
+  call_leads : are_arguments st.world.heap rs vs ≡ true → arguments st.world.heap rs vs ≡ args
       → reached program code i h st (gives code i (T.operate (T.call rs) (f ∷ vs)) (slots_view below))
       ≡ by_tree code i (giving code i (slots_view below)) (slots_view below) (call_value program f args h st)
   call_leads none are =
       asks_lead program code i h st (T.seek (T.operate (T.call rs) (f ∷ vs))) (giving code i (slots_view below)) (slots_view below) tt
       ∙ (ap (λ b. by_tree code i (giving code i (slots_view below)) (slots_view below)
-      (if b then leave Feature else call_value program f (arguments rs vs) h st)) none
+      (if b then call_value program f (arguments st.world.heap rs vs) h st else leave Feature)) none
       ∙ ap (λ a. by_tree code i (giving code i (slots_view below)) (slots_view below) (call_value program f a h st)) are)
 
 module _ (n : ℕ) (old : List Slot) (vs : List Value) (f : Value) (e : many_values n old ≡ Some vs) (g : one_value (drop n old) ≡ Some f) where
@@ -67,8 +67,8 @@ module _ (blocks : Blocks) (n : ℕ) (old : List Slot) (cells : List (Option Val
   unfolding RowsCall RowsIn CallsValue Calls
   call_row p vs f below args e g b a done st s pc i truths knows =
       done s.program s.code i s.here st knows
-      ∙ (sym (call_leads s.program s.code i s.here (with_parts cells heap st) below (all_positional n) f vs args (all_spread_none n)
-      (ap (λ k. arguments (all_positional k) vs) (sym (count n old vs f e g)) ∙ (all_plain_is vs ∙ sym a)))
+      ∙ (sym (call_leads s.program s.code i s.here (with_parts cells heap st) below (all_positional n) f vs args (all_are_given heap n vs)
+      (ap (λ k. arguments heap (all_positional k) vs) (sym (count n old vs f e g)) ∙ (all_plain_is heap vs ∙ sym a)))
       ∙ (ap (λ ss. reached s.program s.code i s.here (with_parts cells heap st)
       (gives s.code i (T.operate (T.call (all_positional n)) (f ∷ vs)) (slots_view ss))) b
       ∙ ap (λ t. reached s.program s.code i s.here (with_parts cells heap st) t) (sym (turned n old vs f e g s.code i (all_positional n)))))
@@ -91,9 +91,9 @@ module _ (blocks : Blocks) (n : ℕ) (old : List Slot) (cells : List (Option Val
     named_call_row p vs f below args e g b a done st s pc i truths knows =
         done s.program s.code i s.here st knows.0
         ∙ (sym (call_leads s.program s.code i s.here (with_parts cells heap st) below (last_named n (s.code.pool.texts l.0)) f vs args
-        (last_spread_none (n - length (s.code.pool.texts l.0)) (s.code.pool.texts l.0))
-        (ap (λ k. arguments (last_named k (s.code.pool.texts l.0)) vs) (sym (count n old vs f e g))
-        ∙ (ap (λ ys. arguments (last_named (length vs) ys) vs) knows.1 ∙ (named_last_is xs vs ∙ sym a))))
+        (last_are_given heap (n - length (s.code.pool.texts l.0)) (s.code.pool.texts l.0) vs)
+        (ap (λ k. arguments heap (last_named k (s.code.pool.texts l.0)) vs) (sym (count n old vs f e g))
+        ∙ (ap (λ ys. arguments heap (last_named (length vs) ys) vs) knows.1 ∙ (named_last_is heap xs vs ∙ sym a))))
         ∙ (ap (λ ss. reached s.program s.code i s.here (with_parts cells heap st)
         (gives s.code i (T.operate (T.call (last_named n (s.code.pool.texts l.0))) (f ∷ vs)) (slots_view ss))) b
         ∙ ap (λ t. reached s.program s.code i s.here (with_parts cells heap st) t)
@@ -111,29 +111,30 @@ module _ (blocks : Blocks) (n : ℕ) (old : List Slot) (cells : List (Option Val
     -- each argument with its role
     module _ (vs : List Value) (f : Value) (below : List Slot) (args : Args) (e : many_values n old ≡ Some vs) (g : one_value (drop n old) ≡ Some f)
         (b : below ≡ drop 1 (drop n old)) where
-      pub role_call_row : (p : Progress) → has_spread (map role_of xs) ≡ false → args ≡ arguments (map role_of xs) vs
+      pub role_call_row : (p : Progress) → are_arguments heap (map role_of xs) vs ≡ true → args ≡ arguments heap (map role_of xs) vs
           → CallsValue blocks f args below cells heap p new changed grown
           → RowsNamedCall xs l.0 blocks (instr.CallSpread n l) old cells heap p new changed grown
       unfolding RowsNamedCall RowsIn CallsValue Calls
-      role_call_row p none a done st s pc i truths knows =
+      role_call_row p are a done st s pc i truths knows =
           done s.program s.code i s.here st knows.0
           ∙ (sym (call_leads s.program s.code i s.here (with_parts cells heap st) below (map role_of (s.code.pool.texts l.0)) f vs args
-          (ap (λ ys. has_spread (map role_of ys)) knows.1 ∙ none) (ap (λ ys. arguments (map role_of ys) vs) knows.1 ∙ sym a))
+          (ap (λ ys. are_arguments heap (map role_of ys) vs) knows.1 ∙ are) (ap (λ ys. arguments heap (map role_of ys) vs) knows.1 ∙ sym a))
           ∙ (ap (λ ss. reached s.program s.code i s.here (with_parts cells heap st)
           (gives s.code i (T.operate (T.call (map role_of (s.code.pool.texts l.0))) (f ∷ vs)) (slots_view ss))) b
           ∙ ap (λ t. reached s.program s.code i s.here (with_parts cells heap st) t)
           (sym (turned n old vs f e g s.code i (map role_of (s.code.pool.texts l.0))))))
 
-    pub role_call_spread : (vs : List Value) (f : Value) → many_values n old ≡ Some vs → one_value (drop n old) ≡ Some f → has_spread (map role_of xs) ≡ true
+    pub role_call_misspread : (vs : List Value) (f : Value) → many_values n old ≡ Some vs → one_value (drop n old) ≡ Some f
+        → are_arguments heap (map role_of xs) vs ≡ false
         → RowsNamedCall xs l.0 blocks (instr.CallSpread n l) old cells heap (progress.Outside Feature) new changed grown
     unfolding RowsNamedCall RowsIn
-    role_call_spread vs f e g spread st s pc i truths knows =
+    role_call_misspread vs f e g are st s pc i truths knows =
         sym (ap (λ t. reached s.program s.code i s.here (with_parts cells heap st) t) (turned n old vs f e g s.code i (map role_of (s.code.pool.texts l.0)))
         ∙ (asks_lead s.program s.code i s.here (with_parts cells heap st) (T.seek (T.operate (T.call (map role_of (s.code.pool.texts l.0))) (f ∷ vs)))
         (giving s.code i (slots_view (drop 1 (drop n old)))) (slots_view (drop 1 (drop n old))) tt
         ∙ ap (λ c. by_tree s.code i (giving s.code i (slots_view (drop 1 (drop n old)))) (slots_view (drop 1 (drop n old)))
-        (if c then leave Feature else call_value s.program f (arguments (map role_of (s.code.pool.texts l.0)) vs) s.here (with_parts cells heap st)))
-        (ap (λ ys. has_spread (map role_of ys)) knows.1 ∙ spread)))
+        (if c then call_value s.program f (arguments heap (map role_of (s.code.pool.texts l.0)) vs) s.here (with_parts cells heap st) else leave Feature))
+        (ap (λ ys. are_arguments heap (map role_of ys) vs) knows.1 ∙ are)))
 
     pub role_call_lacks_arguments : many_values n old ≡ None
         → RowsNamedCall xs l.0 blocks (instr.CallSpread n l) old cells heap progress.Lacks new changed grown

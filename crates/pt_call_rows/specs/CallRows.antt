@@ -1,5 +1,6 @@
 -- When code does with calls what rows say (Language Reference 6.3.4).
-use Rattle.std.specs.Prelude.{◌≡◌, ℕ, List, Bool, true, false, Option, Some, None, slice_get}
+use Rattle.std.specs.Prelude.{◌≡◌, ℕ, List, [], Bool, true, false, Option, Some, None, Result, Ok, Err, slice_get}
+use Rattle.pt_base.specs.declared.numbers.ObjId.{ObjId}
 use Rattle.pt_tree.specs.Syntax.{Name}
 use Rattle.pt_instr.specs.declared.Instr.{Instr}
 use Rattle.pt_heap.specs.declared.value.Value.{Value}
@@ -7,14 +8,19 @@ use Rattle.pt_heap.specs.declared.value.Value.TheVariants as value
 use Rattle.pt_heap.specs.declared.object.Object.{Object}
 use Rattle.pt_heap.specs.declared.object.Object.TheVariants as object
 use Rattle.pt_heap.specs.declared.object.Function.{Function}
-use Rattle.pt_attrs.specs.Store.{is_scripted}
-use Rattle.pt_dicts.specs.Chain.{class_in}
+use Rattle.pt_content.specs.pt_attrs.Store.{is_scripted}
+use Rattle.pt_content.specs.pt_attrs.pt_dicts.Chain.{class_in}
+use Rattle.pt_bind.specs.Binding.{IsTold}
 use Rattle.pt_bind.specs.declared.arguments.Args.{Args}
 use Rattle.pt_bind.specs.declared.arguments.BindErr.{BindErr}
 use Rattle.pt_bind.specs.declared.arguments.BindErr.TheVariants as refusal
+use Rattle.pt_bind.specs.declared.arguments.Locals.{Locals}
 use Rattle.pt_frames.specs.declared.slot.Slot.{Slot}
 use Rattle.pt_content.specs.Classes.{class_name}
 use Rattle.pt_content.specs.Functions.{of_function}
+use Rattle.pt_content.specs.declared.method_name.MethodName.{MethodName}
+use Rattle.pt_content.specs.declared.method_name.MethodName.TheVariants as method
+use Rattle.pt_operators.specs.pt_moves.sem_rows.pt_host.pt_methods.Names.{of_method_number}
 use Rattle.pt_content.specs.declared.function.Function.{Function as Builtin}
 use Rattle.pt_content.specs.declared.function.Function.TheVariants as builtin
 use Rattle.pt_code.specs.View.{Ins}
@@ -24,7 +30,7 @@ use Rattle.pt_operators.specs.pt_moves.sem_rows.pt_host.declared.places.TheConst
 use Rattle.pt_operators.specs.pt_moves.sem_rows.pt_host.World.{Stores, Program, with_objects, in_world}
 use Rattle.pt_operators.specs.pt_moves.sem_rows.pt_host.Texts.{binding_text, not_callable_text}
 use Rattle.pt_operators.specs.pt_moves.sem_rows.pt_host.Trees.{Tree}
-use Rattle.pt_operators.specs.pt_moves.sem_rows.pt_host.Calls.{block_of, call_function, call_builtin, call_value, class_function}
+use Rattle.pt_operators.specs.pt_moves.sem_rows.pt_host.Calls.{block_of, call_block, call_builtin, call_method, call_value, class_function, exception_class, make_exception, unnamed_operands}
 use Rattle.pt_operators.specs.pt_moves.sem_rows.declared.heap_rows.progress.Progress.{Progress}
 use Rattle.pt_operators.specs.pt_moves.sem_rows.declared.heap_rows.progress.Progress.TheVariants as progress
 use Rattle.pt_operators.specs.pt_moves.sem_rows.heap_rows.Leads.{by_tree, giving}
@@ -46,8 +52,12 @@ function_of heap (value.Obj id) = function_in (slice_get heap id.0)
 function_of heap v = None
 
 -- what a builtin function or a class does where it is called, if that is an operation on values
+abbrev pub function_by : (number : ℕ) → (receiver : Option Value) → Option (Option Builtin)
+function_by n None = Some (of_function n)
+function_by n (Some r) = None
+
 abbrev pub builtin_in : Value → Option Object → Option (Option Builtin)
-builtin_in v (Some (object.Builtin b)) = Some (of_function b.number)
+builtin_in v (Some (object.Builtin b)) = function_by b.number b.receiver
 builtin_in v (Some (object.Class c)) = Some (class_function v)
 builtin_in v o = None
 
@@ -55,12 +65,38 @@ abbrev pub builtin_of : List Object → Value → Option (Option Builtin)
 builtin_of heap (value.Obj id) = builtin_in (value.Obj id) (slice_get heap id.0)
 builtin_of heap v = None
 
--- `print`, which takes arguments by names
+-- a method of a builtin value, with the value
+abbrev pub method_by : (number : ℕ) → (receiver : Option Value) → Option (Option MethodName × Value)
+method_by n None = None
+method_by n (Some r) = Some (of_method_number n, r)
+
+abbrev pub method_in : Option Object → Option (Option MethodName × Value)
+method_in (Some (object.Builtin b)) = method_by b.number b.receiver
+method_in o = None
+
+abbrev pub method_of : List Object → Value → Option (Option MethodName × Value)
+method_of heap (value.Obj id) = method_in (slice_get heap id.0)
+method_of heap v = None
+
+-- the class of exceptions that a value is, if it is a builtin one
+abbrev pub exception_in : List Object → Value → Option Object → Option ObjId
+exception_in heap v (Some (object.Class c)) = exception_class heap v c
+exception_in heap v o = None
+
+abbrev pub exception_of : List Object → Value → Option ObjId
+exception_of heap (value.Obj id) = exception_in heap (value.Obj id) (slice_get heap id.0)
+exception_of heap v = None
+
+-- `print` and `sort`, which take arguments by names
 abbrev pub is_print : Builtin → Bool
 is_print builtin.Print = true
 is_print f = false
 
--- calls of methods, and of instances of a script's classes, aren't supported yet
+abbrev pub is_sort : MethodName → Bool
+is_sort method.Sort = true
+is_sort m = false
+
+-- calls of methods of scripts, and of instances of a script's classes, aren't supported yet
 abbrev pub is_unsupported_in : List Object → Option Object → Bool
 is_unsupported_in heap (Some (object.Method m)) = true
 is_unsupported_in heap (Some (object.Error x)) = is_scripted (class_in (slice_get heap x.class.0))
@@ -97,21 +133,39 @@ Calls Where answer old cells heap p new changed grown =
     → told program code i h p (slots_view new) (with_parts changed grown st)
     ≡ by_tree code i (giving code i (slots_view old)) (slots_view old) (answer program h (with_parts cells heap st))
 
--- of a block with these facts, of a function, of a builtin, of a value
-unfoldable pub CallsBlock : BlockFacts → Function → Args → List Slot → (cells : List (Option Value)) (heap : List Object) → Progress
-    → (changed : List (Option Value)) → Type 0
-CallsBlock facts f args slots cells heap p changed =
+-- a function without the defaults, which have done their part once its arguments are bound
+abbrev pub without_defaults : Function → Function
+without_defaults f = record { block = f.block; hidden = f.hidden; defaults = []; cells = f.cells }
+
+-- of a block with these facts, whose parameters are bound so
+unfoldable pub CallsBlock : BlockFacts → Function → Result Locals BindErr → List Slot → (cells : List (Option Value)) (heap : List Object) → Progress
+    → (changed : List (Option Value)) (grown : List Object) → Type 0
+CallsBlock facts f r slots cells heap p changed grown =
     Calls (λ program. program.facts (block_of f) ≡ facts_view facts)
-    (λ program h st. call_function (program.facts (block_of f)) f args h st) slots cells heap p slots changed heap
+    (λ program h st. call_block (program.facts (block_of f)) f r h st) slots cells heap p slots changed grown
 
-unfoldable pub CallsFunction : Blocks → Function → Args → List Slot → (cells : List (Option Value)) (heap : List Object) → Progress
-    → (changed : List (Option Value)) → Type 0
-CallsFunction blocks f args slots cells heap p changed =
-    Calls (λ program. KnowsBlocks program blocks) (λ program h st. call_function (program.facts (block_of f)) f args h st) slots cells heap p slots changed heap
+-- of a block, by what the binding of its arguments came to
+abbrev pub IsBinding : Result Locals BindErr → (bound : Result Locals BindErr) → Type 0
+IsBinding r (Ok ls) = r ≡ Ok ls
+IsBinding r (Err e) = IsTold r e
 
+unfoldable pub CallsBound : BlockFacts → Function → (bound : Result Locals BindErr) → List Slot → (cells : List (Option Value)) (heap : List Object) → Progress
+    → (changed : List (Option Value)) (grown : List Object) → Type 0
+CallsBound facts f bound slots cells heap p changed grown =
+    (r : Result Locals BindErr) → IsBinding r bound → CallsBlock facts f r slots cells heap p changed grown
+
+-- of a builtin, of a method, of a value
 unfoldable pub CallsBuiltin : Option Builtin → Args → (old : List Slot) (heap : List Object) → Progress → (new : List Slot) (grown : List Object) → Type 0
 CallsBuiltin f args old heap p new grown =
     (cells : List (Option Value)) → Calls (λ program. Unit {0}) (λ program h st. call_builtin f args h st) old cells heap p new cells grown
+
+unfoldable pub CallsMethod : Option MethodName → (receiver : Value) → Args → (old : List Slot) (heap : List Object) → Progress → (new : List Slot) (grown : List Object) → Type 0
+CallsMethod m r args old heap p new grown =
+    (cells : List (Option Value)) → Calls (λ program. Unit {0}) (λ program h st. call_method m r args h st) old cells heap p new cells grown
+
+unfoldable pub MakesException : Option ObjId → Args → (old : List Slot) (heap : List Object) → Progress → (new : List Slot) (grown : List Object) → Type 0
+MakesException class args old heap p new grown =
+    (cells : List (Option Value)) → Calls (λ program. Unit {0}) (λ program h st. make_exception class (unnamed_operands args.named args.plain) st) old cells heap p new cells grown
 
 unfoldable pub CallsValue : Blocks → Value → Args → (old : List Slot) (cells : List (Option Value)) (heap : List Object)
     → Progress → (new : List Slot) (changed : List (Option Value)) (grown : List Object) → Type 0

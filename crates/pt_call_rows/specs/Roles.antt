@@ -1,8 +1,12 @@
--- Which texts of arguments spread them (Language Reference 6.3.4).
-use Rattle.std.specs.Prelude.{[], ◌∷◌, Bool}
+-- The roles of arguments by their texts (Language Reference 6.3.4).
 use Rattle.pt_tree.specs.Syntax.{Name}
-use Rattle.sem_code.specs.slots.Instructions.{role_of}
-use Rattle.pt_operators.specs.pt_moves.sem_rows.pt_host.Calls.{has_spread}
+use Rattle.sem_control.specs.control.Turn as T
+use Rattle.pt_call_rows.specs.declared.roles.Role.{Role}
+use Rattle.pt_call_rows.specs.declared.roles.Role.TheVariants as role
 
-abbrev pub is_spread : Name → Bool
-is_spread x = has_spread (role_of x ∷ [])
+-- the role of an argument of this text
+abbrev pub as_role : Role → Name → T.Role
+as_role role.Positional x = T.positional
+as_role role.Spread x = T.spread
+as_role role.SpreadNamed x = T.spread_named
+as_role role.Named x = T.named x

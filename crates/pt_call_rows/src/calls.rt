@@ -1,28 +1,35 @@
 //! Calls (Language Reference 6.3.4).
-ghost use Rattle.std.specs.Prelude.{◌≡◌, false, slice_get, Some, IfOk, OnOk};
+ghost use Rattle.std.specs.Prelude.{◌≡◌, false, slice_get, List, Option, Some, Ok, IfOk, IfErr, OnOk};
 ghost use Rattle.std.specs.Option.{option_copied};
-ghost use Rattle.pt_attrs.specs.Store.{is_scripted};
-ghost use Rattle.pt_call_rows.specs.CallRows.{CallsBlock, CallsBuiltin, CallsFunction, CallsValue};
-ghost use Rattle.pt_call_rows.specs.CallRows.{RowsCall, RowsNamedCall, builtin_of, function_of};
-ghost use Rattle.pt_call_rows.specs.CallRows.{is_memory, is_print, is_unsupported, misfit, not_callable};
-ghost use Rattle.pt_function_rows.specs.pt_code_facts.Facts.{facts_view};
+ghost use Rattle.pt_bind.specs.Binding.{binding_with, IsTold};
+ghost use Rattle.pt_content.specs.pt_attrs.Store.{is_scripted};
+ghost use Rattle.pt_call_rows.specs.CallRows.{CallsBound, CallsBuiltin, CallsMethod, CallsValue, without_defaults};
+ghost use Rattle.pt_frames.specs.declared.slot.Slot.{Slot};
+ghost use Rattle.pt_call_rows.specs.CallRows.{RowsCall, RowsNamedCall, builtin_of, function_by, function_of};
+ghost use Rattle.pt_call_rows.specs.CallRows.{is_memory, is_print, is_unsupported, method_by, method_of};
+ghost use Rattle.pt_call_rows.specs.CallRows.{exception_of, misfit, not_callable, MakesException};
+ghost use Rattle.pt_function_rows.specs.pt_code_facts.declared.facts.Blocks.{Blocks};
+ghost use Rattle.pt_heap.specs.declared.value.Value.{Value};
 ghost use Rattle.pt_content.specs.declared.function.Function.TheVariants as builtin;
-ghost use Rattle.pt_dicts.specs.Chain.{class_in};
+ghost use Rattle.pt_content.specs.pt_attrs.pt_dicts.Chain.{class_in};
 ghost use Rattle.pt_frames.specs.Slots.{active_in};
-ghost use Rattle.pt_operators.specs.pt_moves.sem_rows.pt_host.Calls.{is_simple};
 ghost use Rattle.pt_instr.specs.declared.Instr.TheVariants as instr;
 
-use crate::operands::{are_print_names, print_operands};
-use crate::roles::{arguments, has_spread};
-use pt_base::{Memory, ObjId, Seq, Text, What};
-use pt_bind::{Args, BindErr, bind_with};
-use pt_content::{Function as Builtin, Op, class_name, of_class, of_function};
-use pt_dicts::{class_at, object_at};
-use pt_frames::Slots;
+use crate::operands::{are_print_names, method_operands, print_operands};
+use crate::roles::{are_arguments, arguments};
+use pt_base::{Dup, Memory, ObjId, Seq, Text, What};
+use pt_bind::{Args, BindErr, Locals, bind_with};
+use pt_content::{
+    Function as Builtin, MethodName, Op, class_at, class_name, object_at, of_class, of_function,
+};
+use pt_frames::{Slot, Slots};
 use pt_function_rows::{BlockFacts, Blocks, named_last, open, take_values};
 use pt_heap::{Function, Heap, Object, Value};
 use pt_instr::ListNo;
-use pt_operators::{Progress, TYPE_ERROR, binding_text, not_callable_text, operation, take_one};
+use pt_operators::{
+    BASE_EXCEPTION, Progress, TYPE_ERROR, allot, binding_text, derives, error, not_callable_text,
+    of_method_number, operation, take_one, values_given,
+};
 use std::alloc::Global;
 
 /// It is no function.
@@ -59,6 +66,16 @@ fn function_of(heap: &Heap, value: Value) -> Option<&Function>
     }
 }
 
+/// The function of this number, if it is no method of a value.
+fn function_by(number: u32, receiver: Option<Value>) -> Option<Option<Builtin>>
+    ensures { result ≡ function_by number receiver }
+{
+    match receiver {
+        Some(_) => None,
+        None => Some(of_function(number)),
+    }
+}
+
 /// What a value does where it is called, if it is a builtin function or a class: an operation on
 /// values, or None where it is none.
 fn builtin_of(heap: &Heap, value: Value) -> Option<Option<Builtin>>
@@ -66,7 +83,7 @@ fn builtin_of(heap: &Heap, value: Value) -> Option<Option<Builtin>>
 {
     match value {
         Value::Obj(id) => match object_at(heap, id) {
-            Some(Object::Builtin(builtin)) => Some(of_function(builtin.number)),
+            Some(Object::Builtin(builtin)) => function_by(builtin.number, builtin.receiver),
             Some(Object::Class(_)) => Some(of_class(id)),
             _ => None,
         },
@@ -74,8 +91,31 @@ fn builtin_of(heap: &Heap, value: Value) -> Option<Option<Builtin>>
     }
 }
 
-/// Whether calls of a value aren't supported yet: of a method, or of an instance of a script's
-/// class.
+/// The method of this number with the value that it is bound to, if there is one.
+fn method_by(number: u32, receiver: Option<Value>) -> Option<(Option<MethodName>, Value)>
+    ensures { result ≡ method_by number receiver }
+{
+    match receiver {
+        Some(receiver) => Some((of_method_number(number), receiver)),
+        None => None,
+    }
+}
+
+/// The method of a builtin value that a value is, with the value that it is bound to.
+fn method_of(heap: &Heap, value: Value) -> Option<(Option<MethodName>, Value)>
+    ensures { result ≡ method_of heap.now value }
+{
+    match value {
+        Value::Obj(id) => match object_at(heap, id) {
+            Some(Object::Builtin(builtin)) => method_by(builtin.number, builtin.receiver),
+            _ => None,
+        },
+        _ => None,
+    }
+}
+
+/// Whether calls of a value aren't supported yet: of a method of a script, or of an instance of a
+/// script's class.
 fn is_unsupported(heap: &Heap, value: Value) -> bool
     ensures { result ≡ is_unsupported heap.now value }
 {
@@ -87,18 +127,6 @@ fn is_unsupported(heap: &Heap, value: Value) -> bool
             _ => false,
         },
         _ => false,
-    }
-}
-
-/// Whether a call of a block is supported: one that makes no generator and takes no arguments by
-/// `*NAME` and `**NAME`.
-fn is_simple(facts: &BlockFacts) -> bool
-    ensures { result ≡ is_simple (facts_view facts.now) }
-{
-    if facts.yields || (facts.params.star || facts.params.stars) {
-        false
-    } else {
-        true
     }
 }
 
@@ -125,51 +153,51 @@ fn refused(alloc: Global, facts: &BlockFacts, error: BindErr) -> Result<Progress
     })
 }
 
-/// Calls a function of a block with these facts.
-#[tactic(auto, using(crate::proofs::CallLemmas::unsupported_block, crate::proofs::CallLemmas::opened, crate::proofs::CallLemmas::misfits))]
+/// Calls a block with these facts, whose parameters are bound so.
+#[tactic(auto, using(crate::proofs::CallLemmas::unsupported_block, crate::proofs::CallLemmas::opened, crate::proofs::CallLemmas::no_room, crate::proofs::CallLemmas::misfits))]
 fn call_block(
     alloc: Global,
     facts: &BlockFacts,
     function: &Function,
-    args: &Args,
+    bound: Result<Locals, BindErr>,
     cells: &mut Seq<Option<Value>>,
+    heap: &mut Heap,
 ) -> Result<Progress, Memory>
-    ensures { IfOk result
-        (λ p. (slots : _) → (heap : _)
-        → CallsBlock facts.now function.now args.now slots cells.old heap p cells.new) }
+    ensures { IfOk result (λ p. (slots : List Slot)
+        → CallsBound facts.now function.now bound slots cells.old heap.old p cells.new heap.new) }
 {
-    if !is_simple(facts) {
+    if facts.yields {
         return Ok(Progress::Outside {
             what: What::Feature,
         });
     }
-    match bind_with(alloc, &facts.params, function.defaults.as_slice(), args) {
-        Ok(bound) => {
-            let values = bound.values.as_slice();
-            let locals = open(alloc, facts, values, function.cells.as_slice(), cells)?;
-            Ok(Progress::Calls {
-                block: function.block,
-                hidden: function.hidden,
-                locals,
-            })
-        }
+    match bound {
+        Ok(bound) => match values_given(alloc, &facts.params, bound, heap)? {
+            Ok(values) => {
+                let values = values.as_slice();
+                let locals = open(alloc, facts, values, function.cells.as_slice(), cells)?;
+                Ok(Progress::Calls {
+                    block: function.block,
+                    hidden: function.hidden,
+                    locals,
+                })
+            }
+            Err(what) => Ok(Progress::Outside { what }),
+        },
         Err(error) => refused(alloc, facts, error),
     }
 }
 
-/// Calls a function.
-fn call_function(
-    alloc: Global,
-    blocks: &Blocks,
-    function: &Function,
-    args: &Args,
-    cells: &mut Seq<Option<Value>>,
-) -> Result<Progress, Memory>
-    ensures { IfOk result
-        (λ p. (slots : _) → (heap : _)
-        → CallsFunction blocks.now function.now args.now slots cells.old heap p cells.new) }
+/// A function without its defaults, which have done their part once its arguments are bound.
+fn without_defaults(alloc: Global, function: &Function) -> Result<Function, Memory>
+    ensures { IfOk result (λ f. f ≡ without_defaults function.now) }
 {
-    call_block(alloc, blocks.get(function.block), function, args, cells)
+    Ok(Function {
+        block: function.block,
+        hidden: function.hidden,
+        defaults: Seq::new(alloc),
+        cells: function.cells.dup(alloc)?,
+    })
 }
 
 /// Calls `print`, which takes `sep` and `end` by name.
@@ -244,8 +272,123 @@ fn call_builtin(
     )
 }
 
+/// Calls a method of a builtin value, which but for `sort` takes arguments without names.
+#[tactic(auto, using(crate::proofs::CallLemmas::method_operated, crate::proofs::CallLemmas::method_misnamed, crate::proofs::CallLemmas::no_method))]
+fn call_method(
+    alloc: Global,
+    method: Option<MethodName>,
+    receiver: Value,
+    args: &Args,
+    slots: &mut Slots,
+    heap: &mut Heap,
+) -> Result<Progress, Memory>
+    ensures row { IfOk result
+        (λ p. CallsMethod method receiver args.now slots.old heap.old p slots.new heap.new) }
+    ensures active { OnOk result (active_in slots.new ≡ active_in slots.old) }
+{
+    let Some(method) = method else {
+        return Ok(Progress::Outside {
+            what: What::Feature,
+        });
+    };
+    match method_operands(alloc, method, receiver, args)? {
+        Some(operands) => {
+            let op = Op::CallMethod(method);
+            operation(alloc, op, operands.as_slice(), slots, heap)
+        }
+        None => Ok(Progress::Outside {
+            what: What::Feature,
+        }),
+    }
+}
+
+/// The class of exceptions that a value is, if it is a builtin one.
+fn exception_of(heap: &Heap, value: Value) -> Option<ObjId>
+    ensures { result ≡ exception_of heap.now value }
+{
+    match value {
+        Value::Obj(id) => match class_at(heap, id) {
+            Some(class) if derives(heap, BASE_EXCEPTION, id) && !class.scripted => Some(id),
+            _ => None,
+        },
+        _ => None,
+    }
+}
+
+/// Makes an exception of a class, if there is one, of arguments without names (Library Reference,
+/// "Built-in Exceptions").
+#[tactic(auto, using(crate::proofs::ExceptionLemmas::made_one, crate::proofs::ExceptionLemmas::no_room, crate::proofs::ExceptionLemmas::no_class, crate::proofs::ExceptionLemmas::named, pt_moves::proofs::TakeLemmas::quiet_over))]
+fn make_exception(
+    alloc: Global,
+    class: Option<ObjId>,
+    args: &Args,
+    slots: &mut Slots,
+    heap: &mut Heap,
+) -> Result<Progress, Memory>
+    ensures row { IfOk result
+        (λ p. MakesException class args.now slots.old heap.old p slots.new heap.new) }
+    ensures active { OnOk result (active_in slots.new ≡ active_in slots.old) }
+{
+    let Some(class) = class else {
+        return Ok(Progress::Outside {
+            what: What::Feature,
+        });
+    };
+    if !args.named.is_empty() {
+        return Ok(Progress::Outside {
+            what: What::Feature,
+        });
+    }
+    let values = Seq::from_slice(alloc, args.plain.as_slice())?;
+    let exception = error(alloc, heap, class, values, None, None);
+    match allot(heap, exception)? {
+        Some(value) => {
+            slots.push(Slot::Value(value))?;
+            Ok(Progress::Next)
+        }
+        None => Ok(Progress::Outside { what: What::Heap }),
+    }
+}
+
+/// Calls a builtin function or a class: one that is no operation on values may be a class of
+/// exceptions.
+#[tactic(auto, using(crate::proofs::CallLemmas::builtin_called, crate::proofs::CallLemmas::exception_made))]
+fn call_builtin_value(
+    alloc: Global,
+    callee: Value,
+    function: Option<Builtin>,
+    args: &Args,
+    slots: &mut Slots,
+    heap: &mut Heap,
+) -> Result<Progress, Memory>
+    requires { builtin_of heap.old callee ≡ Some function }
+    ensures row { IfOk result (λ p. (blocks : Blocks) (cells : List (Option Value))
+        → CallsValue blocks callee args.now slots.old cells heap.old p slots.new cells heap.new) }
+    ensures active { OnOk result (active_in slots.new ≡ active_in slots.old) }
+{
+    match function {
+        Some(_) => call_builtin(alloc, function, args, slots, heap),
+        None => make_exception(alloc, exception_of(heap, callee), args, slots, heap),
+    }
+}
+
+/// Gives each parameter of a function its argument (Language Reference 6.3.4).
+fn bind(
+    alloc: Global,
+    facts: &BlockFacts,
+    function: &Function,
+    args: &Args,
+) -> Result<Locals, BindErr>
+    ensures ok { IfOk result
+        (λ locals. binding_with facts.now.params function.now.defaults args.now ≡ Ok locals) }
+    ensures err { IfErr result
+        (IsTold (binding_with facts.now.params function.now.defaults args.now)) }
+{
+    bind_with(alloc, &facts.params, function.defaults.as_slice(), args)
+}
+
 /// Calls a value.
-#[tactic(auto, using(crate::proofs::CallLemmas::builtin_called, crate::proofs::CallLemmas::unsupported_called, crate::proofs::CallLemmas::other_called))]
+#[tactic(auto, using(crate::proofs::CallLemmas::method_called, crate::proofs::CallLemmas::unsupported_called, crate::proofs::CallLemmas::other_called))]
 fn call_value(
     alloc: Global,
     callee: Value,
@@ -261,10 +404,16 @@ fn call_value(
     ensures active { OnOk result (active_in slots.new ≡ active_in slots.old) }
 {
     if let Some(function) = function_of(heap, callee) {
-        return call_function(alloc, blocks, function, args, cells);
+        let bare = without_defaults(alloc, function)?;
+        let facts = blocks.get(bare.block);
+        let bound = bind(alloc, facts, function, args);
+        return call_block(alloc, facts, &bare, bound, cells, heap);
     }
     if let Some(builtin) = builtin_of(heap, callee) {
-        return call_builtin(alloc, builtin, args, slots, heap);
+        return call_builtin_value(alloc, callee, builtin, args, slots, heap);
+    }
+    if let Some((method, receiver)) = method_of(heap, callee) {
+        return call_method(alloc, method, receiver, args, slots, heap);
     }
     if is_unsupported(heap, callee) {
         return Ok(Progress::Outside {
@@ -329,9 +478,8 @@ pub fn call_with_names(
     call_value(alloc, callee, &args, blocks, cells, slots, heap)
 }
 
-/// The same where each argument has its role by a text: none, a name, or that it is spread, which
-/// isn't supported yet.
-#[tactic(auto, using(crate::proofs::RowLemmas::role_call_row, crate::proofs::RowLemmas::role_call_spread, crate::proofs::RowLemmas::role_call_lacks_arguments, crate::proofs::RowLemmas::role_call_lacks_callee))]
+/// The same where each argument has its role by a text: none, a name, or that it is spread.
+#[tactic(auto, using(crate::proofs::RowLemmas::role_call_row, crate::proofs::RowLemmas::role_call_misspread, crate::proofs::RowLemmas::role_call_lacks_arguments, crate::proofs::RowLemmas::role_call_lacks_callee))]
 pub fn call_with_roles(
     alloc: Global,
     count: u32,
@@ -353,11 +501,11 @@ pub fn call_with_roles(
     let Some(callee) = take_one(slots) else {
         return Ok(Progress::Lacks);
     };
-    if has_spread(names) {
+    if !are_arguments(heap, names, values.as_slice()) {
         return Ok(Progress::Outside {
             what: What::Feature,
         });
     }
-    let args = arguments(alloc, names, values.as_slice())?;
+    let args = arguments(alloc, heap, names, values.as_slice())?;
     call_value(alloc, callee, &args, blocks, cells, slots, heap)
 }

@@ -1,24 +1,28 @@
-//! The operands of builtin functions that are called (Library Reference, "Built-in Functions").
-ghost use Rattle.std.specs.Prelude.{◌≡◌, ◌++◌, IfOk, OnOk};
+//! The operands of builtin functions and of methods that are called (Library Reference, "Built-in
+//! Functions", "Built-in Types").
+ghost use Rattle.std.specs.Prelude.{◌≡◌, ◌∷◌, ◌++◌, IfOk, OnOk, option_map};
+ghost use Rattle.pt_call_rows.specs.CallRows.{is_sort};
 ghost use Rattle.pt_bind.specs.Binding.{value_of};
-ghost use Rattle.pt_operators.specs.pt_moves.sem_rows.pt_host.Calls.{are_print_names, is_print_name, or_none, print_operands};
+ghost use Rattle.pt_operators.specs.pt_moves.sem_rows.pt_host.Calls.{are_either, are_print_names, are_sort_names, is_either};
+ghost use Rattle.pt_operators.specs.pt_moves.sem_rows.pt_host.Calls.{method_operands, or_none, print_operands, sort_operands};
 
 use pt_base::{Memory, Seq};
 use pt_bind::Args;
+use pt_content::MethodName;
 use pt_heap::{Binding, Value};
 use std::alloc::Global;
 
-/// Whether `print` takes an argument of this name.
-fn is_print_name(name: &str) -> bool
-    ensures { result ≡ is_print_name name.now }
+/// Whether a name is one of two.
+fn is_either(first: &str, second: &str, name: &str) -> bool
+    ensures { result ≡ is_either first.now second.now name.now }
 {
-    name == "sep" || name == "end"
+    name == first || name == second
 }
 
-/// Whether `print` takes arguments of these names, each once.
+/// Whether names of arguments are among two, each once.
 #[tactic(auto, using(crate::proofs::OperandLemmas::no_names, crate::proofs::OperandLemmas::one_name, crate::proofs::OperandLemmas::two_names, crate::proofs::OperandLemmas::more_names))]
-pub fn are_print_names(named: &[Binding]) -> bool
-    ensures { result ≡ are_print_names named.now }
+fn are_either(x: &str, y: &str, named: &[Binding]) -> bool
+    ensures { result ≡ are_either x.now y.now named.now }
 {
     let count = named.len();
     if count == 0 {
@@ -26,14 +30,28 @@ pub fn are_print_names(named: &[Binding]) -> bool
     }
     let first = &named[0].name;
     if count == 1 {
-        return is_print_name(first.as_str());
+        return is_either(x, y, first.as_str());
     }
     let second = &named[1].name;
     if count > 2 {
         return false;
     }
-    let taken = is_print_name(first.as_str()) && is_print_name(second.as_str());
+    let taken = is_either(x, y, first.as_str()) && is_either(x, y, second.as_str());
     taken && !first.is(second.as_str())
+}
+
+/// Whether `print` takes arguments of these names, each once.
+pub fn are_print_names(named: &[Binding]) -> bool
+    ensures { result ≡ are_print_names named.now }
+{
+    are_either("sep", "end", named)
+}
+
+/// Whether `sort` takes arguments of these names, each once.
+fn are_sort_names(named: &[Binding]) -> bool
+    ensures { result ≡ are_sort_names named.now }
+{
+    are_either("key", "reverse", named)
 }
 
 /// The value that a name is given.
@@ -58,7 +76,7 @@ fn or_none(value: Option<Value>) -> Value
 }
 
 /// Puts values behind values.
-fn append(values: &mut Seq<Value>, others: &[Value]) -> Result<(), Memory>
+pub fn append(values: &mut Seq<Value>, others: &[Value]) -> Result<(), Memory>
     ensures { OnOk result (values.new ≡ values.old ++ others.now) }
 {
     for value in others {
@@ -77,4 +95,57 @@ pub fn print_operands(alloc: Global, args: &Args) -> Result<Seq<Value>, Memory>
     operands.push(or_none(value_of("end", named)))?;
     append(&mut operands, args.plain.as_slice())?;
     Ok(operands)
+}
+
+/// A value, and then the values of `key` and `reverse`, None where they aren't given; None for other
+/// arguments.
+#[tactic(auto, using(crate::proofs::OperandLemmas::sort_given, crate::proofs::OperandLemmas::sort_misnamed, crate::proofs::OperandLemmas::sort_plain))]
+fn sort_operands(alloc: Global, receiver: Value, args: &Args) -> Result<Option<Seq<Value>>, Memory>
+    ensures { IfOk result (λ operands. operands
+        ≡ option_map (λ vs. receiver ∷ vs) (sort_operands args.now.named args.now.plain)) }
+{
+    let named = args.named.as_slice();
+    if !args.plain.is_empty() {
+        return Ok(None);
+    }
+    if !are_sort_names(named) {
+        return Ok(None);
+    }
+    let mut operands = Seq::new(alloc);
+    operands.push(receiver)?;
+    operands.push(or_none(value_of("key", named)))?;
+    operands.push(or_none(value_of("reverse", named)))?;
+    Ok(Some(operands))
+}
+
+fn is_sort(method: MethodName) -> bool
+    ensures { result ≡ is_sort method }
+{
+    match method {
+        MethodName::Sort => true,
+        _ => false,
+    }
+}
+
+/// A value and the operands of its method, if it takes these arguments.
+#[tactic(auto, using(crate::proofs::OperandLemmas::sort_called, crate::proofs::OperandLemmas::method_named, crate::proofs::OperandLemmas::method_plain))]
+pub fn method_operands(
+    alloc: Global,
+    method: MethodName,
+    receiver: Value,
+    args: &Args,
+) -> Result<Option<Seq<Value>>, Memory>
+    ensures { IfOk result (λ operands. operands
+        ≡ option_map (λ vs. receiver ∷ vs) (method_operands method args.now)) }
+{
+    if is_sort(method) {
+        return sort_operands(alloc, receiver, args);
+    }
+    if !args.named.is_empty() {
+        return Ok(None);
+    }
+    let mut operands = Seq::new(alloc);
+    operands.push(receiver)?;
+    append(&mut operands, args.plain.as_slice())?;
+    Ok(Some(operands))
 }

@@ -9,7 +9,7 @@ use Rattle.pt_content.specs.declared.answer.Helper.TheVariants.{TruthOf}
 use Rattle.pt_content.specs.declared.content.Content.{Content}
 use Rattle.pt_content.specs.declared.content.Content.TheVariants as content
 use Rattle.pt_content.specs.Operands.{operand_of, text_of}
-use Rattle.pt_sequences.specs.Lengths.{length_of}
+use Rattle.pt_views.specs.pt_sequences.Lengths.{length_of}
 
 abbrev pub truth_value : Bool → Content
 truth_value b = content.Value (value.Bool b)

@@ -2,20 +2,20 @@
 
 ghost use Rattle.std.specs.Prelude.{◌≡◌};
 ghost use Rattle.std.specs.Option.{option_copied};
-ghost use Rattle.pt_attrs.specs.Look.{object_of};
-ghost use Rattle.pt_comparisons.specs.Equalities.{all_equal, any_equal, equality, is_same, item_equality};
+ghost use Rattle.pt_content.specs.pt_attrs.Look.{object_of};
+ghost use Rattle.pt_comparisons.specs.Equalities.{all_equal, any_equal, entries_equality, equality};
+ghost use Rattle.pt_comparisons.specs.Equalities.{insides_equality, is_same, item_equality};
 ghost use Rattle.pt_comparisons.specs.Equalities.{items_equality, objects_equality, operands_equality};
-ghost use Rattle.pt_comparisons.specs.Equalities.{same_objects, same_range, same_text};
+ghost use Rattle.pt_comparisons.specs.Equalities.{same_objects, same_range, same_text, values_equal};
 ghost use Rattle.pt_content.specs.Operands.{operand_of};
 
-use pt_attrs::object_of;
 use pt_base::ObjId;
-use pt_content::{Operand, operand_of, text_at};
-use pt_heap::{Heap, Object, Range, Str, Value};
-use pt_sequences::range_length;
+use pt_content::{Operand, object_of, operand_of, text_at};
+use pt_heap::{Dict, Heap, Object, Range, Str, Value};
+use pt_views::{range_length, same_items};
 
 /// How many containers may stand inside one another.
-const DEPTH_LIMIT: u32 = 1000;
+pub(crate) const DEPTH_LIMIT: u32 = 1000;
 
 /// Whether two values are equal.
 #[derive(Clone, Copy, Debug, PartialEq, Eq)]
@@ -23,7 +23,7 @@ pub enum Equality {
     Told(bool),
     /// More than 1,000 containers stand inside one another.
     Deep,
-    /// Values of this kind aren't compared.
+    /// An instance of a script's class is met, whose methods aren't asked.
     Feature,
 }
 
@@ -72,7 +72,7 @@ fn same_range(a: Range, b: Range) -> bool
 
 #[cycle(equalities)]
 fn objects_equality(heap: &Heap, a: Value, b: Value, depth: u32) -> Equality
-    ensures { result ≡ objects_equality (items_equality heap.now depth) heap.now a b
+    ensures { result ≡ objects_equality (insides_equality heap.now depth) heap.now a b
         (object_of heap.now a) (object_of heap.now b) }
 {
     match (object_of(heap, a), object_of(heap, b)) {
@@ -83,22 +83,29 @@ fn objects_equality(heap: &Heap, a: Value, b: Value, depth: u32) -> Equality
             items_equality(heap, a.as_slice(), b.as_slice(), depth)
         }
         (Some(Object::Range(a)), Some(Object::Range(b))) => Equality::Told(same_range(*a, *b)),
-        (Some(Object::Dict(_)), Some(Object::Dict(_))) => Equality::Feature,
-        (Some(Object::Set(_)), Some(Object::Set(_))) => Equality::Feature,
-        (Some(Object::Slice(_)), Some(Object::Slice(_))) => Equality::Feature,
+        (Some(Object::Dict(a)), Some(Object::Dict(b))) => entries_equality(heap, a, b, depth),
+        (Some(Object::Set(a)), Some(Object::Set(b))) => Equality::Told(same_items(a, b)),
+        (Some(Object::Slice(a)), Some(Object::Slice(b))) => items_equality(
+            heap,
+            &[a.start, a.stop, a.step],
+            &[b.start, b.stop, b.step],
+            depth,
+        ),
         _ => Equality::Told(is_same(heap, a, b)),
     }
 }
 
+/// Whether two items are equal, in which so many containers may stand inside one another.
 #[cycle(equalities)]
-fn item_equality(heap: &Heap, a: Value, b: Value, depth: u32) -> Equality
-    ensures { result ≡ item_equality (items_equality heap.now depth) heap.now a b }
+pub(crate) fn item_equality(heap: &Heap, a: Value, b: Value, depth: u32) -> Equality
+    ensures { result ≡ item_equality (insides_equality heap.now depth) heap.now a b }
 {
     if is_same(heap, a, b) {
         return Equality::Told(true);
     }
     match (operand_of(heap, a), operand_of(heap, b)) {
         (Operand::Number(a), Operand::Number(b)) => Equality::Told(a == b),
+        (Operand::Instance, _) | (_, Operand::Instance) => Equality::Feature,
         _ => objects_equality(heap, a, b, depth),
     }
 }
@@ -107,7 +114,7 @@ fn item_equality(heap: &Heap, a: Value, b: Value, depth: u32) -> Equality
 #[cycle(equalities)]
 fn all_equal(heap: &Heap, a: &[Value], b: &[Value], depth: u32) -> Equality
     ensures { result
-        ≡ all_equal (item_equality (items_equality heap.now depth) heap.now) a.now b.now }
+        ≡ all_equal (item_equality (insides_equality heap.now depth) heap.now) a.now b.now }
 {
     let mut others = b;
     for item in a {
@@ -137,8 +144,43 @@ fn items_equality(heap: &Heap, a: &[Value], b: &[Value], depth: u32) -> Equality
     all_equal(heap, a, b, depth - 1)
 }
 
-/// Whether two values are equal (Language Reference 6.10.1): numbers by what they stand for, lists
-/// and tuples by their items, ranges by their integers, all else by object.
+/// Whether the values of a dictionary are equal to those behind the same keys of another.
+#[cycle(equalities)]
+fn values_equal(heap: &Heap, a: &Dict, b: &Dict, depth: u32) -> Equality
+    ensures { result
+        ≡ values_equal (item_equality (insides_equality heap.now depth) heap.now) a.now b.now }
+{
+    let mut left = a.entries();
+    while let Some(entry) = left.next() {
+        let Some(other) = b.get(entry.key) else {
+            return Equality::Told(false);
+        };
+        match item_equality(heap, entry.value, other, depth) {
+            Equality::Told(true) => {}
+            told => return told,
+        }
+    }
+    Equality::Told(true)
+}
+
+/// Whether two dictionaries are equal, in which so many containers may stand inside one another,
+/// they among them.
+#[cycle(equalities)]
+fn entries_equality(heap: &Heap, a: &Dict, b: &Dict, depth: u32) -> Equality
+    ensures { result ≡ entries_equality heap.now depth a.now b.now }
+{
+    if depth == 0 {
+        return Equality::Deep;
+    }
+    if a.len() == b.len() {
+        return values_equal(heap, a, b, depth - 1);
+    }
+    Equality::Told(false)
+}
+
+/// Whether two values are equal (Language Reference 6.10.1): numbers by what they stand for, lists,
+/// tuples, sets, dictionaries and slices by what stands in them, ranges by their integers, all else by
+/// object.
 pub fn value_equality(heap: &Heap, a: Value, b: Value) -> Equality
     ensures { result ≡ equality heap.now a b }
 {

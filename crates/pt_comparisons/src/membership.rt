@@ -1,21 +1,22 @@
 ghost use Rattle.std.specs.Prelude.{◌≡◌, IfOk};
 ghost use Rattle.std.specs.Option.{option_copied};
-ghost use Rattle.pt_attrs.specs.Look.{object_of};
+ghost use Rattle.pt_content.specs.pt_attrs.Look.{object_of};
 ghost use Rattle.pt_content.specs.Operands.{operand_of, text_of};
 ghost use Rattle.pt_comparisons.specs.Membership.{among, contained, equality_answer, in_range, in_text};
 ghost use Rattle.pt_comparisons.specs.Membership.{membership_content};
 
 use crate::equality::{Equality, any_equal};
 use crate::truth::{asked, truth_value};
-use pt_attrs::object_of;
+use crate::view::in_view;
 use pt_base::{Memory, What};
 use pt_content::{
-    Content, Helper, Operand, RECURSION_ERROR, TYPE_ERROR, bad_argument, operand_of, raise, text_of,
+    Content, Helper, Operand, RECURSION_ERROR, TYPE_ERROR, bad_argument, object_of, operand_of,
+    raise, text_of,
 };
 use pt_heap::{Heap, Object, Range, Str, Value};
 use pt_reprs::need_help;
-use pt_sequences::has_integer;
 use pt_strs::find;
+use pt_views::{has_integer, has_item_content, has_key_content};
 use std::alloc::Global;
 
 /// What is answered of values that were compared.
@@ -65,9 +66,8 @@ fn among(
     equality_answer(alloc, any_equal(heap, sought, items))
 }
 
-/// `a in b` (Language Reference 6.10.2), of a text, a range, a list or a tuple. A TypeError where
-/// another value is sought in a text. Outside with the cause Feature of dictionaries, sets and
-/// views.
+/// `a in b` (Language Reference 6.10.2), of a text, a range, a list, a tuple, a dictionary, a set or
+/// a view. A TypeError where another value is sought in a text, and for what has no hash.
 pub fn membership_content(
     alloc: Global,
     heap: &Heap,
@@ -81,9 +81,9 @@ pub fn membership_content(
         Some(Object::Range(range)) => Ok(in_range(operand_of(heap, sought), *range)),
         Some(Object::List(items)) => among(alloc, heap, sought, container, items.as_slice()),
         Some(Object::Tuple(items)) => among(alloc, heap, sought, container, items.as_slice()),
-        Some(Object::Dict(_)) => Ok(Content::Outside(What::Feature)),
-        Some(Object::Set(_)) => Ok(Content::Outside(What::Feature)),
-        Some(Object::View(_)) => Ok(Content::Outside(What::Feature)),
+        Some(Object::Dict(dict)) => has_key_content(alloc, heap, dict, sought),
+        Some(Object::Set(set)) => has_item_content(alloc, heap, set, sought),
+        Some(Object::View(view)) => in_view(alloc, heap, sought, *view),
         _ => Ok(asked(Helper::InOf)),
     }
 }

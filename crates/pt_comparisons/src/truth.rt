@@ -6,7 +6,7 @@ ghost use Rattle.pt_comparisons.specs.Truths.{truth_value, turned};
 
 use pt_content::{Content, Helper, Operand, operand_of, text_of};
 use pt_heap::{Heap, Value};
-use pt_sequences::length_of;
+use pt_views::length_of;
 
 /// A truth value as an answer.
 pub fn truth_value(truth: bool) -> Content

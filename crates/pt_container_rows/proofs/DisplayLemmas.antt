@@ -59,3 +59,13 @@ module _ (n : ℕ) (old : List Slot) (heap : List Object) (p : Progress) (new : 
   pub join_row : Gathers op.Join n old heap p new grown → RowsHeap (instr.Join n) old heap p new grown
   unfolding Gathers RowsHeap
   join_row done program code pc i h st known = done T.join (λ q vs k s. refl) program code pc i h st
+
+-- arguments that are spread
+module _ (old : List Slot) (heap : List Object) (p : Progress) (new : List Slot) (grown : List Object) where
+  pub spread_row : Gathers op.SpreadOut 1 old heap p new grown → RowsHeap instr.Spread old heap p new grown
+  unfolding Gathers RowsHeap
+  spread_row done program code pc i h st known = done T.spread_out (λ q vs k s. refl) program code pc i h st
+
+  pub spread_named_row : Gathers op.SpreadNamed 1 old heap p new grown → RowsHeap instr.SpreadMap old heap p new grown
+  unfolding Gathers RowsHeap
+  spread_named_row done program code pc i h st known = done T.spread_named_out (λ q vs k s. refl) program code pc i h st

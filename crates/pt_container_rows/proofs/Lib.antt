@@ -4,3 +4,5 @@ pub mod ItemLemmas
 pub mod ChangeLemmas
 pub mod IteratorLemmas
 pub mod UnpackLemmas
+pub mod AttributeLemmas
+pub mod ImportLemmas

@@ -1,7 +1,7 @@
 -- Rows of what is unpacked.
 use Rattle.std.proofs.Common.{◌≡◌, ◌∙◌, ◌+◌, ◌-◌, ◌<◌, ℕ, zero, suc, Bool, true, false, List, [], ◌∷◌, ◌++◌, length, map, get_or, Option, Some, None, refl, sym, ap, eqb-true, eq-eqb, arith}
 use Rattle.std.proofs.Math.Seq.{drop-cons}
-use Rattle.std.specs.Prelude.{codes, drop, nat_eq, nat_lt, option_map, if◌then◌else◌}
+use Rattle.std.specs.Prelude.{codes, drop, nat_eq, nat_lt, option_map, take, if◌then◌else◌}
 use Rattle.std.specs.Str.{chars}
 use Rattle.pt_base.specs.declared.numbers.ObjId.{ObjId}
 use Rattle.pt_base.specs.declared.what.What.TheVariants.{Feature, Heap}
@@ -20,16 +20,18 @@ use Rattle.sem_code.specs.slots.Slots as S
 use Rattle.sem_code.specs.slots.Pops.{giving, one}
 use Rattle.sem_code.specs.slots.Steps.{asks as ask_in}
 use Rattle.sem_run.specs.run.Host.{Here}
-use Rattle.pt_attrs.specs.Look.{object_of}
+use Rattle.pt_content.specs.pt_attrs.Look.{object_of}
 use Rattle.pt_content.specs.declared.op.Op.{Op}
 use Rattle.pt_content.specs.declared.op.Op.TheVariants as op
 use Rattle.pt_content.specs.declared.operand.Operand.{Operand}
 use Rattle.pt_content.specs.declared.operand.Operand.TheVariants as operand
-use Rattle.pt_content.specs.declared.answer.Helper.TheVariants.{TakeOf}
+use Rattle.pt_content.specs.declared.answer.Helper.{Helper}
+use Rattle.pt_content.specs.declared.answer.Helper.TheVariants.{ListOf, TakeOf}
 use Rattle.pt_content.specs.declared.class.TheConstants.{TYPE_ERROR, VALUE_ERROR}
 use Rattle.pt_content.specs.declared.content.Content.{Content}
 use Rattle.pt_content.specs.declared.content.Content.TheVariants as content
 use Rattle.pt_content.specs.declared.content.NewObject.{NewObject}
+use Rattle.pt_content.specs.declared.content.NewObject.TheVariants as new
 use Rattle.pt_content.specs.declared.content.NewObject.TheVariants.{Text}
 use Rattle.pt_content.specs.declared.answer.PrimAns.{PrimAns}
 use Rattle.pt_content.specs.declared.answer.PrimAns.TheVariants as prim
@@ -39,6 +41,7 @@ use Rattle.pt_content.specs.Operands.{operand_of}
 use Rattle.pt_content.specs.TypeErrors.{sentence, use_type_error}
 use Rattle.pt_sequences.specs.Cursors.{asked_or}
 use Rattle.pt_sequences.specs.Ranges.{range_length}
+use Rattle.pt_sequences.specs.Starred.{around_list, parted_behind, starred, starred_items}
 use Rattle.pt_sequences.specs.Unpacking.{char_texts, integers_from, mismatch, unless, unpacked, values}
 use Rattle.pt_prims.specs.Operations.{placed, prim_answer, prim_heap}
 use Rattle.sem_rows.specs.pt_host.Answers.{unpacking}
@@ -160,39 +163,76 @@ quiet_mismatch n m c q = quiet_unless (nat_lt n m) (nat_lt m n) c q
 quiet_used : (h : List Object) (v : Value) (what : List ℕ) → IsQuiet (use_type_error h v what)
 quiet_used h v what = quiet_raise TYPE_ERROR (sentence (codes "'" ∷ class_name h v ∷ codes "' object is not " ∷ what ∷ []))
 
-quiet_asked : (n : ℕ) (h : List Object) (v : Value) (k : Operand) → IsQuiet (asked_or (TakeOf n) (codes "iterable") h v k)
-quiet_asked n h v operand.Instance = λ vs g t e. absurd (cc)
-quiet_asked n h v (operand.Number z) = quiet_used h v (codes "iterable")
-quiet_asked n h v operand.Text = quiet_used h v (codes "iterable")
-quiet_asked n h v operand.Compound = quiet_used h v (codes "iterable")
-quiet_asked n h v operand.Plain = quiet_used h v (codes "iterable")
+quiet_asked : (helper : Helper) (h : List Object) (v : Value) (k : Operand) → IsQuiet (asked_or helper (codes "iterable") h v k)
+quiet_asked helper h v operand.Instance = λ vs g t e. absurd (cc)
+quiet_asked helper h v (operand.Number z) = quiet_used h v (codes "iterable")
+quiet_asked helper h v operand.Text = quiet_used h v (codes "iterable")
+quiet_asked helper h v operand.Compound = quiet_used h v (codes "iterable")
+quiet_asked helper h v operand.Plain = quiet_used h v (codes "iterable")
 
 quiet_unpacked : (h : List Object) (n : ℕ) (v : Value) (o : Option Object) → IsQuiet (unpacked h n v o)
-quiet_unpacked h n v None = quiet_asked n h v (operand_of h v)
+quiet_unpacked h n v None = quiet_asked (TakeOf n) h v (operand_of h v)
 quiet_unpacked h n v (Some (object.Str s)) = quiet_mismatch n (length (chars s)) (content.NewValues (char_texts (chars s))) (quiet_new (char_texts (chars s)))
 quiet_unpacked h n v (Some (object.List ws)) = quiet_mismatch n (length ws) (values ws) (quiet_values ws)
 quiet_unpacked h n v (Some (object.Tuple ws)) = quiet_mismatch n (length ws) (values ws) (quiet_values ws)
 quiet_unpacked h n v (Some (object.Dict d)) = λ vs g t e. absurd (cc)
 quiet_unpacked h n v (Some (object.Set d)) = λ vs g t e. absurd (cc)
 quiet_unpacked h n v (Some (object.Range r)) = quiet_mismatch n (range_length r) (values (integers_from r 0 n)) (quiet_values (integers_from r 0 n))
-quiet_unpacked h n v (Some (object.Slice r)) = quiet_asked n h v (operand_of h v)
+quiet_unpacked h n v (Some (object.Slice r)) = quiet_asked (TakeOf n) h v (operand_of h v)
 quiet_unpacked h n v (Some (object.Cursor r)) = λ vs g t e. absurd (cc)
 quiet_unpacked h n v (Some (object.View r)) = λ vs g t e. absurd (cc)
-quiet_unpacked h n v (Some (object.Function f)) = quiet_asked n h v (operand_of h v)
-quiet_unpacked h n v (Some (object.Method m)) = quiet_asked n h v (operand_of h v)
-quiet_unpacked h n v (Some (object.Builtin b)) = quiet_asked n h v (operand_of h v)
-quiet_unpacked h n v (Some (object.Class c)) = quiet_asked n h v (operand_of h v)
-quiet_unpacked h n v (Some (object.Instance x)) = quiet_asked n h v (operand_of h v)
-quiet_unpacked h n v (Some (object.Error x)) = quiet_asked n h v (operand_of h v)
+quiet_unpacked h n v (Some (object.Function f)) = quiet_asked (TakeOf n) h v (operand_of h v)
+quiet_unpacked h n v (Some (object.Method m)) = quiet_asked (TakeOf n) h v (operand_of h v)
+quiet_unpacked h n v (Some (object.Builtin b)) = quiet_asked (TakeOf n) h v (operand_of h v)
+quiet_unpacked h n v (Some (object.Class c)) = quiet_asked (TakeOf n) h v (operand_of h v)
+quiet_unpacked h n v (Some (object.Instance x)) = quiet_asked (TakeOf n) h v (operand_of h v)
+quiet_unpacked h n v (Some (object.Error x)) = quiet_asked (TakeOf n) h v (operand_of h v)
 quiet_unpacked h n v (Some (object.Generator g)) = λ vs k t e. absurd (cc)
-quiet_unpacked h n v (Some (object.Frame g)) = quiet_asked n h v (operand_of h v)
-quiet_unpacked h n v (Some (object.CodeRef b hid)) = quiet_asked n h v (operand_of h v)
-quiet_unpacked h n v (Some (object.Module m)) = quiet_asked n h v (operand_of h v)
-quiet_unpacked h n v (Some (object.Super x)) = quiet_asked n h v (operand_of h v)
+quiet_unpacked h n v (Some (object.Frame g)) = quiet_asked (TakeOf n) h v (operand_of h v)
+quiet_unpacked h n v (Some (object.CodeRef b hid)) = quiet_asked (TakeOf n) h v (operand_of h v)
+quiet_unpacked h n v (Some (object.Module m)) = quiet_asked (TakeOf n) h v (operand_of h v)
+quiet_unpacked h n v (Some (object.Super x)) = quiet_asked (TakeOf n) h v (operand_of h v)
+
+quiet_around : (h : List Object) (first between last : List Value) → IsQuiet (around_list h first between last)
+quiet_around h first between last vs k t e =
+    quiet_room (has_room (new.List between ∷ []) k) (prim.Values (first ++ next_object h ∷ last)) t (λ f. absurd (cc)) e
+
+quiet_parted : (h : List Object) (m : ℕ) (first behind : List Value) → IsQuiet (parted_behind h m first behind)
+quiet_parted h m first behind = quiet_around h first (take (length behind - m) behind) (drop (length behind - m) behind)
+
+quiet_starred_items : (h : List Object) (n m : ℕ) (ws : List Value) → IsQuiet (starred_items h n m ws)
+quiet_starred_items h n m ws = by (nat_lt (length ws) (n + m))
+  where
+    by : (b : Bool) → IsQuiet (if b then content.Raise VALUE_ERROR (codes "not enough values to unpack") else parted_behind h m (take n ws) (drop n ws))
+    by true = quiet_raise VALUE_ERROR (codes "not enough values to unpack")
+    by false = quiet_parted h m (take n ws) (drop n ws)
+
+quiet_starred : (h : List Object) (n m : ℕ) (v : Value) (o : Option Object) → IsQuiet (starred h n m v o)
+quiet_starred h n m v None = quiet_asked ListOf h v (operand_of h v)
+quiet_starred h n m v (Some (object.List ws)) = quiet_starred_items h n m ws
+quiet_starred h n m v (Some (object.Tuple ws)) = quiet_starred_items h n m ws
+quiet_starred h n m v (Some (object.Str s)) = λ vs k t e. absurd (cc)
+quiet_starred h n m v (Some (object.Dict d)) = λ vs k t e. absurd (cc)
+quiet_starred h n m v (Some (object.Set d)) = λ vs k t e. absurd (cc)
+quiet_starred h n m v (Some (object.Range r)) = λ vs k t e. absurd (cc)
+quiet_starred h n m v (Some (object.Cursor r)) = λ vs k t e. absurd (cc)
+quiet_starred h n m v (Some (object.View r)) = λ vs k t e. absurd (cc)
+quiet_starred h n m v (Some (object.Generator g)) = λ vs k t e. absurd (cc)
+quiet_starred h n m v (Some (object.Slice r)) = quiet_asked ListOf h v (operand_of h v)
+quiet_starred h n m v (Some (object.Function f)) = quiet_asked ListOf h v (operand_of h v)
+quiet_starred h n m v (Some (object.Method m1)) = quiet_asked ListOf h v (operand_of h v)
+quiet_starred h n m v (Some (object.Builtin b)) = quiet_asked ListOf h v (operand_of h v)
+quiet_starred h n m v (Some (object.Class c)) = quiet_asked ListOf h v (operand_of h v)
+quiet_starred h n m v (Some (object.Instance x)) = quiet_asked ListOf h v (operand_of h v)
+quiet_starred h n m v (Some (object.Error x)) = quiet_asked ListOf h v (operand_of h v)
+quiet_starred h n m v (Some (object.Frame g)) = quiet_asked ListOf h v (operand_of h v)
+quiet_starred h n m v (Some (object.CodeRef b hid)) = quiet_asked ListOf h v (operand_of h v)
+quiet_starred h n m v (Some (object.Module k)) = quiet_asked ListOf h v (operand_of h v)
+quiet_starred h n m v (Some (object.Super x)) = quiet_asked ListOf h v (operand_of h v)
 
 quiet_unpacking : (n : ℕ) (star : Option ℕ) (v : Value) (heap : List Object) (t : List ℕ) → prim_answer (unpacking n star) (v ∷ []) heap ≡ prim.Print t → ⊥
 quiet_unpacking n None v heap t e = quiet_unpacked heap n v (object_of heap v) (v ∷ []) heap t e
-quiet_unpacking n (Some b) v heap t e = absurd (cc)
+quiet_unpacking n (Some b) v heap t e = quiet_starred heap b (n - suc b) v (object_of heap v) (v ∷ []) heap t e
 
 -- rows
 

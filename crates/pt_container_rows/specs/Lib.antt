@@ -1,3 +1,5 @@
 pub mod Operands
 pub mod Answers
 pub mod Rows
+pub mod Attributes
+pub mod Imports

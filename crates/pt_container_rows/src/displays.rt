@@ -1,4 +1,5 @@
-//! Displays and f-strings, of so many values (Language Reference 2.4.3, 6.2.5 to 6.2.7, 6.15).
+//! Displays and f-strings, of so many values, and arguments that are spread (Language Reference
+//! 2.4.3, 6.2.5 to 6.2.7, 6.3.4, 6.15).
 ghost use Rattle.std.specs.Prelude.{◌≡◌, IfOk, OnOk};
 ghost use Rattle.pt_container_rows.specs.Rows.{Gathers};
 ghost use Rattle.pt_frames.specs.Slots.{active_in};
@@ -107,4 +108,23 @@ pub fn join(
     ensures active { OnOk result (active_in slots.new ≡ active_in slots.old) }
 {
     gather(alloc, Op::Join, count as usize, slots, heap)
+}
+
+/// The tuple of the arguments that `*a` stands for (Language Reference 6.3.4).
+#[tactic(auto, using(crate::proofs::DisplayLemmas::spread_row))]
+pub fn spread(alloc: Global, slots: &mut Slots, heap: &mut Heap) -> Result<Progress, Memory>
+    ensures row { IfOk result (λ p. RowsHeap instr.Spread slots.old heap.old p slots.new heap.new) }
+    ensures active { OnOk result (active_in slots.new ≡ active_in slots.old) }
+{
+    gather(alloc, Op::SpreadOut, 1, slots, heap)
+}
+
+/// The dictionary of the arguments that `**a` stands for (Language Reference 6.3.4).
+#[tactic(auto, using(crate::proofs::DisplayLemmas::spread_named_row))]
+pub fn spread_named(alloc: Global, slots: &mut Slots, heap: &mut Heap) -> Result<Progress, Memory>
+    ensures row { IfOk result
+        (λ p. RowsHeap instr.SpreadMap slots.old heap.old p slots.new heap.new) }
+    ensures active { OnOk result (active_in slots.new ≡ active_in slots.old) }
+{
+    gather(alloc, Op::SpreadNamed, 1, slots, heap)
 }

@@ -9,7 +9,7 @@ use Rattle.pt_heap.specs.declared.object.Object.TheVariants as object
 use Rattle.pt_heap.specs.declared.object.Class.{Class as ClassObject}
 use Rattle.pt_heap.specs.declared.object.Part.{Part}
 use Rattle.pt_heap.specs.declared.object.Part.TheVariants.{Keys, Values, Items}
-use Rattle.pt_dicts.specs.Chain.{class_in}
+use Rattle.pt_attrs.specs.pt_dicts.Chain.{class_in}
 
 abbrev pub name_in : Option ClassObject → List ℕ
 name_in (Some c) = c.name

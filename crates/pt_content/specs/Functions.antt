@@ -4,11 +4,11 @@ use Rattle.std.specs.Prelude.{ℕ, List, [], ◌∷◌, Option, Some, None, nat_
 use Rattle.pt_base.specs.declared.numbers.ObjId.{ObjId}
 use Rattle.pt_content.specs.declared.function.Function.{Function}
 use Rattle.pt_content.specs.declared.function.Function.TheVariants as function
-use Rattle.pt_content.specs.declared.function.TheConstants.{FUNCTIONS}
+use Rattle.pt_content.specs.declared.function.TheConstants.{EXIT, FUNCTIONS}
 
--- the function of a number
+-- the function of a number; of those of `sys` only `exit` is an operation on values
 abbrev pub of_function : (number : ℕ) → Option Function
-of_function n = slice_get FUNCTIONS n
+of_function n = if nat_eq n EXIT then Some function.Exit else slice_get FUNCTIONS n
 
 -- the first of a list that stands behind a place
 abbrev pub at_place : List (ℕ × Function) → ℕ → Option Function

@@ -5,8 +5,8 @@ use Rattle.pt_heap.specs.declared.value.Value.{Value}
 use Rattle.pt_heap.specs.declared.value.Value.TheVariants as value
 use Rattle.pt_heap.specs.declared.object.Object.{Object}
 use Rattle.pt_heap.specs.declared.object.Object.TheVariants as object
-use Rattle.pt_dicts.specs.Chain.{class_in}
-use Rattle.pt_dicts.specs.Keys.{truth}
+use Rattle.pt_attrs.specs.pt_dicts.Chain.{class_in}
+use Rattle.pt_attrs.specs.pt_dicts.Keys.{truth}
 use Rattle.pt_attrs.specs.Store.{is_scripted}
 use Rattle.pt_content.specs.declared.operand.Operand.{Operand}
 use Rattle.pt_content.specs.declared.operand.Operand.TheVariants.{Number, Text, Instance, Compound, Plain}

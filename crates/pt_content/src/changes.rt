@@ -6,8 +6,8 @@ ghost use Rattle.pt_content.specs.Changes.{added, changed, has_kind, has_room, h
 ghost use Rattle.pt_content.specs.Changes.{next_object, places_from, replaced_by};
 
 use crate::content::{Change, Mutable, NewObject, Replacement};
+use pt_attrs::object_at;
 use pt_base::{Memory, ObjId, Seq};
-use pt_dicts::object_at;
 use pt_heap::{Heap, HeapErr, Object, Str, Value};
 use std::alloc::Global;
 

@@ -1,8 +1,8 @@
 ghost use Rattle.std.specs.Prelude.{◌≡◌, slice_get};
 ghost use Rattle.pt_content.specs.Classes.{class_name, name_at, object_class, view_name};
 
+use pt_attrs::{class_at, object_at};
 use pt_base::ObjId;
-use pt_dicts::{class_at, object_at};
 use pt_heap::{Heap, Object, Part, Value};
 
 /// The places of the classes of exceptions that operations raise.

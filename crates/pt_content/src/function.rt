@@ -23,6 +23,8 @@ pub enum Function {
     Getattr,
     Setattr,
     Callable,
+    /// `sys.exit`.
+    Exit,
     Object,
     Type,
     Int,
@@ -51,10 +53,16 @@ pub const FUNCTIONS: [Function; 15] = [
     Function::Callable,
 ];
 
-/// The function of a number, if it is one of values. Functions of `sys` are none.
+/// The number of `sys.exit`, which stands behind those of functions of values.
+pub const EXIT: u32 = 17;
+
+/// The function of a number, if it is an operation on values. Other functions of `sys` are none.
 pub fn of_function(number: u32) -> Option<Function>
     ensures { result ≡ of_function number }
 {
+    if number == EXIT {
+        return Some(Function::Exit);
+    }
     FUNCTIONS.get(number as usize).copied()
 }
 

@@ -1,11 +1,11 @@
 ghost use Rattle.std.specs.Prelude.{◌≡◌, slice_get};
 ghost use Rattle.std.specs.Option.{option_copied};
 ghost use Rattle.pt_attrs.specs.Store.{is_scripted};
-ghost use Rattle.pt_dicts.specs.Chain.{class_in};
+ghost use Rattle.pt_attrs.specs.pt_dicts.Chain.{class_in};
 ghost use Rattle.pt_content.specs.Operands.{instance_operand, object_operand, operand_of, text_in, text_of};
 
+use pt_attrs::{class_at, object_at};
 use pt_base::ObjId;
-use pt_dicts::{class_at, object_at};
 use pt_heap::{Heap, Object, Str, Value};
 
 /// What an operator sees in an operand.

@@ -1,64 +1,70 @@
 -- The arguments of a call by the roles of its operands.
-use Rattle.std.proofs.Common.{◌≡◌, ◌∙◌, ◌+◌, ◌-◌, ◌<◌, ◌≤◌, ℕ, zero, suc, false, List, [], ◌∷◌, ◌++◌, length, take, drop, get_or, map, replicate, refl, sym, ap, append_assoc, add-one, arith}
+use Rattle.std.proofs.Common.{◌≡◌, ◌∙◌, ◌+◌, ◌-◌, ◌<◌, ◌≤◌, ℕ, zero, suc, true, List, [], ◌∷◌, ◌++◌, length, take, drop, get_or, map, replicate, refl, sym, ap, append_assoc, add-one, arith}
 use Rattle.std.proofs.Math.Seq.{drop-cons}
 use Rattle.pt_tree.specs.Syntax.{Name}
 use Rattle.sem_control.specs.control.Turn as T
 use Rattle.pt_heap.specs.declared.value.Value.{Value}
 use Rattle.pt_heap.specs.declared.view.Binding.{Binding}
+use Rattle.pt_heap.specs.declared.object.Object.{Object}
 use Rattle.sem_code.specs.slots.Instructions.{all_positional, last_named}
-use Rattle.pt_moves.specs.sem_rows.pt_host.Calls.{plain_arguments, named_arguments, arguments, has_spread, defaults_of}
+use Rattle.pt_moves.specs.sem_rows.pt_host.Arguments.{plain_arguments, named_arguments, arguments, are_arguments}
+use Rattle.pt_moves.specs.sem_rows.pt_host.Calls.{defaults_of}
 use Rattle.pt_function_rows.specs.Arguments.{named_last}
-
-plain_of_named : (xs : List Name) (vs : List Value) → plain_arguments (map T.named xs) vs ≡ []
-plain_of_named [] vs = refl
-plain_of_named (x ∷ xs) [] = refl
-plain_of_named (x ∷ xs) (v ∷ vs) = plain_of_named xs vs
-
-named_of_named : (xs : List Name) (vs : List Value) → named_arguments (map T.named xs) vs ≡ defaults_of xs vs
-named_of_named [] vs = refl
-named_of_named (x ∷ xs) [] = refl
-named_of_named (x ∷ xs) (v ∷ vs) = ap (λ l. record { name = x; value = v } ∷ l) (named_of_named xs vs)
 
 none_given : (xs : List Name) → defaults_of xs [] ≡ []
 none_given [] = refl
 none_given (x ∷ xs) = refl
 
-plain_of : (k : ℕ) (xs : List Name) (vs : List Value) → plain_arguments (replicate k T.positional ++ map T.named xs) vs ≡ take k vs
-plain_of zero xs vs = plain_of_named xs vs
-plain_of (suc k) xs [] = refl
-plain_of (suc k) xs (v ∷ vs) = ap (λ l. v ∷ l) (plain_of k xs vs)
+module _ (h : List Object) where
+  plain_of_named : (xs : List Name) (vs : List Value) → plain_arguments h (map T.named xs) vs ≡ []
+  plain_of_named [] vs = refl
+  plain_of_named (x ∷ xs) [] = refl
+  plain_of_named (x ∷ xs) (v ∷ vs) = plain_of_named xs vs
 
-named_of : (k : ℕ) (xs : List Name) (vs : List Value) → named_arguments (replicate k T.positional ++ map T.named xs) vs ≡ defaults_of xs (drop k vs)
-named_of zero xs vs = named_of_named xs vs
-named_of (suc k) xs [] = sym (none_given xs)
-named_of (suc k) xs (v ∷ vs) = named_of k xs vs
+  named_of_named : (xs : List Name) (vs : List Value) → named_arguments h (map T.named xs) vs ≡ defaults_of xs vs
+  named_of_named [] vs = refl
+  named_of_named (x ∷ xs) [] = refl
+  named_of_named (x ∷ xs) (v ∷ vs) = ap (λ l. record { name = x; value = v } ∷ l) (named_of_named xs vs)
 
--- none is spread
-spread_named_none : (xs : List Name) → has_spread (map T.named xs) ≡ false
-spread_named_none [] = refl
-spread_named_none (x ∷ xs) = spread_named_none xs
+  plain_of : (k : ℕ) (xs : List Name) (vs : List Value) → plain_arguments h (replicate k T.positional ++ map T.named xs) vs ≡ take k vs
+  plain_of zero xs vs = plain_of_named xs vs
+  plain_of (suc k) xs [] = refl
+  plain_of (suc k) xs (v ∷ vs) = ap (λ l. v ∷ l) (plain_of k xs vs)
 
-pub last_spread_none : (k : ℕ) (xs : List Name) → has_spread (replicate k T.positional ++ map T.named xs) ≡ false
-last_spread_none zero xs = spread_named_none xs
-last_spread_none (suc k) xs = last_spread_none k xs
+  named_of : (k : ℕ) (xs : List Name) (vs : List Value) → named_arguments h (replicate k T.positional ++ map T.named xs) vs ≡ defaults_of xs (drop k vs)
+  named_of zero xs vs = named_of_named xs vs
+  named_of (suc k) xs [] = sym (none_given xs)
+  named_of (suc k) xs (v ∷ vs) = named_of k xs vs
 
-pub all_spread_none : (n : ℕ) → has_spread (all_positional n) ≡ false
-all_spread_none zero = refl
-all_spread_none (suc n) = all_spread_none n
+  -- none is spread
+  named_are_given : (xs : List Name) (vs : List Value) → are_arguments h (map T.named xs) vs ≡ true
+  named_are_given [] vs = refl
+  named_are_given (x ∷ xs) [] = refl
+  named_are_given (x ∷ xs) (v ∷ vs) = named_are_given xs vs
 
-pub named_last_is : (xs : List Name) (vs : List Value) → arguments (last_named (length vs) xs) vs ≡ named_last xs vs
-named_last_is xs vs = λ j. record { plain = plain_of (length vs - length xs) xs vs j; named = named_of (length vs - length xs) xs vs j }
+  pub last_are_given : (k : ℕ) (xs : List Name) (vs : List Value) → are_arguments h (replicate k T.positional ++ map T.named xs) vs ≡ true
+  last_are_given zero xs vs = named_are_given xs vs
+  last_are_given (suc k) xs [] = refl
+  last_are_given (suc k) xs (v ∷ vs) = last_are_given k xs vs
 
-plain_all : (vs : List Value) → plain_arguments (replicate (length vs) T.positional) vs ≡ vs
-plain_all [] = refl
-plain_all (v ∷ vs) = ap (λ l. v ∷ l) (plain_all vs)
+  pub all_are_given : (n : ℕ) (vs : List Value) → are_arguments h (all_positional n) vs ≡ true
+  all_are_given zero vs = refl
+  all_are_given (suc n) [] = refl
+  all_are_given (suc n) (v ∷ vs) = all_are_given n vs
 
-named_all : (vs : List Value) → named_arguments (replicate (length vs) T.positional) vs ≡ []
-named_all [] = refl
-named_all (v ∷ vs) = named_all vs
+  pub named_last_is : (xs : List Name) (vs : List Value) → arguments h (last_named (length vs) xs) vs ≡ named_last xs vs
+  named_last_is xs vs = λ j. record { plain = plain_of (length vs - length xs) xs vs j; named = named_of (length vs - length xs) xs vs j }
 
-pub all_plain_is : (vs : List Value) → arguments (all_positional (length vs)) vs ≡ record { plain = vs; named = [] }
-all_plain_is vs = λ j. record { plain = plain_all vs j; named = named_all vs j }
+  plain_all : (vs : List Value) → plain_arguments h (replicate (length vs) T.positional) vs ≡ vs
+  plain_all [] = refl
+  plain_all (v ∷ vs) = ap (λ l. v ∷ l) (plain_all vs)
+
+  named_all : (vs : List Value) → named_arguments h (replicate (length vs) T.positional) vs ≡ []
+  named_all [] = refl
+  named_all (v ∷ vs) = named_all vs
+
+  pub all_plain_is : (vs : List Value) → arguments h (all_positional (length vs)) vs ≡ record { plain = vs; named = [] }
+  all_plain_is vs = λ j. record { plain = plain_all vs j; named = named_all vs j }
 
 -- names with values, one after the other
 

@@ -7,7 +7,7 @@ ghost use Rattle.pt_function_rows.specs.Openings.{first_values_of, first_value_o
 ghost use Rattle.pt_moves.specs.sem_rows.pt_host.Calls.{parameters_given};
 
 use pt_base::{Memory, Seq, Text};
-use pt_bind::{Locals, Params};
+use pt_bind::Locals;
 use pt_code_facts::BlockFacts;
 use pt_heap::Value;
 use std::alloc::Global;
@@ -44,15 +44,10 @@ fn given(names: &[Text], values: &[Option<Value>], name: &str) -> Option<Option<
 }
 
 /// The value of the parameter of this name, if there is one and it has a value.
-#[tactic(auto, using(crate::proofs::OpeningLemmas::of_plain, crate::proofs::OpeningLemmas::of_only))]
-fn parameter_value(params: &Params, values: &[Option<Value>], name: &str) -> Option<Value>
-    ensures { result ≡ parameter_value params.now values.now name.now }
+fn parameter_value(locals: &[Text], values: &[Option<Value>], name: &str) -> Option<Value>
+    ensures { result ≡ parameter_value locals.now values.now name.now }
 {
-    let plain = params.plain.len().min(values.len());
-    if let Some(value) = given(params.plain.as_slice(), values, name) {
-        return value;
-    }
-    match given(params.only.as_slice(), &values[plain..], name) {
+    match given(locals, values, name) {
         Some(value) => value,
         None => None,
     }
@@ -65,7 +60,7 @@ fn first_value(facts: &BlockFacts, values: &[Option<Value>], name: &str) -> Opti
     if is_among(facts.cells.as_slice(), name) {
         None
     } else {
-        parameter_value(&facts.params, values, name)
+        parameter_value(facts.locals.as_slice(), values, name)
     }
 }
 
@@ -117,7 +112,7 @@ fn make_cells(
 {
     let mut numbers = Seq::new(alloc);
     for name in facts.cells.as_slice() {
-        let value = parameter_value(&facts.params, values, name.as_str());
+        let value = parameter_value(facts.locals.as_slice(), values, name.as_str());
         make_cell(cells, &mut numbers, value)?;
     }
     Ok(numbers)

@@ -22,7 +22,8 @@ use Rattle.pt_host.specs.Sound.{IsWithinIf, AllWithin, IsSoundFrom, KeepsSound, 
 use Rattle.pt_host.proofs.Within.{Anything, from-here}
 use Rattle.pt_host.proofs.PrimsWithin.{Fitting, one-value-fits, done-fits, truth-fits, item-fits, row-fits, asked-sound}
 use Rattle.pt_host.proofs.VariablesSound.{store-sound, fresh-sound, cell-of-sound, delete-sound, load-sound}
-use Rattle.pt_host.proofs.CallsSound.{make-sound, call-sound}
+use Rattle.pt_host.proofs.CallsSound.{attribute-sound, import-sound, import-name-sound, make-sound, call-sound}
+use Rattle.pt_host.proofs.RaisingSound.{matches-sound, throws-sound}
 
 module _ (program : Program) (st : Stores) (r : Here Value) (s : IsSoundFrom (start_count program) st) (active : IsWithinIf st.world.heap r.active) where
   abbrev heap : List Object
@@ -67,6 +68,14 @@ module _ (program : Program) (st : Stores) (r : Here Value) (s : IsSoundFrom (st
   operate-sound (T.call rs) [] w = tt
   operate-sound (T.call rs) (f ∷ vs) w = call-sound n st r here active program rs f vs w.1
   operate-sound (T.function b xs) vs w = make-sound n st r here active b xs vs w
+  operate-sound (T.get x) [] w = tt
+  operate-sound (T.get x) (v ∷ []) w = attribute-sound n st r here active x v w.0
+  operate-sound (T.get x) (v ∷ u ∷ vs) w = tt
+  operate-sound (T.import x) [] w = import-sound n st r here active x
+  operate-sound (T.import x) (v ∷ vs) w = tt
+  operate-sound (T.import_name x) [] w = tt
+  operate-sound (T.import_name x) (m ∷ []) w = import-name-sound n st r here active x m w.0
+  operate-sound (T.import_name x) (m ∷ u ∷ vs) w = tt
   operate-sound o vs w = operation-sound (operation_of o) vs w
 
   seeks-sound : (a : Seek Value) → SeekWithin heap a → KeepsSound IsWithin n (seeks program a r st)
@@ -93,6 +102,8 @@ module _ (program : Program) (st : Stores) (r : Here Value) (s : IsSoundFrom (st
   ask-sound (T.seek a) w = seeks-sound a w
   ask-sound (T.deed d) w = deeds-sound d w
   ask-sound (T.leave l) w = (here, tt)
+  ask-sound (T.throw t) w = throws-sound (FindingWithin (T.throw t)) n st r here active t w
+  ask-sound (T.test (T.matches e c)) w = matches-sound n st r here active e c
   ask-sound (T.test (T.branch v)) w = asks Anything a_truth op.Truth (v ∷ []) truth-fits (w, tt)
   ask-sound (T.iter_of v) w = prim-sound op.Iter (v ∷ []) (w, tt)
   ask-sound (T.next_of i) w = asks ItemWithin item_or_end op.Next (i ∷ []) item-fits (w, tt)

@@ -2,6 +2,11 @@ pub mod Within
 pub mod AskedEnds
 pub mod PrimsWithin
 pub mod VariablesSound
+pub mod StarredLemmas
+pub mod ArgumentsSound
+pub mod StarredSound
 pub mod CallsSound
 pub mod HeapSound
 pub mod EntriesSound
+pub mod RaisingSound
+pub mod ContextLemmas

@@ -79,12 +79,12 @@ builtin-below : (x : Name) → BuiltinBelow (builtin x)
 builtin-below x = by (is_among builtin_names x) (bytes_eq x (codes "NotImplemented")) (bytes_eq x (codes "Ellipsis")) (is_among unbuilt_names x) (bytes_eq x (codes "__name__"))
   where
     by : (a b c d e : Bool)
-        → BuiltinBelow (if a then (if b then is value.NotImplemented else if c then is value.Ellipsis else if d then unavailable else start_object x) else if e then unavailable else no_builtin)
+        → BuiltinBelow (if a then (if b then is value.NotImplemented else if c then is value.Ellipsis else if d then unavailable else start_object x) else if e then start_object (codes "__main__") else no_builtin)
     by true true c d e = tt
     by true false true d e = tt
     by true false false true e = tt
     by true false false false e = place-below x
-    by false b c d true = tt
+    by false b c d true = place-below (codes "__main__")
     by false b c d false = tt
 
 builtin-within : (h : List Object) (v : Value) → length start_rows ≤ length h → BuiltinBelow (is v) → IsWithin h v

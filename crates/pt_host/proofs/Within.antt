@@ -27,7 +27,7 @@ use Rattle.pt_host.specs.Sound.{IsWithinIf, AllWithin, CellsWithin, NamesWithin,
 abbrev pub Anything : {A : Type 0} → List Object → A → Type 0
 Anything h a = Unit {0}
 
-cells-grow : (h k : List Object) (os : List (Option Value)) → length h ≤ length k → CellsWithin h os → CellsWithin k os
+pub cells-grow : (h k : List Object) (os : List (Option Value)) → length h ≤ length k → CellsWithin h os → CellsWithin k os
 cells-grow h k [] l w = tt
 cells-grow h k (o ∷ os) l w = (if-grows h k o l w.0, cells-grow h k os l w.1)
 
@@ -85,7 +85,7 @@ below-value h (value.Obj id) b = b id.0 (0, omega arith, refl)
 class-stays : (h : List Object) (p : ℕ) → IsSound start_objects h → IsClassAt start_objects p → IsClassAt h p
 class-stays h p s c = (c.0, of-take (length start_objects) h p (Class c.0) (ap (λ l. slice_get l p) s.begins ∙ c.1))
 
-error-fits : (h : List Object) (c : ObjId) (args : List Value) (cause active : Option Value) → IsClassAt h c.0 → AllWithin h args → IsWithinIf h cause → IsWithinIf h active
+pub error-fits : (h : List Object) (c : ObjId) (args : List Value) (cause active : Option Value) → IsClassAt h c.0 → AllWithin h args → IsWithinIf h cause → IsWithinIf h active
     → Fits h (length h) (error c args cause active)
 error-fits h c args cause active k a w x =
     let n : ℕ = length h in

@@ -18,6 +18,9 @@ use Rattle.pt_host.specs.Trees.{Tree}
 use Rattle.pt_host.specs.Variables.{load, store, delete, make_anew, cell_of}
 use Rattle.pt_host.specs.Primitives.{asked, by_prim, done, a_truth, item_or_end, so_many}
 use Rattle.pt_host.specs.Calls.{make_function, call}
+use Rattle.pt_host.specs.Attributes.{attribute}
+use Rattle.pt_host.specs.Imports.{import_module, import_name}
+use Rattle.pt_host.specs.Raising.{matches, throws}
 
 abbrev pub branch : Value → Here Value → Stores → Tree Bool
 branch v h st = asked a_truth op.Truth (v ∷ []) h st
@@ -73,6 +76,8 @@ operation_of (T.in_place o) = Some (op.InPlace o)
 operation_of (T.compare o) = Some (op.Compare o)
 operation_of (T.format c) = Some (op.Format c)
 operation_of T.join = Some op.Join
+operation_of T.spread_out = Some op.SpreadOut
+operation_of T.spread_named_out = Some op.SpreadNamed
 operation_of o = None
 
 abbrev pub by_operation : Option Op → List Value → Here Value → Stores → Tree Value
@@ -95,6 +100,9 @@ module _ (program : Program) where
   abbrev pub operate : Operation → List Value → Here Value → Stores → Tree Value
   operate (T.call rs) (f ∷ vs) h st = call program rs f vs h st
   operate (T.function b xs) vs h st = make_function b xs vs h st
+  operate (T.get x) (v ∷ []) h st = attribute x v h st
+  operate (T.import x) [] h st = import_module x h st
+  operate (T.import_name x) (m ∷ []) h st = import_name x m h st
   operate o vs h st = by_operation (operation_of o) vs h st
 
   abbrev pub seeks : Seek Value → Here Value → Stores → Tree Value
@@ -108,7 +116,9 @@ module _ (program : Program) where
   answers (T.seek s) h st = seeks s h st
   answers (T.deed d) h st = deeds d h st
   answers (T.leave l) h st = answer tt st
+  answers (T.throw t) h st = throws t h st
   answers (T.test (T.branch v)) h st = branch v h st
+  answers (T.test (T.matches e c)) h st = matches e c h st
   answers (T.iter_of v) h st = iterator_of v h st
   answers (T.next_of i) h st = next_item i h st
   answers (T.unpack v n star) h st = unpacked v n star h st

@@ -31,8 +31,9 @@ listed_builtin x =
     else if is_among unbuilt_names x then unavailable
     else start_object x
 
+-- the module that runs has the name `__main__` (Library Reference, "__main__")
 abbrev pub builtin : Name → Builtin
 builtin x =
     if is_among builtin_names x then listed_builtin x
-    else if bytes_eq x (codes "__name__") then unavailable
+    else if bytes_eq x (codes "__name__") then start_object (codes "__main__")
     else no_builtin

@@ -1,8 +1,9 @@
 -- How functions are made and called (Language Reference 6.3.4, 6.14, 8.7).
 use Rattle.std.specs.Prelude.{ℕ, ◌+◌, pos, Bool, true, false, not, ◌&&◌, ◌||◌, List, [], ◌∷◌, ◌++◌, map, drop}
-use Rattle.std.specs.Prelude.{length, codes, Option, Some, None, Result, Ok, Err, slice_get}
+use Rattle.std.specs.Prelude.{length, codes, Option, Some, None, option_map, Result, Ok, Err, slice_get}
 use Rattle.std.specs.Prelude.{if◌then◌else◌}
 use Rattle.std.specs.Str.{bytes_eq}
+use Rattle.pt_base.specs.declared.numbers.ObjId.{ObjId}
 use Rattle.pt_base.specs.declared.what.What.TheVariants.{Feature}
 use Rattle.pt_tree.specs.Syntax.{Name}
 use Rattle.sem_control.specs.control.Turn as T
@@ -10,12 +11,14 @@ use Rattle.sem_control.specs.control.Turn.{Role, End, gave, left_by}
 use Rattle.pt_heap.specs.declared.value.Value.{Value}
 use Rattle.pt_heap.specs.declared.value.Value.TheVariants as value
 use Rattle.pt_heap.specs.declared.view.Binding.{Binding}
+use Rattle.pt_heap.specs.declared.object.Builtin.{Builtin as BuiltinObject}
+use Rattle.pt_heap.specs.declared.object.Class.{Class as ClassObject}
 use Rattle.pt_heap.specs.declared.object.Function.{Function}
 use Rattle.pt_heap.specs.declared.object.Object.{Object}
 use Rattle.pt_heap.specs.declared.object.Object.TheVariants as object
 use Rattle.pt_names.specs.Names.{Named, name_value}
 use Rattle.pt_bind.specs.NameSets.{is_among}
-use Rattle.pt_bind.specs.Binding.{value_of, names_of, binding_with}
+use Rattle.pt_bind.specs.Binding.{value_of, binding_with}
 use Rattle.pt_bind.specs.declared.arguments.Args.{Args}
 use Rattle.pt_bind.specs.declared.arguments.BindErr.{BindErr}
 use Rattle.pt_bind.specs.declared.arguments.Locals.{Locals}
@@ -24,16 +27,23 @@ use Rattle.pt_content.specs.Functions.{of_class, of_function}
 use Rattle.pt_content.specs.Operands.{operand_of}
 use Rattle.pt_content.specs.declared.function.Function.{Function as Builtin}
 use Rattle.pt_content.specs.declared.function.Function.TheVariants as builtin
+use Rattle.pt_content.specs.declared.method_name.MethodName.{MethodName}
+use Rattle.pt_content.specs.declared.method_name.MethodName.TheVariants as method
+use Rattle.pt_content.specs.declared.op.Op.{Op}
 use Rattle.pt_content.specs.declared.op.Op.TheVariants as op
 use Rattle.pt_content.specs.declared.operand.Operand.{Operand}
 use Rattle.pt_content.specs.declared.operand.Operand.TheVariants as operand
+use Rattle.pt_prims.specs.pt_methods.Names.{of_method_number}
 use Rattle.sem_run.specs.run.Machine.{BlockId}
-use Rattle.sem_run.specs.run.Host.{Here, Opening, answer, raise, leave, request, opens}
-use Rattle.pt_host.specs.declared.places.TheConstants.{TYPE_ERROR}
-use Rattle.pt_host.specs.World.{Names, World, Stores, CodeFacts, Program, in_world, allot}
+use Rattle.sem_run.specs.run.Host.{Here, Opening, answer, raise, leave, request, opens, made, beyond}
+use Rattle.pt_host.specs.declared.places.TheConstants.{BASE_EXCEPTION, TYPE_ERROR}
+use Rattle.pt_host.specs.World.{Names, World, Stores, CodeFacts, Program, in_world, with_objects, allot}
 use Rattle.pt_host.specs.Trees.{Tree, answer_with}
 use Rattle.pt_host.specs.Texts.{binding_text, not_callable_text}
-use Rattle.pt_host.specs.Errors.{raise_saying}
+use Rattle.pt_host.specs.Errors.{error, raise_saying}
+use Rattle.pt_prims.specs.Classes.{derives}
+pub use Rattle.pt_host.specs.Arguments.{are_arguments, arguments}
+pub use Rattle.pt_host.specs.Starred.{Values, values_given}
 pub use Rattle.pt_host.specs.Primitives.{by_prim, arguments_of}
 
 -- a function of a block, with the values of defaults and then the numbers of cells
@@ -58,26 +68,6 @@ abbrev pub make_function : (block : ℕ) → List Name → List Value → Here V
     Tree Value
 make_function b xs vs h st =
     answer_with (allot (function_object b h.block.hidden xs vs) st.world.heap) st
-
--- the arguments of a call, where none is spread
-abbrev pub plain_arguments : List Role → List Value → List Value
-plain_arguments (T.positional ∷ rs) (v ∷ vs) = v ∷ plain_arguments rs vs
-plain_arguments (r ∷ rs) (v ∷ vs) = plain_arguments rs vs
-plain_arguments _ _ = []
-
-abbrev pub named_arguments : List Role → List Value → List Binding
-named_arguments (T.named x ∷ rs) (v ∷ vs) = record { name = x; value = v } ∷ named_arguments rs vs
-named_arguments (r ∷ rs) (v ∷ vs) = named_arguments rs vs
-named_arguments _ _ = []
-
-abbrev pub arguments : List Role → List Value → Args
-arguments rs vs = record { plain = plain_arguments rs vs; named = named_arguments rs vs }
-
-abbrev pub has_spread : List Role → Bool
-has_spread [] = false
-has_spread (T.spread ∷ rs) = true
-has_spread (T.spread_named ∷ rs) = true
-has_spread (r ∷ rs) = has_spread rs
 
 -- what the names of a block begin with: a parameter that has a cell has its value there
 abbrev pub parameters_given : List Name → List (Option Value) → Named
@@ -127,31 +117,40 @@ run_block facts f ps st =
     request (opens (opening facts f ps st.world)) (in_world (with_cells facts ps st.world) st)
     (λ r st1. result_of r.end st1)
 
+-- the local names of a block begin with those of its parameters
+abbrev pub run_given : CodeFacts → Function → Values → Stores → Tree Value
+run_given facts f (made vs h) st =
+    run_block facts f (parameters_given facts.locals vs) (with_objects h st)
+run_given facts f (beyond what) st = leave what
+
 abbrev pub call_bound : CodeFacts → Function → Result Locals BindErr → Here Value → Stores →
     Tree Value
-call_bound facts f (Ok ls) h st =
-    run_block facts f (parameters_given (names_of facts.params) ls.values) st
+call_bound facts f (Ok ls) h st = run_given facts f (values_given facts.params ls st.world.heap) st
 call_bound facts f (Err e) h st = raise_saying TYPE_ERROR (binding_text facts.name e) h st
 
--- generators and the parameters `*NAME` and `**NAME` aren't there yet
-abbrev pub is_simple : CodeFacts → Bool
-is_simple facts = if facts.yields || (facts.params.star || facts.params.stars) then false else true
+-- generators aren't there yet
+abbrev pub call_block : CodeFacts → Function → Result Locals BindErr → Here Value → Stores →
+    Tree Value
+call_block facts f r h st = if facts.yields then leave Feature else call_bound facts f r h st
 
 abbrev pub call_function : CodeFacts → Function → Args → Here Value → Stores → Tree Value
 call_function facts f args h st =
-    if is_simple facts then call_bound facts f (binding_with facts.params f.defaults args) h st
-    else leave Feature
+    call_block facts f (binding_with facts.params f.defaults args) h st
 
--- `print` takes `sep` and `end` by name, each once (Library Reference, "Built-in Functions")
-abbrev pub is_print_name : Name → Bool
-is_print_name x = bytes_eq x (codes "sep") || bytes_eq x (codes "end")
+-- arguments by one of two names, each once
+abbrev pub is_either : (x y name : Name) → Bool
+is_either x y name = bytes_eq name x || bytes_eq name y
 
+abbrev pub are_either : (x y : Name) → List Binding → Bool
+are_either x y [] = true
+are_either x y (b ∷ []) = is_either x y b.name
+are_either x y (b ∷ c ∷ []) =
+    (is_either x y b.name && is_either x y c.name) && not (bytes_eq b.name c.name)
+are_either x y bs = false
+
+-- `print` takes `sep` and `end` by name (Library Reference, "Built-in Functions")
 abbrev pub are_print_names : List Binding → Bool
-are_print_names [] = true
-are_print_names (b ∷ []) = is_print_name b.name
-are_print_names (b ∷ c ∷ []) =
-    (is_print_name b.name && is_print_name c.name) && not (bytes_eq b.name c.name)
-are_print_names bs = false
+are_print_names bs = are_either (codes "sep") (codes "end") bs
 
 abbrev pub or_none : Option Value → Value
 or_none (Some v) = v
@@ -172,19 +171,65 @@ operands_of builtin.Print args =
     if are_print_names args.named then Some (print_operands args) else None
 operands_of f args = unnamed_operands args.named args.plain
 
-abbrev pub call_with : Builtin → Option (List Value) → Here Value → Stores → Tree Value
-call_with f (Some vs) h st = by_prim (op.Call f) vs h st
-call_with f None h st = leave Feature
+-- the operands of a method behind its object: `sort` takes `key` and `reverse` by name, and no
+-- other argument (Library Reference, "Mutable Sequence Types")
+abbrev pub are_sort_names : List Binding → Bool
+are_sort_names bs = are_either (codes "key") (codes "reverse") bs
 
--- functions of `sys`, and calls of lists, tuples, sets, dictionaries and exceptions, aren't there yet
+abbrev pub sort_operands : (named : List Binding) → List Value → Option (List Value)
+sort_operands bs [] =
+    if are_sort_names bs then
+    Some (or_none (value_of (codes "key") bs) ∷ or_none (value_of (codes "reverse") bs) ∷ [])
+    else None
+sort_operands bs vs = None
+
+abbrev pub method_operands : MethodName → Args → Option (List Value)
+method_operands method.Sort args = sort_operands args.named args.plain
+method_operands m args = unnamed_operands args.named args.plain
+
+-- an operation on operands, if there are any
+abbrev pub operate_on : Op → Option (List Value) → Here Value → Stores → Tree Value
+operate_on o (Some vs) h st = by_prim o vs h st
+operate_on o None h st = leave Feature
+
+-- what else functions of `sys` do isn't there yet
 abbrev pub call_builtin : Option Builtin → Args → Here Value → Stores → Tree Value
-call_builtin (Some f) args h st = call_with f (operands_of f args) h st
+call_builtin (Some f) args h st = operate_on (op.Call f) (operands_of f args) h st
 call_builtin None args h st = leave Feature
+
+-- a method of a builtin value, of its object
+abbrev pub call_method : Option MethodName → (receiver : Value) → Args → Here Value → Stores → Tree Value
+call_method (Some m) r args h st =
+    operate_on (op.CallMethod m) (option_map (λ vs. r ∷ vs) (method_operands m args)) h st
+call_method None r args h st = leave Feature
+
+abbrev pub call_builtin_object : BuiltinObject → (receiver : Option Value) → Args → Here Value → Stores → Tree Value
+call_builtin_object b None args h st = call_builtin (of_function b.number) args h st
+call_builtin_object b (Some r) args h st = call_method (of_method_number b.number) r args h st
 
 -- the builtin class that a value is
 abbrev pub class_function : Value → Option Builtin
 class_function (value.Obj id) = of_class id
 class_function v = None
+
+-- the class of exceptions that a builtin class is, if it is one
+abbrev pub exception_class : List Object → Value → ClassObject → Option ObjId
+exception_class h (value.Obj id) c =
+    if derives h BASE_EXCEPTION id && not c.scripted then Some id else None
+exception_class h v c = None
+
+-- an exception, of any arguments without names (Library Reference, "Built-in Exceptions")
+abbrev pub make_exception : Option ObjId → Option (List Value) → Stores → Tree Value
+make_exception (Some id) (Some vs) st =
+    answer_with (allot (error id vs None None) st.world.heap) st
+make_exception o vs st = leave Feature
+
+-- calls of lists, tuples, sets and dictionaries, and of classes of a script, aren't there yet
+abbrev pub call_class : Option Builtin → ClassObject → (class : Value) → Args → Here Value →
+    Stores → Tree Value
+call_class (Some f) c v args h st = operate_on (op.Call f) (operands_of f args) h st
+call_class None c v args h st =
+    make_exception (exception_class st.world.heap v c) (unnamed_operands args.named args.plain) st
 
 abbrev pub not_callable : Value → Here Value → Stores → Tree Value
 not_callable v h st = raise_saying TYPE_ERROR (not_callable_text (class_name st.world.heap v)) h st
@@ -198,8 +243,8 @@ module _ (program : Program) where
   abbrev pub call_object : Option Object → Value → Args → Here Value → Stores → Tree Value
   call_object (Some (object.Function f)) v args h st =
       call_function (program.facts (block_of f)) f args h st
-  call_object (Some (object.Builtin b)) v args h st = call_builtin (of_function b.number) args h st
-  call_object (Some (object.Class c)) v args h st = call_builtin (class_function v) args h st
+  call_object (Some (object.Builtin b)) v args h st = call_builtin_object b b.receiver args h st
+  call_object (Some (object.Class c)) v args h st = call_class (class_function v) c v args h st
   call_object (Some (object.Method m)) v args h st = leave Feature
   call_object o v args h st = call_other (operand_of st.world.heap v) v h st
 
@@ -210,5 +255,6 @@ module _ (program : Program) where
 
   abbrev pub call : List Role → (callee : Value) → List Value → Here Value → Stores → Tree Value
   call rs f vs h st =
-      if has_spread rs then leave Feature
-      else call_value f (arguments rs vs) h st
+      if are_arguments st.world.heap rs vs
+      then call_value f (arguments st.world.heap rs vs) h st
+      else leave Feature

@@ -1,6 +1,6 @@
 -- Exceptions that a run makes (Language Reference 7.8; Library Reference, "Built-in Exceptions").
-use Rattle.std.specs.Prelude.{ℕ, Bool, true, false, List, [], ◌∷◌, ◌++◌, Option, Some, None, codes}
-use Rattle.std.specs.Prelude.{slice_get, slice_set, ◌==◌, if◌then◌else◌}
+use Rattle.std.specs.Prelude.{ℕ, zero, suc, Bool, true, false, List, [], ◌∷◌, ◌++◌, Option, Some, None, codes}
+use Rattle.std.specs.Prelude.{length, slice_get, slice_set, ◌==◌, if◌then◌else◌}
 use Rattle.pt_base.specs.declared.numbers.ObjId.{ObjId}
 use Rattle.pt_heap.specs.declared.value.Value.{Value}
 use Rattle.pt_heap.specs.declared.value.Value.TheVariants as value
@@ -63,12 +63,32 @@ abbrev pub makes : Failure Value → Here Value → World → Made Value World
 makes f h w = in_heap_of w (failure f h.active w.heap)
 
 -- where an exception arises that was made before, another one that is active becomes its context
-abbrev pub with_context : (context id : ObjId) → Option Object → List Object → List Object
-with_context c id (Some (Error x)) h = slice_set h id.0 (Error (record x { context = Some c }))
+abbrev pub with_context : (context : Option ObjId) → (id : ObjId) → Option Object → List Object → List Object
+with_context c id (Some (Error x)) h = slice_set h id.0 (Error (record x { context = c }))
 with_context c id o h = h
 
+abbrev pub context_in : Option Object → Option ObjId
+context_in (Some (Error x)) = x.context
+context_in o = None
+
+-- a chain of contexts is cut where it would lead back to the exception, among at most so many
+abbrev pub cut_at : (further : ObjId → List Object) → (back id : ObjId) → Option ObjId → List Object → List Object
+cut_at further back id None h = h
+cut_at further back id (Some c) h =
+    if c.0 == back.0 then with_context None id (slice_get h id.0) h else further c
+
+unfoldable pub cut_within : List Object → (most : ℕ) → (back id : ObjId) → List Object
+cut_within h zero back id = h
+cut_within h (suc most) back id = cut_at (cut_within h most back) back id (context_in (slice_get h id.0)) h
+
+abbrev pub cut : (back id : ObjId) → List Object → List Object
+cut back id h = cut_within h (length h) back id
+
+abbrev pub in_context : (context id : ObjId) → List Object → List Object
+in_context c id h = with_context (Some c) id (slice_get h id.0) h
+
 abbrev pub arise_while : (active : Option ObjId) → (id : ObjId) → List Object → List Object
-arise_while (Some c) id h = if c.0 == id.0 then h else with_context c id (slice_get h id.0) h
+arise_while (Some c) id h = if c.0 == id.0 then h else in_context c id (cut id c h)
 arise_while None id h = h
 
 abbrev pub arises : Value → Here Value → World → World

@@ -1,39 +1,20 @@
 -- What an exception is that leaves the module (Library Reference, `sys.exit`, "Built-in
 -- Exceptions").
-use Rattle.std.specs.Prelude.{ℕ, ℤ, pos, negsuc, zero, suc, ◌+◌, ◌-◌, ◌%◌, ◌==◌, Bool, false}
-use Rattle.std.specs.Prelude.{◌||◌, List, [], ◌∷◌, map, reverse, Option, Some, None, slice_get}
+use Rattle.std.specs.Prelude.{ℕ, ℤ, pos, negsuc, ◌-◌, ◌%◌, Bool, false}
+use Rattle.std.specs.Prelude.{List, [], ◌∷◌, map, reverse, Option, Some, None, slice_get}
 use Rattle.std.specs.Prelude.{if◌then◌else◌}
 use Rattle.pt_base.specs.declared.numbers.ObjId.{ObjId}
 use Rattle.pt_heap.specs.declared.value.Value.{Value}
 use Rattle.pt_heap.specs.declared.value.Value.TheVariants as value
-use Rattle.pt_heap.specs.declared.object.Class.{Class as ClassObject}
 use Rattle.pt_heap.specs.declared.object.Error.{Error as ErrorObject}
 use Rattle.pt_heap.specs.declared.object.TraceEntry.{TraceEntry}
 use Rattle.pt_heap.specs.declared.object.Object.{Object}
 use Rattle.pt_heap.specs.declared.object.Object.TheVariants as object
-use Rattle.pt_dicts.specs.Chain.{class_in}
 use Rattle.pt_dicts.specs.Keys.{truth}
+use Rattle.pt_prims.specs.Classes.{derives}
 use Rattle.sem_run.specs.run.Host.{Leaving, exits, exits_oddly, fails, Entry}
 use Rattle.pt_host.specs.declared.places.TheConstants.{SYSTEM_EXIT, STOP_ITERATION}
 use Rattle.pt_host.specs.World.{World}
-
--- a class is another one or has it among its bases, of at most so many
-abbrev pub base_of : Option ClassObject → Option ObjId
-base_of (Some c) = c.base
-base_of None = None
-
-abbrev pub or_base : (ℕ → Bool) → Option ObjId → Bool
-or_base above (Some id) = above id.0
-or_base above None = false
-
-abbrev pub derives_within : List Object → (most : ℕ) → (from place : ℕ) → Bool
-derives_within h zero from p = false
-derives_within h (suc most) from p =
-    (p == from) || or_base (derives_within h most from) (base_of (class_in (slice_get h p)))
-
--- a base stands before its class, so a class has no more bases than its place says
-abbrev pub derives : List Object → (from class : ObjId) → Bool
-derives h from class = derives_within h (class.0 + 1) from.0 class.0
 
 abbrev pub error_in : Option Object → Option ErrorObject
 error_in (Some (object.Error x)) = Some x

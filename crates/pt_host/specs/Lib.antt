@@ -6,10 +6,16 @@ pub mod Errors
 pub mod Builtins
 pub mod Variables
 pub mod Primitives
+pub mod Arguments
+pub mod Starred
 pub mod Calls
+pub mod Attributes
+pub mod Imports
 pub mod Answers
 pub mod Leaving
+pub mod Raising
 pub mod LogLines
 pub mod HeapHost
 pub mod Sound
 pub mod Laws
+pub use Rattle.pt_prims.specs.pt_methods as pt_methods

@@ -2,7 +2,7 @@
 -- names an object of it.
 use Rattle.std.specs.Prelude.{ℕ, zero, suc, ◌≤◌, ◌+◌, List, [], ◌∷◌, length, Option, Some, None}
 use Rattle.sem_control.specs.control.Turn as T
-use Rattle.sem_control.specs.control.Turn.{Ask, Seek, Deed, Row, End, gave, left_by}
+use Rattle.sem_control.specs.control.Turn.{Ask, Seek, Deed, Throw, Row, End, gave, left_by}
 use Rattle.pt_heap.specs.declared.value.Value.{Value}
 use Rattle.pt_heap.specs.declared.object.Object.{Object}
 use Rattle.pt_heap.specs.Sound.{IsSound, IsWithin}
@@ -77,9 +77,15 @@ abbrev pub DeedWithin : List Object → Deed Value → Type 0
 DeedWithin h (T.store x v) = IsWithin h v
 DeedWithin h d = ChangeWithin h (change_of d)
 
+abbrev pub ThrowWithin : List Object → Throw Value → Type 0
+ThrowWithin h (T.raising v c) = IsWithin h v × IsWithinIf h c
+ThrowWithin h (T.failing m) = IsWithinIf h m
+ThrowWithin h t = Unit {0}
+
 abbrev pub AskWithin : List Object → Ask Value → Type 0
 AskWithin h (T.seek s) = SeekWithin h s
 AskWithin h (T.deed d) = DeedWithin h d
+AskWithin h (T.throw t) = ThrowWithin h t
 AskWithin h (T.test (T.branch v)) = IsWithin h v
 AskWithin h (T.iter_of v) = IsWithin h v
 AskWithin h (T.next_of i) = IsWithin h i

@@ -49,6 +49,17 @@ binding_text f (refusal.Unexpected x) =
 binding_text f (refusal.Double x) = f ++ codes "() got argument '" ++ x ++ codes "' twice"
 binding_text f refusal.Memory = []
 
+-- an attribute that a value of a class doesn't have (6.3.1)
+abbrev pub missing_text : (class : List ℕ) → Name → List ℕ
+missing_text c x = codes "'" ++ c ++ codes "' object has no attribute '" ++ x ++ codes "'"
+
 -- what is no function (6.3.4), by its class
 abbrev pub not_callable_text : (class : List ℕ) → List ℕ
 not_callable_text c = codes "'" ++ c ++ codes "' object is not callable"
+
+-- a module that there isn't, and a name that a module doesn't have (7.11)
+abbrev pub no_module_text : Name → List ℕ
+no_module_text x = codes "No module named '" ++ x ++ codes "'"
+
+abbrev pub no_name_text : Name → List ℕ
+no_name_text x = codes "cannot import name '" ++ x ++ codes "'"

@@ -1,20 +1,29 @@
 //! Laws of the host, each the contract of a function that does nothing.
 
-ghost use Rattle.std.specs.Prelude.{◌≡◌, codes};
+ghost use Rattle.std.specs.Prelude.{◌≡◌, Some, codes};
+ghost use Rattle.pt_content.specs.declared.function.Function.TheVariants.{Exit};
 ghost use Rattle.pt_host.specs.Sound.{ArisesSoundly, KeepsTheHeapSound, MakesSoundFailures};
 ghost use Rattle.pt_host.specs.Sound.{TakesEntries};
 ghost use Rattle.pt_host.specs.World.{Program};
-ghost use Rattle.pt_host.specs.declared.places.TheConstants.{DISABLE, GENERATOR_EXIT, MISSING};
+ghost use Rattle.pt_host.specs.declared.places.TheConstants.{ATTRIBUTE_ERROR, DISABLE, GENERATOR_EXIT, MISSING, ASSERTION_ERROR, BASE_EXCEPTION};
 ghost use Rattle.pt_host.specs.declared.places.TheConstants.{NAME_ERROR, RECURSION_ERROR};
 ghost use Rattle.pt_host.specs.declared.places.TheConstants.{RUNTIME_ERROR, STOP_ITERATION};
 ghost use Rattle.pt_host.specs.declared.places.TheConstants.{SYSTEM_EXIT, TYPE_ERROR};
 ghost use Rattle.pt_host.specs.declared.places.TheConstants.{UNBOUND_LOCAL_ERROR, VALUE_ERROR};
-ghost use Rattle.pt_host.specs.Laws.{start_name};
+ghost use Rattle.pt_host.specs.Laws.{start_function, start_name};
+ghost use Rattle.pt_host.specs.declared.places.TheConstants.{IMPORT_ERROR};
+ghost use Rattle.pt_host.specs.declared.places.TheConstants.{MODULE_NOT_FOUND_ERROR, SYS};
+ghost use Rattle.pt_host.specs.pt_methods.declared.attribute.TheConstants.{EXIT};
 
 /// The objects that the host speaks of stand at their places as a run starts.
 pub fn objects_stand_at_their_places()
+    ensures base { start_name BASE_EXCEPTION ≡ codes "BaseException" }
     ensures exit { start_name SYSTEM_EXIT ≡ codes "SystemExit" }
     ensures closing { start_name GENERATOR_EXIT ≡ codes "GeneratorExit" }
+    ensures asserts { start_name ASSERTION_ERROR ≡ codes "AssertionError" }
+    ensures attributes { start_name ATTRIBUTE_ERROR ≡ codes "AttributeError" }
+    ensures imports { start_name IMPORT_ERROR ≡ codes "ImportError" }
+    ensures modules { start_name MODULE_NOT_FOUND_ERROR ≡ codes "ModuleNotFoundError" }
     ensures names { start_name NAME_ERROR ≡ codes "NameError" }
     ensures locals { start_name UNBOUND_LOCAL_ERROR ≡ codes "UnboundLocalError" }
     ensures runs { start_name RUNTIME_ERROR ≡ codes "RuntimeError" }
@@ -24,6 +33,9 @@ pub fn objects_stand_at_their_places()
     ensures values { start_name VALUE_ERROR ≡ codes "ValueError" }
     ensures disable { start_name DISABLE ≡ codes "DISABLE" }
     ensures missing { start_name MISSING ≡ codes "MISSING" }
+    ensures sys { start_name SYS ≡ codes "sys" }
+    ensures exits { start_name EXIT ≡ codes "exit" }
+    ensures exit_function { start_function EXIT ≡ Some Exit }
 {}
 
 /// Where the heap is sound and all that is held and asked names objects of it, each answer leaves

@@ -2,15 +2,26 @@
 //! and calls (Language Reference 4, 6, 8.7). It runs nothing.
 #![tactic(auto)]
 
+mod contexts;
 mod errors;
 mod laws;
 mod places;
+mod raising;
+mod starred;
 mod texts;
 
+pub use contexts::arise_while;
 pub use errors::{allot, error, error_saying};
 pub use laws::{objects_stand_at_their_places, the_host_keeps_the_heap_sound};
 pub use places::{
-    DISABLE, GENERATOR_EXIT, MISSING, NAME_ERROR, RECURSION_ERROR, RUNTIME_ERROR, STOP_ITERATION,
-    SYSTEM_EXIT, TYPE_ERROR, UNBOUND_LOCAL_ERROR, VALUE_ERROR,
+    ASSERTION_ERROR, ATTRIBUTE_ERROR, BASE_EXCEPTION, DISABLE, GENERATOR_EXIT, IMPORT_ERROR,
+    MISSING, MODULE_NOT_FOUND_ERROR, NAME_ERROR, RECURSION_ERROR, RUNTIME_ERROR, STOP_ITERATION,
+    SYS, SYSTEM_EXIT, TYPE_ERROR, UNBOUND_LOCAL_ERROR, VALUE_ERROR,
 };
-pub use texts::{binding_text, free_text, local_text, name_text, not_callable_text};
+pub use pt_prims::{are_named, derives};
+pub use raising::{Raisable, raisable_of};
+pub use starred::values_given;
+pub use texts::{
+    binding_text, free_text, local_text, missing_text, name_text, no_module_text, no_name_text,
+    not_callable_text,
+};

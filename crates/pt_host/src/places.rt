@@ -3,9 +3,19 @@
 use pt_base::ObjId;
 
 /// The places of the classes of exceptions that a run makes.
+pub const BASE_EXCEPTION: ObjId = ObjId(26);
+
 pub const SYSTEM_EXIT: ObjId = ObjId(27);
 
 pub const GENERATOR_EXIT: ObjId = ObjId(28);
+
+pub const ASSERTION_ERROR: ObjId = ObjId(32);
+
+pub const ATTRIBUTE_ERROR: ObjId = ObjId(33);
+
+pub const IMPORT_ERROR: ObjId = ObjId(34);
+
+pub const MODULE_NOT_FOUND_ERROR: ObjId = ObjId(35);
 
 pub const NAME_ERROR: ObjId = ObjId(39);
 
@@ -26,3 +36,6 @@ pub const VALUE_ERROR: ObjId = ObjId(46);
 pub const DISABLE: ObjId = ObjId(75);
 
 pub const MISSING: ObjId = ObjId(76);
+
+/// The place of the module `sys`.
+pub const SYS: ObjId = ObjId(77);

@@ -2,6 +2,7 @@
 
 ghost use Rattle.std.specs.Prelude.{◌≡◌, ◌++◌, IfOk, OnOk};
 ghost use Rattle.pt_host.specs.Texts.{binding_text, free_text, local_text, name_text};
+ghost use Rattle.pt_host.specs.Texts.{missing_text, no_module_text, no_name_text};
 ghost use Rattle.pt_host.specs.Texts.{not_callable_text};
 
 use pt_base::{Memory, Text};
@@ -47,6 +48,31 @@ pub fn name_text(alloc: Global, name: &str) -> Result<Text, Memory>
     ensures { IfOk result (λ text. text ≡ name_text name.now) }
 {
     about_name(alloc, "name '", name, "' is not defined")
+}
+
+/// A value of this class has no attribute of this name.
+pub fn missing_text(alloc: Global, class: &str, name: &str) -> Result<Text, Memory>
+    ensures { IfOk result (λ text. text ≡ missing_text class.now name.now) }
+{
+    let mut text = Text::new(alloc);
+    push_name(&mut text, "'", class, "' object has no attribute '")?;
+    text.push_str(name)?;
+    text.push_str("'")?;
+    Ok(text)
+}
+
+/// There is no module of this name.
+pub fn no_module_text(alloc: Global, name: &str) -> Result<Text, Memory>
+    ensures { IfOk result (λ text. text ≡ no_module_text name.now) }
+{
+    about_name(alloc, "No module named '", name, "'")
+}
+
+/// A module has no name of this text.
+pub fn no_name_text(alloc: Global, name: &str) -> Result<Text, Memory>
+    ensures { IfOk result (λ text. text ≡ no_name_text name.now) }
+{
+    about_name(alloc, "cannot import name '", name, "'")
 }
 
 /// An object of this class is no function.

@@ -5,7 +5,7 @@ use Rattle.pt_heap.specs.declared.value.Value.{Value}
 use Rattle.pt_heap.specs.declared.value.Value.TheVariants as value
 use Rattle.pt_heap.specs.declared.object.Object.{Object}
 use Rattle.pt_heap.specs.declared.object.Object.TheVariants as object
-use Rattle.pt_attrs.specs.Look.{object_of}
+use Rattle.pt_content.specs.pt_attrs.Look.{object_of}
 use Rattle.pt_content.specs.declared.answer.Helper.TheVariants.{ExtendOf}
 use Rattle.pt_content.specs.declared.class.TheConstants.{TYPE_ERROR}
 use Rattle.pt_content.specs.declared.content.Content.{Content}

@@ -12,9 +12,10 @@ ghost use Rattle.pt_content.specs.declared.content.Content.TheVariants.{Help};
 
 use crate::changed::{list_changed, list_grown};
 use crate::items::{no_item, place_of, with_item, without_item};
-use pt_attrs::object_of;
 use pt_base::{Memory, Seq};
-use pt_content::{Content, Helper, NewObject, Operand, TYPE_ERROR, bad_argument, operand_of};
+use pt_content::{
+    Content, Helper, NewObject, Operand, TYPE_ERROR, bad_argument, object_of, operand_of,
+};
 use pt_heap::{Heap, Object, Value};
 use pt_sequences::asked_or;
 use std::alloc::Global;

@@ -8,10 +8,10 @@ ghost use Rattle.pt_list_changes.specs.Items.{delete_item_content, deleted_by, l
 ghost use Rattle.pt_list_changes.specs.Items.{set_by, set_item_content};
 
 use crate::changed::{list_changed, list_grown};
-use pt_attrs::object_of;
 use pt_base::{Memory, Seq, What};
 use pt_content::{
-    Content, INDEX_ERROR, Operand, TYPE_ERROR, bad_argument, operand_of, raise, use_type_error,
+    Content, INDEX_ERROR, Operand, TYPE_ERROR, bad_argument, object_of, operand_of, raise,
+    use_type_error,
 };
 use pt_heap::{Heap, Object, Value};
 use std::alloc::Global;

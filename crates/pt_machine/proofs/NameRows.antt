@@ -2,7 +2,10 @@
 use Rattle.std.proofs.Common.{◌≡◌, ◌∙◌, ◌++◌, ◌<◌, ◌≤◌, ℕ, List, Bool, Option, refl, sym, ap, subst, length}
 use Rattle.pt_tree.specs.Syntax.{Name}
 use Rattle.pt_instr.specs.declared.Instr.{Instr}
+use Rattle.pt_instr.specs.declared.Instr.TheVariants.{Attr, Import, ImportName}
+use Rattle.pt_instr.specs.declared.TextNo.{TextNo}
 use Rattle.pt_heap.specs.declared.value.Value.{Value}
+use Rattle.pt_heap.specs.declared.object.Object.{Object}
 use Rattle.pt_names.specs.Names.{Named}
 use Rattle.pt_frames.specs.declared.slot.Slot.{Slot}
 use Rattle.pt_frames.specs.Slots.{active_in}
@@ -19,6 +22,8 @@ use Rattle.pt_code_tables.specs.pt_machine_state.pt_code_facts.sem_rows.heap_row
 use Rattle.pt_code_tables.specs.pt_machine_state.pt_code_facts.sem_rows.variables.Numbers.{KnowsNames}
 use Rattle.pt_code_tables.specs.pt_machine_state.pt_code_facts.declared.facts.BlockFacts.{BlockFacts}
 use Rattle.pt_code_tables.specs.pt_machine_state.pt_code_facts.Facts.{facts_view, facts_at}
+use Rattle.pt_container_rows.specs.Attributes.{RowsAttribute}
+use Rattle.pt_container_rows.specs.Imports.{RowsImport, RowsImportName}
 use Rattle.pt_body_rows.specs.pt_name_rows.Names.{RowsLocal, RowsCell, RowsOwnCell, RowsGlobal, RowsLoadGlobal}
 use Rattle.pt_code_tables.specs.pt_machine_state.declared.machine.Machine.{Machine}
 use Rattle.pt_code_tables.specs.pt_machine_state.Views.{block_of, stores_of}
@@ -186,3 +191,43 @@ module _ (tables : CodeTables) (j : Instr) (p : Progress) (m : Machine) where
     pub load_row : (slots : List Slot) → RowsLoadGlobal (text_in tables t) (builtin_in tables t) j t m.here.slots m.frames.globals p slots
         → active_in slots ≡ active_in m.here.slots → Performs tables j p m (record m { here = record m.here { slots = slots } })
     load_row slots row same = record { rest = refl; active = keeps p same; row = told_row tables j p m (with_globals slots m.frames.globals) (load-told slots row); names = λ no. refl }
+
+-- attributes
+
+module _ (tables : CodeTables) (t : TextNo) (p : Progress) (m : Machine) (slots : List Slot) (heap : List Object) where
+  abbrev with_heap : Machine
+  with_heap = record m { here = record m.here { slots = slots }; heap = heap }
+
+  attribute-told : RowsAttribute (text_in tables t.0) t m.here.slots m.heap p slots heap → IsTold tables (Attr t) p m with_heap
+  unfolding RowsAttribute RowsIn
+  attribute-told row program code known can i h is =
+      row (stores_of program m) (stands tables (Attr t) p m program code h) m.here.pc.0 i (known.blocks (block_of m.here)).truths ((known.pools (block_of m.here)).texts t.0)
+
+  pub attribute_row : RowsAttribute (text_in tables t.0) t m.here.slots m.heap p slots heap → active_in slots ≡ active_in m.here.slots
+      → Performs tables (Attr t) p m with_heap
+  attribute_row row same = record { rest = refl; active = keeps p same; row = told_row tables (Attr t) p m with_heap (attribute-told row); names = λ no. refl }
+
+-- modules and their names
+
+module _ (tables : CodeTables) (t : TextNo) (p : Progress) (m : Machine) (slots : List Slot) where
+  abbrev with_slots : Machine
+  with_slots = record m { here = record m.here { slots = slots } }
+
+  import-told : RowsImport (text_in tables t.0) t m.here.slots p slots → IsTold tables (Import t) p m with_slots
+  unfolding RowsImport RowsIn
+  import-told row program code known can i h is =
+      row (stores_of program m) (stands tables (Import t) p m program code h) m.here.pc.0 i (known.blocks (block_of m.here)).truths ((known.pools (block_of m.here)).texts t.0)
+
+  pub import_row : RowsImport (text_in tables t.0) t m.here.slots p slots → active_in slots ≡ active_in m.here.slots → Performs tables (Import t) p m with_slots
+  import_row row same = record { rest = refl; active = keeps p same; row = told_row tables (Import t) p m with_slots (import-told row); names = λ no. refl }
+
+  module _ (heap : List Object) where
+    import-name-told : RowsImportName (text_in tables t.0) t m.here.slots m.heap p slots heap → IsTold tables (ImportName t) p m (record with_slots { heap = heap })
+    unfolding RowsImportName RowsIn
+    import-name-told row program code known can i h is =
+        row (stores_of program m) (stands tables (ImportName t) p m program code h) m.here.pc.0 i (known.blocks (block_of m.here)).truths ((known.pools (block_of m.here)).texts t.0)
+
+    pub import_name_row : RowsImportName (text_in tables t.0) t m.here.slots m.heap p slots heap → active_in slots ≡ active_in m.here.slots
+        → Performs tables (ImportName t) p m (record m { here = record m.here { slots = slots }; heap = heap })
+    import_name_row row same =
+        record { rest = refl; active = keeps p same; row = told_row tables (ImportName t) p m (record with_slots { heap = heap }) (import-name-told row); names = λ no. refl }

@@ -29,6 +29,8 @@ use Rattle.pt_code_tables.specs.Tables.{AreTablesOf, constant_in}
 use Rattle.pt_machine.specs.Performing.{NamesPlaces, Performs, IsRowIn, row_done}
 
 pub keeps : {A : Type 0} (p : Progress) → A → IfActive p A
+keeps (progress.Raises e) a = a
+keeps progress.RaisesAgain a = a
 keeps (progress.Fails class arg) a = a
 keeps (progress.FailsSaying class t) a = a
 keeps (progress.Calls b hidden ls) a = a

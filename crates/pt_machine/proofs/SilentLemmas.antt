@@ -1,5 +1,5 @@
 -- A stride that a fast path did, and of which nothing is written.
-use Rattle.std.proofs.Common.{◌≡◌, ◌∙◌, ℕ, ◌++◌, List, [], ◌∷◌, Bool, true, false, Option, Some, None, refl, sym, ap, append-nil}
+use Rattle.std.proofs.Common.{inl, ◌≡◌, ◌∙◌, ℕ, ◌++◌, List, [], ◌∷◌, Bool, true, false, Option, Some, None, refl, sym, ap, append-nil}
 use Rattle.std.specs.Prelude.{MatchBool}
 use Rattle.std.specs.Option.{option_map}
 use Rattle.pt_base.specs.declared.numbers.Pc.{Pc}
@@ -75,11 +75,14 @@ begun_row tables j p (Some k) old new did = record {
   names = did.names;
 }
 
+return-other : (j : Instr) → j ≡ instr.Return → j ≡ instr.RaiseAgain → ⊥
+return-other j is e = let both : instr.Return ≡ instr.RaiseAgain = sym is ∙ e in absurd (cc)
+
 module _ (tables : CodeTables) (block : BlockCode) (place : Place) where
   -- by a fast path it came to a place
-  pub went_fast : (pc : Pc) (m mid : Machine) → Led place.next pc (λ p. Performs tables place.instr p m mid)
+  pub went_fast : (pc : Pc) (m mid : Machine) → (place.instr ≡ instr.RaiseAgain → ⊥) → Led place.next pc (λ p. Performs tables place.instr p m mid)
       → GoesSilently tables block place m (gone_to pc (begun place.mark mid))
-  went_fast pc m mid led w = done_fast tables block place pc (begun place.mark m) (begun place.mark mid) w (record {
+  went_fast pc m mid other led w = done_fast tables block place pc (begun place.mark m) (begun place.mark mid) w other (record {
     progress = led.progress;
     to = led.to;
     row = begun_row tables place.instr led.progress place.mark m mid led.row;
@@ -92,8 +95,11 @@ module _ (tables : CodeTables) (block : BlockCode) (place : Place) where
   returned v m slots is row w = record {
     progress = progress.Leaves (completion.Return v);
     mid = begun place.mark (record m { here = record m.here { slots = slots } });
-    performed = begun_row tables place.instr (progress.Leaves (completion.Return v)) place.mark m (record m { here = record m.here { slots = slots } })
-        (of_instr is (slots_row tables instr.Return (progress.Leaves (completion.Return v)) m slots row.0 row.1));
+    done = inl (
+      return-other place.instr is,
+      begun_row tables place.instr (progress.Leaves (completion.Return v)) place.mark m (record m { here = record m.here { slots = slots } })
+          (of_instr is (slots_row tables instr.Return (progress.Leaves (completion.Return v)) m slots row.0 row.1)),
+    );
     applied = applied_leaves tables.blocks block place.next (begun place.mark (record m { here = record m.here { slots = slots } })) w (completion.Return v);
   }
 

@@ -1,9 +1,10 @@
 -- The machine did a stride where it did what stands at its place, or closed its block.
-use Rattle.std.proofs.Common.{◌≡◌, ◌∙◌, ℕ, ◌≤◌, List, [], ◌∷◌, ◌++◌, Bool, true, false, Option, Some, None, length, drop, refl, sym, ap, subst, append-nil, arith}
+use Rattle.std.proofs.Common.{inl, inr, ◌≡◌, ◌∙◌, ℕ, ◌≤◌, List, [], ◌∷◌, ◌++◌, Bool, true, false, Option, Some, None, length, drop, refl, sym, ap, subst, append-nil, arith}
 use Rattle.std.specs.Prelude.{nat_lt}
 use Rattle.std.specs.Option.{option_map}
 use Rattle.std.specs.Map.{keys_of}
 use Rattle.pt_tree.specs.Syntax.{Name}
+use Rattle.pt_instr.specs.declared.Instr.TheVariants as instr
 use Rattle.pt_heap.specs.declared.value.Value.{Value}
 use Rattle.pt_ranges.specs.declared.lines.ActMark.{ActMark}
 use Rattle.pt_code.specs.View.{Ins}
@@ -34,19 +35,20 @@ use Rattle.pt_code_tables.specs.pt_machine_state.declared.machine.Stride.TheVari
 use Rattle.pt_code_tables.specs.pt_machine_state.declared.writes.Writes.{Writes}
 use Rattle.pt_code_tables.specs.pt_machine_state.Writing.{Adds}
 use Rattle.pt_code_tables.specs.pt_machine_state.Blocks.{block_at}
-use Rattle.pt_code_tables.specs.pt_machine_state.Views.{Bare, Beside, block_of, state_of, run_in, run_of}
+use Rattle.pt_code_tables.specs.pt_machine_state.Views.{Bare, Beside, active_of, block_of, state_of, run_in, run_of}
 use Rattle.pt_code_tables.specs.pt_machine_state.Strode.{Strode}
 use Rattle.pt_code_tables.specs.pt_machine_state.Changes.{at_act, line_events, gone_to}
 use Rattle.pt_code_tables.specs.pt_machine_state.Applies.{Applied, Closes}
 use Rattle.pt_code_tables.specs.pt_machine_state.Laws as laws
-use Rattle.pt_code_tables.specs.pt_machine_state.Laws.{AtRow, behind_row}
+use Rattle.pt_code_tables.specs.pt_machine_state.Laws.{AtAgain, AtRow, again_of, behind_row}
 use Rattle.pt_code_tables.proofs.pt_machine_state.ApplyLemmas.{applied_next, applied_goto}
 use Rattle.pt_code_tables.proofs.pt_machine_state.TurnLemmas.{spent}
 use Rattle.pt_code_tables.proofs.pt_machine_state.StrideLemmas.{unmarked_done, marked_done}
+use Rattle.pt_code_tables.proofs.pt_machine_state.AgainLemmas.{unmarked_again, marked_again}
 use Rattle.pt_code_tables.specs.declared.tables.CodeTables.{CodeTables}
 use Rattle.pt_code_tables.specs.Tables.{AreTablesOf, is_class_in, scope_by}
 use Rattle.pt_machine.specs.Strides.{MachineHasNames, Strides}
-use Rattle.pt_machine.specs.Performing.{NamesPlaces, Performs, GoesOn, IsRowIn, row_done}
+use Rattle.pt_machine.specs.Performing.{Does, NamesPlaces, Performs, GoesOn, IsRowIn, row_done}
 
 -- the turn of a run at a place
 
@@ -144,10 +146,10 @@ module _ (tables : CodeTables) (block : BlockCode) (place : Place) (m : Machine)
       let c = can program code known names in record { operands = c.operands; locals = c.locals; cells = c.cells }
 
   -- without an act
-  unmarked-by : (p : Progress) (mid new : Machine) (w w1 : Writes) (r : Stride) (n : ℕ) → place.mark ≡ None → Performs tables place.instr p m mid
+  unmarked-by : (p : Progress) (mid new : Machine) (w w1 : Writes) (r : Stride) (n : ℕ) → place.mark ≡ None → (place.instr ≡ instr.RaiseAgain → ⊥) → Performs tables place.instr p m mid
       → Applied tables.blocks block place.next p r mid w new w1 → Strides tables n r m w new w1
   unfolding Strides IsRowIn laws.UnmarkedStrides
-  unmarked-by p mid new w w1 r n none performs applied program code x known names waits =
+  unmarked-by p mid new w w1 r n none other performs applied program code x known names waits =
       let f = found program code known in
       unmarked_done program code tables.blocks block place.next n m f.ins (row_done p mid) (record {
         known = known.blocks;
@@ -155,6 +157,7 @@ module _ (tables : CodeTables) (block : BlockCode) (place : Place) (m : Machine)
         at_place = at_place;
         there = f.there;
         next_is = ap (λ q. q.next.0) (sym f.is);
+        other = λ e. other (ap (λ q. q.instr) f.is ∙ e);
         same_active = performs.active;
         no_names = performs.names (no-class program code m names tables known) ∙ names.no_names;
         row = performs.row program code known (can program code known names) f.ins (ap (λ q. q.instr) (sym f.is));
@@ -163,10 +166,10 @@ module _ (tables : CodeTables) (block : BlockCode) (place : Place) (m : Machine)
 
   -- with one, whose unit is taken and whose line is told first
   marked-by : (p : Progress) (mid new : Machine) (w w0 w1 : Writes) (r : Stride) (n : ℕ) (k : ActMark) → place.mark ≡ Some k → nat_lt m.units n ≡ true
-      → Adds w w0 (line_events k block m) → Performs tables place.instr p (at_act k m) mid
+      → Adds w w0 (line_events k block m) → (place.instr ≡ instr.RaiseAgain → ⊥) → Performs tables place.instr p (at_act k m) mid
       → Applied tables.blocks block place.next p r mid w0 new w1 → Strides tables n r m w new w1
   unfolding Strides IsRowIn laws.MarkedStrides
-  marked-by p mid new w w0 w1 r n k is_mark left adds performs applied program code x known names waits =
+  marked-by p mid new w w0 w1 r n k is_mark left adds other performs applied program code x known names waits =
       let f = found program code known in
       marked_done program code tables.blocks block place.next n m f.ins (row_done p mid) k (record {
         known = known.blocks;
@@ -174,18 +177,62 @@ module _ (tables : CodeTables) (block : BlockCode) (place : Place) (m : Machine)
         at_place = at_place;
         there = f.there;
         next_is = ap (λ q. q.next.0) (sym f.is);
+        other = λ e. other (ap (λ q. q.instr) f.is ∙ e);
         same_active = performs.active;
         no_names = performs.names (no-class program code m names tables known) ∙ names.no_names;
         row = performs.row program code known (can-act program code known names k) f.ins (ap (λ q. q.instr) (sym f.is));
       }) (ap (λ q. q.mark) (sym f.is) ∙ is_mark) left x waits r w w0 w1 new adds
       (subst (λ o. Applied tables.blocks block place.next p r o w0 new w1) performs.rest applied)
 
+  -- `raise` alone
+  again-at : (program : Program) (code : CodeBlocks Value) (known : AreTablesOf program code tables) → MachineHasNames program code m → place.instr ≡ instr.RaiseAgain
+      → AtAgain program code tables.blocks block place.next (found program code known).ins m
+  again-at program code known names is =
+      let f = found program code known in
+      record {
+        known = known.blocks;
+        is_block = is_block;
+        at_place = at_place;
+        there = f.there;
+        next_is = ap (λ q. q.next.0) (sym f.is);
+        no_names = names.no_names;
+        again = ap (λ q. q.instr) (sym f.is) ∙ is;
+      }
+
+  unmarked-again : (new : Machine) (w w1 : Writes) (r : Stride) (n : ℕ) → place.mark ≡ None → place.instr ≡ instr.RaiseAgain
+      → Applied tables.blocks block place.next (again_of (active_of m)) r m w new w1 → Strides tables n r m w new w1
+  unfolding Strides laws.UnmarkedAgain
+  unmarked-again new w w1 r n none is applied program code x known names waits =
+      let f = found program code known in
+      unmarked_again program code tables.blocks block place.next n m f.ins (again-at program code known names is)
+      (ap (λ q. q.mark) (sym f.is) ∙ none) x waits r w w1 new applied
+
+  marked-again : (new : Machine) (w w0 w1 : Writes) (r : Stride) (n : ℕ) (k : ActMark) → place.mark ≡ Some k → nat_lt m.units n ≡ true → Adds w w0 (line_events k block m)
+      → place.instr ≡ instr.RaiseAgain → Applied tables.blocks block place.next (again_of (active_of m)) r (at_act k m) w0 new w1 → Strides tables n r m w new w1
+  unfolding Strides laws.MarkedAgain
+  marked-again new w w0 w1 r n k is_mark left adds is applied program code x known names waits =
+      let f = found program code known in
+      marked_again program code tables.blocks block place.next n m f.ins k (again-at program code known names is)
+      (ap (λ q. q.mark) (sym f.is) ∙ is_mark) left x waits r w w0 w1 new adds applied
+
   pub unmarked_stride : (new : Machine) (w w1 : Writes) (r : Stride) (n : ℕ) → place.mark ≡ None → GoesOn tables block place r m w new w1 → Strides tables n r m w new w1
-  unmarked_stride new w w1 r n none done = unmarked-by done.progress done.mid new w w1 r n none done.performed done.applied
+  unmarked_stride new w w1 r n none goes = by goes.done
+    where
+      by : Does tables place.instr goes.progress m goes.mid → Strides tables n r m w new w1
+      by (inl (other, performed)) = unmarked-by goes.progress goes.mid new w w1 r n none other performed goes.applied
+      by (inr (is, (comes, same))) =
+          unmarked-again new w w1 r n none is
+          (subst (λ p. Applied tables.blocks block place.next p r m w new w1) comes (subst (λ o. Applied tables.blocks block place.next goes.progress r o w new w1) same goes.applied))
 
   pub marked_stride : (new : Machine) (w w0 w1 : Writes) (r : Stride) (n : ℕ) (k : ActMark) → place.mark ≡ Some k → nat_lt m.units n ≡ true
       → Adds w w0 (line_events k block m) → GoesOn tables block place r (at_act k m) w0 new w1 → Strides tables n r m w new w1
-  marked_stride new w w0 w1 r n k is_mark left adds done = marked-by done.progress done.mid new w w0 w1 r n k is_mark left adds done.performed done.applied
+  marked_stride new w w0 w1 r n k is_mark left adds goes = by goes.done
+    where
+      by : Does tables place.instr goes.progress (at_act k m) goes.mid → Strides tables n r m w new w1
+      by (inl (other, performed)) = marked-by goes.progress goes.mid new w w0 w1 r n k is_mark left adds other performed goes.applied
+      by (inr (is, (comes, same))) =
+          marked-again new w w0 w1 r n k is_mark left adds is
+          (subst (λ p. Applied tables.blocks block place.next p r (at_act k m) w0 new w1) comes (subst (λ o. Applied tables.blocks block place.next goes.progress r o w0 new w1) same goes.applied))
 
   -- no unit is left for it
   pub spent_stride : (w : Writes) (n : ℕ) (k : ActMark) → place.mark ≡ Some k → nat_lt m.units n ≡ false → Strides tables n (stride.Ends end.Spent) m w m w
@@ -212,13 +259,18 @@ stuck_stride tables block m new w w1 r n at_place is_block none program code x k
 
 -- what was done at a place
 pub done_there : (tables : CodeTables) (block : BlockCode) (place : Place) (p : Progress) (r : Stride) (old mid new : Machine) (w w1 : Writes)
-    → Performs tables place.instr p old mid → Applied tables.blocks block place.next p r mid w new w1 → GoesOn tables block place r old w new w1
-done_there tables block place p r old mid new w w1 performed applied = record { progress = p; mid = mid; performed = performed; applied = applied }
+    → (place.instr ≡ instr.RaiseAgain → ⊥) → Performs tables place.instr p old mid → Applied tables.blocks block place.next p r mid w new w1
+    → GoesOn tables block place r old w new w1
+done_there tables block place p r old mid new w w1 other performed applied = record { progress = p; mid = mid; done = inl (other, performed); applied = applied }
+
+pub raised_there : (tables : CodeTables) (block : BlockCode) (place : Place) (p : Progress) (r : Stride) (old new : Machine) (w w1 : Writes)
+    → place.instr ≡ instr.RaiseAgain → p ≡ again_of (active_of old) → Applied tables.blocks block place.next p r old w new w1 → GoesOn tables block place r old w new w1
+raised_there tables block place p r old new w w1 is comes applied = record { progress = p; mid = old; done = inr (is, (comes, refl)); applied = applied }
 
 -- what was done by a fast path
 pub done_fast : (tables : CodeTables) (block : BlockCode) (place : Place) (pc : Pc) (old mid : Machine) (w : Writes)
-    → Led place.next pc (λ p. Performs tables place.instr p old mid) → GoesOn tables block place stride.Goes old w (gone_to pc mid) w
-done_fast tables block place pc old mid w led = record { progress = led.progress; mid = mid; performed = led.row; applied = applied led.progress led.to }
+    → (place.instr ≡ instr.RaiseAgain → ⊥) → Led place.next pc (λ p. Performs tables place.instr p old mid) → GoesOn tables block place stride.Goes old w (gone_to pc mid) w
+done_fast tables block place pc old mid w other led = record { progress = led.progress; mid = mid; done = inl (other, led.row); applied = applied led.progress led.to }
   where
     applied : (p : Progress) → place_behind place.next p ≡ Some pc → Applied tables.blocks block place.next p stride.Goes mid w (gone_to pc mid) w
     applied progress.Next e =
@@ -231,6 +283,8 @@ done_fast tables block place pc old mid w led = record { progress = led.progress
     applied (progress.Reraises v) e = absurd (cc)
     applied (progress.Print t) e = absurd (cc)
     applied (progress.Calls b hidden ls) e = absurd (cc)
+    applied (progress.Raises id) e = absurd (cc)
+    applied progress.RaisesAgain e = absurd (cc)
     applied (progress.Fails class arg) e = absurd (cc)
     applied (progress.FailsSaying class t) e = absurd (cc)
     applied (progress.Outside what) e = absurd (cc)

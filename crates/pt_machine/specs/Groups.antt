@@ -52,9 +52,31 @@ uses_containers (instr.Format c) = true
 uses_containers (instr.Join n) = true
 uses_containers (instr.Unpack n) = true
 uses_containers (instr.UnpackStar n m) = true
+uses_containers instr.Spread = true
+uses_containers instr.SpreadMap = true
 uses_containers instr.Iter = true
 uses_containers (instr.Next t) = true
 uses_containers j = false
+
+-- an attribute, whose name the operand names
+abbrev pub gets_attribute : Instr → Bool
+gets_attribute (instr.Attr t) = true
+gets_attribute j = false
+
+-- a module, or what a name is in it, that the operand names
+abbrev pub imports : Instr → Bool
+imports (instr.Import t) = true
+imports (instr.ImportName t) = true
+imports j = false
+
+-- the same with what is raised and the classes of handlers
+abbrev pub raises : Instr → Bool
+raises instr.Raise = true
+raises instr.RaiseFrom = true
+raises instr.RaiseAgain = true
+raises (instr.AssertFail b) = true
+raises instr.Match = true
+raises j = false
 
 -- names
 abbrev pub names_local : Instr → Bool

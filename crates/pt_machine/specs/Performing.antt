@@ -1,6 +1,7 @@
 -- When what the machine does at an instruction is the row of that.
-use Rattle.std.specs.Prelude.{◌≡◌, ◌≤◌, ◌++◌, false, length}
+use Rattle.std.specs.Prelude.{◌≡◌, ◌≤◌, ◌⊎◌, ◌++◌, false, length}
 use Rattle.pt_instr.specs.declared.Instr.{Instr}
+use Rattle.pt_instr.specs.declared.Instr.TheVariants as instr
 use Rattle.pt_heap.specs.declared.value.Value.{Value}
 use Rattle.pt_code.specs.View.{Ins}
 use Rattle.pt_code_tables.specs.pt_builtins.pt_host.World.{Program}
@@ -12,9 +13,9 @@ use Rattle.pt_code_tables.specs.pt_machine_state.declared.blocks.BlockCode.{Bloc
 use Rattle.pt_code_tables.specs.pt_machine_state.declared.machine.Stride.{Stride}
 use Rattle.pt_code_tables.specs.pt_machine_state.declared.writes.Writes.{Writes}
 use Rattle.pt_code_tables.specs.pt_machine_state.Applies.{Applied}
-use Rattle.pt_code_tables.specs.pt_machine_state.Views.{block_of}
+use Rattle.pt_code_tables.specs.pt_machine_state.Views.{active_of, block_of}
 use Rattle.pt_places.specs.declared.places.Place.{Place}
-use Rattle.pt_code_tables.specs.pt_machine_state.Laws.{RowDone, behind_row, IsRow}
+use Rattle.pt_code_tables.specs.pt_machine_state.Laws.{RowDone, again_of, behind_row, IsRow}
 use Rattle.pt_code_tables.specs.declared.tables.CodeTables.{CodeTables}
 use Rattle.pt_code_tables.specs.Tables.{AreTablesOf, is_class_in}
 use Rattle.law_frames.specs.Operands.{OperandsName}
@@ -51,9 +52,14 @@ pub record Performs (tables : CodeTables) (j : Instr) (p : Progress) (old new : 
   pub row : IsRowIn tables j p old new
   pub names : is_class_in tables old.here.block.0 ≡ false → new.here.names ≡ old.here.names
 
+-- what stands at a place was done: `raise` alone comes to the exception that is active, and changes nothing
+abbrev pub Does : CodeTables → Instr → Progress → (old new : Machine) → Type 0
+Does tables j p old new =
+    ((j ≡ instr.RaiseAgain → ⊥) × Performs tables j p old new) ⊎ ((j ≡ instr.RaiseAgain) × ((p ≡ again_of (active_of old)) × (new ≡ old)))
+
 -- the machine did what stands at a place of a block, and went on where that leads
 pub record GoesOn (tables : CodeTables) (block : BlockCode) (place : Place) (r : Stride) (old : Machine) (written : Writes) (new : Machine) (writes : Writes) : Type 0 where
   pub progress : Progress
   pub mid : Machine
-  pub performed : Performs tables place.instr progress old mid
+  pub done : Does tables place.instr progress old mid
   pub applied : Applied tables.blocks block place.next progress r mid written new writes

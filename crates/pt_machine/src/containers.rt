@@ -7,11 +7,12 @@ use pt_base::Memory;
 use pt_code_tables::{CodeTables, Machine, Progress};
 use pt_container_rows::{
     add_to_dict, add_to_list, add_to_set, delete_item, dict, format, item, iter, join, list, next,
-    set, set_item, slice, tuple, unpack, unpack_star,
+    set, set_item, slice, spread, spread_named, tuple, unpack, unpack_star,
 };
 use pt_instr::Instr;
 
-/// Does the row of an instruction of containers, of iterators or of f-strings.
+/// Does the row of an instruction of containers, of iterators, of f-strings or of
+/// arguments that are spread.
 #[tactic(auto, using(crate::proofs::RowLemmas::heap_row))]
 pub fn perform_container(
     tables: &CodeTables,
@@ -40,6 +41,8 @@ pub fn perform_container(
         Instr::Join(count) => join(alloc, count, slots, heap),
         Instr::Unpack(count) => unpack(alloc, count, slots, heap),
         Instr::UnpackStar(before, after) => unpack_star(alloc, before, after, slots, heap),
+        Instr::Spread => spread(alloc, slots, heap),
+        Instr::SpreadMap => spread_named(alloc, slots, heap),
         Instr::Iter => iter(alloc, slots, heap),
         Instr::Next(to) => next(alloc, to, slots, heap),
         _ => unreachable!(),

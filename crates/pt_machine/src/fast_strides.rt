@@ -74,7 +74,8 @@ fn return_silently(machine: &mut Machine, block: &BlockCode, place: &Place) -> R
 /// else nothing changes.
 #[tactic(auto, using(crate::proofs::SilentLemmas::went_fast))]
 fn go_silently(tables: &CodeTables, machine: &mut Machine, place: &Place) -> Result<bool, Memory>
-    requires { (n : ℕ) × ((n < 2 ^ 64) × HasUnit place.now.mark n machine.old.units) }
+    requires unit { (n : ℕ) × ((n < 2 ^ 64) × HasUnit place.now.mark n machine.old.units) }
+    requires other { place.now.instr ≡ instr.RaiseAgain → ⊥ }
     ensures { IfOk result (λ done. (block : BlockCode) → MatchBool done
         (GoesSilently tables.now block place.now machine.old machine.new)
         (machine.new ≡ machine.old)) }
@@ -109,6 +110,7 @@ fn fast_step(
     }
     match place.instr {
         Instr::Return => return_silently(machine, block, place),
+        Instr::RaiseAgain => Ok(false),
         _ => go_silently(tables, machine, place),
     }
 }

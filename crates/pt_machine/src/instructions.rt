@@ -2,14 +2,17 @@
 ghost use Rattle.std.specs.Prelude.{◌≡◌, IfOk};
 ghost use Rattle.pt_machine.specs.Performing.{Performs};
 
+use crate::attributes::perform_attribute;
 use crate::bodies::perform_body;
 use crate::calls::perform_call;
 use crate::cells::perform_cell;
 use crate::containers::perform_container;
 use crate::globals::perform_global;
+use crate::imports::perform_import;
 use crate::locals::perform_local;
 use crate::moves::perform_move;
 use crate::operations::perform_operation;
+use crate::raises::perform_raise;
 use pt_base::Memory;
 use pt_code_tables::{CodeTables, Machine, Progress, not_supported};
 use pt_instr::Instr;
@@ -66,8 +69,12 @@ pub fn perform(tables: &CodeTables, machine: &mut Machine, instr: Instr) -> Resu
         | Instr::Join(_)
         | Instr::Unpack(_)
         | Instr::UnpackStar(_, _)
+        | Instr::Spread
+        | Instr::SpreadMap
         | Instr::Iter
         | Instr::Next(_) => perform_container(tables, machine, instr),
+        Instr::Attr(_) => perform_attribute(tables, machine, instr),
+        Instr::Import(_) | Instr::ImportName(_) => perform_import(tables, machine, instr),
         Instr::Global(_) | Instr::SetGlobal(_) | Instr::DelGlobal(_) => {
             perform_global(tables, machine, instr)
         }
@@ -83,6 +90,8 @@ pub fn perform(tables: &CodeTables, machine: &mut Machine, instr: Instr) -> Resu
         | Instr::CallKw(_, _)
         | Instr::CallSpread(_, _)
         | Instr::MakeFunction(_, _, _) => perform_call(tables, machine, instr),
+        Instr::Raise | Instr::RaiseFrom | Instr::RaiseAgain | Instr::AssertFail(_) | Instr::Match =>
+            perform_raise(tables, machine, instr),
         _ => Ok(not_supported()),
     }
 }

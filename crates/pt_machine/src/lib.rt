@@ -2,6 +2,7 @@
 //! where that leads; at the end of a block it closes it.
 #![tactic(auto)]
 
+mod attributes;
 mod bodies;
 mod calls;
 mod cells;
@@ -9,10 +10,12 @@ mod containers;
 mod fast;
 mod fast_strides;
 mod globals;
+mod imports;
 mod instructions;
 mod locals;
 mod moves;
 mod operations;
+mod raises;
 mod strides;
 
 pub use fast_strides::fast_stride;

@@ -10,11 +10,12 @@ ghost use Rattle.pt_places.specs.PlaceTable.{entry};
 use crate::instructions::perform;
 use pt_base::Memory;
 use pt_code_tables::{BlockCode, CodeTables, Machine, MachineEnd, Standing, Stride, Writes};
+use pt_instr::Instr;
 use pt_places::Place;
-use pt_progress::{apply, begin_act, block_of, close};
+use pt_progress::{apply, begin_act, block_of, close, raise_again};
 
-/// Does what stands at a place, and goes on where that leads.
-#[tactic(auto, using(crate::proofs::StepLemmas::done_there))]
+/// Does what stands at a place, and goes on where that leads. A `raise` alone changes nothing.
+#[tactic(auto, using(crate::proofs::StepLemmas::done_there, crate::proofs::StepLemmas::raised_there))]
 fn go_on(
     tables: &CodeTables,
     machine: &mut Machine,
@@ -25,8 +26,16 @@ fn go_on(
     ensures { IfOk result (λ r. GoesOn tables.now block.now place r machine.old writes.old
         machine.new writes.new) }
 {
-    let progress = perform(tables, machine, place.instr)?;
-    apply(machine, writes, &tables.blocks, block, place.next, progress)
+    match place.instr {
+        Instr::RaiseAgain => {
+            let progress = raise_again(machine)?;
+            apply(machine, writes, &tables.blocks, block, place.next, progress)
+        }
+        _ => {
+            let progress = perform(tables, machine, place.instr)?;
+            apply(machine, writes, &tables.blocks, block, place.next, progress)
+        }
+    }
 }
 
 /// Does what stands at the place of the newest activation. An act begins there where it has a mark,

@@ -1,6 +1,6 @@
 -- What the machine does with exceptions that instructions make, and where a run leaves the profile.
 use Rattle.std.proofs.Common.{◌≡◌, ◌∙◌, ℕ, List, [], ◌∷◌, ◌++◌, Bool, true, false, Option, Some, None, refl, sym, ap, subst}
-use Rattle.std.specs.Prelude.{length, nat_eq, if◌then◌else◌}
+use Rattle.std.specs.Prelude.{codes, length, nat_eq, if◌then◌else◌}
 use Rattle.std.specs.Option.{option_or}
 use Rattle.pt_base.specs.declared.numbers.Pc.{Pc}
 use Rattle.pt_base.specs.declared.numbers.ObjId.{ObjId}
@@ -8,6 +8,7 @@ use Rattle.pt_base.specs.declared.numbers.Line.{Line}
 use Rattle.pt_base.specs.declared.what.What.{What}
 use Rattle.pt_base.specs.declared.what.What.TheVariants.{Heap}
 use Rattle.pt_heap.specs.declared.value.Value.{Value}
+use Rattle.pt_heap.specs.declared.value.Value.TheVariants.{Obj}
 use Rattle.pt_heap.specs.declared.object.Object.{Object}
 use Rattle.pt_heap.specs.declared.object.Object.TheVariants.{Str}
 use Rattle.pt_heap.specs.Limits.{object_limit}
@@ -20,11 +21,13 @@ use Rattle.sem_code.specs.slots.Landing.{land}
 use Rattle.sem_code.specs.comp_expr.Law.{active_at}
 use Rattle.sem_run.specs.run.Host.{made, beyond}
 use Rattle.pt_code_facts.specs.sem_rows.pt_host.World.{Program, Allotted, allot, allot_then, IsAllotted}
-use Rattle.pt_code_facts.specs.sem_rows.pt_host.Errors.{error, error_saying}
+use Rattle.pt_code_facts.specs.sem_rows.pt_host.Errors.{arise_while, error, error_saying, object_place}
 use Rattle.pt_code_facts.specs.sem_rows.pt_host.HeapHost.{heap_host}
 use Rattle.pt_content.specs.Changes.{next_object}
 use Rattle.pt_code_facts.specs.sem_rows.pt_host.Trees.{raise_with}
 use Rattle.pt_code_facts.specs.sem_rows.pt_host.Calls.{arguments_of}
+use Rattle.pt_code_facts.specs.sem_rows.pt_host.Raising.{raise_active}
+use Rattle.pt_code_facts.specs.sem_rows.pt_host.declared.places.TheConstants.{RUNTIME_ERROR}
 use Rattle.sem_run.specs.transitions.Successors as leads
 use Rattle.pt_bare_runs.specs.Strides.{with_store, active_in as active_among}
 use Rattle.sem_code_machine.specs.code_machine.CodeBlocks.{CodeBlocks, machine}
@@ -35,6 +38,7 @@ use Rattle.pt_machine_state.specs.declared.blocks.BlockCode.{BlockCode}
 use Rattle.pt_machine_state.specs.declared.blocks.Blocks.{Blocks}
 use Rattle.pt_machine_state.specs.declared.machine.Machine.{Machine}
 use Rattle.pt_machine_state.specs.declared.machine.MachineEnd.TheVariants as end
+use Rattle.pt_machine_state.specs.declared.machine.Stride.{Stride}
 use Rattle.pt_machine_state.specs.declared.machine.Stride.TheVariants as stride
 use Rattle.pt_machine_state.specs.declared.writes.Writes.{Writes}
 use Rattle.pt_machine_state.specs.Writing.{Adds}
@@ -113,6 +117,35 @@ module _ (blocks : Blocks) (block : BlockCode) (next : Pc) (m : Machine) (w : Wr
       (subst (λ k. LedTo (leads.arises v (land (object_of q m) q.ins.rows (S.raise v) (slots_view m.here.slots)) (stores_of q.program (grown k))) q stride.Goes m w (raised_at block v (grown h)) w1) f
       (raised-made v h w1 q stands adds))
   made-led (beyond what) v h w1 q stands e adds = absurd (cc)
+
+  -- with one that is there already
+  pub applied_raises : (id : ObjId) (w1 : Writes) → Adds w w1 (raise_events (Obj id) block (grown (arise_while (object_place (active_of m)) id m.heap)))
+      → Applied blocks block next (progress.Raises id) stride.Goes m w (raised_at block (Obj id) (grown (arise_while (object_place (active_of m)) id m.heap))) w1
+  unfolding Applied
+  applied_raises id w1 adds q stands active =
+      subst (λ x. LedTo (leads.arises (Obj id) (land (object_of q m) q.ins.rows (S.raise (Obj id)) (slots_view m.here.slots)) (stores_of q.program (grown (arise_while (object_place x) id m.heap))))
+      q stride.Goes m w (raised_at block (Obj id) (grown (arise_while (object_place (active_of m)) id m.heap))) w1)
+      (sym (active-here blocks block next m q stands active))
+      (raised-made (Obj id) (arise_while (object_place (active_of m)) id m.heap) w1 q stands adds)
+
+  -- with the one that is active, once more, or where none is
+  again-led : (o : Option Value) (r : Stride) (new : Machine) (w1 : Writes) (q : Asking) → Stands blocks block next m q → active_at q.before ≡ active_in m.here.slots → active_of m ≡ o
+      → LedTo (by_tree (object_of q m) q.ins (giving (object_of q m) q.ins (slots_view m.here.slots)) (slots_view m.here.slots) (raise_active o (here_at q m) (stores_of q.program m))) q r m w new w1
+      → LedTo (by_tree (object_of q m) q.ins (giving (object_of q m) q.ins (slots_view m.here.slots)) (slots_view m.here.slots) (raise_active (here_at q m).active (here_at q m) (stores_of q.program m))) q r m w new w1
+  again-led o r new w1 q stands active is led =
+      subst (λ x. LedTo (by_tree (object_of q m) q.ins (giving (object_of q m) q.ins (slots_view m.here.slots)) (slots_view m.here.slots) (raise_active x (here_at q m) (stores_of q.program m))) q r m w new w1)
+      (sym (active-here blocks block next m q stands active ∙ is)) led
+
+  pub applied_raises_again : (v : Value) (w1 : Writes) → active_of m ≡ Some v → Adds w w1 (raise_events v block m)
+      → Applied blocks block next progress.RaisesAgain stride.Goes m w (raised_at block v m) w1
+  unfolding Applied
+  applied_raises_again v w1 is adds q stands active =
+      again-led (Some v) stride.Goes (raised_at block v m) w1 q stands active is (raised-made v m.heap w1 q stands adds)
+
+  pub none_again : (r : Stride) (new : Machine) (w1 : Writes) → active_of m ≡ None
+      → Applied blocks block next (progress.FailsSaying RUNTIME_ERROR (codes "no active exception")) r m w new w1 → Applied blocks block next progress.RaisesAgain r m w new w1
+  unfolding Applied
+  none_again r new w1 is fails q stands active = again-led None r new w1 q stands active is (fails q stands active)
 
   pub applied_fails : (class : ObjId) (arg : Option Value) (v : Value) (h : List Object) (w1 : Writes)
       → IsAllotted (allot (error class (arguments_of arg) None (active_of m)) m.heap) (Some v) h → Adds w w1 (raise_events v block (grown h))

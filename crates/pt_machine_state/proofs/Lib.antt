@@ -1,4 +1,5 @@
 pub mod WriteLemmas
+pub mod PlainLemmas
 pub mod TurnLemmas
 pub mod LandLemmas
 pub mod ApplyLemmas
@@ -7,4 +8,5 @@ pub mod FailLemmas
 pub mod CallLemmas
 pub mod CloseLemmas
 pub mod StrideLemmas
+pub mod AgainLemmas
 pub use Rattle.pt_code_facts.proofs as pt_code_facts

@@ -3,6 +3,7 @@ use Rattle.std.proofs.Common.{inl, inr, ◌≡◌, ◌∙◌, ℕ, [], true, Som
 use Rattle.std.specs.Prelude.{◌⊎◌, nat_lt, if◌then◌else◌}
 use Rattle.std.specs.Option.{option_map}
 use Rattle.pt_base.specs.declared.numbers.Pc.{Pc}
+use Rattle.pt_instr.specs.declared.Instr.TheVariants as instr
 use Rattle.pt_heap.specs.declared.value.Value.{Value}
 use Rattle.pt_ranges.specs.declared.lines.ActMark.{ActMark}
 use Rattle.pt_code.specs.View.{Ins}
@@ -44,11 +45,12 @@ use Rattle.pt_machine_state.specs.Laws.{RowDone, behind_row, row_at, AtRow, Unma
 use Rattle.pt_machine_state.proofs.WriteLemmas.{behind-strode}
 use Rattle.pt_machine_state.proofs.LandLemmas.{active-view}
 use Rattle.pt_machine_state.proofs.ApplyLemmas.{logged-line-event}
+use Rattle.pt_machine_state.proofs.PlainLemmas.{Plainly, plain_instruction}
 use Rattle.pt_machine_state.proofs.TurnLemmas.{unmarked, marked}
 
 module _ (program : Program) (code : CodeBlocks Value) (n : ℕ) (m : Machine) (x : Beside) (r : Stride) (w : Writes) (new : Machine) (w1 : Writes)
     (i : Ins) (is : m.standing ≡ standing.AtPlace) (there : (code.object (block_of m.here)).at m.here.pc.0 ≡ Some i) where
-  abbrev before : Bare
+  abbrev pub before : Bare
   before = run_in program (on m.here.pc.0 (slots_view m.here.slots)) m x
 
   -- where the row of the instruction leads from a state
@@ -57,7 +59,7 @@ module _ (program : Program) (code : CodeBlocks Value) (n : ℕ) (m : Machine) (
       Strode program code (lead (machine code) (heap_host program) a
       (row_of (heap_host program) (code.object (block_of m.here)) m.here.pc.0 i i.instr (slots_view m.here.slots) (here_of (machine code) (heap_host program) s) (store s)) s) r w new w1
 
-  at-place : Strode program code (take_turn (machine code) (heap_host program) n (perform (code.object (block_of m.here)) m.here.pc.0 i i.instr (slots_view m.here.slots)) before) r w new w1
+  pub at-place : Strode program code (take_turn (machine code) (heap_host program) n (perform (code.object (block_of m.here)) m.here.pc.0 i i.instr (slots_view m.here.slots)) before) r w new w1
       → Strode program code (stride_of (machine code) (heap_host program) n (run_of program m x)) r w new w1
   at-place f = subst (λ s. Strode program code (stride_of (machine code) (heap_host program) n (run_in program (state_of s m.here) m x)) r w new w1) (sym is)
       (subst (λ o. Strode program code (take_turn (machine code) (heap_host program) n (slots.here (code.object (block_of m.here)) m.here.pc.0 o (slots_view m.here.slots)) before) r w new w1) (sym there) f)
@@ -66,23 +68,26 @@ module _ (program : Program) (code : CodeBlocks Value) (n : ℕ) (m : Machine) (
   begins = subst (λ o. Begins (option_map mark_of i.mark) (slots.here (code.object (block_of m.here)) m.here.pc.0 o (slots_view m.here.slots))) there
       (begins_at (code.object (block_of m.here)) m.here.pc.0 i (slots_view m.here.slots) there)
 
+  plainly : (i.instr ≡ instr.RaiseAgain → ⊥) → Plainly (perform (code.object (block_of m.here)) m.here.pc.0 i i.instr (slots_view m.here.slots))
+  plainly other = plain_instruction (code.object (block_of m.here)) m.here.pc.0 i i.instr (slots_view m.here.slots) other
+
   -- without a mark the stride is where the row leads
-  pub unmarked_stride : i.mark ≡ None → ((a : Ask Value) → IsPlain a → Led before a)
+  pub unmarked_stride : (i.instr ≡ instr.RaiseAgain → ⊥) → i.mark ≡ None → ((a : Ask Value) → IsPlain a → Led before a)
       → Strode program code (stride_of (machine code) (heap_host program) n (run_of program m x)) r w new w1
-  unmarked_stride none f =
+  unmarked_stride other none f =
       at-place (unmarked program code n r w new w1 (perform (code.object (block_of m.here)) m.here.pc.0 i i.instr (slots_view m.here.slots)) before
-      (subst (λ k. Begins (option_map mark_of k) (perform (code.object (block_of m.here)) m.here.pc.0 i i.instr (slots_view m.here.slots))) none begins) f)
+      (subst (λ k. Begins (option_map mark_of k) (perform (code.object (block_of m.here)) m.here.pc.0 i i.instr (slots_view m.here.slots))) none begins) (plainly other) f)
 
   -- with a mark the act takes its unit, and the line is told before it
-  pub marked_stride : (k : ActMark) → i.mark ≡ Some k → nat_lt m.units n ≡ true
+  pub marked_stride : (i.instr ≡ instr.RaiseAgain → ⊥) → (k : ActMark) → i.mark ≡ Some k → nat_lt m.units n ≡ true
       → ((a : Ask Value) → IsPlain a → Strode program code (behind (line_logged (machine code) (heap_host program) (mark_of k) (line_before before.here) (take_unit (mark_of k) before))
       (lead (machine code) (heap_host program) a
       (row_of (heap_host program) (code.object (block_of m.here)) m.here.pc.0 i i.instr (slots_view m.here.slots)
       (here_of (machine code) (heap_host program) (take_unit (mark_of k) before)) (store (take_unit (mark_of k) before))) (take_unit (mark_of k) before))) r w new w1)
       → Strode program code (stride_of (machine code) (heap_host program) n (run_of program m x)) r w new w1
-  marked_stride k is_mark left f =
+  marked_stride other k is_mark left f =
       at-place (marked program code n r w new w1 (mark_of k) (perform (code.object (block_of m.here)) m.here.pc.0 i i.instr (slots_view m.here.slots)) before
-      (subst (λ j. Begins (option_map mark_of j) (perform (code.object (block_of m.here)) m.here.pc.0 i i.instr (slots_view m.here.slots))) is_mark begins) left f)
+      (subst (λ j. Begins (option_map mark_of j) (perform (code.object (block_of m.here)) m.here.pc.0 i i.instr (slots_view m.here.slots))) is_mark begins) (plainly other) left f)
 
 -- the same by what the machine did
 
@@ -100,6 +105,8 @@ stuck-led program code r w new w1 a s (leads.outside what) stuck = absurd stuck
 stuck-led program code r w new w1 a s (leads.end e) stuck = absurd stuck
 
 if-active : {A B : Type 0} (p : Progress) → (A → B) → IfActive p A → IfActive p B
+if-active (progress.Raises e) f a = f a
+if-active progress.RaisesAgain f a = f a
 if-active (progress.Fails class arg) f a = f a
 if-active (progress.FailsSaying class t) f a = f a
 if-active (progress.Calls b hidden ls) f a = f a
@@ -155,18 +162,18 @@ module _ (program : Program) (code : CodeBlocks Value) (blocks : Blocks) (block 
 pub unmarked_done : UnmarkedStrides
 unfolding UnmarkedStrides
 unmarked_done program code blocks block next n m i d at none x waits r w w1 new applied =
-    unmarked_stride program code n m x r w new w1 i at.at_place at.there none (row-led program code blocks block next m i d at x waits r w w1 new applied)
+    unmarked_stride program code n m x r w new w1 i at.at_place at.there at.other none (row-led program code blocks block next m i d at x waits r w w1 new applied)
 
 -- with a mark
 
 module _ (program : Program) (code : CodeBlocks Value) (block : BlockCode) (m : Machine) (k : ActMark) (known : IsBlockOf program code (block_of m.here) block) (x : Beside) where
-  abbrev acting : Beside
+  abbrev pub acting : Beside
   acting = record { act = k.act.0; waiting = x.waiting }
 
-  abbrev from_start : Bare
+  abbrev pub from_start : Bare
   from_start = run_in program (on m.here.pc.0 (slots_view m.here.slots)) m x
 
-  line-told : line_logged (machine code) (heap_host program) (mark_of k) (line_before from_start.here) (take_unit (mark_of k) from_start) ≡ line_events k block m
+  pub line-told : line_logged (machine code) (heap_host program) (mark_of k) (line_before from_start.here) (take_unit (mark_of k) from_start) ≡ line_events k block m
   line-told = ap (λ l. if is_told (option_map (λ j. j.0) m.here.line) (mark_of k) then l else [])
       (logged-line-event program code block (at_act k m) acting (on m.here.pc.0 (slots_view m.here.slots)) known)
 
@@ -178,6 +185,7 @@ at-act program code blocks block next m i d k at = record {
   at_place = at.at_place;
   there = at.there;
   next_is = at.next_is;
+  other = at.other;
   same_active = at.same_active;
   no_names = at.no_names;
   row = at.row;
@@ -187,7 +195,7 @@ pub marked_done : MarkedStrides
 unfolding MarkedStrides
 marked_done program code blocks block next n m i d k at is_mark left x waits r w w0 w1 new adds applied =
     let known : IsBlockOf program code (block_of m.here) block = subst (λ b. IsBlockOf program code (block_of m.here) b) (sym at.is_block) (at.known (block_of m.here)) in
-    marked_stride program code n m x r w new w1 i at.at_place at.there k is_mark left
+    marked_stride program code n m x r w new w1 i at.at_place at.there at.other k is_mark left
     (λ a plain. behind-strode program code (lead (machine code) (heap_host program) a
     (row_of (heap_host program) (code.object (block_of m.here)) m.here.pc.0 i i.instr (slots_view m.here.slots)
     (here_of (machine code) (heap_host program) (run_in program (on m.here.pc.0 (slots_view m.here.slots)) (at_act k m) (acting program code block m k known x))) (stores_of program (at_act k m)))

@@ -18,7 +18,8 @@ ghost use Rattle.pt_heap.specs.declared.value.Value.{Value};
 ghost use Rattle.pt_code_facts.specs.sem_rows.heap_rows.Told.{block_id};
 ghost use Rattle.pt_code_facts.specs.sem_rows.declared.heap_rows.progress.Progress.TheVariants as progress;
 ghost use Rattle.pt_code_facts.specs.sem_rows.pt_host.Calls.{arguments_of};
-ghost use Rattle.pt_code_facts.specs.sem_rows.pt_host.Errors.{error, error_saying};
+ghost use Rattle.pt_heap.specs.declared.value.Value.TheVariants.{Obj};
+ghost use Rattle.pt_code_facts.specs.sem_rows.pt_host.Errors.{arise_while, error, error_saying, object_place};
 ghost use Rattle.pt_code_facts.specs.sem_rows.pt_host.World.{IsAllotted, allot};
 ghost use Rattle.pt_code_facts.specs.sem_rows.pt_host.declared.places.TheConstants.{RECURSION_ERROR};
 ghost use Rattle.pt_machine_state.specs.Applies.{Applied, Closes};
@@ -26,7 +27,8 @@ ghost use Rattle.pt_machine_state.specs.Blocks.{block_at};
 ghost use Rattle.pt_machine_state.specs.Changes.{events_of, given_back, gone_to, landed, left_place};
 ghost use Rattle.pt_machine_state.specs.Changes.{opened};
 ghost use Rattle.pt_machine_state.specs.Changes.{raise_events, raised_at, suspended, visible_line};
-ghost use Rattle.pt_machine_state.specs.Laws.{MarkedStrides, UnmarkedStrides};
+ghost use Rattle.pt_machine_state.specs.Laws.{MarkedAgain, MarkedStrides, UnmarkedAgain};
+ghost use Rattle.pt_machine_state.specs.Laws.{UnmarkedStrides};
 ghost use Rattle.pt_machine_state.specs.Views.{active_of, block_of};
 ghost use Rattle.pt_machine_state.specs.Writing.{Adds, print_piece};
 ghost use Rattle.pt_machine_state.specs.declared.blocks.BlockCode.{BlockCode};
@@ -66,7 +68,7 @@ pub fn the_machine_goes_where_instructions_lead()
 
 /// The machine does with exceptions that instructions make what a run does, and where there is no
 /// room for one it leaves the profile, as an instruction may do.
-#[tactic(auto, using(crate::proofs::FailLemmas::applied_fails, crate::proofs::FailLemmas::applied_fails_saying, crate::proofs::FailLemmas::fails_outside, crate::proofs::FailLemmas::fails_saying_outside, crate::proofs::FailLemmas::applied_outside))]
+#[tactic(auto, using(crate::proofs::FailLemmas::applied_raises, crate::proofs::FailLemmas::applied_raises_again, crate::proofs::FailLemmas::applied_fails, crate::proofs::FailLemmas::applied_fails_saying, crate::proofs::FailLemmas::fails_outside, crate::proofs::FailLemmas::fails_saying_outside, crate::proofs::FailLemmas::applied_outside))]
 pub fn exceptions_arise_as_in_a_run()
     ensures fails { (blocks : Blocks) (block : BlockCode) (next : Pc) (m : Machine) (w : Writes)
         (class : ObjId) (arg : Option Value) (v : Value) (h : List Object) (w1 : Writes)
@@ -80,6 +82,17 @@ pub fn exceptions_arise_as_in_a_run()
         → Adds w w1 (raise_events v block (record m { heap = h }))
         → Applied blocks block next (progress.FailsSaying class text) stride.Goes m w
         (raised_at block v (record m { heap = h })) w1 }
+    ensures raises { (blocks : Blocks) (block : BlockCode) (next : Pc) (m : Machine) (w : Writes)
+        (id : ObjId) (w1 : Writes)
+        → Adds w w1 (raise_events (Obj id) block
+        (record m { heap = arise_while (object_place (active_of m)) id m.heap }))
+        → Applied blocks block next (progress.Raises id) stride.Goes m w
+        (raised_at block (Obj id)
+        (record m { heap = arise_while (object_place (active_of m)) id m.heap })) w1 }
+    ensures again { (blocks : Blocks) (block : BlockCode) (next : Pc) (m : Machine) (w : Writes)
+        (v : Value) (w1 : Writes) → active_of m ≡ Some v → Adds w w1 (raise_events v block m)
+        → Applied blocks block next progress.RaisesAgain stride.Goes m w (raised_at block v m)
+        w1 }
     ensures full { (blocks : Blocks) (block : BlockCode) (next : Pc) (m : Machine) (w : Writes)
         (new : Machine) → new.units ≡ m.units → (line : Line) → line.0 ≡ visible_line blocks m
         → (class : ObjId) (arg : Option Value) (h : List Object)
@@ -158,9 +171,13 @@ pub fn blocks_end_as_in_a_run()
 {}
 
 /// At an instruction the machine does a stride of a run over code where it does what the row of the
-/// instruction comes to: with a mark the act takes its unit, and its line is told before it.
-#[tactic(auto, using(crate::proofs::StrideLemmas::unmarked_done, crate::proofs::StrideLemmas::marked_done))]
+/// instruction comes to: with a mark the act takes its unit, and its line is told before it. At a
+/// `raise` alone it does one where the exception that is active lands again, of which nothing is
+/// told, or a RuntimeError arises where none is (Language Reference 7.8).
+#[tactic(auto, using(crate::proofs::StrideLemmas::unmarked_done, crate::proofs::StrideLemmas::marked_done, crate::proofs::AgainLemmas::unmarked_again, crate::proofs::AgainLemmas::marked_again))]
 pub fn instructions_are_strides()
     ensures unmarked { UnmarkedStrides }
     ensures marked { MarkedStrides }
+    ensures unmarked_again { UnmarkedAgain }
+    ensures marked_again { MarkedAgain }
 {}

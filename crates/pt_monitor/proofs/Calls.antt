@@ -1,15 +1,15 @@
 -- What calls for tools come to, and that tools that are alike answer alike.
-use Rattle.std.proofs.Common.{◌≡◌, ℕ, zero, suc, ◌==◌, ◌<◌, ℤ, pos, negsuc, List, [], ◌∷◌, ◌++◌, Bool, true, false, cond, not, ◌&&◌, ◌||◌, Option, None, Some, is_some, refl, sym, ap, ◌∙◌, subst, arith, true≢false}
+use Rattle.std.proofs.Common.{◌≡◌, ℕ, zero, suc, ◌==◌, ℤ, pos, negsuc, List, [], ◌∷◌, Bool, true, false, cond, not, ◌&&◌, ◌||◌, Option, None, Some, is_some, refl, sym, ap, ◌∙◌, subst, true≢false}
 use Rattle.std.proofs.lemmas.Bool.{eq-eqb, or_parts, and_from, and_right}
 use Rattle.std.specs.List.{list_any}
 use Rattle.sem_run.specs.run.Machine.{BlockId, same_block}
 use Rattle.sem_run.specs.run.Rows.{row_at}
-use Rattle.sem_run.specs.run.Tools.{Tool, Tools, ToolCall, ToolResult, Location, LocalSet, unused, or_unused, tool_at, with_tool, local_set, callback, with_callback, without_callback, has, gives, is_off, same_location, has_event, wants, switch_off, without, tool_call, for_tool, is_id, use_id, free_id, name_of, set_of, local_set_of, give_set, give_local_set, register, restart, use_tool, set_events, set_local_events, register_for, register_callback, are_listed, are_local, unsigned, only_bit, bits, done, a_name, a_set, a_callback, wrong, bad_id, in_use, not_in_use, bad_set}
-use Rattle.pt_monitor.specs.Alike.{IsAlike, AreAlike, ToolsAlike}
+use Rattle.sem_run.specs.run.Tools.{Tool, Tools, ToolCall, ToolResult, Location, LocalSet, unused, or_unused, tool_at, with_tool, local_set, callback, with_callback, gives, is_off, same_location, has_event, wants, without, tool_call, for_tool, is_id, use_id, free_id, name_of, set_of, local_set_of, give_set, give_local_set, register, restart, use_tool, set_events, set_local_events, register_for, are_listed, are_local, unsigned, only_bit, bits, done, a_name, a_set, a_callback, wrong, bad_id, bad_set}
+use Rattle.pt_monitor.specs.Alike.{IsAlike, ToolsAlike}
 use Rattle.pt_monitor.specs.Answers.{tool_place}
-use Rattle.pt_monitor.specs.Kept.{can_be_due, is_wanted}
+use Rattle.pt_monitor.specs.Kept.{can_be_due}
 use Rattle.pt_monitor.specs.Laws.{AnswerAlike, SwitchesOff, IsToldByMask}
-use Rattle.pt_monitor.proofs.ToolRows.{alike_with, tools_alike}
+use Rattle.pt_monitor.proofs.ToolRows.{alike_with}
 use Rattle.pt_monitor.proofs.Keeping.{callback-with, callback-without}
 
 abbrev new_set : BlockId → ℕ → LocalSet

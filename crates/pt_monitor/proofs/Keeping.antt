@@ -1,14 +1,13 @@
 -- Maps and sets beside the lists of a run's tools.
-use Rattle.std.proofs.Common.{◌≡◌, ◌≢◌, ℕ, ◌==◌, nat_eq, Bool, true, false, cond, not, ◌&&◌, ◌||◌, List, [], ◌∷◌, map, Option, None, Some, is_some, refl, sym, ap, ◌∙◌, subst, arith, inl, inr, nat_cmp, true≢false, ◌^◌, bit_and, bit_or}
+use Rattle.std.proofs.Common.{◌≡◌, ℕ, ◌==◌, nat_eq, Bool, true, false, cond, not, ◌&&◌, ◌||◌, List, [], ◌∷◌, Option, None, Some, is_some, refl, sym, ap, ◌∙◌, subst, inl, inr, true≢false, ◌^◌, bit_and, bit_or}
 use Rattle.std.proofs.lemmas.Bool.{cases_eq, eqb-true, eq-eqb, ne_eqb, or_from, and_left, and_right}
 use Rattle.std.specs.Cmp.{nat_cmp_total, unsigned_tied, eq_by_cmp_equiv}
-use Rattle.std.specs.Ordering.{eq_by_cmp}
 use Rattle.std.specs.List.{list_any}
 use Rattle.std.specs.Map.{lookup}
 use Rattle.bitflags.specs.Sets as sets
 use Rattle.pt_heap.specs.declared.value.Value.{Value}
 use Rattle.sem_run.specs.run.Machine.{BlockId}
-use Rattle.sem_run.specs.run.Tools.{Tool, Callback, LocalSet, Location, has, gives, local_set, callback, with_callback, without_callback, same_location, is_off}
+use Rattle.sem_run.specs.run.Tools.{Tool, Callback, Location, has, gives, local_set, callback, with_callback, without_callback, same_location, is_off}
 use Rattle.pt_monitor.specs.declared.set.EventSet.{EventSet}
 use Rattle.pt_monitor.specs.declared.event.MonEvent.{MonEvent}
 use Rattle.pt_monitor.specs.declared.place.Place.{Place}

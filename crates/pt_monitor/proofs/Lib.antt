@@ -3,3 +3,4 @@ pub mod Keeping
 pub mod ToolRows
 pub mod Calls
 pub mod Told
+pub mod Exits

@@ -1,11 +1,11 @@
 -- What each call comes to at each of its exits.
-use Rattle.std.proofs.Common.{◌≡◌, ℕ, ℤ, pos, negsuc, ◌<◌, ◌≤◌, ◌^◌, List, ◌∷◌, Bool, true, false, cond, ◌&&◌, Option, None, Some, is_some, refl, sym, ap, ◌∙◌, subst, arith, inl, inr, true≢false, unsigned_abs, Result, Ok, Err, IsErrAnd}
+use Rattle.std.proofs.Common.{◌≡◌, ℕ, ℤ, pos, negsuc, ◌<◌, ◌≤◌, ◌^◌, List, [], ◌∷◌, length, zero, suc, Bool, true, false, cond, not, ◌&&◌, Option, None, Some, is_some, refl, sym, ap, ◌∙◌, subst, arith, inl, inr, true≢false, unsigned_abs, Result, Ok, Err, IsErrAnd}
 use Rattle.std.proofs.lemmas.Bool.{cases_lt, ltb-true, lt-ltb, le-ltb, cond-true, cond-false, and_left, and_right, and_from}
 use Rattle.std.specs.Int.{FitsUnsignedBits}
 use Rattle.sem_run.specs.run.Machine.{BlockId}
 use Rattle.pt_heap.specs.declared.value.Value.{Value}
-use Rattle.sem_run.specs.run.Rows.{put_at}
-use Rattle.sem_run.specs.run.Tools.{Tool, Tools, ToolCall, ToolAnswer, Location, is_local, ToolResult, tool_at, with_tool, is_id, unsigned, are_listed, are_local, only_bit, bits, tool_call, use_tool, set_events, set_local_events, register_for, register_callback, use_id, give_set, give_local_set, register, done, wrong, in_use, not_in_use, bad_set}
+use Rattle.sem_run.specs.run.Rows.{row_at, put_at}
+use Rattle.sem_run.specs.run.Tools.{unused, or_unused, callback, has_event, is_off, wants, Tool, Tools, ToolCall, ToolAnswer, Location, is_local, ToolResult, tool_at, with_tool, is_id, unsigned, are_listed, are_local, only_bit, bits, tool_call, use_tool, set_events, set_local_events, register_for, use_id, give_set, give_local_set, register, done, wrong, in_use, not_in_use, bad_set}
 use Rattle.pt_monitor.specs.declared.error.ToolErr.{ToolErr}
 use Rattle.pt_monitor.specs.declared.error.ToolErr.TheVariants.{Memory}
 use Rattle.pt_monitor.specs.Alike.{AreAlike, ToolsAlike}
@@ -149,3 +149,32 @@ pub disables_none : (l : Location) (old new : Tools Value) (r : Result (Unit {0}
     → Disables l old new r
 disables_none l old new (Ok x) h local same = absurd h
 disables_none l old new (Err e) h local same = subst (λ (d : ToolErr). Disables l old new (Err d)) (sym h) (local, same)
+
+-- which callback is due
+row_past : (xs : List (Tool Value)) (n : ℕ) → length xs ≤ n → or_unused (row_at n xs) ≡ unused
+row_past [] n h = refl
+row_past (x ∷ xs) zero h = absurd (omega arith)
+row_past (x ∷ xs) (suc n) h = row_past xs n (omega arith)
+
+never : (t : Bool) (o : Option Value) → cond t o o ≡ o
+never true o = refl
+never false o = refl
+
+pub none_beyond : (ts : Tools Value) (l : Location) → length ts.tools ≤ l.tool → None ≡ wants ts l
+none_beyond ts l h =
+    sym (ap (λ (t : Tool Value). cond (has_event t l && not (is_off l ts.off)) (callback t.callbacks l.bit) None) (row_past ts.tools l.tool h)
+    ∙ never (has_event {V = Value} unused l && not (is_off l ts.off)) None)
+
+pub none_without : (ts : Tools Value) (l : Location) (r : Bool) → r ≡ has_event (tool_at l.tool ts) l → r ≡ false → None ≡ wants ts l
+none_without ts l r e h = sym (ap (λ x. cond (x && not (is_off l ts.off)) (callback (tool_at l.tool ts).callbacks l.bit) None) (sym e ∙ h))
+
+pub none_off : (ts : Tools Value) (l : Location) (r : Bool) → r ≡ is_off l ts.off → r ≡ true → None ≡ wants ts l
+none_off ts l r e h =
+    sym (ap (λ x. cond (has_event (tool_at l.tool ts) l && not x) (callback (tool_at l.tool ts).callbacks l.bit) None) (sym e ∙ h)
+    ∙ ap (λ x. cond x (callback (tool_at l.tool ts).callbacks l.bit) None) (and_right (has_event (tool_at l.tool ts) l) false refl))
+
+pub due_there : (ts : Tools Value) (l : Location) (r o : Bool) → r ≡ has_event (tool_at l.tool ts) l → r ≡ true → o ≡ is_off l ts.off → o ≡ false
+    → callback (tool_at l.tool ts).callbacks l.bit ≡ wants ts l
+due_there ts l r o e h f k =
+    sym (ap (λ x. cond (x && not (is_off l ts.off)) (callback (tool_at l.tool ts).callbacks l.bit) None) (sym e ∙ h)
+    ∙ ap (λ x. cond (not x) (callback (tool_at l.tool ts).callbacks l.bit) None) (sym f ∙ k))

@@ -1,5 +1,5 @@
 -- What the calls of `Tools` answer: what the calls of sys.monitoring do, unless memory has run out.
-use Rattle.std.specs.Prelude.{◌≡◌, ℕ, ℤ, pos, negsuc, List, Bool, true, false, Option, Some, None, Result, Ok, Err, if◌then◌else◌}
+use Rattle.std.specs.Prelude.{◌≡◌, ℕ, ℤ, pos, negsuc, List, true, false, Option, Some, None, Result, Ok, Err, if◌then◌else◌}
 use Rattle.pt_heap.specs.declared.value.Value.{Value}
 use Rattle.pt_settrace.specs.Tracing.{or_none}
 use Rattle.sem_run.specs.run.Tools as run
@@ -25,9 +25,9 @@ reply f a = Ok (f a)
 abbrev pub nothing : ToolAnswer Value → Unit {0}
 nothing a = tt
 
-abbrev pub set_told : ToolAnswer Value → ℤ
-set_told (run.a_set s) = pos s
-set_told a = pos 0
+abbrev pub set_told : ToolAnswer Value → ℕ
+set_told (run.a_set s) = s
+set_told a = 0
 
 abbrev pub name_told : ToolAnswer Value → Option (List ℕ)
 name_told (run.a_name x) = x

@@ -1,5 +1,5 @@
 -- What follows for tools.
-use Rattle.std.specs.Prelude.{◌≡◌, Bool, false, List, None}
+use Rattle.std.specs.Prelude.{◌≡◌, false, None}
 use Rattle.sem_run.specs.run.Tools as run
 use Rattle.sem_run.specs.run.Tools.{Tools, ToolCall, Location, tool_call, wants, switch_off, without, same_location, is_off}
 use Rattle.pt_monitor.specs.Alike.{ToolsAlike}

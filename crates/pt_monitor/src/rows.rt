@@ -14,6 +14,13 @@ use bitflags::Flags;
 use pt_base::{BlockId, Memory, Text};
 use pt_heap::Value;
 
+/// How many tools there are.
+pub fn count(tools: &[Tool]) -> usize
+    ensures { result ≡ length tools.now }
+{
+    tools.len()
+}
+
 /// The tool with an id.
 pub fn tool_at(tools: &[Tool], at: usize) -> &Tool
     requires { at < length tools.now }

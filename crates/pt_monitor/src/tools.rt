@@ -1,7 +1,10 @@
-ghost use Rattle.std.specs.Prelude.{◌≡◌};
+ghost use Rattle.std.specs.Prelude.{◌≡◌, OnOk, OnErr};
 ghost use Rattle.sem_run.specs.run.Tools as run;
-ghost use Rattle.sem_run.specs.run.Tools.{no_tools, tool_call, has};
-ghost use Rattle.pt_monitor.specs.Answers.{Disables};
+ghost use Rattle.sem_run.specs.run.Tools.{no_tools, tool_call, has, wants};
+ghost use Rattle.pt_settrace.specs.Tracing.{unless_none};
+ghost use Rattle.pt_monitor.specs.Alike.{ToolsAlike};
+ghost use Rattle.pt_monitor.specs.Answers.{UnlessMemory, reply, nothing, set_told, name_told};
+ghost use Rattle.pt_monitor.specs.Answers.{callback_told, tool_place, Disables};
 ghost use Rattle.pt_monitor.specs.Events.{bit_of};
 ghost use Rattle.pt_monitor.specs.Kept as kept;
 ghost use Rattle.pt_monitor.specs.Kept.{is_wanted};
@@ -11,12 +14,24 @@ use crate::place::{self, Place};
 use crate::tool::Tool;
 use crate::{EventSet, MonEvent, ToolErr, rows};
 use indexmap::IndexSet;
-use pt_base::{ActNo, BlockId};
+use pt_base::{ActNo, BlockId, Text};
+use pt_heap::Value;
+use pt_settrace::{or_none, unless_none};
 use std::alloc::Global;
 use std::marker::Model;
 
 /// How many tools there are.
 const TOOLS: usize = 6;
+
+/// The place of a tool among them, by its id.
+fn tool_place(id: i128) -> Option<usize>
+    ensures { result ≡ tool_place id }
+{
+    let Ok(at) = usize::try_from(id) else {
+        return None;
+    };
+    if at < TOOLS { Some(at) } else { None }
+}
 
 /// The tools of a run, by their ids 0 to 5, and where their events are switched off. Contracts see
 /// them as a run does; what is alike answers alike.
@@ -52,6 +67,190 @@ impl Tools {
             ],
             off: IndexSet::new(alloc),
         }
+    }
+
+    /// Takes an id for a tool with a name (`use_tool_id`).
+    ///
+    /// # Errors
+    ///
+    /// `BadId` where the id isn't one of 0 to 5, `InUse` where a tool has it. All is as before then.
+    pub fn use_id(&mut self, id: i128, name: Text) -> Result<(), ToolErr>
+        ensures answer { result ≡ reply nothing (tool_call (run.use_id id name) self.old).0 }
+        ensures new { self.new ≡ (tool_call (run.use_id id name) self.old).1 }
+    {
+        let Some(at) = tool_place(id) else {
+            return Err(ToolErr::BadId);
+        };
+        if rows::tool_at(&self.tools, at).is_in_use() {
+            return Err(ToolErr::InUse);
+        }
+        rows::set_name(&mut self.tools, at, Some(name));
+        Ok(())
+    }
+
+    /// Gives an id back (`free_tool_id`). The tool's sets of events and callbacks stay.
+    ///
+    /// # Errors
+    ///
+    /// `BadId` where the id isn't one of 0 to 5. All is as before then.
+    pub fn free_id(&mut self, id: i128) -> Result<(), ToolErr>
+        ensures answer { result ≡ reply nothing (tool_call (run.free_id id) self.old).0 }
+        ensures new { self.new ≡ (tool_call (run.free_id id) self.old).1 }
+    {
+        let Some(at) = tool_place(id) else {
+            return Err(ToolErr::BadId);
+        };
+        rows::set_name(&mut self.tools, at, None);
+        Ok(())
+    }
+
+    /// The name of the tool that has an id, if one has (`get_tool`).
+    ///
+    /// # Errors
+    ///
+    /// `BadId` where the id isn't one of 0 to 5; `Memory` for want of it.
+    pub fn name_of(&self, alloc: Global, id: i128) -> Result<Option<Text>, ToolErr>
+        ensures { UnlessMemory result (result
+            ≡ reply name_told (tool_call (run.name_of id) self.now).0) }
+    {
+        let Some(at) = tool_place(id) else {
+            return Err(ToolErr::BadId);
+        };
+        Ok(rows::tool_at(&self.tools, at).name(alloc)?)
+    }
+
+    /// The bits of a tool's set of events (`get_events`).
+    ///
+    /// # Errors
+    ///
+    /// `BadId` where the id isn't one of 0 to 5.
+    pub fn get(&self, id: i128) -> Result<u32, ToolErr>
+        ensures { result ≡ reply set_told (tool_call (run.set_of id) self.now).0 }
+    {
+        let Some(at) = tool_place(id) else {
+            return Err(ToolErr::BadId);
+        };
+        Ok(rows::tool_at(&self.tools, at).set().0)
+    }
+
+    /// The bits of a tool's set of events for a block (`get_local_events`).
+    ///
+    /// # Errors
+    ///
+    /// `BadId` where the id isn't one of 0 to 5.
+    pub fn get_local(&self, id: i128, block: BlockId) -> Result<u32, ToolErr>
+        ensures { result
+            ≡ reply set_told (tool_call (run.local_set_of id (kept.block block.0)) self.now).0 }
+    {
+        let Some(at) = tool_place(id) else {
+            return Err(ToolErr::BadId);
+        };
+        Ok(rows::tool_at(&self.tools, at).local(block).0)
+    }
+
+    /// Gives a tool a set of events (`set_events`).
+    ///
+    /// # Errors
+    ///
+    /// The first of these, and all is as before: `BadId` where the id isn't one of 0 to 5, `NotInUse`
+    /// where no tool has it, `BadSet` where a bit is that of no event.
+    pub fn set(&mut self, id: i128, bits: i128) -> Result<(), ToolErr>
+        ensures answer { result ≡ reply nothing (tool_call (run.give_set id bits) self.old).0 }
+        ensures new { self.new ≡ (tool_call (run.give_set id bits) self.old).1 }
+    {
+        let Some(at) = tool_place(id) else {
+            return Err(ToolErr::BadId);
+        };
+        if !rows::tool_at(&self.tools, at).is_in_use() {
+            return Err(ToolErr::NotInUse);
+        }
+        let Some(set) = EventSet::listed(bits) else {
+            return Err(ToolErr::BadSet);
+        };
+        rows::give_set(&mut self.tools, at, set);
+        Ok(())
+    }
+
+    /// Gives a tool a set of events for a block (`set_local_events`).
+    ///
+    /// # Errors
+    ///
+    /// The first of these, and all is as before: `BadId` where the id isn't one of 0 to 5, `NotInUse`
+    /// where no tool has it, `BadSet` where a bit is that of no event or of one without a place of its
+    /// own; `Memory` for want of it.
+    pub fn set_local(&mut self, id: i128, block: BlockId, bits: i128) -> Result<(), ToolErr>
+        ensures answer { UnlessMemory result (result
+            ≡ reply nothing (tool_call (run.give_local_set id (kept.block block.0) bits) self.old).0) }
+        ensures ok { OnOk result (ToolsAlike self.new
+            (tool_call (run.give_local_set id (kept.block block.0) bits) self.old).1) }
+        ensures err { OnErr result (self.new ≡ self.old) }
+    {
+        let Some(at) = tool_place(id) else {
+            return Err(ToolErr::BadId);
+        };
+        let asked = rows::tool_at(&self.tools, at);
+        if !asked.is_in_use() {
+            return Err(ToolErr::NotInUse);
+        }
+        let Some(set) = EventSet::listed(bits) else {
+            return Err(ToolErr::BadSet);
+        };
+        if !set.is_local() {
+            return Err(ToolErr::BadSet);
+        }
+        rows::give_local(&mut self.tools, at, block, set)?;
+        Ok(())
+    }
+
+    /// Registers a callback of a tool for the one event of a set; None takes it away. It answers the
+    /// callback before, or None (`register_callback`).
+    ///
+    /// # Errors
+    ///
+    /// The first of these, and all is as before: `BadId` where the id isn't one of 0 to 5, `BadSet`
+    /// where the set isn't that of one event; `Memory` for want of it.
+    pub fn register(&mut self, id: i128, event: i128, f: Value) -> Result<Value, ToolErr>
+        ensures answer { UnlessMemory result (result
+            ≡ reply callback_told (tool_call (run.register id event (unless_none f)) self.old).0) }
+        ensures ok { OnOk result (ToolsAlike self.new
+            (tool_call (run.register id event (unless_none f)) self.old).1) }
+        ensures err { OnErr result (self.new ≡ self.old) }
+    {
+        let Some(at) = tool_place(id) else {
+            return Err(ToolErr::BadId);
+        };
+        let Some(event) = MonEvent::of_bits(event) else {
+            return Err(ToolErr::BadSet);
+        };
+        let before = rows::tool_at(&self.tools, at).callback(event);
+        rows::register(&mut self.tools, at, event, unless_none(f))?;
+        Ok(or_none(before))
+    }
+
+    /// The callback of a tool that is due at an event in a block, at an act. It takes no memory, and
+    /// the same time however many places are switched off.
+    pub fn due(&self, tool: u8, event: MonEvent, block: BlockId, act: ActNo) -> Option<Value>
+        ensures { result ≡ wants self.now (record {
+          tool = tool;
+          bit = bit_of event;
+          block = kept.block block.0;
+          act = act.0;
+        }) }
+    {
+        let at = usize::from(tool);
+        let count = rows::count(&self.tools);
+        if at >= count {
+            return None;
+        }
+        let asked = rows::tool_at(&self.tools, at);
+        if !asked.has_event(event, block) {
+            return None;
+        }
+        let place = place_of(tool, event, block, act);
+        if place::is_off_at(&self.off, place) {
+            return None;
+        }
+        asked.callback(event)
     }
 
     /// Whatever a callback that answered DISABLE leads to: its event is switched off at this place.

@@ -10,5 +10,8 @@ pub use branches::{jump_if, jump_if_keep, jump_unless, jump_unless_keep};
 pub use constants::constant;
 pub use moves::{copy, copy_two, jump, leave, nop, pop, return_value, rotate_three, swap};
 pub use sem_rows::heap_rows::Progress;
-pub use sem_rows::{TYPE_ERROR, allot, binding_text, not_callable_text};
-pub use taking::{take_movable, take_one, take_three, take_two};
+pub use sem_rows::{
+    ASSERTION_ERROR, BASE_EXCEPTION, Raisable, TYPE_ERROR, allot, are_named, binding_text, derives,
+    error, not_callable_text, raisable_of, values_given,
+};
+pub use taking::{take_movable, take_one, take_three, take_two, top_value};

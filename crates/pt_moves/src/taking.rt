@@ -17,6 +17,14 @@ fn value_in(slot: Option<Slot>) -> Option<Value>
     }
 }
 
+/// The value on top, if one is there; it stays there.
+#[tactic(auto, using(crate::proofs::TakeLemmas::first_one))]
+pub fn top_value(slots: &Slots) -> Option<Value>
+    ensures { result ≡ one_value slots.now }
+{
+    value_in(slots.get(0))
+}
+
 /// Takes a value off, or answers None where none is on top.
 #[tactic(auto, using(crate::proofs::TakeLemmas::first_one, crate::proofs::TakeLemmas::popped, crate::proofs::TakeLemmas::quiet_one))]
 pub fn take_one(slots: &mut Slots) -> Option<Value>

@@ -123,7 +123,7 @@ module _ (old below : List Slot) (heap : List Object) (p : Progress) (new : List
 
 -- where values are missing
 
-lacks_one_of : (slots : List Slot) → value_on_top slots ≡ None → (vs : List Value) (next : Next Value (List Value)) → values 1 vs (slots_view slots) next ≡ stuck
+pub lacks_one_of : (slots : List Slot) → value_on_top slots ≡ None → (vs : List Value) (next : Next Value (List Value)) → values 1 vs (slots_view slots) next ≡ stuck
 lacks_one_of [] e vs next = refl
 lacks_one_of (slot.Value v ∷ slots) e vs next = absurd (cc)
 lacks_one_of (slot.Cell n ∷ slots) e vs next = refl

@@ -1,5 +1,14 @@
+pub mod ClassLemmas
+pub mod KinshipLemmas
+pub mod IntegerTextLemmas
 pub mod SequenceLemmas
 pub mod Places
+pub mod ValueLists
 pub mod StayLemmas
 pub mod SoundLemmas
+pub mod EntryLemmas
+pub mod ContainerLemmas
+pub mod StarLemmas
+pub mod MethodLemmas
+pub mod AttributeLemmas
 pub mod WithinLemmas

@@ -9,8 +9,8 @@ use Rattle.pt_heap.specs.declared.object.Object.{Object}
 use Rattle.pt_heap.specs.declared.object.Object.TheVariants.{Class}
 use Rattle.pt_heap.specs.Sound.{place_of, places_in, places_of, IsClassAt, IsSound, IsWithin}
 use Rattle.pt_builtin_objects.specs.Start.{start_objects}
-use Rattle.pt_attrs.specs.Look.{object_of}
-use Rattle.pt_comparisons.specs.pt_sequences.Displays.{repeated}
+use Rattle.pt_content.specs.pt_attrs.Look.{object_of}
+use Rattle.pt_methods.specs.pt_sequences.Displays.{repeated}
 use Rattle.pt_prims.specs.Laws.{AllWithin, IsWithinIf}
 
 -- places below a number
@@ -27,10 +27,10 @@ one-below n x l p c = by c.0 c.1 c.2
     by zero b e = omega (arith, l, e)
     by (suc k) b e = absurd (omega arith)
 
-both-below : (n : ℕ) (xs ys : List ℕ) → Below n xs → Below n ys → Below n (xs ++ ys)
+pub both-below : (n : ℕ) (xs ys : List ℕ) → Below n xs → Below n ys → Below n (xs ++ ys)
 both-below n xs ys a b p c = elim (Contains-append_cases xs ys p c) [ inl h ↦ a p h | inr h ↦ b p h ]
 
-value-below : (h : List Object) (v : Value) → IsWithin h v → Below (length h) (place_of v)
+pub value-below : (h : List Object) (v : Value) → IsWithin h v → Below (length h) (place_of v)
 value-below h value.None w = none-below (length h)
 value-below h (value.Bool b) w = none-below (length h)
 value-below h (value.Int z) w = none-below (length h)
@@ -42,7 +42,7 @@ pub values-below : (h : List Object) (vs : List Value) → AllWithin h vs → Be
 values-below h [] w = none-below (length h)
 values-below h (v ∷ vs) w = both-below (length h) (place_of v) (places_in vs) (value-below h v w.0) (values-below h vs w.1)
 
-below-value : (h : List Object) (v : Value) → Below (length h) (place_of v) → IsWithin h v
+pub below-value : (h : List Object) (v : Value) → Below (length h) (place_of v) → IsWithin h v
 below-value h value.None b = tt
 below-value h (value.Bool x) b = tt
 below-value h (value.Int z) b = tt
@@ -110,5 +110,8 @@ from-start h i o s e = of-take (length start_objects) h i o (ap (λ l. slice_get
 pub class-within : (h : List Object) (p : ℕ) → IsClassAt h p → p < length h
 class-within h p c = slice_get_within h p (Class c.0) c.1
 
+pub start-within : (h : List Object) (p : ℕ) (o : Object) → IsSound start_objects h → slice_get start_objects p ≡ Some o → p < length h
+start-within h p o s e = slice_get_within h p o (from-start h p o s e)
+
 pub start-class : (h : List Object) (p : ℕ) → IsSound start_objects h → IsClassAt start_objects p → p < length h
-start-class h p s c = slice_get_within h p (Class c.0) (from-start h p (Class c.0) s c.1)
+start-class h p s c = start-within h p (Class c.0) s c.1

@@ -7,7 +7,7 @@ use Rattle.std.proofs.lemmas.List.{nil_from_length}
 use Rattle.std.proofs.lemmas.Str.{encodes-chars}
 use Rattle.pt_strs.specs.Answer.{length_limit}
 use Rattle.pt_strs.specs.Join.{copies}
-use Rattle.pt_comparisons.specs.pt_sequences.Displays.{times}
+use Rattle.pt_methods.specs.pt_sequences.Displays.{times}
 use Rattle.pt_prims.specs.Sequences.{is_short}
 
 pub copies_none : (n : ℕ) → copies n [] ≡ []

@@ -28,13 +28,13 @@ use Rattle.pt_prims.specs.Laws.{AllWithin, AnswerIsWithin}
 use Rattle.pt_prims.specs.Operations.{grown, if_room, placed}
 use Rattle.pt_prims.proofs.Places.{all-grow, from-start, if-grows, none-below, within-grows, Below}
 
--- what a content names lies in a heap
+-- what a content names lies in a heap; a new object may name those before it
 abbrev pub NewIsWithin : List Object → NewObject → Type 0
 NewIsWithin h o = Below (length h) (places_of (made o))
 
 abbrev pub NewAreWithin : List Object → List NewObject → Type 0
 NewAreWithin h [] = Unit {0}
-NewAreWithin h (o ∷ os) = NewIsWithin h o × NewAreWithin h os
+NewAreWithin h (o ∷ os) = NewIsWithin h o × NewAreWithin (h ++ made o ∷ []) os
 
 abbrev pub ReplacementIsWithin : List Object → Option Replacement → Type 0
 ReplacementIsWithin h None = Unit {0}
@@ -61,13 +61,6 @@ new-classes h i (new.Cursor c) = tt
 new-classes h i (new.View v) = tt
 new-classes h i (new.Method m) = tt
 
-new-grows : (h k : List Object) (o : NewObject) → length h ≤ length k → NewIsWithin h o → NewIsWithin k o
-new-grows h k o l w p c = let b : p < length h = w p c in omega (arith, l, b)
-
-new-grow : (h k : List Object) (os : List NewObject) → length h ≤ length k → NewAreWithin h os → NewAreWithin k os
-new-grow h k [] l w = tt
-new-grow h k (o ∷ os) l w = (new-grows h k o l w.0, new-grow h k os l w.1)
-
 one-sound : (h : List Object) (o : NewObject) → IsSound start_objects h → NewIsWithin h o → IsSound start_objects (h ++ made o ∷ [])
 one-sound h o s w = sound-add h (made o) start_objects s (record { places = w; classes = new-classes h (length h) o })
 
@@ -76,7 +69,7 @@ all-sound h [] s w = subst (λ l. IsSound start_objects l) (sym (append-nil h)) 
 all-sound h (o ∷ os) s w =
     let more : List Object = h ++ made o ∷ [] in
     subst (λ l. IsSound start_objects l) (append_assoc h (made o ∷ []) (map made os))
-    (all-sound more os (one-sound h o s w.0) (new-grow h more os (omega (arith, length-append h (made o ∷ []))) w.1))
+    (all-sound more os (one-sound h o s w.0) w.1)
 
 -- no object of the start is one that changes
 abbrev is_changing : Object → Bool
@@ -98,7 +91,7 @@ start-stays name (kind.Class base) = refl
 start-stays name (kind.Function number) = refl
 start-stays name kind.Mark = refl
 start-stays name (kind.Module m) = refl
-start-stays name kind.Event = refl
+start-stays name kind.Text = refl
 
 all-stay : (rs : List (List ℕ × Kind)) (i : ℕ) (o : Object) → slice_get (objects_of rs) i ≡ Some o → is_changing o ≡ false
 all-stay [] i o e = absurd cc
@@ -203,7 +196,7 @@ room-within c h a w = by (has_room c.objects h)
         answer-grows more (replaced c.replacement more) a (omega (arith, replaced-length c.replacement more)) w
     by false = tt
 
-places-within : (k : List Object) (p n : ℕ) → p + n ≤ length k → AllWithin k (places_from p n)
+pub places-within : (k : List Object) (p n : ℕ) → p + n ≤ length k → AllWithin k (places_from p n)
 places-within k p zero l = tt
 places-within k p (suc n) l = (omega (arith, l), places-within k (p + 1) n (omega (arith, l)))
 

@@ -1,7 +1,8 @@
 -- What operations give of values of a sound heap lies there: what they make of what they are given, and classes of the start.
-use Rattle.std.proofs.Common.{◌≡◌, ◌+◌, ℕ, zero, suc, ℤ, pos, negsuc, Bool, true, false, ◌&&◌, List, [], ◌∷◌, ◌++◌, Option, None, Some, Result, Ok, Err, length, map, codes, nat_le, slice_get, if◌then◌else◌, refl, subst, arith}
-use Rattle.std.specs.Prelude.{option_to_list, nat_lt}
+use Rattle.std.proofs.Common.{◌≡◌, ◌+◌, ℕ, zero, suc, ℤ, pos, negsuc, Bool, true, false, ◌&&◌, List, [], ◌∷◌, ◌++◌, Option, None, Some, Result, Ok, Err, length, map, set, codes, nat_le, slice_get, if◌then◌else◌, refl, subst, arith}
+use Rattle.std.specs.Prelude.{◌||◌, option_to_list, nat_lt}
 use Rattle.std.specs.Char.{encode_utf8}
+use Rattle.std.specs.List.{remove}
 use Rattle.std.specs.Str.{chars}
 use Rattle.std.proofs.lemmas.List.{length-append}
 use Rattle.pt_base.specs.declared.numbers.ObjId.{ObjId}
@@ -13,8 +14,8 @@ use Rattle.pt_base.specs.declared.operators.CompareOp.TheVariants as comparison
 use Rattle.pt_base.specs.declared.what.What.TheVariants as what
 use Rattle.pt_ints.specs.declared.answer.IntAns.{IntAns}
 use Rattle.pt_ints.specs.declared.answer.IntAns.TheVariants as integer
-use Rattle.pt_ints.specs.Answer.{binary_answer, unary_answer, is_in_range}
-use Rattle.pt_dicts.specs.Keys.{truth}
+use Rattle.pt_ints.specs.Answer.{binary_answer, ranged, unary_answer, is_in_range}
+use Rattle.pt_content.specs.pt_attrs.pt_dicts.Keys.{truth}
 use Rattle.pt_heap.specs.Limits.{entry_limit}
 use Rattle.pt_heap.specs.declared.value.Value.{Value}
 use Rattle.pt_heap.specs.declared.value.Value.TheVariants as value
@@ -24,13 +25,15 @@ use Rattle.pt_heap.specs.declared.object.Cursor.{Cursor}
 use Rattle.pt_heap.specs.declared.object.Part.{Part}
 use Rattle.pt_heap.specs.declared.object.Part.TheVariants as part
 use Rattle.pt_heap.specs.declared.object.Range.{Range}
-use Rattle.pt_heap.specs.Sound.{place_in, IsClassAt, IsSound, IsWithin}
+use Rattle.pt_heap.specs.Sound.{place_in, place_of, IsClassAt, IsSound, IsWithin}
 use Rattle.pt_builtin_objects.specs.Start.{start_objects}
+use Rattle.pt_strs.specs.Answer as strs
 use Rattle.pt_strs.specs.Answer.{length_limit}
-use Rattle.pt_attrs.specs.Look.{object_of}
+use Rattle.pt_content.specs.pt_attrs.Look.{object_of}
 use Rattle.pt_content.specs.declared.answer.Helper.{Helper}
 use Rattle.pt_content.specs.declared.answer.Helper.TheVariants as helper
 use Rattle.pt_content.specs.declared.answer.PrimAns.TheVariants as answer
+use Rattle.pt_content.specs.declared.class.TheConstants.{TYPE_ERROR}
 use Rattle.pt_content.specs.declared.content.Content.{Content}
 use Rattle.pt_content.specs.declared.content.Content.TheVariants as content
 use Rattle.pt_content.specs.declared.content.NewObject.{NewObject}
@@ -42,32 +45,86 @@ use Rattle.pt_content.specs.declared.op.Op.TheVariants as op
 use Rattle.pt_content.specs.declared.operand.Operand.{Operand}
 use Rattle.pt_content.specs.declared.operand.Operand.TheVariants as operand
 use Rattle.pt_content.specs.Operands.{operand_of, text_of}
-use Rattle.pt_comparisons.specs.pt_sequences.Cursors as cursors
-use Rattle.pt_comparisons.specs.pt_sequences.Displays.{bounded, fit, list_content, repeated, repeated_list, repeated_tuple, times, tuple_content}
-use Rattle.pt_comparisons.specs.pt_sequences.Items as items
-use Rattle.pt_comparisons.specs.pt_sequences.Lengths.{length_by, length_of, lengthless}
-use Rattle.pt_comparisons.specs.pt_sequences.Ranges.{range_by, range_content, range_length, range_of, range_value, range_item}
-use Rattle.pt_comparisons.specs.pt_sequences.Unpacking as unpacking
-use Rattle.pt_comparisons.specs.pt_reprs.declared.writer.WriteErr.{WriteErr}
-use Rattle.pt_comparisons.specs.pt_reprs.declared.writer.WriteErr.TheVariants as write
-use Rattle.pt_comparisons.specs.pt_reprs.Pieces.{written}
-use Rattle.pt_comparisons.specs.pt_reprs.Reached.{need_help, needs_help}
-use Rattle.pt_comparisons.specs.pt_reprs.Reprs.{repr_pieces}
-use Rattle.pt_comparisons.specs.pt_reprs.Texts as texts
-use Rattle.pt_comparisons.specs.declared.equality.Equality.{Equality}
-use Rattle.pt_comparisons.specs.declared.equality.Equality.TheVariants as equality
+use Rattle.pt_methods.specs.pt_sequences.Cursors as cursors
+use Rattle.pt_methods.specs.pt_sequences.Displays.{bounded, fit, list_content, repeated, repeated_list, repeated_tuple, times, tuple_content}
+use Rattle.pt_methods.specs.pt_sequences.Items as items
+use Rattle.pt_methods.specs.pt_sequences.Lengths.{length_by, length_of, lengthless}
+use Rattle.pt_methods.specs.pt_sequences.Ranges.{range_by, range_content, range_length, range_of, range_value, range_item}
+use Rattle.pt_methods.specs.pt_sequences.Starred as stars
+use Rattle.pt_methods.specs.pt_sequences.Unpacking as unpacking
+use Rattle.pt_methods.specs.pt_reprs.declared.writer.WriteErr.{WriteErr}
+use Rattle.pt_methods.specs.pt_reprs.declared.writer.WriteErr.TheVariants as write
+use Rattle.pt_methods.specs.pt_reprs.Pieces.{written, Piece}
+use Rattle.pt_methods.specs.pt_reprs.Reached.{need_help, needs_help}
+use Rattle.pt_methods.specs.pt_reprs.Reprs.{depth_limit, repr_pieces}
+use Rattle.pt_methods.specs.pt_reprs.Shown.{shown}
+use Rattle.pt_methods.specs.pt_reprs.Texts as texts
+use Rattle.pt_methods.specs.pt_comparisons.declared.equality.Equality.{Equality}
+use Rattle.pt_methods.specs.pt_comparisons.declared.equality.Equality.TheVariants as equality
 use Rattle.pt_prims.specs.Arithmetic.{binary_by, binary_content, integer_content, truth_binary, truths_binary, unary_by}
+use Rattle.pt_prims.specs.AttributeCalls as asked
+use Rattle.pt_methods.specs.declared.attribute.Attribute.{Attribute}
+use Rattle.pt_methods.specs.declared.attribute.Attribute.TheVariants as attribute
+use Rattle.pt_methods.specs.Attributes.{attribute_of}
 use Rattle.pt_prims.specs.Calls as calls
-use Rattle.pt_comparisons.specs.Comparisons as comparisons
-use Rattle.pt_comparisons.specs.Equalities.{any_equal, equality as equality_of}
-use Rattle.pt_prims.specs.InPlace.{extended, in_place, in_place_by, list_repeated}
-use Rattle.pt_prims.specs.Laws.{AllWithin}
-use Rattle.pt_comparisons.specs.Membership.{among, contained, equality_answer, in_range, in_text}
-use Rattle.pt_prims.specs.Operations.{content_of}
+use Rattle.pt_prims.specs.Classes as classes
+use Rattle.pt_prims.specs.declared.classes.Kinship.{Kinship}
+use Rattle.pt_prims.specs.declared.classes.Kinship.TheVariants as kinship
+use Rattle.pt_prims.specs.IntegerTexts as texts_as_integers
+use Rattle.pt_methods.specs.pt_comparisons.Comparisons as comparisons
+use Rattle.pt_methods.specs.pt_comparisons.Equalities as equalities
+use Rattle.pt_methods.specs.pt_comparisons.Equalities.{any_equal, equality as equality_of}
+use Rattle.pt_methods.specs.pt_comparisons.declared.order.Difference.{Difference}
+use Rattle.pt_methods.specs.pt_comparisons.declared.order.Difference.TheVariants as difference
+use Rattle.pt_methods.specs.pt_comparisons.Orders as orders
+use Rattle.pt_methods.specs.pt_comparisons.Orders.{items_order}
+use Rattle.pt_prims.specs.InPlace.{extended, in_place, in_place_by, list_repeated, set_changed}
+use Rattle.pt_prims.specs.Laws.{AllWithin, IsWithinIf}
+use Rattle.pt_methods.specs.pt_comparisons.Membership as membership
+use Rattle.pt_methods.specs.pt_comparisons.Membership.{among, contained, equality_answer, in_range, in_text}
+use Rattle.pt_prims.specs.Operations.{content_of, content_of_few, content_of_one, content_of_three, content_of_two}
 use Rattle.pt_prims.specs.Sequences as sequences
-use Rattle.pt_comparisons.specs.Truths.{truth_by, turned}
-use Rattle.pt_prims.proofs.Places.{all-append, all-grow, all-repeated, below-values, class-within, none-below, object-below, one-below, one-within, start-class, values-below, within-grows, Below}
+use Rattle.pt_prims.specs.Spreads as spreads
+use Rattle.pt_prims.specs.Subscripts as subscripts
+use Rattle.pt_tree.specs.declared.expression.Conversion.{Conversion}
+use Rattle.pt_tree.specs.declared.expression.Conversion.TheVariants as conversion
+use Rattle.pt_heap.specs.declared.object.Slice.{Slice}
+use Rattle.pt_strs.specs.Slice.{behind, bound, place, sliced}
+use Rattle.pt_formats.specs.declared.value.FormatValue.{FormatValue}
+use Rattle.pt_formats.specs.declared.value.FormatValue.TheVariants as laid
+use Rattle.pt_formats.specs.Layout.{formatted}
+use Rattle.pt_formats.specs.Spec.{spec_of}
+use Rattle.pt_methods.specs.pt_text_operations.declared.bounds.Bounds.{Bounds}
+use Rattle.pt_methods.specs.pt_text_operations.declared.place.Stride.{Stride}
+use Rattle.pt_methods.specs.pt_text_operations.declared.place.Stride.TheVariants as stride
+use Rattle.pt_methods.specs.pt_text_operations.Answers as answers
+use Rattle.pt_methods.specs.pt_text_operations.Bounds as bounds
+use Rattle.pt_methods.specs.pt_text_operations.Picked as picks
+use Rattle.pt_methods.specs.pt_text_operations.Slices as slices
+use Rattle.pt_methods.specs.pt_fields.Fields as fields
+use Rattle.pt_methods.specs.pt_list_changes.Changed as lists
+use Rattle.pt_methods.specs.pt_list_changes.Items as list
+use Rattle.pt_prims.proofs.AttributeLemmas.{attribute-within, AttributeWithin}
+use Rattle.pt_prims.proofs.ValueLists.{all-left, all-picked, all-set}
+use Rattle.pt_methods.specs.pt_views.Cursors as views
+use Rattle.pt_heap.specs.Entries.{Entry, found}
+use Rattle.pt_methods.specs.pt_mappings.declared.keyed.Keyed.{Keyed}
+use Rattle.pt_methods.specs.pt_mappings.declared.keyed.Keyed.TheVariants as keyed
+use Rattle.pt_methods.specs.pt_mappings.Keyed.{key_in}
+use Rattle.pt_content.specs.pt_attrs.pt_dicts.Combine.{is_set_operator}
+use Rattle.pt_methods.specs.pt_sets.Operators.{combined_in_place}
+use Rattle.pt_prims.proofs.EntryLemmas.{entry-at-within, AreWithin}
+use Rattle.pt_prims.proofs.ContainerLemmas.{add-within, combined-content-within, delete-item-within, dict-entries, dict-item-within, dict-within, entries-below, has-item-within, has-key-within, in-place-set-within, key-within, set-entries, set-item-within, set-within, KeyedIsWithin}
+use Rattle.pt_methods.specs.pt_comparisons.Truths.{truth_by, turned}
+use Rattle.pt_prims.proofs.Places.{all-append, all-grow, all-repeated, below-values, both-below, class-within, none-below, object-below, one-below, one-within, start-class, value-below, values-below, within-grows, Below}
+use Rattle.pt_prims.proofs.MethodLemmas.{answered-within, joined-within, method-within}
 use Rattle.pt_prims.proofs.SoundLemmas.{IsWithinHeap, NewAreWithin}
+use Rattle.pt_prims.proofs.StarLemmas.{starred-items-within}
+
+-- the characters of a text, each as a text
+chars-within : (h : List Object) (cs : List ℕ) → NewAreWithin h (unpacking.char_texts cs)
+chars-within h [] = tt
+chars-within h (c ∷ cs) = (none-below (length h), chars-within (h ++ object.Str (encode_utf8 c) ∷ []) cs)
 
 -- numbers and truth values
 integer-within : (h : List Object) (a : IntAns) → IsWithinHeap h (integer_content a)
@@ -164,18 +221,18 @@ module _ (h : List Object) (s : IsSound start_objects h) where
   formatted-within a b (Some (object.Str t)) = tt
   formatted-within a b o = (_, refl)
 
-  sets-within : (op : BinOp) (a b : Value) (o p : Option Object) → IsWithinHeap h (sequences.sets_combined op h a b o p)
-  sets-within op a b (Some (object.Set es)) (Some (object.Set fs)) = tt
-  sets-within op a b o p = (_, refl)
+  sets-within : (op : BinOp) (a b : Value) (o p : Option Object) → object_of h a ≡ o → object_of h b ≡ p → IsWithinHeap h (sequences.sets_combined op h a b o p)
+  sets-within op a b (Some (object.Set es)) (Some (object.Set fs)) e f = combined-content-within h s op es fs (set-entries h s a es e) (set-entries h s b fs f)
+  sets-within op a b o p e f = (_, refl)
 
   sequences-within : (op : BinOp) (a b : Value) → IsWithinHeap h (sequences.sequences_binary op h a b)
   sequences-within binary.Add a b = added-within a b (object_of h a) (object_of h b) refl refl
   sequences-within binary.Mul a b = repeated-within a b (operand_of h a) (operand_of h b)
   sequences-within binary.Mod a b = formatted-within a b (object_of h a)
-  sequences-within binary.Sub a b = sets-within binary.Sub a b (object_of h a) (object_of h b)
-  sequences-within binary.BitAnd a b = sets-within binary.BitAnd a b (object_of h a) (object_of h b)
-  sequences-within binary.BitOr a b = sets-within binary.BitOr a b (object_of h a) (object_of h b)
-  sequences-within binary.BitXor a b = sets-within binary.BitXor a b (object_of h a) (object_of h b)
+  sequences-within binary.Sub a b = sets-within binary.Sub a b (object_of h a) (object_of h b) refl refl
+  sequences-within binary.BitAnd a b = sets-within binary.BitAnd a b (object_of h a) (object_of h b) refl refl
+  sequences-within binary.BitOr a b = sets-within binary.BitOr a b (object_of h a) (object_of h b) refl refl
+  sequences-within binary.BitXor a b = sets-within binary.BitXor a b (object_of h a) (object_of h b) refl refl
   sequences-within op a b = (_, refl)
 
   binary-by-within : (op : BinOp) (a b : Value) (k l : Operand) → IsWithinHeap h (binary_by op h a b k l)
@@ -220,9 +277,18 @@ module _ (h : List Object) (s : IsSound start_objects h) where
   list-repeated-within a vs b (operand.Number z) i w = in-place-within a (repeated_list z vs) i (repeated-list-within h z vs w)
   list-repeated-within a vs b k i w = binary-within binary.Mul a b
 
+  set-changed-within : (op : BinOp) (a b : Value) (es : List Entry) (o : Option Object) → IsWithin h a → object_of h a ≡ Some (object.Set es) → object_of h b ≡ o → IsWithinHeap h (set_changed op h a b es o)
+  set-changed-within op (value.Obj id) b es (Some (object.Set fs)) i e f = by (is_set_operator op)
+    where
+      by : (c : Bool) → IsWithinHeap h (if c then combined_in_place op id es fs else binary_content op h (value.Obj id) b)
+      by true = in-place-set-within h s op id es fs i (set-entries h s (value.Obj id) es e) (set-entries h s b fs f)
+      by false = binary-within op (value.Obj id) b
+  set-changed-within op a b es o i e f = binary-within op a b
+
   in-place-by-within : (op : BinOp) (a b : Value) (o : Option Object) → IsWithin h a → object_of h a ≡ o → IsWithinHeap h (in_place_by op h a b o)
   in-place-by-within binary.Add a b (Some (object.List vs)) i e = extended-within a vs b (object_of h b) i (list-items a vs e) refl
   in-place-by-within binary.Mul a b (Some (object.List vs)) i e = list-repeated-within a vs b (operand_of h b) i (list-items a vs e)
+  in-place-by-within op a b (Some (object.Set es)) i e = set-changed-within op a b es (object_of h b) i e refl
   in-place-by-within op a b o i e = binary-within op a b
 
   -- comparisons
@@ -231,27 +297,59 @@ module _ (h : List Object) (s : IsSound start_objects h) where
   equality-within equality.Deep = (_, refl)
   equality-within equality.Feature = tt
 
-  objects-equal-within : (a b : Value) → IsWithinHeap h (comparisons.objects_equal h a b)
-  objects-equal-within a b = by (comparisons.are_sequences (object_of h a) (object_of h b) && need_help h (a ∷ b ∷ []))
+  helped-or-within : (o : Option Helper) (a b : Value) → IsWithinHeap h (comparisons.helped_or o h a b)
+  helped-or-within (Some k) a b = by (need_help h (a ∷ b ∷ []))
     where
-      by : (c : Bool) → IsWithinHeap h (if c then content.Help helper.SameOf false else equality_answer (equality_of h a b))
+      by : (c : Bool) → IsWithinHeap h (if c then content.Help k false else equality_answer (equality_of h a b))
       by true = tt
       by false = equality-within (equality_of h a b)
+  helped-or-within None a b = equality-within (equality_of h a b)
 
   equal-within : (a b : Value) (k l : Operand) → IsWithinHeap h (comparisons.equal_by h a b k l)
   equal-within a b (operand.Number x) (operand.Number y) = tt
-  equal-within a b k l = objects-equal-within a b
+  equal-within a b k l = helped-or-within (comparisons.comparing_helper (object_of h a) (object_of h b)) a b
 
-  objects-order-within : (op : CompareOp) (a b : Value) (o p : Option Object) → IsWithinHeap h (comparisons.objects_order op h a b o p)
-  objects-order-within op a b (Some (object.Str t)) (Some (object.Str u)) = tt
-  objects-order-within op a b (Some (object.List vs)) (Some (object.List ws)) = tt
-  objects-order-within op a b (Some (object.Tuple vs)) (Some (object.Tuple ws)) = tt
-  objects-order-within op a b (Some (object.Slice x)) (Some (object.Slice y)) = tt
-  objects-order-within op a b o p = (_, refl)
+  -- orders: what is answered of items that differ, and of what their kinds are
+  difference-within : (op : CompareOp) (item : Value → Value → Content) → ((v w : Value) → IsWithinHeap h (item v w)) → (vs ws : List Value) (d : Difference)
+      → IsWithinHeap h (orders.order_by_difference op item vs ws d)
+  difference-within op item w vs ws (difference.At v x) = w v x
+  difference-within op item w vs ws difference.Nowhere = tt
+  difference-within op item w vs ws (difference.Untold e) = equality-within e
+
+  objects-order-within : (op : CompareOp) (items : List Value → List Value → Content) → ((vs ws : List Value) → IsWithinHeap h (items vs ws)) → (a b : Value) (o p : Option Object)
+      → IsWithinHeap h (orders.objects_order op items h a b o p)
+  objects-order-within op items w a b (Some (object.Str t)) (Some (object.Str u)) = tt
+  objects-order-within op items w a b (Some (object.List vs)) (Some (object.List ws)) = w vs ws
+  objects-order-within op items w a b (Some (object.Tuple vs)) (Some (object.Tuple ws)) = w vs ws
+  objects-order-within op items w a b (Some (object.Slice x)) (Some (object.Slice y)) = w (equalities.bounds x) (equalities.bounds y)
+  objects-order-within op items w a b o p = (_, refl)
+
+  operands-order-within : (op : CompareOp) (items : List Value → List Value → Content) → ((vs ws : List Value) → IsWithinHeap h (items vs ws)) → (a b : Value) (k l : Operand)
+      → IsWithinHeap h (orders.operands_order op items h a b k l)
+  operands-order-within op items w a b (operand.Number x) (operand.Number y) = tt
+  operands-order-within op items w a b k l = objects-order-within op items w a b (object_of h a) (object_of h b)
+
+  item-order-within : (op : CompareOp) (items : List Value → List Value → Content) → ((vs ws : List Value) → IsWithinHeap h (items vs ws)) → (a b : Value)
+      → IsWithinHeap h (orders.item_order op items h a b)
+  item-order-within op items w a b = operands-order-within op items w a b (operand_of h a) (operand_of h b)
+
+  items-order-within : (op : CompareOp) (depth : ℕ) (vs ws : List Value) → IsWithinHeap h (items_order op h depth vs ws)
+  unfolding items_order
+  items-order-within op zero vs ws = equality-within equality.Deep
+  items-order-within op (suc depth) vs ws =
+      difference-within op (orders.item_order op (items_order op h depth) h) (item-order-within op (items_order op h depth) (items-order-within op depth)) vs ws
+      (orders.first_difference (equalities.item_equality (equalities.insides_equality h depth) h) vs ws)
+
+  ordered-within : (op : CompareOp) (a b : Value) → IsWithinHeap h (comparisons.objects_ordered op h a b)
+  ordered-within op a b = by (comparisons.are_sequences (object_of h a) (object_of h b) && need_help h (a ∷ b ∷ []))
+    where
+      by : (c : Bool) → IsWithinHeap h (if c then content.Outside what.Feature else orders.item_order op (items_order op h depth_limit) h a b)
+      by true = tt
+      by false = item-order-within op (items_order op h depth_limit) (items-order-within op depth_limit) a b
 
   order-within : (op : CompareOp) (a b : Value) (k l : Operand) → IsWithinHeap h (comparisons.order_by op h a b k l)
   order-within op a b (operand.Number x) (operand.Number y) = tt
-  order-within op a b k l = objects-order-within op a b (object_of h a) (object_of h b)
+  order-within op a b k l = ordered-within op a b
 
   plain-within : (op : CompareOp) (a b : Value) (k l : Operand) → IsWithinHeap h (comparisons.plain_by op h a b k l)
   plain-within comparison.Equal a b k l = equal-within a b k l
@@ -279,14 +377,39 @@ module _ (h : List Object) (s : IsSound start_objects h) where
       by true = tt
       by false = equality-within (any_equal h a vs)
 
+  behind-key-within : (v : Value) (o : Option Value) → IsWithinHeap h (membership.behind_key h v o)
+  behind-key-within v (Some w) = equality-within (equality_of h w v)
+  behind-key-within v None = tt
+
+  pair-within : (es : List Entry) (v : Value) (k : Keyed) → KeyedIsWithin h k → IsWithinHeap h (membership.pair_by h es v k)
+  pair-within es v (keyed.Key k) w = behind-key-within v (found k es)
+  pair-within es v (keyed.Refused c) w = w
+
+  in-pairs-within : (es : List Entry) (o : Option (Value × Value)) → IsWithinHeap h (membership.in_pairs h es o)
+  in-pairs-within es (Some q) = pair-within es q.1 (key_in h q.0) (key-within h q.0)
+  in-pairs-within es None = tt
+
+  in-part-within : (a : Value) (p : Part) (es : List Entry) → IsWithinHeap h (membership.in_part h a p es)
+  in-part-within a part.Keys es = has-key-within h s es a
+  in-part-within a part.Values es = equality-within (any_equal h a (shown part.Values es))
+  in-part-within a part.Items es = in-pairs-within es (membership.pair_in (object_of h a))
+
+  in-view-within : (a : Value) (p : Part) (o : Option (List Entry)) → IsWithinHeap h (membership.in_view h a p o)
+  in-view-within a p (Some es) = by (need_help h (a ∷ shown p es))
+    where
+      by : (c : Bool) → IsWithinHeap h (if c then content.Help helper.InOf false else membership.in_part h a p es)
+      by true = tt
+      by false = in-part-within a p es
+  in-view-within a p None = tt
+
   contained-within : (a b : Value) (o : Option Object) → IsWithinHeap h (contained h a b o)
   contained-within a b (Some (object.Str t)) = in-text-within (text_of h a) t
   contained-within a b (Some (object.Range r)) = in-range-within (operand_of h a) r
   contained-within a b (Some (object.List vs)) = among-within a b vs
   contained-within a b (Some (object.Tuple vs)) = among-within a b vs
-  contained-within a b (Some (object.Dict es)) = tt
-  contained-within a b (Some (object.Set es)) = tt
-  contained-within a b (Some (object.View v)) = tt
+  contained-within a b (Some (object.Dict es)) = has-key-within h s es a
+  contained-within a b (Some (object.Set es)) = has-item-within h s es a
+  contained-within a b (Some (object.View v)) = in-view-within a v.part (Rattle.pt_methods.specs.pt_views.Cursors.dict_at h v.dict)
   contained-within a b o = tt
 
   comparison-within : (op : CompareOp) (a b : Value) → IsWithinHeap h (comparisons.comparison_content op h a b)
@@ -347,10 +470,136 @@ module _ (h : List Object) (s : IsSound start_objects h) where
   item-within : (v i : Value) → IsWithinHeap h (items.item_content h v i)
   item-within v i = by (items.index_of h i)
     where
-      by : (x : Rattle.pt_comparisons.specs.pt_sequences.declared.item.Index.Index) → IsWithinHeap h (items.item_of h v x (object_of h v))
-      by (Rattle.pt_comparisons.specs.pt_sequences.declared.item.Index.TheVariants.Number z) = item-at-within v z (object_of h v) refl
-      by Rattle.pt_comparisons.specs.pt_sequences.declared.item.Index.TheVariants.Slice = tt
-      by Rattle.pt_comparisons.specs.pt_sequences.declared.item.Index.TheVariants.Other = unindexed-within v (object_of h v)
+      by : (x : Rattle.pt_methods.specs.pt_sequences.declared.item.Index.Index) → IsWithinHeap h (items.item_of h v x (object_of h v))
+      by (Rattle.pt_methods.specs.pt_sequences.declared.item.Index.TheVariants.Number z) = item-at-within v z (object_of h v) refl
+      by Rattle.pt_methods.specs.pt_sequences.declared.item.Index.TheVariants.Slice = tt
+      by Rattle.pt_methods.specs.pt_sequences.declared.item.Index.TheVariants.Other = unindexed-within v (object_of h v)
+
+  -- slices
+  slice-within : (a b c : Value) → IsWithin h a → IsWithin h b → IsWithin h c → IsWithinHeap h (slices.slice_content a b c)
+  slice-within a b c x y z =
+      both-below (length h) (place_of a ++ place_of b) (place_of c)
+      (both-below (length h) (place_of a) (place_of b) (value-below h a x) (value-below h b y)) (value-below h c z)
+
+  exact-range-within : (a b c : Option ℤ) → IsWithinHeap h (picks.exact_range a b c)
+  exact-range-within (Some a) (Some b) (Some c) = none-below (length h)
+  exact-range-within a b c = tt
+
+  range-strided-within : (t : Stride) (b : Bounds) (n : ℕ) (r : Range) → IsWithinHeap h (picks.range_strided t b n r)
+  range-strided-within (stride.Forward k) b n r =
+      exact-range-within (picks.standing r (bound (place n) 0 b.start)) (picks.standing r (bound (place n) n b.stop)) (picks.step_by b.step r)
+  range-strided-within (stride.Back k) b n r =
+      exact-range-within (picks.standing_before r (bound (behind n) n b.start)) (picks.standing_before r (bound (behind n) 0 b.stop)) (picks.step_by b.step r)
+
+  sliced-by-within : (v : Value) (b : Bounds) (o : Option Object) → object_of h v ≡ o → IsWithinHeap h (slices.sliced_by h v b o)
+  sliced-by-within v b (Some (object.Str t)) e = answered-within h (strs.within (sliced b.start b.stop b.step (chars t)))
+  sliced-by-within v b (Some (object.List vs)) e = list-within h (picks.picked b vs) (all-picked h b vs (list-items v vs e))
+  sliced-by-within v b (Some (object.Tuple vs)) e = tuple-within h (picks.picked b vs) (all-picked h b vs (tuple-items v vs e))
+  sliced-by-within v b (Some (object.Range r)) e = range-strided-within (picks.stride_of b.step) b (range_length r) r
+  sliced-by-within v b o e = unindexed-within v o
+
+  sliced-made-within : (v : Value) (a b c : Option (Option ℤ)) → IsWithinHeap h (slices.sliced_if h v (bounds.made_of a b c))
+  sliced-made-within v (Some a) (Some b) (Some c) = sliced-by-within v (record { start = a; stop = b; step = c }) (object_of h v) refl
+  sliced-made-within v a b c = (_, refl)
+
+  sliced-if-within : (v : Value) (a b c : Option (Option ℤ)) → IsWithinHeap h (slices.sliced_if h v (bounds.bounds_by a b c))
+  sliced-if-within v a b (Some (Some (pos zero))) = (_, refl)
+  sliced-if-within v a b c = sliced-made-within v a b c
+
+  sliced-in-within : (v : Value) (x : Slice) (o : Option Object) → IsWithinHeap h (slices.sliced_in h v x o)
+  sliced-in-within v x (Some (object.Str t)) = sliced-if-within v (bounds.part_of h x.start) (bounds.part_of h x.stop) (bounds.part_of h x.step)
+  sliced-in-within v x (Some (object.List vs)) = sliced-if-within v (bounds.part_of h x.start) (bounds.part_of h x.stop) (bounds.part_of h x.step)
+  sliced-in-within v x (Some (object.Tuple vs)) = sliced-if-within v (bounds.part_of h x.start) (bounds.part_of h x.stop) (bounds.part_of h x.step)
+  sliced-in-within v x (Some (object.Range r)) = sliced-if-within v (bounds.part_of h x.start) (bounds.part_of h x.stop) (bounds.part_of h x.step)
+  sliced-in-within v x o = unindexed-within v o
+
+  subscript-by-within : (v i : Value) (o : Option Object) → IsWithinHeap h (slices.subscript_by h v i o)
+  subscript-by-within v i (Some (object.Slice x)) = sliced-in-within v x (object_of h v)
+  subscript-by-within v i o = item-within v i
+
+  -- lists that change
+  list-changed-within : (l : Value) (vs : List Value) (a : Value) → AllWithin h vs → IsWithin h a → IsWithinHeap h (lists.list_changed l vs a)
+  list-changed-within (value.Obj id) vs a w x = (values-below h vs w, tt, behind-nothing a x)
+  list-changed-within l vs a w x = tt
+
+  list-grown-within : (l : Value) (vs : List Value) → AllWithin h vs → IsWithinHeap h (lists.list_grown l vs)
+  list-grown-within l vs w = by (nat_le (length vs) entry_limit)
+    where
+      by : (b : Bool) → IsWithinHeap h (if b then lists.list_changed l vs value.None else content.Outside what.Length)
+      by true = list-changed-within l vs value.None w tt
+      by false = tt
+
+  set-at-within : (l : Value) (vs : List Value) (x : Value) (o : Option ℕ) → AllWithin h vs → IsWithin h x → IsWithinHeap h (list.set_at l vs x o)
+  set-at-within l vs x (Some i) w a = list-changed-within l (set vs i x) value.None (all-set h vs i x w a) tt
+  set-at-within l vs x None w a = (_, refl)
+
+  deleted-at-within : (l : Value) (vs : List Value) (o : Option ℕ) → AllWithin h vs → IsWithinHeap h (list.deleted_at l vs o)
+  deleted-at-within l vs (Some i) w = list-changed-within l (remove vs i) value.None (all-left h vs i w) tt
+  deleted-at-within l vs None w = (_, refl)
+
+  set-by-within : (l : Value) (vs : List Value) (x : Value) (k : Operand) → AllWithin h vs → IsWithin h x → IsWithinHeap h (list.set_by l vs x k)
+  set-by-within l vs x (operand.Number z) w a = set-at-within l vs x (items.place_of (length vs) z) w a
+  set-by-within l vs x k w a = (_, refl)
+
+  deleted-by-within : (l : Value) (vs : List Value) (k : Operand) → AllWithin h vs → IsWithinHeap h (list.deleted_by l vs k)
+  deleted-by-within l vs (operand.Number z) w = deleted-at-within l vs (items.place_of (length vs) z) w
+  deleted-by-within l vs k w = (_, refl)
+
+  set-in-list-within : (x v : Value) (k : Operand) (o : Option Object) → IsWithin h x → object_of h v ≡ o → IsWithinHeap h (list.set_in h x v k o)
+  set-in-list-within x v k (Some (object.List vs)) a e = set-by-within v vs x k (list-items v vs e) a
+  set-in-list-within x v k (Some (object.Dict es)) a e = tt
+  set-in-list-within x v k o a e = unsubscriptable-within v (operand_of h v)
+
+  deleted-in-list-within : (v : Value) (k : Operand) (o : Option Object) → object_of h v ≡ o → IsWithinHeap h (list.deleted_in h v k o)
+  deleted-in-list-within v k (Some (object.List vs)) e = deleted-by-within v vs k (list-items v vs e)
+  deleted-in-list-within v k (Some (object.Dict es)) e = tt
+  deleted-in-list-within v k o e = unsubscriptable-within v (operand_of h v)
+
+  list-add-within : (l x : Value) (o : Option Object) → IsWithin h x → object_of h l ≡ o → IsWithinHeap h (list.added_to l x o)
+  list-add-within l x (Some (object.List vs)) a e = list-grown-within l (vs ++ x ∷ []) (all-append h vs (x ∷ []) (list-items l vs e) (a, tt))
+  list-add-within l x o a e = tt
+
+  -- subscripts of any value, and what comprehensions put in
+  subscript-in-within : (v i : Value) (o : Option Object) → IsWithin h i → object_of h v ≡ o → IsWithinHeap h (subscripts.item_in h v i o)
+  subscript-in-within v i (Some (object.Dict es)) w e = dict-item-within h s es i w (dict-entries h s v es e)
+  subscript-in-within v i o w e = subscript-by-within v i (object_of h i)
+
+  not-changed-within : (v : Value) → IsWithinHeap h (subscripts.not_changed h v)
+  not-changed-within v = unsubscriptable-within v (operand_of h v)
+
+  set-in-within : (id : ObjId) (i v : Value) (o : Option Object) → IsWithin h i → IsWithin h v → slice_get h id.0 ≡ o → IsWithinHeap h (subscripts.set_in h id i v o)
+  set-in-within id i v (Some (object.Dict es)) a b e = set-item-within h s id es i v a b (dict-entries h s (value.Obj id) es e)
+  set-in-within id i v (Some (object.List vs)) a b e = set-in-list-within v (value.Obj id) (operand_of h i) (object_of h (value.Obj id)) b refl
+  set-in-within id i v o a b e = not-changed-within (value.Obj id)
+
+  set-subscript-within : (v a i : Value) → IsWithin h v → IsWithin h i → IsWithinHeap h (subscripts.set_subscript h v a i)
+  set-subscript-within v (value.Obj id) i x y = set-in-within id i v (slice_get h id.0) y x refl
+  set-subscript-within v a i x y = not-changed-within a
+
+  delete-in-within : (id : ObjId) (i : Value) (o : Option Object) → IsWithin h i → slice_get h id.0 ≡ o → IsWithinHeap h (subscripts.delete_in h id i o)
+  delete-in-within id i (Some (object.Dict es)) a e = delete-item-within h s id es i a (dict-entries h s (value.Obj id) es e)
+  delete-in-within id i (Some (object.List vs)) a e = deleted-in-list-within (value.Obj id) (operand_of h i) (object_of h (value.Obj id)) refl
+  delete-in-within id i o a e = not-changed-within (value.Obj id)
+
+  delete-subscript-within : (a i : Value) → IsWithin h i → IsWithinHeap h (subscripts.delete_subscript h a i)
+  delete-subscript-within (value.Obj id) i w = delete-in-within id i (slice_get h id.0) w refl
+  delete-subscript-within a i w = not-changed-within a
+
+  added-in-within : (id : ObjId) (v : Value) (o : Option Object) → IsWithin h v → slice_get h id.0 ≡ o → IsWithinHeap h (subscripts.added_in h id v o)
+  added-in-within id v (Some (object.Set es)) a e = add-within h s id es v a (set-entries h s (value.Obj id) es e)
+  added-in-within id v o a e = tt
+
+  add-to-set-within : (made v : Value) → IsWithin h v → IsWithinHeap h (subscripts.add_to_set h made v)
+  add-to-set-within (value.Obj id) v w = added-in-within id v (slice_get h id.0) w refl
+  add-to-set-within a v w = tt
+
+  entered-in-within : (id : ObjId) (k v : Value) (o : Option Object) → IsWithin h k → IsWithin h v → slice_get h id.0 ≡ o → IsWithinHeap h (subscripts.entered_in h id k v o)
+  entered-in-within id k v (Some (object.Dict es)) a b e = set-item-within h s id es k v a b (dict-entries h s (value.Obj id) es e)
+  entered-in-within id k v o a b e = tt
+
+  add-to-dict-within : (made k v : Value) → IsWithin h k → IsWithin h v → IsWithinHeap h (subscripts.add_to_dict h made k v)
+  add-to-dict-within (value.Obj id) k v a b = entered-in-within id k v (slice_get h id.0) a b refl
+  add-to-dict-within m k v a b = tt
 
   -- iterators
   iterator-over-within : (id : ObjId) (o : Option Object) → IsWithin h (value.Obj id) → IsWithinHeap h (cursors.iterator_over h id o)
@@ -400,6 +649,58 @@ module _ (h : List Object) (s : IsSound start_objects h) where
   next-within (value.Obj id) = next-in-within id (slice_get h id.0) refl
   next-within v = asked-within helper.NextOf (codes "an iterator") v (operand_of h v)
 
+  -- iterators over dictionaries, sets and views
+  entries-iterator-over-within : (id : ObjId) (o : Option Object) → IsWithin h (value.Obj id) → IsWithinHeap h (views.iterator_over h id o)
+  entries-iterator-over-within id (Some (object.Dict es)) w = one-below (length h) id.0 w
+  entries-iterator-over-within id (Some (object.Set es)) w = one-below (length h) id.0 w
+  entries-iterator-over-within id (Some (object.View v)) w = one-below (length h) id.0 w
+  entries-iterator-over-within id o w = iterator-within (value.Obj id) w
+
+  any-iterator-within : (v : Value) → IsWithin h v → IsWithinHeap h (views.iterator_content h v)
+  any-iterator-within (value.Obj id) w = entries-iterator-over-within id (slice_get h id.0) w
+  any-iterator-within v w = iterator-within v w
+
+  given-within : (id : ObjId) (c : Cursor) (p : Part) (v x : Value) → Below (length h) (place_in c.over) → IsWithin h v → IsWithin h x → IsWithinHeap h (views.given h id c p v x)
+  given-within id c part.Keys v x b a w = (b, tt, behind-nothing v a)
+  given-within id c part.Values v x b a w = (b, tt, behind-nothing x w)
+  given-within id c part.Items v x b a w =
+      (b, (values-below h (v ∷ x ∷ []) (a, (w, tt)), tt), omega (arith, length-append h (object.Tuple (v ∷ x ∷ []) ∷ [])))
+
+  at-entry-within : (id : ObjId) (c : Cursor) (p : Part) (o : Option (Value × Value)) → Below (length h) (place_in c.over)
+      → ((q : Value × Value) → o ≡ Some q → IsWithin h q.0 × IsWithin h q.1) → IsWithinHeap h (views.at_entry h id c p o)
+  at-entry-within id c p (Some q) b w = let within = w q refl in given-within id c p q.0 q.1 b within.0 within.1
+  at-entry-within id c p None b w = ended-within id c
+
+  next-entry-within : (id : ObjId) (c : Cursor) (p : Part) (es : List Entry) → Below (length h) (place_in c.over) → AreWithin h es → IsWithinHeap h (views.next_entry h id c p es)
+  next-entry-within id c p es b w = by (Rattle.std.specs.Prelude.nat_eq c.count (length es))
+    where
+      by : (k : Bool)
+          → IsWithinHeap h (if k then views.at_entry h id c p (views.entry_at es c.place) else content.Raise Rattle.pt_methods.specs.pt_views.declared.cursor.TheConstants.RUNTIME_ERROR (codes "container changed during iteration"))
+      by true = at-entry-within id c p (views.entry_at es c.place) b (λ q e. entry-at-within h es c.place q e w)
+      by false = (_, refl)
+
+  next-of-view-within : (id : ObjId) (c : Cursor) (p : Part) (dict : ObjId) (o : Option Object) → Below (length h) (place_in c.over) → slice_get h dict.0 ≡ o → IsWithinHeap h (views.next_of_view h id c p (views.dict_in o))
+  next-of-view-within id c p dict (Some (object.Dict es)) b e = next-entry-within id c p es b (dict-entries h s (value.Obj dict) es e)
+  next-of-view-within id c p dict o b e = ended-within id c
+
+  next-of-within : (id over : ObjId) (c : Cursor) (o : Option Object) → Below (length h) (place_in c.over) → slice_get h over.0 ≡ o → IsWithinHeap h (views.next_of h id c o)
+  next-of-within id over c (Some (object.Dict es)) b e = next-entry-within id c part.Keys es b (dict-entries h s (value.Obj over) es e)
+  next-of-within id over c (Some (object.Set es)) b e = next-entry-within id c part.Keys es b (set-entries h s (value.Obj over) es e)
+  next-of-within id over c (Some (object.View v)) b e = next-of-view-within id c v.part v.dict (slice_get h v.dict.0) b refl
+  next-of-within id over c o b e = next-within (value.Obj id)
+
+  any-next-over-within : (id : ObjId) (c : Cursor) (o : Option ObjId) → Below (length h) (place_in c.over) → IsWithinHeap h (views.next_over h id c o)
+  any-next-over-within id c (Some over) b = next-of-within id over c (slice_get h over.0) b refl
+  any-next-over-within id c None b = next-within (value.Obj id)
+
+  any-next-in-within : (id : ObjId) (o : Option Object) → slice_get h id.0 ≡ o → IsWithinHeap h (views.next_in h id o)
+  any-next-in-within id (Some (object.Cursor c)) e = any-next-over-within id c c.over (object-below h (value.Obj id) (object.Cursor c) s e)
+  any-next-in-within id o e = next-within (value.Obj id)
+
+  any-next-within : (v : Value) → IsWithinHeap h (views.next_content h v)
+  any-next-within (value.Obj id) = any-next-in-within id (slice_get h id.0) refl
+  any-next-within v = next-within v
+
   -- unpacking
   unless-within : (o : Option Content) (c : Content) → ((d : Content) → o ≡ Some d → IsWithinHeap h d) → IsWithinHeap h c → IsWithinHeap h (unpacking.unless o c)
   unless-within None c m w = w
@@ -434,23 +735,31 @@ module _ (h : List Object) (s : IsSound start_objects h) where
   integers-within r i (suc n) =
       all-append h (option_to_list (range_value r i)) (unpacking.integers_from r (i + 1) n) (one-listed (range_value r i) (λ v e. range-value-within r i v e)) (integers-within r (i + 1) n)
 
-  chars-within : (cs : List ℕ) → NewAreWithin h (unpacking.char_texts cs)
-  chars-within [] = tt
-  chars-within (c ∷ cs) = (none-below (length h), chars-within cs)
-
   unpacked-within : (n : ℕ) (v : Value) (o : Option Object) → object_of h v ≡ o → IsWithinHeap h (unpacking.unpacked h n v o)
   unpacked-within n v (Some (object.List vs)) e = items-within n vs (list-items v vs e)
   unpacked-within n v (Some (object.Tuple vs)) e = items-within n vs (tuple-items v vs e)
   unpacked-within n v (Some (object.Range r)) e =
       unless-within (unpacking.mismatch n (range_length r)) (unpacking.values (unpacking.integers_from r 0 n)) (mismatch-within n (range_length r)) (values-within (unpacking.integers_from r 0 n) (integers-within r 0 n))
   unpacked-within n v (Some (object.Str t)) e =
-      unless-within (unpacking.mismatch n (length (chars t))) (content.NewValues (unpacking.char_texts (chars t))) (mismatch-within n (length (chars t))) (chars-within (chars t))
+      unless-within (unpacking.mismatch n (length (chars t))) (content.NewValues (unpacking.char_texts (chars t))) (mismatch-within n (length (chars t))) (chars-within h (chars t))
   unpacked-within n v (Some (object.Dict es)) e = tt
   unpacked-within n v (Some (object.Set es)) e = tt
   unpacked-within n v (Some (object.View w)) e = tt
   unpacked-within n v (Some (object.Cursor c)) e = tt
   unpacked-within n v (Some (object.Generator g)) e = tt
   unpacked-within n v o e = asked-within (helper.TakeOf n) (codes "iterable") v (operand_of h v)
+
+  starred-within : (n m : ℕ) (v : Value) (o : Option Object) → object_of h v ≡ o → IsWithinHeap h (stars.starred h n m v o)
+  starred-within n m v (Some (object.List vs)) e = starred-items-within h n m vs (list-items v vs e)
+  starred-within n m v (Some (object.Tuple vs)) e = starred-items-within h n m vs (tuple-items v vs e)
+  starred-within n m v (Some (object.Range r)) e = tt
+  starred-within n m v (Some (object.Str t)) e = tt
+  starred-within n m v (Some (object.Dict es)) e = tt
+  starred-within n m v (Some (object.Set es)) e = tt
+  starred-within n m v (Some (object.View w)) e = tt
+  starred-within n m v (Some (object.Cursor c)) e = tt
+  starred-within n m v (Some (object.Generator g)) e = tt
+  starred-within n m v o e = asked-within helper.ListOf (codes "iterable") v (operand_of h v)
 
   -- calls
   length-within : (v : Value) (o : Option ℕ) → IsWithinHeap h (length_by h v o)
@@ -471,16 +780,16 @@ module _ (h : List Object) (s : IsSound start_objects h) where
   written-within make w (Err write.Length) = tt
   written-within make w (Err write.Feature) = tt
 
-  repr-text-within : (v : Value) → IsWithinHeap h (texts.text_content (repr_pieces h v))
-  repr-text-within v = written-within texts.new_text (λ t. none-below (length h)) (written length_limit (repr_pieces h v))
+  pieces-within : (ps : List Piece) → IsWithinHeap h (texts.text_content ps)
+  pieces-within ps = written-within texts.new_text (λ t. none-below (length h)) (written length_limit ps)
 
-  helped-within : (k : Helper) (v : Value) (b : Bool) → IsWithinHeap h (if b then content.Help k false else texts.text_content (repr_pieces h v))
-  helped-within k v true = tt
-  helped-within k v false = repr-text-within v
+  helped-within : (k : Helper) (ps : List Piece) (b : Bool) → IsWithinHeap h (if b then content.Help k false else texts.text_content ps)
+  helped-within k ps true = tt
+  helped-within k ps false = pieces-within ps
 
   str-within : (v : Value) (o : Option (List ℕ)) → IsWithin h v → IsWithinHeap h (texts.str_by h v o)
   str-within v (Some t) w = w
-  str-within v None w = helped-within helper.StrOf v (needs_help h v)
+  str-within v None w = helped-within helper.StrOf (texts.str_pieces h v) (needs_help h v)
 
   printed-within : (s t : List ℕ) (vs : List Value) → IsWithinHeap h (texts.printed h s t vs)
   printed-within s t vs = by (need_help h vs)
@@ -552,10 +861,14 @@ module _ (h : List Object) (s : IsSound start_objects h) where
   char-within (operand.Number (negsuc n)) = (_, refl)
   char-within k = (_, refl)
 
-  integer-by-within : (k : Operand) → IsWithinHeap h (calls.integer_by k)
-  integer-by-within (operand.Number z) = tt
-  integer-by-within operand.Text = tt
-  integer-by-within k = (_, refl)
+  integer-or-error-within : (o : Option ℤ) → IsWithinHeap h (texts_as_integers.integer_or_error o)
+  integer-or-error-within (Some z) = integer-within h (ranged z)
+  integer-or-error-within None = (_, refl)
+
+  integer-by-within : (k : Operand) (t : Option (List ℕ)) → IsWithinHeap h (calls.integer_by k t)
+  integer-by-within (operand.Number z) t = tt
+  integer-by-within k (Some t) = integer-or-error-within (texts_as_integers.signed_number (texts_as_integers.without_blanks (chars t)))
+  integer-by-within k None = (_, refl)
 
   callable-within : (k : Operand) (o : Option Object) → IsWithinHeap h (calls.callable_by k o)
   callable-within operand.Instance o = tt
@@ -564,6 +877,50 @@ module _ (h : List Object) (s : IsSound start_objects h) where
   callable-within k (Some (object.Builtin b)) = tt
   callable-within k (Some (object.Class c)) = tt
   callable-within k o = tt
+
+  kinship-within : (k : Kinship) → IsWithinHeap h (classes.kinship_answer k)
+  kinship-within (kinship.Told b) = tt
+  kinship-within kinship.Deep = (_, refl)
+  kinship-within kinship.NoClass = (_, refl)
+
+  of-classes-within : (c v : Value) → IsWithinHeap h (classes.is_of_classes h c v)
+  of-classes-within c v = kinship-within (classes.kinship_of (classes.tuple_kinship h depth_limit c) h c v)
+
+  subclass-within : (c v : Value) → IsWithinHeap h (classes.subclass_by h c v)
+  subclass-within c v = by (classes.is_class h c)
+    where
+      by : (b : Bool)
+          → IsWithinHeap h (if b then classes.is_of_classes h c v else Rattle.pt_content.specs.TypeErrors.bad_argument Rattle.pt_content.specs.declared.class.TheConstants.TYPE_ERROR)
+      by true = of-classes-within c v
+      by false = (_, refl)
+
+  has-within : (a : Attribute) → IsWithinHeap h (asked.has a)
+  has-within (attribute.Method m) = tt
+  has-within (attribute.Held v) = tt
+  has-within attribute.Missing = tt
+  has-within attribute.Unbuilt = tt
+
+  has-attribute-within : (v : Value) (o : Option (List ℕ)) → IsWithinHeap h (asked.has_attribute h v o)
+  has-attribute-within v (Some name) = has-within (attribute_of h v name)
+  has-attribute-within v None = (_, refl)
+
+  gotten-within : (a : Attribute) (c : Content) → AttributeWithin h a → IsWithinHeap h c → IsWithinHeap h (asked.gotten a c)
+  gotten-within attribute.Missing c i w = w
+  gotten-within (attribute.Held v) c i w = i
+  gotten-within a c i w = tt
+
+  get-attribute-within : (v : Value) (o : Option (List ℕ)) → IsWithinHeap h (asked.get_attribute h v o)
+  get-attribute-within v (Some name) = gotten-within (attribute_of h v name) (asked.attribute_error h v name) (attribute-within h s v name) (_, refl)
+  get-attribute-within v None = (_, refl)
+
+  get-attribute-or-within : (v : Value) (o : Option (List ℕ)) (x : Value) → IsWithin h x → IsWithinHeap h (asked.get_attribute_or h v o x)
+  get-attribute-or-within v (Some name) x w = gotten-within (attribute_of h v name) (content.Value x) (attribute-within h s v name) w
+  get-attribute-or-within v None x w = (_, refl)
+
+  call-getattr-within : (vs : List Value) → AllWithin h vs → IsWithinHeap h (asked.call_getattr vs h)
+  call-getattr-within (v ∷ n ∷ []) w = get-attribute-within v (text_of h n)
+  call-getattr-within (v ∷ n ∷ x ∷ []) w = get-attribute-or-within v (text_of h n) x w.1.1.0
+  call-getattr-within vs w = tt
 
   builtin : (n : ℕ) → IsClassAt start_objects n → IsWithin h (calls.builtin_class n)
   builtin n c = start-class h n s c
@@ -605,13 +962,13 @@ module _ (h : List Object) (s : IsSound start_objects h) where
   class-of-within (value.Obj id) = class-of-object-within id (slice_get h id.0) refl
 
   call-next-within : (vs : List Value) → AllWithin h vs → IsWithinHeap h (calls.call_next vs h)
-  call-next-within (a ∷ []) w = raise-within (cursors.next_content h a) (next-within a)
-  call-next-within (a ∷ b ∷ []) w = default-within b (cursors.next_content h a) w.1.0 (next-within a)
+  call-next-within (a ∷ []) w = raise-within (views.next_content h a) (any-next-within a)
+  call-next-within (a ∷ b ∷ []) w = default-within b (views.next_content h a) w.1.0 (any-next-within a)
   call-next-within vs w = tt
 
   call-int-within : (vs : List Value) → IsWithinHeap h (calls.call_int vs h)
   call-int-within [] = tt
-  call-int-within (a ∷ []) = integer-by-within (operand_of h a)
+  call-int-within (a ∷ []) = integer-by-within (operand_of h a) (text_of h a)
   call-int-within vs = tt
 
   call-bool-within : (vs : List Value) → IsWithinHeap h (calls.call_bool vs h)
@@ -624,17 +981,39 @@ module _ (h : List Object) (s : IsSound start_objects h) where
   call-str-within (a ∷ []) w = str-within a (text_of h a) w.0
   call-str-within vs w = tt
 
+  status-within : (v : Value) → IsWithin h v → IsWithinIf h (calls.status_in v)
+  status-within value.None w = tt
+  status-within (value.Bool b) w = w
+  status-within (value.Int z) w = w
+  status-within value.Ellipsis w = w
+  status-within value.NotImplemented w = w
+  status-within (value.Obj id) w = w
+
+  exits-within : (o : Option Value) → IsWithinIf h o → IsWithinHeap h (calls.exits_with o)
+  exits-within None w = (tt, tt, ((_, refl), tt))
+  exits-within (Some v) w = (tt, tt, ((_, refl), behind-nothing v w))
+
+  call-exit-within : (vs : List Value) → AllWithin h vs → IsWithinHeap h (calls.call_exit vs)
+  call-exit-within [] w = exits-within None tt
+  call-exit-within (a ∷ []) w = exits-within (calls.status_in a) (status-within a w.0)
+  call-exit-within (a ∷ b ∷ vs) w = tt
+
   call-within : (f : Function) (vs : List Value) → AllWithin h vs → IsWithinHeap h (calls.call_content f vs h)
   call-within function.Print (x ∷ y ∷ vs) w = print-within (texts.text_or (codes " ") h x) (texts.text_or (10 ∷ []) h y) vs
   call-within function.Len (a ∷ []) w = length-within a (length_of h a)
-  call-within function.Repr (a ∷ []) w = helped-within helper.ReprOf a (needs_help h a)
-  call-within function.Iter (a ∷ []) w = iterator-within a w.0
+  call-within function.Repr (a ∷ []) w = helped-within helper.ReprOf (repr_pieces h a) (needs_help h a)
+  call-within function.Isinstance (a ∷ c ∷ []) w = of-classes-within (calls.class_of h a) c
+  call-within function.Issubclass (a ∷ c ∷ []) w = subclass-within a c
+  call-within function.Iter (a ∷ []) w = any-iterator-within a w.0
   call-within function.Next vs w = call-next-within vs w
   call-within function.Abs (a ∷ []) w = magnitude-within (operand_of h a)
   call-within function.Divmod (a ∷ b ∷ []) w = division-within (operand_of h a) (operand_of h b)
   call-within function.Ord (a ∷ []) w = code-within (text_of h a)
   call-within function.Chr (a ∷ []) w = char-within (operand_of h a)
+  call-within function.Hasattr (a ∷ n ∷ []) w = has-attribute-within a (text_of h n)
+  call-within function.Getattr vs w = call-getattr-within vs w
   call-within function.Callable (a ∷ []) w = callable-within (operand_of h a) (object_of h a)
+  call-within function.Exit vs w = call-exit-within vs w
   call-within function.Type (a ∷ []) w = class-of-within a
   call-within function.Int vs w = call-int-within vs
   call-within function.Bool vs w = call-bool-within vs
@@ -642,18 +1021,94 @@ module _ (h : List Object) (s : IsSound start_objects h) where
   call-within function.Range vs w = range-within vs
   call-within f vs w = tt
 
+  -- fields of f-strings
+  converted-within : (c : Option Conversion) (v : Value) → IsWithin h v → IsWithinHeap h (fields.converted c h v)
+  converted-within (Some conversion.Repr) v w = helped-within helper.ReprOf (repr_pieces h v) (needs_help h v)
+  converted-within c v w = str-within v (text_of h v) w
+
+  laid-out-within : (spec : List ℕ) (v : FormatValue) → IsWithinHeap h (fields.laid_out spec v)
+  laid-out-within spec v = answered-within h (formatted v (spec_of (chars spec)))
+
+  laid-text-within : (spec : List ℕ) (o : Option (List ℕ)) (c : Content) → IsWithinHeap h c → IsWithinHeap h (fields.laid_text spec o c)
+  laid-text-within spec (Some t) c w = laid-out-within spec (laid.Str t)
+  laid-text-within spec None c w = w
+
+  laid-content-within : (spec : List ℕ) (c : Content) → IsWithinHeap h c → IsWithinHeap h (fields.laid_content h spec c)
+  laid-content-within spec (content.Value v) w = laid-text-within spec (text_of h v) (content.Value v) w
+  laid-content-within spec (content.New (new.Text t)) w = laid-out-within spec (laid.Str t)
+  laid-content-within spec c w = w
+
+  specified-within : (c : Option Conversion) (v : Value) (spec : List ℕ) (k : Operand) → IsWithin h v → IsWithinHeap h (fields.specified c h v spec k)
+  specified-within None v spec (operand.Number z) w = laid-out-within spec (laid.Int z)
+  specified-within c v spec k w = laid-content-within spec (fields.converted c h v) (converted-within c v w)
+
+  format-by-within : (c : Option Conversion) (v : Value) (spec : List ℕ) → IsWithin h v → IsWithinHeap h (fields.format_by c h v spec)
+  format-by-within c v [] w = converted-within c v w
+  format-by-within c v (x ∷ spec) w = specified-within c v (x ∷ spec) (operand_of h v) w
+
+  format-if-within : (c : Option Conversion) (v : Value) (o : Option (List ℕ)) → IsWithin h v → IsWithinHeap h (fields.format_if c h v o)
+  format-if-within c v (Some spec) w = format-by-within c v spec w
+  format-if-within c v None w = (_, refl)
+
+  format-within : (c : Option Conversion) (v spec : Value) → IsWithin h v → IsWithinHeap h (fields.format_content c h v spec)
+  format-within c v value.None w = converted-within c v w
+  format-within c v spec w = format-if-within c v (text_of h spec) w
+
+  -- arguments that are spread
+  spread-within : (v : Value) (o : Option Object) → object_of h v ≡ o → IsWithinHeap h (spreads.spread_in o)
+  spread-within v (Some (object.List vs)) e = tuple-within h vs (list-items v vs e)
+  spread-within v (Some (object.Tuple vs)) e = tuple-within h vs (tuple-items v vs e)
+  spread-within v o e = tt
+
+  spread-named-within : (v : Value) (o : Option Object) → object_of h v ≡ o → IsWithinHeap h (spreads.spread_named_in h o)
+  spread-named-within v (Some (object.Dict es)) e = by (spreads.are_named h es)
+    where
+      by : (b : Bool) → IsWithinHeap h (if b then content.New (new.Dict es) else content.Raise TYPE_ERROR (codes "bad argument"))
+      by true = entries-below h es (dict-entries h s v es e)
+      by false = (_, refl)
+  spread-named-within v o e = (_, refl)
+
+  content-one-within : (o : Op) (a : Value) → IsWithin h a → IsWithinHeap h (content_of_one o a h)
+  content-one-within op.Truth a w = truth-within h a (operand_of h a)
+  content-one-within op.Not a w = turned-within h (truth_by h a (operand_of h a)) (truth-within h a (operand_of h a))
+  content-one-within (op.Unary o) a w = unary-within o h a (operand_of h a)
+  content-one-within op.Iter a w = any-iterator-within a w
+  content-one-within op.Next a w = any-next-within a
+  content-one-within (op.Unpack n) a w = unpacked-within n a (object_of h a) refl
+  content-one-within (op.UnpackStar n m) a w = starred-within n m a (object_of h a) refl
+  content-one-within op.SpreadOut a w = spread-within a (object_of h a) refl
+  content-one-within op.SpreadNamed a w = spread-named-within a (object_of h a) refl
+  content-one-within o a w = tt
+
+  content-two-within : (o : Op) (a b : Value) → IsWithin h a → IsWithin h b → IsWithinHeap h (content_of_two o a b h)
+  content-two-within (op.Binary o) a b v w = binary-within o a b
+  content-two-within (op.InPlace o) a b v w = in-place-by-within o a b (object_of h a) v refl
+  content-two-within (op.Compare o) a b v w = comparison-within o a b
+  content-two-within op.Item a i v w = subscript-in-within a i (object_of h a) w refl
+  content-two-within op.DelItem a i v w = delete-subscript-within a i w
+  content-two-within (op.Format c) a x v w = format-within c a x v
+  content-two-within op.ListAdd made x v w = list-add-within made x (object_of h made) w refl
+  content-two-within op.SetAdd made x v w = add-to-set-within made x w
+  content-two-within o a b v w = tt
+
+  content-three-within : (o : Op) (a b c : Value) → IsWithin h a → IsWithin h b → IsWithin h c → IsWithinHeap h (content_of_three o a b c h)
+  content-three-within op.SetItem x a i u v w = set-subscript-within x a i u w
+  content-three-within op.Slice a b c u v w = slice-within a b c u v w
+  content-three-within op.DictAdd made k x u v w = add-to-dict-within made k x v w
+  content-three-within o a b c u v w = tt
+
+  content-few-within : (o : Op) (vs : List Value) → AllWithin h vs → IsWithinHeap h (content_of_few o vs h)
+  content-few-within o (a ∷ []) w = content-one-within o a w.0
+  content-few-within o (a ∷ b ∷ []) w = content-two-within o a b w.0 w.1.0
+  content-few-within o (a ∷ b ∷ c ∷ []) w = content-three-within o a b c w.0 w.1.0 w.1.1.0
+  content-few-within o vs w = tt
+
   pub content-within : (o : Op) (vs : List Value) → AllWithin h vs → IsWithinHeap h (content_of o vs h)
-  content-within op.Truth (a ∷ []) w = truth-within h a (operand_of h a)
-  content-within op.Not (a ∷ []) w = turned-within h (truth_by h a (operand_of h a)) (truth-within h a (operand_of h a))
-  content-within (op.Unary o) (a ∷ []) w = unary-within o h a (operand_of h a)
-  content-within (op.Binary o) (a ∷ b ∷ []) w = binary-within o a b
-  content-within (op.InPlace o) (a ∷ b ∷ []) w = in-place-by-within o a b (object_of h a) w.0 refl
-  content-within (op.Compare o) (a ∷ b ∷ []) w = comparison-within o a b
   content-within op.Tuple vs w = tuple-within h vs w
   content-within op.List vs w = list-within h vs w
-  content-within op.Item (a ∷ i ∷ []) w = item-within a i
-  content-within op.Iter (a ∷ []) w = iterator-within a w.0
-  content-within op.Next (a ∷ []) w = next-within a
-  content-within (op.Unpack n) (a ∷ []) w = unpacked-within n a (object_of h a) refl
+  content-within op.Set vs w = set-within h s vs w
+  content-within op.Dict vs w = dict-within h s vs w
+  content-within op.Join vs w = joined-within h [] (answers.texts_of h vs)
   content-within (op.Call f) vs w = call-within f vs w
-  content-within o vs w = tt
+  content-within (op.CallMethod m) vs w = method-within h s (comparison-within comparison.Equal) m vs w
+  content-within o vs w = content-few-within o vs w

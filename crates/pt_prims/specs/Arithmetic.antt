@@ -10,7 +10,7 @@ use Rattle.pt_heap.specs.declared.object.Object.{Object}
 use Rattle.pt_ints.specs.declared.answer.IntAns.{IntAns}
 use Rattle.pt_ints.specs.declared.answer.IntAns.TheVariants as integer
 use Rattle.pt_ints.specs.Answer.{binary_answer, unary_answer}
-use Rattle.pt_dicts.specs.Keys.{truth}
+use Rattle.pt_content.specs.pt_attrs.pt_dicts.Keys.{truth}
 use Rattle.pt_content.specs.declared.operand.Operand.{Operand}
 use Rattle.pt_content.specs.declared.operand.Operand.TheVariants as operand
 use Rattle.pt_content.specs.declared.answer.Helper.TheVariants.{BinaryOf}

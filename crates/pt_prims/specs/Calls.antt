@@ -14,7 +14,8 @@ use Rattle.pt_heap.specs.declared.object.Part.TheVariants.{Keys, Values, Items}
 use Rattle.pt_ints.specs.declared.answer.IntAns.{IntAns}
 use Rattle.pt_ints.specs.declared.answer.IntAns.TheVariants as integer
 use Rattle.pt_ints.specs.Answer.{binary_answer, unary_answer}
-use Rattle.pt_attrs.specs.Look.{object_of}
+use Rattle.pt_content.specs.pt_attrs.Look.{object_of}
+use Rattle.pt_content.specs.Changes.{added}
 use Rattle.pt_content.specs.declared.answer.Helper.TheVariants.{NextOf, NextOrOf}
 use Rattle.pt_content.specs.declared.answer.PrimAns.TheVariants as answer
 use Rattle.pt_content.specs.declared.class.TheConstants.{TYPE_ERROR, VALUE_ERROR}
@@ -23,17 +24,20 @@ use Rattle.pt_content.specs.declared.content.Content.TheVariants as content
 use Rattle.pt_content.specs.declared.function.Function.{Function}
 use Rattle.pt_content.specs.declared.function.Function.TheVariants as function
 use Rattle.pt_content.specs.declared.operand.Operand.{Operand}
-use Rattle.pt_content.specs.declared.operand.Operand.TheVariants.{Number, Text, Instance}
+use Rattle.pt_content.specs.declared.operand.Operand.TheVariants.{Number, Instance}
 use Rattle.pt_content.specs.Operands.{operand_of, text_of}
 use Rattle.pt_content.specs.TypeErrors.{bad_argument}
-use Rattle.pt_comparisons.specs.pt_sequences.Cursors.{iterator_content, next_content}
-use Rattle.pt_comparisons.specs.pt_sequences.Displays.{tuple_content}
-use Rattle.pt_comparisons.specs.pt_sequences.Lengths.{length_content}
-use Rattle.pt_comparisons.specs.pt_sequences.Ranges.{range_content}
-use Rattle.pt_comparisons.specs.pt_reprs.Texts.{new_text, print_content, repr_content, str_content}
-use Rattle.pt_prims.specs.declared.calls.TheConstants.{STOP_ITERATION}
+use Rattle.pt_methods.specs.pt_views.Cursors.{iterator_content, next_content}
+use Rattle.pt_methods.specs.pt_sequences.Displays.{tuple_content}
+use Rattle.pt_methods.specs.pt_sequences.Lengths.{length_content}
+use Rattle.pt_methods.specs.pt_sequences.Ranges.{range_content}
+use Rattle.pt_methods.specs.pt_reprs.Texts.{new_text, print_content, repr_content, str_content}
+use Rattle.pt_prims.specs.declared.calls.TheConstants.{STOP_ITERATION, SYSTEM_EXIT}
 use Rattle.pt_prims.specs.Arithmetic.{integer_content}
-use Rattle.pt_comparisons.specs.Truths.{truth_content, truth_value}
+use Rattle.pt_prims.specs.AttributeCalls.{call_getattr, has_attribute}
+use Rattle.pt_prims.specs.Classes.{is_of_classes, subclass_by}
+use Rattle.pt_prims.specs.IntegerTexts.{text_integer}
+use Rattle.pt_methods.specs.pt_comparisons.Truths.{truth_content, truth_value}
 
 -- `abs`
 abbrev pub magnitude : ℤ → IntAns
@@ -74,11 +78,11 @@ char_by (Number (pos n)) = char_of n
 char_by (Number (negsuc n)) = bad_argument VALUE_ERROR
 char_by k = bad_argument TYPE_ERROR
 
--- `int`: of a number; of a text that isn't there yet
-abbrev pub integer_by : Operand → Content
-integer_by (Number z) = content.Value (value.Int z)
-integer_by Text = content.Outside Feature
-integer_by k = bad_argument TYPE_ERROR
+-- `int`: of a number, and of a text
+abbrev pub integer_by : Operand → Option (List ℕ) → Content
+integer_by (Number z) t = content.Value (value.Int z)
+integer_by k (Some t) = text_integer t
+integer_by k None = bad_argument TYPE_ERROR
 
 -- `callable`: the method of an instance isn't asked yet
 abbrev pub callable_by : Operand → Option Object → Content
@@ -148,7 +152,7 @@ call_next vs h = content.Outside Feature
 
 abbrev pub call_int : List Value → List Object → Content
 call_int [] h = content.Value (value.Int (pos 0))
-call_int (a ∷ []) h = integer_by (operand_of h a)
+call_int (a ∷ []) h = integer_by (operand_of h a) (text_of h a)
 call_int vs h = content.Outside Feature
 
 abbrev pub call_bool : List Value → List Object → Content
@@ -161,18 +165,36 @@ call_str [] h = new_text []
 call_str (a ∷ []) h = str_content h a
 call_str vs h = content.Outside Feature
 
+-- `sys.exit` raises an exception of its argument; None is as none (Library Reference, `sys.exit`)
+abbrev pub exits_with : (status : Option Value) → Content
+exits_with o = content.Changed (added []) (answer.Raise SYSTEM_EXIT o)
+
+abbrev pub status_in : Value → Option Value
+status_in value.None = None
+status_in v = Some v
+
+abbrev pub call_exit : List Value → Content
+call_exit [] = exits_with None
+call_exit (a ∷ []) = exits_with (status_in a)
+call_exit vs = content.Outside Feature
+
 -- a row for each function; of other numbers of arguments there is none
 abbrev pub call_content : Function → List Value → List Object → Content
 call_content function.Print (separator ∷ end ∷ vs) h = print_content h separator end vs
 call_content function.Len (a ∷ []) h = length_content h a
 call_content function.Repr (a ∷ []) h = repr_content h a
+call_content function.Isinstance (a ∷ classes ∷ []) h = is_of_classes h (class_of h a) classes
+call_content function.Issubclass (a ∷ classes ∷ []) h = subclass_by h a classes
 call_content function.Iter (a ∷ []) h = iterator_content h a
 call_content function.Next vs h = call_next vs h
 call_content function.Abs (a ∷ []) h = magnitude_by (operand_of h a)
 call_content function.Divmod (a ∷ b ∷ []) h = division_by (operand_of h a) (operand_of h b)
 call_content function.Ord (a ∷ []) h = code_by (text_of h a)
 call_content function.Chr (a ∷ []) h = char_by (operand_of h a)
+call_content function.Hasattr (a ∷ name ∷ []) h = has_attribute h a (text_of h name)
+call_content function.Getattr vs h = call_getattr vs h
 call_content function.Callable (a ∷ []) h = callable_by (operand_of h a) (object_of h a)
+call_content function.Exit vs h = call_exit vs
 call_content function.Type (a ∷ []) h = content.Value (class_of h a)
 call_content function.Int vs h = call_int vs h
 call_content function.Bool vs h = call_bool vs h

@@ -1,6 +1,12 @@
 pub mod Sequences
 pub mod Arithmetic
 pub mod InPlace
+pub mod Classes
+pub mod AttributeCalls
+pub mod IntegerTexts
 pub mod Calls
+pub mod Subscripts
+pub mod Spreads
 pub mod Operations
 pub mod Laws
+pub use Rattle.pt_methods.specs as pt_methods

@@ -10,7 +10,7 @@ use Rattle.pt_heap.specs.declared.object.Object.{Object}
 use Rattle.pt_heap.specs.declared.object.Object.TheVariants as object
 use Rattle.pt_strs.specs.Answer.{length_limit}
 use Rattle.pt_strs.specs.Join.{copies}
-use Rattle.pt_attrs.specs.Look.{object_of}
+use Rattle.pt_content.specs.pt_attrs.Look.{object_of}
 use Rattle.pt_content.specs.declared.content.Content.{Content}
 use Rattle.pt_content.specs.declared.content.Content.TheVariants as content
 use Rattle.pt_content.specs.declared.content.NewObject.TheVariants as new
@@ -18,7 +18,8 @@ use Rattle.pt_content.specs.declared.operand.Operand.{Operand}
 use Rattle.pt_content.specs.declared.operand.Operand.TheVariants.{Number}
 use Rattle.pt_content.specs.Operands.{operand_of}
 use Rattle.pt_content.specs.TypeErrors.{binary_type_error}
-use Rattle.pt_comparisons.specs.pt_sequences.Displays.{list_content, repeated_list, repeated_tuple, times, tuple_content}
+use Rattle.pt_methods.specs.pt_sequences.Displays.{list_content, repeated_list, repeated_tuple, times, tuple_content}
+use Rattle.pt_methods.specs.pt_sets.Operators.{combined_content}
 
 -- one text behind another, where that isn't too long
 abbrev pub joined : List ℕ → List ℕ → Content
@@ -56,9 +57,9 @@ abbrev pub formatted : List Object → Value → Value → Option Object → Con
 formatted h a b (Some (object.Str t)) = content.Outside Feature
 formatted h a b o = binary_type_error Mod h a b
 
--- `- & | ^` of sets aren't there yet
+-- `- & | ^` of two sets
 abbrev pub sets_combined : BinOp → List Object → Value → Value → Option Object → Option Object → Content
-sets_combined op h a b (Some (object.Set es)) (Some (object.Set fs)) = content.Outside Feature
+sets_combined op h a b (Some (object.Set es)) (Some (object.Set fs)) = combined_content op es fs
 sets_combined op h a b o p = binary_type_error op h a b
 
 abbrev pub sequences_binary : BinOp → List Object → Value → Value → Content

@@ -4,13 +4,13 @@ ghost use Rattle.pt_prims.specs.Arithmetic.{truth_binary, truths_binary, unary_c
 
 use crate::sequences::sequences_binary;
 use pt_base::{BinOp, Memory, UnOp, What};
-use pt_comparisons::asked;
 use pt_content::{
     Content, Helper, Operand, Operator, VALUE_ERROR, ZERO_DIVISION_ERROR, operand_of, raise,
     unary_type_error,
 };
 use pt_heap::{Heap, Value};
 use pt_ints::IntAns;
+use pt_methods::asked;
 use std::alloc::Global;
 
 /// What an operator answers at integers.

@@ -4,32 +4,36 @@ ghost use Rattle.std.specs.Prelude.{◌≡◌, slice_get, IfOk};
 ghost use Rattle.std.specs.Char.{encode_utf8};
 ghost use Rattle.std.specs.Option.{option_copied};
 ghost use Rattle.std.specs.Str.{chars};
-ghost use Rattle.pt_attrs.specs.Look.{object_of};
+ghost use Rattle.pt_content.specs.pt_attrs.Look.{object_of};
 ghost use Rattle.pt_content.specs.Operands.{operand_of};
 ghost use Rattle.pt_prims.specs.Calls.{builtin_class, call_bool, call_content, call_int, call_next};
-ghost use Rattle.pt_prims.specs.Calls.{call_str, callable_by, char_by, char_of};
+ghost use Rattle.pt_prims.specs.Calls.{call_exit, call_str, callable_by, char_by, char_of};
 ghost use Rattle.pt_prims.specs.Calls.{class_of, class_of_object, code_by, code_of, division_by};
 ghost use Rattle.pt_prims.specs.Calls.{integer_by, magnitude, magnitude_by, or_default, or_raise};
-ghost use Rattle.pt_prims.specs.Calls.{quotient_and_remainder, view_class};
+ghost use Rattle.pt_prims.specs.Calls.{exits_with, quotient_and_remainder, status_in, view_class};
 
 use crate::arithmetic::integer_content;
-use pt_attrs::object_of;
+use crate::attribute_calls::{call_getattr, has_attribute};
+use crate::classes::{is_of_classes, subclass_by};
+use crate::integer_texts::text_integer;
 use pt_base::{BinOp, Memory, ObjId, Seq, Text, UnOp, What};
-use pt_comparisons::{
+use pt_content::{
+    Change, Content, Function, Helper, Operand, PrimAns, TYPE_ERROR, VALUE_ERROR, bad_argument,
+    object_at, object_of, operand_of, text_of,
+};
+use pt_heap::{Heap, Object, Part, Str, Value};
+use pt_ints::IntAns;
+use pt_methods::{
     iterator_content, length_content, new_text, next_content, print_content, range_content,
     repr_content, str_content, truth_content, truth_value, tuple_content,
 };
-use pt_content::{
-    Content, Function, Helper, Operand, PrimAns, TYPE_ERROR, VALUE_ERROR, bad_argument, operand_of,
-    text_of,
-};
-use pt_dicts::object_at;
-use pt_heap::{Heap, Object, Part, Str, Value};
-use pt_ints::IntAns;
 use std::alloc::Global;
 
 /// The place of the class that `next` raises.
 pub const STOP_ITERATION: ObjId = ObjId(44);
+
+/// The place of the class that `sys.exit` raises.
+pub const SYSTEM_EXIT: ObjId = ObjId(27);
 
 /// A number without its sign.
 fn magnitude(number: i128) -> IntAns
@@ -150,13 +154,13 @@ fn char_by(alloc: Global, operand: Operand) -> Result<Content, Memory>
 }
 
 /// `int`
-fn integer_by(alloc: Global, operand: Operand) -> Result<Content, Memory>
-    ensures { IfOk result (λ content. content ≡ integer_by operand) }
+fn integer_by(alloc: Global, operand: Operand, text: Option<&Str>) -> Result<Content, Memory>
+    ensures { IfOk result (λ content. content ≡ integer_by operand (option_copied text.entry)) }
 {
-    match operand {
-        Operand::Number(number) => Ok(Content::Value(Value::Int(number))),
-        Operand::Text => Ok(Content::Outside(What::Feature)),
-        Operand::Instance | Operand::Compound | Operand::Plain => bad_argument(alloc, TYPE_ERROR),
+    match (operand, text) {
+        (Operand::Number(number), _) => Ok(Content::Value(Value::Int(number))),
+        (_, Some(text)) => text_integer(alloc, text),
+        _ => bad_argument(alloc, TYPE_ERROR),
     }
 }
 
@@ -295,7 +299,7 @@ fn call_int(alloc: Global, args: &[Value], heap: &Heap) -> Result<Content, Memor
 {
     match args {
         [] => Ok(Content::Value(Value::Int(0))),
-        [a] => integer_by(alloc, operand_of(heap, *a)),
+        [a] => integer_by(alloc, operand_of(heap, *a), text_of(heap, *a)),
         _ => Ok(Content::Outside(What::Feature)),
     }
 }
@@ -322,6 +326,43 @@ fn call_str(alloc: Global, args: &[Value], heap: &Heap) -> Result<Content, Memor
     }
 }
 
+/// Raises the exception of `sys.exit`, perhaps of an argument.
+fn exits_with(alloc: Global, status: Option<Value>) -> Content
+    ensures { result ≡ exits_with status }
+{
+    Content::Changed {
+        change: Change {
+            replacement: None,
+            objects: Seq::new(alloc),
+        },
+        answer: PrimAns::Raise {
+            class: SYSTEM_EXIT,
+            arg: status,
+        },
+    }
+}
+
+/// None is as no argument.
+fn status_in(value: Value) -> Option<Value>
+    ensures { result ≡ status_in value }
+{
+    match value {
+        Value::None => None,
+        other => Some(other),
+    }
+}
+
+/// `sys.exit` of a value, or of none.
+fn call_exit(alloc: Global, args: &[Value]) -> Content
+    ensures { result ≡ call_exit args.now }
+{
+    match args {
+        [] => exits_with(alloc, None),
+        [a] => exits_with(alloc, status_in(*a)),
+        _ => Content::Outside(What::Feature),
+    }
+}
+
 /// What a call of a builtin function or class gives (Library Reference, "Built-in Functions").
 pub fn call_content(
     alloc: Global,
@@ -337,6 +378,10 @@ pub fn call_content(
         }
         (Function::Len, [a]) => length_content(alloc, heap, *a),
         (Function::Repr, [a]) => repr_content(alloc, heap, *a),
+        (Function::Isinstance, [a, classes]) => {
+            is_of_classes(alloc, heap, class_of(heap, *a), *classes)
+        }
+        (Function::Issubclass, [a, classes]) => subclass_by(alloc, heap, *a, *classes),
         (Function::Iter, [a]) => iterator_content(alloc, heap, *a),
         (Function::Next, args) => call_next(alloc, args, heap),
         (Function::Abs, [a]) => magnitude_by(alloc, operand_of(heap, *a)),
@@ -347,7 +392,10 @@ pub fn call_content(
         ),
         (Function::Ord, [a]) => code_by(alloc, text_of(heap, *a)),
         (Function::Chr, [a]) => char_by(alloc, operand_of(heap, *a)),
+        (Function::Hasattr, [a, name]) => { has_attribute(alloc, heap, *a, text_of(heap, *name)) }
+        (Function::Getattr, args) => call_getattr(alloc, args, heap),
         (Function::Callable, [a]) => Ok(callable_by(heap, *a)),
+        (Function::Exit, args) => Ok(call_exit(alloc, args)),
         (Function::Type, [a]) => Ok(Content::Value(class_of(heap, *a))),
         (Function::Int, args) => call_int(alloc, args, heap),
         (Function::Bool, args) => Ok(call_bool(args, heap)),

@@ -1,17 +1,17 @@
 ghost use Rattle.std.specs.Prelude.{◌≡◌, IfOk};
-ghost use Rattle.pt_attrs.specs.Look.{object_of};
+ghost use Rattle.pt_content.specs.pt_attrs.Look.{object_of};
 ghost use Rattle.pt_content.specs.Operands.{operand_of};
-ghost use Rattle.pt_prims.specs.InPlace.{extended, in_place, in_place_content, list_repeated};
+ghost use Rattle.pt_prims.specs.InPlace.{extended, in_place, in_place_content, list_repeated, set_changed};
 
 use crate::arithmetic::binary_content;
 use crate::sequences::concatenation;
-use pt_attrs::object_of;
 use pt_base::{BinOp, Memory, Seq, What};
-use pt_comparisons::{asked_or, list_content, repeated_list};
 use pt_content::{
-    Change, Content, Helper, Mutable, NewObject, Operand, PrimAns, Replacement, operand_of,
+    Change, Content, Helper, Mutable, NewObject, Operand, PrimAns, Replacement, object_of,
+    operand_of,
 };
-use pt_heap::{Heap, Object, Value};
+use pt_heap::{Dict, Heap, Object, Value};
+use pt_methods::{asked_or, combined_in_place, list_content, repeated_list};
 use std::alloc::Global;
 
 /// A list takes the items of one that would be new.
@@ -84,7 +84,30 @@ fn list_repeated(
     }
 }
 
-/// `a OP= b` (Language Reference 7.2.1). A list changes in place.
+/// `|=`, `&=`, `-=` or `^=` of a set.
+fn set_changed(
+    alloc: Global,
+    op: BinOp,
+    heap: &Heap,
+    a: Value,
+    b: Value,
+    set: &Dict,
+) -> Result<Content, Memory>
+    ensures { IfOk result (λ content. content
+        ≡ set_changed op heap.now a b set.now (object_of heap.now b)) }
+{
+    match (a, object_of(heap, b)) {
+        (Value::Obj(id), Some(Object::Set(other))) => match op {
+            BinOp::BitOr | BinOp::BitAnd | BinOp::Sub | BinOp::BitXor => {
+                combined_in_place(alloc, op, id, set, other)
+            }
+            _ => binary_content(alloc, op, heap, a, b),
+        },
+        _ => binary_content(alloc, op, heap, a, b),
+    }
+}
+
+/// `a OP= b` (Language Reference 7.2.1). A list or a set changes in place.
 pub fn in_place_content(
     alloc: Global,
     op: BinOp,
@@ -99,6 +122,7 @@ pub fn in_place_content(
         (BinOp::Mul, Some(Object::List(items))) => {
             list_repeated(alloc, heap, a, items.as_slice(), b)
         }
+        (_, Some(Object::Set(set))) => set_changed(alloc, op, heap, a, b, set),
         _ => binary_content(alloc, op, heap, a, b),
     }
 }

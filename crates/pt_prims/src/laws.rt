@@ -9,16 +9,19 @@ ghost use Rattle.pt_content.specs.declared.class.TheConstants.{INDEX_ERROR, RECU
 ghost use Rattle.pt_content.specs.declared.class.TheConstants.{TYPE_ERROR, VALUE_ERROR};
 ghost use Rattle.pt_content.specs.declared.class.TheConstants.{ZERO_DIVISION_ERROR};
 ghost use Rattle.pt_content.specs.declared.op.Op.{Op};
-ghost use Rattle.pt_prims.specs.declared.calls.TheConstants.{STOP_ITERATION};
+ghost use Rattle.pt_prims.specs.declared.attribute_calls.TheConstants.{ATTRIBUTE_ERROR};
+ghost use Rattle.pt_prims.specs.declared.calls.TheConstants.{STOP_ITERATION, SYSTEM_EXIT};
 ghost use Rattle.pt_prims.specs.Laws.{start_name, AllWithin, AnswerIsWithin, Stay};
 ghost use Rattle.pt_prims.specs.Operations.{prim_answer, prim_heap};
 
 /// The classes of the errors that operations raise stand at their places as a run starts.
 pub fn errors_are_of_their_classes()
+    ensures attribute { start_name ATTRIBUTE_ERROR ≡ codes "AttributeError" }
     ensures division { start_name ZERO_DIVISION_ERROR ≡ codes "ZeroDivisionError" }
     ensures index { start_name INDEX_ERROR ≡ codes "IndexError" }
     ensures recursion { start_name RECURSION_ERROR ≡ codes "RecursionError" }
     ensures iteration { start_name STOP_ITERATION ≡ codes "StopIteration" }
+    ensures exit { start_name SYSTEM_EXIT ≡ codes "SystemExit" }
     ensures types { start_name TYPE_ERROR ≡ codes "TypeError" }
     ensures values { start_name VALUE_ERROR ≡ codes "ValueError" }
 {}

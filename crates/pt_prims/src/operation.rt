@@ -2,39 +2,103 @@ ghost use Rattle.std.specs.Prelude.{◌≡◌, [], IfOk, OnOk, OnErr};
 ghost use Rattle.pt_heap.specs.Sound.{IsSound};
 ghost use Rattle.pt_builtin_objects.specs.Start.{start_objects};
 ghost use Rattle.pt_prims.specs.Laws.{AllWithin};
-ghost use Rattle.pt_prims.specs.Operations.{content_of, grown, placed, prim_answer, prim_heap};
+ghost use Rattle.pt_prims.specs.Operations.{content_of, content_of_few, content_of_one, content_of_three, content_of_two};
+ghost use Rattle.pt_prims.specs.Operations.{grown, placed, prim_answer, prim_heap};
 
 use crate::arithmetic::{binary_content, unary_content};
 use crate::calls::call_content;
 use crate::in_place::in_place_content;
+use crate::spreads::{spread, spread_named};
+use crate::subscripts::{add_to_dict, add_to_set, delete_subscript, set_subscript, subscript};
 use pt_base::{Memory, ObjId, Seq, Text, What};
-use pt_comparisons::{
-    comparison_content, inverse_content, item_content, iterator_content, list_content,
-    next_content, truth_content, tuple_content, unpack_content,
-};
 use pt_content::{Change, Content, NewObject, Op, PrimAns, add, add_values, apply};
 use pt_heap::{Heap, Value};
+use pt_methods::{
+    comparison_content, dict_content, format_content, inverse_content, iterator_content,
+    join_content, list_add_content, list_content, method_content, next_content, set_content,
+    slice_content, starred_content, truth_content, tuple_content, unpack_content,
+};
 use std::alloc::Global;
+
+/// What an operation on one value answers.
+fn content_of_one(alloc: Global, op: Op, a: Value, heap: &Heap) -> Result<Content, Memory>
+    ensures { IfOk result (λ content. content ≡ content_of_one op a heap.now) }
+{
+    match op {
+        Op::Truth => Ok(truth_content(heap, a)),
+        Op::Not => Ok(inverse_content(heap, a)),
+        Op::Unary(op) => unary_content(alloc, op, heap, a),
+        Op::Iter => iterator_content(alloc, heap, a),
+        Op::Next => next_content(alloc, heap, a),
+        Op::Unpack { count } => unpack_content(alloc, heap, count, a),
+        Op::UnpackStar { before, after } => starred_content(alloc, heap, before, after, a),
+        Op::SpreadOut => spread(alloc, heap, a),
+        Op::SpreadNamed => spread_named(alloc, heap, a),
+        _ => Ok(Content::Outside(What::Feature)),
+    }
+}
+
+/// What an operation on two values answers.
+fn content_of_two(alloc: Global, op: Op, a: Value, b: Value, heap: &Heap) -> Result<Content, Memory>
+    ensures { IfOk result (λ content. content ≡ content_of_two op a b heap.now) }
+{
+    match op {
+        Op::Binary(op) => binary_content(alloc, op, heap, a, b),
+        Op::InPlace(op) => in_place_content(alloc, op, heap, a, b),
+        Op::Compare(op) => comparison_content(alloc, op, heap, a, b),
+        Op::Item => subscript(alloc, heap, a, b),
+        Op::DelItem => delete_subscript(alloc, heap, a, b),
+        Op::Format(conversion) => format_content(alloc, conversion, heap, a, b),
+        Op::ListAdd => list_add_content(alloc, heap, a, b),
+        Op::SetAdd => add_to_set(alloc, heap, a, b),
+        _ => Ok(Content::Outside(What::Feature)),
+    }
+}
+
+/// What an operation on three values answers.
+fn content_of_three(
+    alloc: Global,
+    op: Op,
+    a: Value,
+    b: Value,
+    c: Value,
+    heap: &Heap,
+) -> Result<Content, Memory>
+    ensures { IfOk result (λ content. content ≡ content_of_three op a b c heap.now) }
+{
+    match op {
+        Op::SetItem => set_subscript(alloc, heap, a, b, c),
+        Op::Slice => Ok(slice_content(a, b, c)),
+        Op::DictAdd => add_to_dict(alloc, heap, a, b, c),
+        _ => Ok(Content::Outside(What::Feature)),
+    }
+}
+
+/// What an operation that takes a set number of operands answers.
+fn content_of_few(alloc: Global, op: Op, args: &[Value], heap: &Heap) -> Result<Content, Memory>
+    ensures { IfOk result (λ content. content ≡ content_of_few op args.now heap.now) }
+{
+    match args {
+        [a] => content_of_one(alloc, op, *a, heap),
+        [a, b] => content_of_two(alloc, op, *a, *b, heap),
+        [a, b, c] => content_of_three(alloc, op, *a, *b, *c, heap),
+        _ => Ok(Content::Outside(What::Feature)),
+    }
+}
 
 /// What an operation answers, with new objects that aren't in the heap yet.
 fn content_of(alloc: Global, op: Op, args: &[Value], heap: &Heap) -> Result<Content, Memory>
     ensures { IfOk result (λ content. content ≡ content_of op args.now heap.now) }
 {
-    match (op, args) {
-        (Op::Truth, [a]) => Ok(truth_content(heap, *a)),
-        (Op::Not, [a]) => Ok(inverse_content(heap, *a)),
-        (Op::Unary(op), [a]) => unary_content(alloc, op, heap, *a),
-        (Op::Binary(op), [a, b]) => binary_content(alloc, op, heap, *a, *b),
-        (Op::InPlace(op), [a, b]) => in_place_content(alloc, op, heap, *a, *b),
-        (Op::Compare(op), [a, b]) => comparison_content(alloc, op, heap, *a, *b),
-        (Op::Tuple, items) => Ok(tuple_content(Seq::from_slice(alloc, items)?)),
-        (Op::List, items) => Ok(list_content(Seq::from_slice(alloc, items)?)),
-        (Op::Item, [a, index]) => item_content(alloc, heap, *a, *index),
-        (Op::Iter, [a]) => iterator_content(alloc, heap, *a),
-        (Op::Next, [a]) => next_content(alloc, heap, *a),
-        (Op::Unpack { count }, [a]) => unpack_content(alloc, heap, count, *a),
-        (Op::Call(function), args) => call_content(alloc, function, args, heap),
-        _ => Ok(Content::Outside(What::Feature)),
+    match op {
+        Op::Tuple => Ok(tuple_content(Seq::from_slice(alloc, args)?)),
+        Op::List => Ok(list_content(Seq::from_slice(alloc, args)?)),
+        Op::Set => set_content(alloc, heap, args),
+        Op::Dict => dict_content(alloc, heap, args),
+        Op::Join => join_content(alloc, heap, args),
+        Op::Call(function) => call_content(alloc, function, args, heap),
+        Op::CallMethod(method) => method_content(alloc, method, args, heap),
+        _ => content_of_few(alloc, op, args, heap),
     }
 }
 

@@ -1,19 +1,19 @@
 //! Binary operators at operands of which one is no number.
 
 ghost use Rattle.std.specs.Prelude.{◌≡◌, ◌++◌, IfOk, IsTrue};
-ghost use Rattle.pt_attrs.specs.Look.{object_of};
+ghost use Rattle.pt_content.specs.pt_attrs.Look.{object_of};
+ghost use Rattle.pt_content.specs.pt_attrs.pt_dicts.Combine.{is_set_operator};
 ghost use Rattle.pt_strs.specs.Join.{copies};
 ghost use Rattle.pt_content.specs.Operands.{operand_of};
-ghost use Rattle.pt_comparisons.specs.pt_sequences.Displays.{times};
+ghost use Rattle.pt_methods.specs.pt_sequences.Displays.{times};
 ghost use Rattle.pt_prims.specs.Sequences.{formatted, is_short, joined, object_repeated, objects_added};
 ghost use Rattle.pt_prims.specs.Sequences.{repeated_by, repeated_text, sequences_binary};
 ghost use Rattle.pt_prims.specs.Sequences.{sets_combined};
 
-use pt_attrs::object_of;
 use pt_base::{BinOp, Memory, Seq, Text, What};
-use pt_comparisons::{list_content, repeated_list, repeated_tuple, tuple_content};
-use pt_content::{Content, NewObject, Operand, binary_type_error, operand_of};
+use pt_content::{Content, NewObject, Operand, binary_type_error, object_of, operand_of};
 use pt_heap::{Heap, Object, Str, Value};
+use pt_methods::{combined_content, list_content, repeated_list, repeated_tuple, tuple_content};
 use pt_strs::LENGTH_LIMIT;
 use std::alloc::Global;
 
@@ -162,11 +162,12 @@ fn sets_combined(
     a: Value,
     b: Value,
 ) -> Result<Content, Memory>
+    requires { IsTrue (is_set_operator op) }
     ensures { IfOk result (λ content. content
         ≡ sets_combined op heap.now a b (object_of heap.now a) (object_of heap.now b)) }
 {
     match (object_of(heap, a), object_of(heap, b)) {
-        (Some(Object::Set(_)), Some(Object::Set(_))) => Ok(Content::Outside(What::Feature)),
+        (Some(Object::Set(a)), Some(Object::Set(b))) => combined_content(alloc, op, a, b),
         _ => binary_type_error(alloc, op, heap, a, b),
     }
 }

@@ -2,3 +2,4 @@ pub mod EndLaws
 pub mod ListingLemmas
 pub mod RunLemmas
 pub mod AnswerLemmas
+pub use Rattle.pt_run_script.proofs as pt_run_script

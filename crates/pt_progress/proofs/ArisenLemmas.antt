@@ -1,6 +1,6 @@
 -- An exception that arose is what a run does with what the instruction came to.
-use Rattle.std.proofs.Common.{◌+◌, ◌≤◌, ℕ, List, Bool, Option, Some, None, refl, sym, subst, length}
-use Rattle.std.specs.Prelude.{codes}
+use Rattle.std.proofs.Common.{◌≡◌, ◌+◌, ◌≤◌, ℕ, List, Bool, Option, Some, None, refl, sym, subst, length}
+use Rattle.std.specs.Prelude.{codes, IfOk, Result, Ok, Err}
 use Rattle.pt_base.specs.declared.numbers.BlockId.{BlockId}
 use Rattle.pt_base.specs.declared.numbers.ObjId.{ObjId}
 use Rattle.pt_base.specs.declared.numbers.Pc.{Pc}
@@ -13,7 +13,7 @@ use Rattle.sem_rows.specs.declared.heap_rows.progress.Progress.TheVariants as pr
 use Rattle.sem_rows.specs.pt_host.Calls.{arguments_of}
 use Rattle.sem_rows.specs.pt_host.Errors.{error, error_saying}
 use Rattle.sem_rows.specs.pt_host.World.{IsAllotted, allot}
-use Rattle.sem_rows.specs.pt_host.declared.places.TheConstants.{RECURSION_ERROR}
+use Rattle.sem_rows.specs.pt_host.declared.places.TheConstants.{RECURSION_ERROR, RUNTIME_ERROR}
 use Rattle.sem_run.specs.run.State.{most_activations}
 use Rattle.pt_transfers.specs.pt_machine_state.declared.blocks.BlockCode.{BlockCode}
 use Rattle.pt_transfers.specs.pt_machine_state.declared.blocks.Blocks.{Blocks}
@@ -24,7 +24,7 @@ use Rattle.pt_transfers.specs.pt_machine_state.declared.machine.Stride.TheVarian
 use Rattle.pt_transfers.specs.pt_machine_state.declared.writes.Writes.{Writes}
 use Rattle.pt_transfers.specs.pt_machine_state.Applies.{Applied}
 use Rattle.pt_transfers.specs.pt_machine_state.Views.{active_of}
-use Rattle.pt_transfers.proofs.pt_machine_state.FailLemmas.{applied_fails, applied_fails_saying, fails_outside, fails_saying_outside}
+use Rattle.pt_transfers.proofs.pt_machine_state.FailLemmas.{applied_fails, applied_fails_saying, fails_outside, fails_saying_outside, none_again}
 use Rattle.pt_transfers.proofs.pt_machine_state.CallLemmas.{fails_to_open, no_room_to_fail}
 use Rattle.pt_progress.specs.Arising.{Arises, ArisesOf}
 
@@ -63,6 +63,11 @@ module _ (blocks : Blocks) (block : BlockCode) (next : Pc) (m : Machine) (w : Wr
         → Does (progress.FailsSaying class text) r new w1
     saying_arisen class text it = saying-by class text it.exception it.heap it.allotted it.arises
 
+    -- where none is active that would arise once more
+    pub none_arisen : active_of m ≡ None → ArisesOf (error_saying RUNTIME_ERROR (codes "no active exception") None (active_of m) m.heap) blocks block r m w new w1
+        → Does progress.RaisesAgain r new w1
+    none_arisen is it = none_again blocks block next m w r new w1 is (saying_arisen RUNTIME_ERROR (codes "no active exception") it)
+
     -- in place of a block too many
 
     module _ (b : BlockId) (hidden : Bool) (ls : Locals) (full : most_activations ≤ length m.frames.activations + 1) where
@@ -80,3 +85,12 @@ module _ (blocks : Blocks) (block : BlockCode) (next : Pc) (m : Machine) (w : Wr
       pub too_deep_arisen : ArisesOf (error_saying RECURSION_ERROR (codes "too many activations") None (active_of m) m.heap) blocks block r m w new w1
           → Does (progress.Calls b hidden ls) r new w1
       too_deep_arisen it = too-deep-by it.exception it.heap it.allotted it.arises
+
+-- in place of an exception that is active, by its text
+pub none_active : {E : Type 0} (blocks : Blocks) (block : BlockCode) (m new : Machine) (w w1 : Writes) (t : List ℕ) (o : Result Stride E) → t ≡ codes "no active exception" → active_of m ≡ None
+    → IfOk o (λ r. ArisesOf (error_saying RUNTIME_ERROR t None (active_of m) m.heap) blocks block r m w new w1)
+    → IfOk o (λ r. (next : Pc) → Applied blocks block next progress.RaisesAgain r m w new w1)
+none_active blocks block m new w w1 t (Ok r) same none arises = λ next.
+    none_arisen blocks block next m w r new w1 none
+    (subst (λ u. ArisesOf (error_saying RUNTIME_ERROR u None (active_of m) m.heap) blocks block r m w new w1) same arises)
+none_active blocks block m new w w1 t (Err e) same none arises = tt

@@ -1,10 +1,13 @@
 -- When an exception arose in the newest activation that was to be made, or there was no room for it.
 use Rattle.std.specs.Prelude.{◌≡◌, List, Option, Some, None}
 use Rattle.pt_base.specs.declared.numbers.Line.{Line}
+use Rattle.pt_base.specs.declared.numbers.ObjId.{ObjId}
 use Rattle.pt_base.specs.declared.what.What.TheVariants.{Heap}
 use Rattle.pt_heap.specs.declared.value.Value.{Value}
 use Rattle.pt_heap.specs.declared.object.Object.{Object}
+use Rattle.sem_rows.specs.pt_host.Errors.{arise_while, object_place}
 use Rattle.sem_rows.specs.pt_host.World.{Allotted, IsAllotted}
+use Rattle.pt_transfers.specs.pt_machine_state.Views.{active_of}
 use Rattle.pt_transfers.specs.pt_machine_state.declared.blocks.BlockCode.{BlockCode}
 use Rattle.pt_transfers.specs.pt_machine_state.declared.blocks.Blocks.{Blocks}
 use Rattle.pt_transfers.specs.pt_machine_state.declared.machine.Machine.{Machine}
@@ -27,3 +30,7 @@ pub record ArisesOf (made : Allotted) (blocks : Blocks) (block : BlockCode) (r :
   pub heap : List Object
   pub allotted : IsAllotted made exception heap
   pub arises : Arises blocks block exception r (record old { heap = heap }) written new writes
+
+-- an exception that is there already has the one that is active as its context
+abbrev pub arisen : ObjId → Machine → Machine
+arisen id m = record m { heap = arise_while (object_place (active_of m)) id m.heap }

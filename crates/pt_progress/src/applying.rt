@@ -4,15 +4,16 @@ ghost use Rattle.pt_base.specs.declared.numbers.Pc.{Pc};
 ghost use Rattle.pt_transfers.specs.pt_machine_state.Applies.{Applied};
 ghost use Rattle.sem_rows.specs.declared.heap_rows.progress.Progress.TheVariants as progress;
 
-use crate::failing::{outside, raise_saying, raise_with};
+use crate::failing::{outside, raise_saying, raise_there, raise_with};
 use pt_base::{BlockId, Memory, Pc, Text};
 use pt_bind::Locals;
 use pt_heap::Completion;
 use pt_transfers::{
-    BlockCode, Blocks, Machine, Stride, Writes, go_to, land, leave_place, open, print, tell,
+    BlockCode, Blocks, Machine, Stride, Writes, active, go_to, land, leave_place, open, print,
+    raise, tell,
 };
-use sem_rows::RECURSION_ERROR;
 use sem_rows::heap_rows::Progress;
+use sem_rows::{RECURSION_ERROR, RUNTIME_ERROR};
 
 /// The most activations that may be open.
 const MOST_ACTIVATIONS: usize = 1_000;
@@ -42,12 +43,32 @@ fn call(
     Ok(Stride::Goes)
 }
 
+/// The exception that is active arises once more (Language Reference 7.8). In place of one where
+/// none is a RuntimeError arises.
+#[tactic(auto, using(pt_machine_state::proofs::FailLemmas::applied_raises_again, crate::proofs::ArisenLemmas::none_arisen))]
+fn raise_active(
+    machine: &mut Machine,
+    writes: &mut Writes,
+    blocks: &Blocks,
+    block: &BlockCode,
+) -> Result<Stride, Memory>
+    ensures { IfOk result (λ r. (next : Pc) → Applied blocks.now block.now next
+        progress.RaisesAgain r machine.old writes.old machine.new writes.new) }
+{
+    let Some(exception) = active(machine) else {
+        let text = Text::from_str(machine.alloc, "no active exception")?;
+        return raise_saying(machine, writes, blocks, block, RUNTIME_ERROR, text);
+    };
+    raise(machine, block, exception, writes)?;
+    Ok(Stride::Goes)
+}
+
 /// Does what an instruction of a block comes to, behind which this place stands.
 ///
 /// # Errors
 ///
 /// `Memory` for want of it.
-#[tactic(auto, using(pt_machine_state::proofs::ApplyLemmas::applied_next, pt_machine_state::proofs::ApplyLemmas::applied_goto, pt_machine_state::proofs::ApplyLemmas::applied_leaves, pt_machine_state::proofs::ApplyLemmas::applied_reraises, pt_machine_state::proofs::ApplyLemmas::applied_print, pt_machine_state::proofs::ApplyLemmas::applied_lacks, pt_machine_state::proofs::FailLemmas::applied_outside, crate::proofs::ArisenLemmas::fails_arisen, crate::proofs::ArisenLemmas::saying_arisen))]
+#[tactic(auto, using(pt_machine_state::proofs::ApplyLemmas::applied_next, pt_machine_state::proofs::ApplyLemmas::applied_goto, pt_machine_state::proofs::ApplyLemmas::applied_leaves, pt_machine_state::proofs::ApplyLemmas::applied_reraises, pt_machine_state::proofs::ApplyLemmas::applied_print, pt_machine_state::proofs::ApplyLemmas::applied_lacks, pt_machine_state::proofs::FailLemmas::applied_outside, pt_machine_state::proofs::FailLemmas::applied_raises, crate::proofs::ArisenLemmas::fails_arisen, crate::proofs::ArisenLemmas::saying_arisen))]
 pub fn apply(
     machine: &mut Machine,
     writes: &mut Writes,
@@ -86,6 +107,11 @@ pub fn apply(
             hidden,
             locals,
         } => call(machine, writes, blocks, block, called, hidden, locals),
+        Progress::Raises { exception } => {
+            raise_there(machine, writes, block, exception)?;
+            Ok(Stride::Goes)
+        }
+        Progress::RaisesAgain => raise_active(machine, writes, blocks, block),
         Progress::Fails { class, arg } => raise_with(machine, writes, blocks, block, class, arg),
         Progress::FailsSaying { class, text } => {
             raise_saying(machine, writes, blocks, block, class, text)

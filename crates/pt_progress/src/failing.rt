@@ -1,21 +1,25 @@
 //! Exceptions that instructions make.
-ghost use Rattle.std.specs.Prelude.{◌≡◌, None, IfOk};
+ghost use Rattle.std.specs.Prelude.{◌≡◌, None, IfOk, OnOk};
 ghost use Rattle.sem_rows.specs.pt_host.Calls.{arguments_of};
-ghost use Rattle.sem_rows.specs.pt_host.Errors.{error, error_saying};
+ghost use Rattle.pt_heap.specs.declared.value.Value.TheVariants.{Obj};
+ghost use Rattle.sem_rows.specs.pt_host.Errors.{error, error_saying, object_place};
 ghost use Rattle.sem_rows.specs.pt_host.World.{allot};
-ghost use Rattle.pt_transfers.specs.pt_machine_state.Changes.{visible_line};
+ghost use Rattle.pt_transfers.specs.pt_machine_state.Changes.{raise_events, raised_at, visible_line};
+ghost use Rattle.pt_transfers.specs.pt_machine_state.Writing.{Adds};
+ghost use Rattle.pt_transfers.specs.pt_machine_state.Laws.{again_of};
 ghost use Rattle.pt_transfers.specs.pt_machine_state.Views.{active_of};
 ghost use Rattle.pt_transfers.specs.pt_machine_state.declared.machine.MachineEnd.TheVariants as ending;
 ghost use Rattle.pt_transfers.specs.pt_machine_state.declared.machine.Stride.TheVariants as stride;
 ghost use Rattle.pt_base.specs.declared.numbers.Line.{Line};
-ghost use Rattle.pt_progress.specs.Arising.{Arises, ArisesOf};
+ghost use Rattle.pt_progress.specs.Arising.{Arises, ArisesOf, arisen};
 
 use pt_base::{Memory, ObjId, Seq, Text, What};
-use pt_heap::Value;
+use pt_heap::{Completion, Value};
 use pt_transfers::{
     BlockCode, Blocks, Machine, MachineEnd, Stride, Writes, active, raise, visible_line,
 };
-use sem_rows::{allot, error, error_saying};
+use sem_rows::heap_rows::Progress;
+use sem_rows::{RUNTIME_ERROR, allot, arise_while, error, error_saying};
 use std::alloc::Global;
 
 /// The run leaves the profile of the language where the innermost visible frame stands.
@@ -46,6 +50,49 @@ fn raise_made(
             Ok(Stride::Goes)
         }
         None => Ok(outside(machine, blocks, What::Heap)),
+    }
+}
+
+/// The place of the object that a value is, if it is one.
+fn object_place(value: Option<Value>) -> Option<ObjId>
+    ensures { result ≡ object_place value }
+{
+    match value {
+        Some(Value::Obj(id)) => Some(id),
+        _ => None,
+    }
+}
+
+/// An exception that is there already arises.
+pub fn raise_there(
+    machine: &mut Machine,
+    writes: &mut Writes,
+    block: &BlockCode,
+    exception: ObjId,
+) -> Result<(), Memory>
+    ensures machine { OnOk result (machine.new
+        ≡ raised_at block.now (Obj exception) (arisen exception machine.old)) }
+    ensures writes { OnOk result (Adds writes.old writes.new
+        (raise_events (Obj exception) block.now (arisen exception machine.old))) }
+{
+    let active = object_place(active(machine));
+    arise_while(&mut machine.heap, active, exception);
+    raise(machine, block, Value::Obj(exception), writes)
+}
+
+/// What `raise` alone comes to: the exception that is active lands again, or a RuntimeError arises
+/// where none is (Language Reference 7.8).
+pub fn raise_again(machine: &Machine) -> Result<Progress, Memory>
+    ensures { IfOk result (λ p. p ≡ again_of (active_of machine.now)) }
+{
+    match active(machine) {
+        Some(exception) => Ok(Progress::Leaves {
+            how: Completion::Raise(exception),
+        }),
+        None => Ok(Progress::FailsSaying {
+            class: RUNTIME_ERROR,
+            text: Text::from_str(machine.alloc, "no active exception")?,
+        }),
     }
 }
 

@@ -7,4 +7,5 @@ mod failing;
 
 pub use applying::apply;
 pub use closing::close;
+pub use failing::raise_again;
 pub use pt_transfers::{begin_act, block_of, go_to, is_told, leave_place};

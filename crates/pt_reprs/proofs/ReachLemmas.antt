@@ -1,4 +1,4 @@
--- What is reached through lists and tuples.
+-- What is reached through containers.
 use Rattle.std.proofs.Common.{◌≡◌, ◌∙◌, ◌+◌, ◌-◌, ◌<◌, ◌≤◌, ◌⊎◌, ℕ, zero, suc, Bool, true, false, ◌||◌, List, [], ◌∷◌, ◌++◌, Option, Some, None, length, nat_eq, slice_get, if◌then◌else◌, refl, sym, ap, subst, inl, inr, arith, add-zero}
 use Rattle.std.proofs.lemmas.Bool.{cases_lt, eqb-true}
 use Rattle.std.proofs.lemmas.List.{length-append}
@@ -131,6 +131,9 @@ container-within h p e = by (slice_get h p) refl e
 no-parts : (o : Option Object) → is_container o ≡ false → parts_in o ≡ []
 no-parts (Some (object.List vs)) e = absurd cc
 no-parts (Some (object.Tuple vs)) e = absurd cc
+no-parts (Some (object.Dict es)) e = absurd cc
+no-parts (Some (object.Set es)) e = absurd cc
+no-parts (Some (object.Error x)) e = absurd cc
 no-parts o e = refl
 
 marked-stays : (h : List Object) (ks : List ℕ) (v : Value) (i p : ℕ) → slice_get ks i ≡ Some p → slice_get (with_mark h ks v) i ≡ Some p

@@ -1,10 +1,13 @@
 -- What is answered where a text can't be written, and the pieces of items one after the other.
-use Rattle.std.proofs.Common.{◌≡◌, ◌∙◌, ◌+◌, ◌-◌, ◌<◌, ◌≤◌, ℕ, zero, suc, Bool, false, List, [], ◌∷◌, ◌++◌, Result, Ok, Err, IfOk, length, take, drop, get_or, if◌then◌else◌, refl, sym, ap, arith}
+use Rattle.std.proofs.Common.{◌≡◌, ◌∙◌, ◌+◌, ◌-◌, ◌<◌, ◌≤◌, ℕ, zero, suc, Bool, false, List, [], ◌∷◌, ◌++◌, Result, Ok, Err, IfOk, inl, inr, length, take, drop, get_or, if◌then◌else◌, refl, sym, ap, arith}
 use Rattle.std.proofs.Math.Seq.{take-length}
 use Rattle.pt_base.specs.declared.memory.Memory.{Memory as OutOfMemory}
 use Rattle.pt_heap.specs.declared.value.Value.{Value}
 use Rattle.pt_heap.specs.declared.value.Value.TheVariants as value
+use Rattle.pt_heap.specs.declared.object.Error.{Error as ErrorObject}
 use Rattle.pt_heap.specs.declared.object.Object.{Object}
+use Rattle.pt_heap.specs.Entries.{Entry}
+use Rattle.pt_content.specs.pt_attrs.Look.{object_of}
 use Rattle.pt_strs.specs.Answer.{length_limit}
 use Rattle.pt_content.specs.declared.answer.Helper.TheVariants.{PrintOf}
 use Rattle.pt_content.specs.declared.content.Content.{Content}
@@ -14,8 +17,8 @@ use Rattle.pt_reprs.specs.declared.writer.WriteErr.TheVariants.{Deep}
 use Rattle.pt_reprs.specs.declared.writer.Writer.{Writer}
 use Rattle.pt_reprs.specs.Pieces.{Piece, text_of, with_pieces, writer}
 use Rattle.pt_reprs.specs.Reached.{need_help}
-use Rattle.pt_reprs.specs.Reprs.{behind_commas, between_commas, item_pieces, value_pieces}
-use Rattle.pt_reprs.specs.Texts.{behind_separators, between_separators, by_text, new_text, printed, str_pieces, text_content}
+use Rattle.pt_reprs.specs.Reprs.{behind_commas, between_commas, entry_pieces, item_pieces, value_pieces, Inside}
+use Rattle.pt_reprs.specs.Texts.{args_pieces, behind_separators, between_separators, by_text, error_within, is_key_error, new_text, object_text, printed, str_pieces, text_content}
 
 pub says : (r : Result Content OutOfMemory) (e : WriteErr) (make : List ℕ → Content) (wanted : Content) → by_text make (Err e) ≡ wanted
     → IfOk r (λ c. (make : List ℕ → Content) → c ≡ by_text make (Err e)) → IfOk r (λ c. c ≡ wanted)
@@ -32,14 +35,25 @@ printed-refused h separator end vs e none f =
     ∙ ap (λ r. by_text content.Print (text_of r)) f)
 
 -- items, in which so many containers may stand
-pub items-deep : (h : List Object) (path : List ℕ) (vs : List Value) (w : Writer) → with_pieces (item_pieces h 0 path vs) w ≡ Err Deep
+pub items-deep : (h : List Object) (path : List ℕ) (inside : Inside) (w : Writer) → with_pieces (item_pieces h 0 path inside) w ≡ Err Deep
 unfolding item_pieces
-items-deep h path vs w = refl
+items-deep h path inside w = refl
 
-pub items-between : (h : List Object) (depth : ℕ) (path : List ℕ) (vs : List Value) → 0 < depth → item_pieces h depth path vs ≡ between_commas (value_pieces (item_pieces h (depth - 1)) h path) vs
+pub items-between : (h : List Object) (depth : ℕ) (path : List ℕ) (vs : List Value) → 0 < depth → item_pieces h depth path (inl vs) ≡ between_commas (value_pieces (item_pieces h (depth - 1)) h path) vs
 unfolding item_pieces
 items-between h zero path vs l = absurd (omega (arith, l))
 items-between h (suc depth) path vs l = let less : depth ≡ suc depth - 1 = omega arith in ap (λ d. between_commas (value_pieces (item_pieces h d) h path) vs) less
+
+pub entries-between : (h : List Object) (depth : ℕ) (path : List ℕ) (es : List Entry) → 0 < depth → item_pieces h depth path (inr es) ≡ between_commas (entry_pieces (value_pieces (item_pieces h (depth - 1)) h path)) es
+unfolding item_pieces
+entries-between h zero path es l = absurd (omega (arith, l))
+entries-between h (suc depth) path es l = let less : depth ≡ suc depth - 1 = omega arith in ap (λ d. between_commas (entry_pieces (value_pieces (item_pieces h d) h path)) es) less
+
+-- the first entry, and those behind it
+pub first-entry : (h : List Object) (depth : ℕ) (path : List ℕ) (es rest : List Entry) (e : Entry) → 0 < depth → es ≡ e ∷ rest
+    → item_pieces h depth path (inr es) ≡ entry_pieces (value_pieces (item_pieces h (depth - 1)) h path) e ++ behind_commas (entry_pieces (value_pieces (item_pieces h (depth - 1)) h path)) rest
+first-entry h depth path es rest e l split =
+    entries-between h depth path es l ∙ ap (between_commas (entry_pieces (value_pieces (item_pieces h (depth - 1)) h path))) split
 
 rest-of : (v : Value) (vs : List Value) → vs ≡ take (length (v ∷ vs) - 1) (drop 1 (v ∷ vs))
 rest-of v vs = let less : length (v ∷ vs) - 1 ≡ length vs = omega arith in sym (ap (λ n. take n vs) less ∙ take-length vs)
@@ -53,3 +67,16 @@ pub first-text : (h : List Object) (separator : List ℕ) (vs : List Value) → 
     → between_separators h separator vs ≡ str_pieces h (get_or vs 0 value.None) ++ behind_separators h separator (take (length vs - 1) (drop 1 vs))
 first-text h separator [] l = absurd (omega (arith, l))
 first-text h separator (v ∷ vs) l = ap (λ ws. str_pieces h v ++ behind_separators h separator ws) (rest-of v vs)
+
+-- exceptions, of which so many may stand inside one another
+pub errors-deep : (h : List Object) (x : ErrorObject) (w : Writer) → with_pieces (error_within h 0 x) w ≡ Err Deep
+unfolding error_within
+errors-deep h x w = refl
+
+pub error-text : (h : List Object) (depth : ℕ) (x : ErrorObject) → 0 < depth
+    → error_within h depth x ≡ args_pieces h (λ v. object_text h (error_within h (depth - 1)) v (object_of h v)) (is_key_error x.class) x.args
+unfolding error_within
+error-text h zero x l = absurd (omega (arith, l))
+error-text h (suc depth) x l =
+    let less : depth ≡ suc depth - 1 = omega arith in
+    ap (λ d. args_pieces h (λ v. object_text h (error_within h d) v (object_of h v)) (is_key_error x.class) x.args) less

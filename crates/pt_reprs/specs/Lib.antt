@@ -1,3 +1,4 @@
+pub mod Shown
 pub mod Reached
 pub mod Marks
 pub mod Pieces

@@ -1,22 +1,27 @@
--- Which values can't be written or compared without methods of a script: an instance of a script's class, and a list or tuple from
--- which one is reached (Language Reference 3.1, 3.3.1).
+-- Which values can't be written or compared without methods of a script: an instance of a script's class, and a container or
+-- exception from which one is reached (Language Reference 3.1, 3.3.1).
 use Rattle.std.specs.Prelude.{ℕ, zero, suc, Bool, true, false, ◌||◌, List, [], ◌∷◌, Option, Some, length}
 use Rattle.pt_heap.specs.declared.value.Value.{Value}
 use Rattle.pt_heap.specs.declared.object.Object.{Object}
 use Rattle.pt_heap.specs.declared.object.Object.TheVariants as object
-use Rattle.pt_attrs.specs.Look.{object_of}
+use Rattle.pt_heap.specs.declared.object.Part.TheVariants.{Keys, Items}
+use Rattle.pt_content.specs.pt_attrs.Look.{object_of}
 use Rattle.pt_content.specs.declared.operand.Operand.{Operand}
 use Rattle.pt_content.specs.declared.operand.Operand.TheVariants.{Instance}
 use Rattle.pt_content.specs.Operands.{operand_of}
+use Rattle.pt_reprs.specs.Shown.{shown}
 
 abbrev pub is_instance : Operand → Bool
 is_instance Instance = true
 is_instance k = false
 
--- the items of a list or tuple
+-- the items of a list, tuple or set, the keys and values of a dictionary, the arguments of an exception
 abbrev pub parts_in : Option Object → List Value
 parts_in (Some (object.List vs)) = vs
 parts_in (Some (object.Tuple vs)) = vs
+parts_in (Some (object.Dict es)) = shown Items es
+parts_in (Some (object.Set es)) = shown Keys es
+parts_in (Some (object.Error x)) = x.args
 parts_in o = []
 
 abbrev pub parts_of : List Object → Value → List Value

@@ -1,6 +1,7 @@
 -- What `repr` gives of a value: its pieces, from left to right (Library Reference, "Built-in Functions", `repr`; "Built-in Types").
-use Rattle.std.specs.Prelude.{ℕ, zero, suc, ◌+◌, ◌/◌, ◌%◌, ℤ, pos, Bool, true, false, not, ◌&&◌, ◌||◌, List, [], ◌∷◌, ◌++◌, Option, Some, Result, Ok, Err, codes, flat_map, nat_eq, nat_lt, nat_le, slice_get, if◌then◌else◌}
+use Rattle.std.specs.Prelude.{ℕ, zero, suc, ◌+◌, ◌/◌, ◌%◌, ℤ, pos, Bool, true, false, not, ◌&&◌, ◌||◌, ◌⊎◌, List, [], ◌∷◌, ◌++◌, Option, Some, Result, Ok, Err, codes, flat_map, length, nat_eq, nat_lt, nat_le, slice_get, if◌then◌else◌}
 use Rattle.std.specs.Char.{encode_utf8}
+use Rattle.std.proofs.Common.{inl, inr}
 use Rattle.std.specs.Str.{chars}
 use Rattle.std.specs.Fmt.{signed_decimal}
 use Rattle.pt_base.specs.declared.numbers.ObjId.{ObjId}
@@ -8,12 +9,15 @@ use Rattle.pt_heap.specs.declared.value.Value.{Value}
 use Rattle.pt_heap.specs.declared.value.Value.TheVariants as value
 use Rattle.pt_heap.specs.declared.object.Object.{Object}
 use Rattle.pt_heap.specs.declared.object.Object.TheVariants as object
+use Rattle.pt_heap.specs.declared.object.Part.TheVariants.{Keys}
 use Rattle.pt_heap.specs.declared.object.Range.{Range}
-use Rattle.pt_content.specs.Classes.{object_class}
+use Rattle.pt_heap.specs.Entries.{Entry}
+use Rattle.pt_content.specs.Classes.{name_at, object_class}
 use Rattle.pt_content.specs.TypeErrors.{sentence}
 use Rattle.pt_reprs.specs.declared.writer.WriteErr.{WriteErr}
 use Rattle.pt_reprs.specs.declared.writer.WriteErr.TheVariants.{Deep, Feature}
 use Rattle.pt_reprs.specs.Pieces.{Piece}
+use Rattle.pt_reprs.specs.Shown.{shown}
 
 -- a text in quotes: apostrophes, or quotation marks where it has an apostrophe and none of these
 abbrev pub has_char : (c : ℕ) → List ℕ → Bool
@@ -67,13 +71,17 @@ plain_text h (Some (object.Range r)) = range_text r
 plain_text h o = sentence (codes "<" ∷ object_class h o ∷ codes " object>" ∷ [])
 
 -- each behind a comma
-abbrev pub behind_commas : (Value → List Piece) → List Value → List Piece
+abbrev pub behind_commas : {A : Type 0} → (A → List Piece) → List A → List Piece
 behind_commas repr [] = []
 behind_commas repr (v ∷ vs) = Ok (codes ", ") ∷ (repr v ++ behind_commas repr vs)
 
-abbrev pub between_commas : (Value → List Piece) → List Value → List Piece
+abbrev pub between_commas : {A : Type 0} → (A → List Piece) → List A → List Piece
 between_commas repr [] = []
 between_commas repr (v ∷ vs) = repr v ++ behind_commas repr vs
+
+-- an entry of a dictionary
+abbrev pub entry_pieces : (Value → List Piece) → Entry → List Piece
+entry_pieces repr e = repr e.first ++ (Ok (codes ": ") ∷ repr e.value)
 
 -- a tuple of one item ends in a comma
 abbrev pub tuple_end : List Value → List ℕ
@@ -91,19 +99,31 @@ unless_open p path dots ps = if is_open p path then Ok dots ∷ [] else ps
 abbrev pub around : (before : List ℕ) → List Piece → (behind : List ℕ) → List Piece
 around before ps behind = Ok before ∷ (ps ++ Ok behind ∷ [])
 
--- what stands at a place; of dictionaries, sets, views and exceptions there is no text yet
-abbrev pub object_pieces : ((path : List ℕ) → List Value → List Piece) → List Object → (path : List ℕ) → (place : ℕ) → Option Object → List Piece
+-- an exception by its class and its arguments, one alone without a comma (Library Reference, "Built-in Exceptions")
+abbrev pub error_start : List Object → (class : ObjId) → List ℕ
+error_start h class = sentence (name_at h class ∷ codes "(" ∷ [])
+
+-- an empty set is written as what makes one, since `{}` is a dictionary
+abbrev pub set_pieces : List Entry → List Piece → List Piece
+set_pieces es ps = if nat_eq (length es) 0 then Ok (codes "set()") ∷ [] else ps
+
+-- what stands between the brackets of a container: items, or the entries of a dictionary
+abbrev pub Inside : Type 0
+Inside = List Value ⊎ List Entry
+
+-- what stands at a place; of views and slices there is no text yet
+abbrev pub object_pieces : ((path : List ℕ) → Inside → List Piece) → List Object → (path : List ℕ) → (place : ℕ) → Option Object → List Piece
 object_pieces items h path p (Some (object.Str t)) = Ok (quoted t) ∷ []
-object_pieces items h path p (Some (object.List vs)) = unless_open p path (codes "[...]") (around (codes "[") (items (path ++ p ∷ []) vs) (codes "]"))
-object_pieces items h path p (Some (object.Tuple vs)) = unless_open p path (codes "(...)") (around (codes "(") (items (path ++ p ∷ []) vs) (tuple_end vs))
-object_pieces items h path p (Some (object.Dict es)) = Err Feature ∷ []
-object_pieces items h path p (Some (object.Set es)) = Err Feature ∷ []
+object_pieces items h path p (Some (object.List vs)) = unless_open p path (codes "[...]") (around (codes "[") (items (path ++ p ∷ []) (inl vs)) (codes "]"))
+object_pieces items h path p (Some (object.Tuple vs)) = unless_open p path (codes "(...)") (around (codes "(") (items (path ++ p ∷ []) (inl vs)) (tuple_end vs))
+object_pieces items h path p (Some (object.Dict es)) = unless_open p path (codes "{...}") (around (codes "{") (items (path ++ p ∷ []) (inr es)) (codes "}"))
+object_pieces items h path p (Some (object.Set es)) = set_pieces es (around (codes "{") (items (path ++ p ∷ []) (inl (shown Keys es))) (codes "}"))
 object_pieces items h path p (Some (object.View v)) = Err Feature ∷ []
 object_pieces items h path p (Some (object.Slice s)) = Err Feature ∷ []
-object_pieces items h path p (Some (object.Error x)) = Err Feature ∷ []
+object_pieces items h path p (Some (object.Error x)) = unless_open p path (codes "...") (around (error_start h x.class) (items (path ++ p ∷ []) (inl x.args)) (codes ")"))
 object_pieces items h path p o = Ok (plain_text h o) ∷ []
 
-abbrev pub value_pieces : ((path : List ℕ) → List Value → List Piece) → List Object → (path : List ℕ) → Value → List Piece
+abbrev pub value_pieces : ((path : List ℕ) → Inside → List Piece) → List Object → (path : List ℕ) → Value → List Piece
 value_pieces items h path value.None = Ok (codes "None") ∷ []
 value_pieces items h path (value.Bool b) = Ok (truth_text b) ∷ []
 value_pieces items h path (value.Int z) = Ok (signed_decimal z) ∷ []
@@ -111,14 +131,19 @@ value_pieces items h path value.Ellipsis = Ok (codes "Ellipsis") ∷ []
 value_pieces items h path value.NotImplemented = Ok (codes "NotImplemented") ∷ []
 value_pieces items h path (value.Obj id) = object_pieces items h path id.0 (slice_get h id.0)
 
--- the items of a container, in which so many may stand inside one another, it among them
-unfoldable pub item_pieces : List Object → (depth : ℕ) → (path : List ℕ) → List Value → List Piece
-item_pieces h zero path vs = Err Deep ∷ []
-item_pieces h (suc depth) path vs = between_commas (value_pieces (item_pieces h depth) h path) vs
+-- the inside of a container, in which so many may stand inside one another, it among them
+unfoldable pub item_pieces : List Object → (depth : ℕ) → (path : List ℕ) → Inside → List Piece
+item_pieces h zero path inside = Err Deep ∷ []
+item_pieces h (suc depth) path (inl vs) = between_commas (value_pieces (item_pieces h depth) h path) vs
+item_pieces h (suc depth) path (inr es) = between_commas (entry_pieces (value_pieces (item_pieces h depth) h path)) es
 
 -- how many containers may stand inside one another
 abbrev pub depth_limit : ℕ
 depth_limit = 1000
+
+-- a tuple of values, which is no object
+abbrev pub tuple_pieces : List Object → List Value → List Piece
+tuple_pieces h vs = around (codes "(") (item_pieces h depth_limit [] (inl vs)) (tuple_end vs)
 
 abbrev pub repr_pieces : List Object → Value → List Piece
 repr_pieces h v = value_pieces (item_pieces h depth_limit) h [] v

@@ -5,11 +5,11 @@ ghost use Rattle.pt_heap.specs.declared.value.Value.TheVariants as values;
 ghost use Rattle.pt_reprs.specs.Marks.{has_instance, is_container, with_mark, Follows, MarksFirst};
 ghost use Rattle.pt_reprs.specs.Reached.{is_instance, need_help, needs_help, parts_of};
 
+use crate::dict_view::shown;
 use indexmap::IndexSet;
 use pt_base::{Memory, ObjId};
-use pt_content::{Operand, operand_of};
-use pt_dicts::object_at;
-use pt_heap::{Heap, Object, Seed, Value};
+use pt_content::{Operand, object_at, operand_of};
+use pt_heap::{Heap, Object, Part, Seed, Value};
 use std::alloc::Global;
 
 fn is_instance(heap: &Heap, value: Value) -> bool
@@ -18,29 +18,21 @@ fn is_instance(heap: &Heap, value: Value) -> bool
     operand_of(heap, value) == Operand::Instance
 }
 
-/// The items of a list or tuple.
-fn parts_at(heap: &Heap, id: ObjId) -> &[Value]
-    ensures { result.now ≡ parts_of heap.now (values.Obj id) }
-{
-    match object_at(heap, id) {
-        Some(Object::List(items)) => items.as_slice(),
-        Some(Object::Tuple(items)) => items.as_slice(),
-        _ => &[],
-    }
-}
-
-/// Whether a list or tuple stands at a place.
+/// Whether a list, tuple, dictionary, set or exception stands at a place.
 fn is_container(heap: &Heap, id: ObjId) -> bool
     ensures { result ≡ is_container (slice_get heap.now id.0) }
 {
     match object_at(heap, id) {
         Some(Object::List(_)) => true,
         Some(Object::Tuple(_)) => true,
+        Some(Object::Dict(_)) => true,
+        Some(Object::Set(_)) => true,
+        Some(Object::Error(_)) => true,
         _ => false,
     }
 }
 
-/// Marks a list or tuple by its place.
+/// Marks a container or exception by its place.
 fn mark(heap: &Heap, marks: &mut IndexSet<u32, Seed>, value: Value) -> Result<(), Memory>
     ensures keys { OnOk result (marks.new.keys ≡ with_mark heap.now marks.old.keys value) }
     ensures unique { OnOk result (IsUnique nat_eq marks.old → IsUnique nat_eq marks.new) }
@@ -53,8 +45,8 @@ fn mark(heap: &Heap, marks: &mut IndexSet<u32, Seed>, value: Value) -> Result<()
     Ok(())
 }
 
-/// Marks the lists and tuples of some values up to an instance of a script's class, and answers
-/// whether there is one.
+/// Marks the containers and exceptions of some values up to an instance of a script's class, and
+/// answers whether there is one.
 fn mark_all(heap: &Heap, marks: &mut IndexSet<u32, Seed>, values: &[Value]) -> Result<bool, Memory>
     ensures found { IfOk result (λ found. found ≡ has_instance heap.now values.now) }
     ensures marks { IfOk result (λ found. found ≡ false → MarksFirst heap.now
@@ -70,6 +62,36 @@ fn mark_all(heap: &Heap, marks: &mut IndexSet<u32, Seed>, values: &[Value]) -> R
     Ok(false)
 }
 
+/// Marks the containers and exceptions that stand in the one at a place.
+fn mark_parts(
+    alloc: Global,
+    heap: &Heap,
+    marks: &mut IndexSet<u32, Seed>,
+    id: ObjId,
+) -> Result<bool, Memory>
+    ensures found { IfOk result (λ found. found
+        ≡ has_instance heap.now (parts_of heap.now (values.Obj id))) }
+    ensures marks { IfOk result (λ found. found ≡ false → MarksFirst heap.now
+        marks.old.keys marks.new.keys (parts_of heap.now (values.Obj id))
+        (length (parts_of heap.now (values.Obj id)))) }
+    ensures unique { OnOk result (IsUnique nat_eq marks.old → IsUnique nat_eq marks.new) }
+{
+    match object_at(heap, id) {
+        Some(Object::List(items)) => mark_all(heap, marks, items.as_slice()),
+        Some(Object::Tuple(items)) => mark_all(heap, marks, items.as_slice()),
+        Some(Object::Dict(dict)) => {
+            let parts = shown(alloc, Part::Items, dict)?;
+            mark_all(heap, marks, parts.as_slice())
+        }
+        Some(Object::Set(set)) => {
+            let parts = shown(alloc, Part::Keys, set)?;
+            mark_all(heap, marks, parts.as_slice())
+        }
+        Some(Object::Error(error)) => mark_all(heap, marks, error.args.as_slice()),
+        _ => mark_all(heap, marks, &[]),
+    }
+}
+
 /// The place that was marked behind so many others.
 fn marked(marks: &IndexSet<u32, Seed>, at: u32) -> Option<u32>
     ensures { result ≡ slice_get marks.now.keys at }
@@ -77,8 +99,8 @@ fn marked(marks: &IndexSet<u32, Seed>, at: u32) -> Option<u32>
     marks.get_index(at as usize).copied()
 }
 
-/// Whether an instance of a script's class is reached from the list or tuple at a place. Each that
-/// is reached is gone through once.
+/// Whether an instance of a script's class is reached from the container or exception at a place.
+/// Each that is reached is gone through once.
 fn is_reached(alloc: Global, heap: &Heap, id: ObjId) -> Result<bool, Memory>
     requires plain { is_instance (operand_of heap.now (values.Obj id)) ≡ false }
     requires container { is_container (slice_get heap.now id.0) ≡ true }
@@ -91,7 +113,7 @@ fn is_reached(alloc: Global, heap: &Heap, id: ObjId) -> Result<bool, Memory>
             Some(place) => place,
             None => return Ok(false),
         };
-        if mark_all(heap, &mut marks, parts_at(heap, ObjId(place)))? {
+        if mark_parts(alloc, heap, &mut marks, ObjId(place))? {
             return Ok(true);
         }
     }
@@ -109,7 +131,7 @@ fn object_needs_help(alloc: Global, heap: &Heap, id: ObjId) -> Result<bool, Memo
     Ok(false)
 }
 
-/// Whether a value is an instance of a script's class, or a list or tuple from which one is
+/// Whether a value is an instance of a script's class, or a container or exception from which one is
 /// reached, in time linear in what is reached.
 pub fn needs_help(alloc: Global, heap: &Heap, value: Value) -> Result<bool, Memory>
     ensures { IfOk result (λ needs. needs ≡ needs_help heap.now value) }

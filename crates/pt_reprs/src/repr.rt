@@ -1,21 +1,26 @@
-ghost use Rattle.std.specs.Prelude.{◌≡◌, [], ◌∷◌, ◌++◌, IfOk, OnOk, slice_get};
+ghost use Rattle.std.specs.Prelude.{◌≡◌, [], ◌∷◌, ◌++◌, IfOk, OnOk, codes, slice_get};
+ghost use Rattle.std.proofs.Common.{inl, inr};
 ghost use Rattle.std.specs.Fmt.{signed_decimal};
+ghost use Rattle.pt_heap.specs.Entries.{entry};
+ghost use Rattle.pt_heap.specs.declared.object.Part.TheVariants as parts;
 ghost use Rattle.pt_reprs.specs.Pieces.{Writes};
-ghost use Rattle.pt_reprs.specs.Reprs.{around, depth_limit, is_open};
+ghost use Rattle.pt_reprs.specs.Reprs.{around, depth_limit, entry_pieces, error_start, is_open};
 ghost use Rattle.pt_reprs.specs.Reprs.{item_pieces, object_pieces, plain_text, range_end};
+ghost use Rattle.pt_reprs.specs.Reprs.{tuple_pieces};
 ghost use Rattle.pt_reprs.specs.Reprs.{range_text, repr_pieces, tuple_end};
 ghost use Rattle.pt_reprs.specs.Reprs.{value_pieces};
+ghost use Rattle.pt_reprs.specs.Shown.{shown};
 
+use crate::dict_view::shown;
 use crate::quoted::quoted;
 use crate::{WriteErr, Writer};
 use pt_base::{Failure, Memory, ObjId, Seq, Text};
-use pt_content::{object_class, sentence};
-use pt_dicts::object_at;
-use pt_heap::{Heap, Object, Range, Value};
+use pt_content::{name_at, object_at, object_class, sentence};
+use pt_heap::{Dict, Heap, Object, Part, Range, Value};
 use std::alloc::Global;
 
-/// How many containers may stand inside one another.
-const DEPTH_LIMIT: u32 = 1000;
+/// How many containers or exceptions may stand inside one another.
+pub const DEPTH_LIMIT: u32 = 1000;
 
 fn number_text(alloc: Global, number: i128) -> Result<Text, Memory>
     ensures { IfOk result (λ text. text ≡ signed_decimal number) }
@@ -79,6 +84,13 @@ fn tuple_end(items: &[Value]) -> &'static str
     }
 }
 
+/// What stands before the arguments of an exception.
+fn error_start(alloc: Global, heap: &Heap, class: ObjId) -> Result<Text, Memory>
+    ensures { IfOk result (λ text. text ≡ error_start heap.now class) }
+{
+    sentence(alloc, &[name_at(heap, class), "("])
+}
+
 /// Writes the items of a container, in which so many may stand inside one another, it among them.
 #[cycle(reprs)]
 fn push_items(
@@ -90,7 +102,7 @@ fn push_items(
     depth: u32,
 ) -> Result<(), Failure<WriteErr>>
     ensures writes { Writes writer.old writer.new result
-        (item_pieces heap.now depth path.old items.now) }
+        (item_pieces heap.now depth path.old (inl items.now)) }
     ensures path { OnOk result (path.new ≡ path.old) }
 {
     if depth == 0 {
@@ -123,7 +135,8 @@ fn push_container(
     behind: &str,
 ) -> Result<(), Failure<WriteErr>>
     ensures writes { Writes writer.old writer.new result
-        (around before.now (item_pieces heap.now depth (path.old ++ id.0 ∷ []) items.now) behind.now) }
+        (around before.now (item_pieces heap.now depth (path.old ++ id.0 ∷ []) (inl items.now))
+        behind.now) }
     ensures path { OnOk result (path.new ≡ path.old) }
 {
     writer.push(before)?;
@@ -131,6 +144,126 @@ fn push_container(
     push_items(alloc, heap, writer, path, items, depth)?;
     let _ = path.pop();
     writer.push(behind)
+}
+
+/// Writes an entry of a dictionary.
+#[cycle(reprs)]
+fn push_entry(
+    alloc: Global,
+    heap: &Heap,
+    writer: &mut Writer,
+    path: &mut Seq<u32>,
+    first: Value,
+    value: Value,
+    depth: u32,
+) -> Result<(), Failure<WriteErr>>
+    ensures writes { Writes writer.old writer.new result
+        (entry_pieces (value_pieces (item_pieces heap.now depth) heap.now path.old)
+        (entry [] first value)) }
+    ensures path { OnOk result (path.new ≡ path.old) }
+{
+    push_value(alloc, heap, writer, path, first, depth)?;
+    writer.push(": ")?;
+    push_value(alloc, heap, writer, path, value, depth)
+}
+
+/// Writes the entries of a dictionary, in which so many containers may stand inside one another, it
+/// among them.
+#[cycle(reprs)]
+fn push_entries(
+    alloc: Global,
+    heap: &Heap,
+    writer: &mut Writer,
+    path: &mut Seq<u32>,
+    dict: &Dict,
+    depth: u32,
+) -> Result<(), Failure<WriteErr>>
+    ensures writes { Writes writer.old writer.new result
+        (item_pieces heap.now depth path.old (inr dict.now)) }
+    ensures path { OnOk result (path.new ≡ path.old) }
+{
+    if depth == 0 {
+        return Err(Failure::Refused(WriteErr::Deep));
+    }
+    let mut left = dict.entries();
+    let Some(first) = left.next() else {
+        return Ok(());
+    };
+    push_entry(
+        alloc,
+        heap,
+        writer,
+        path,
+        first.first,
+        first.value,
+        depth - 1,
+    )?;
+    while let Some(entry) = left.next() {
+        writer.push(", ")?;
+        push_entry(
+            alloc,
+            heap,
+            writer,
+            path,
+            entry.first,
+            entry.value,
+            depth - 1,
+        )?;
+    }
+    Ok(())
+}
+
+/// Writes a dictionary.
+#[cycle(reprs)]
+fn push_dict(
+    alloc: Global,
+    heap: &Heap,
+    writer: &mut Writer,
+    path: &mut Seq<u32>,
+    id: ObjId,
+    dict: &Dict,
+    depth: u32,
+) -> Result<(), Failure<WriteErr>>
+    ensures writes { Writes writer.old writer.new result
+        (around (codes "{") (item_pieces heap.now depth (path.old ++ id.0 ∷ []) (inr dict.now))
+        (codes "}")) }
+    ensures path { OnOk result (path.new ≡ path.old) }
+{
+    writer.push("{")?;
+    path.push(id.0)?;
+    push_entries(alloc, heap, writer, path, dict, depth)?;
+    let _ = path.pop();
+    writer.push("}")
+}
+
+/// Writes a set that is not empty.
+#[cycle(reprs)]
+fn push_set(
+    alloc: Global,
+    heap: &Heap,
+    writer: &mut Writer,
+    path: &mut Seq<u32>,
+    id: ObjId,
+    set: &Dict,
+    depth: u32,
+) -> Result<(), Failure<WriteErr>>
+    ensures writes { Writes writer.old writer.new result
+        (around (codes "{") (item_pieces heap.now depth (path.old ++ id.0 ∷ [])
+        (inl (shown parts.Keys set.now))) (codes "}")) }
+    ensures path { OnOk result (path.new ≡ path.old) }
+{
+    let items = shown(alloc, Part::Keys, set)?;
+    push_container(
+        alloc,
+        heap,
+        writer,
+        path,
+        id,
+        items.as_slice(),
+        depth,
+        "{",
+        "}",
+    )
 }
 
 /// Writes an object.
@@ -182,11 +315,28 @@ fn push_object(
                 tuple_end(items),
             )
         }
-        Some(Object::Dict(_)) => Err(Failure::Refused(WriteErr::Feature)),
-        Some(Object::Set(_)) => Err(Failure::Refused(WriteErr::Feature)),
+        Some(Object::Dict(_)) if is_open(path.as_slice(), id) => writer.push("{...}"),
+        Some(Object::Dict(dict)) => push_dict(alloc, heap, writer, path, id, dict, depth),
+        Some(Object::Set(set)) if set.len() == 0 => writer.push("set()"),
+        Some(Object::Set(set)) => push_set(alloc, heap, writer, path, id, set, depth),
         Some(Object::View(_)) => Err(Failure::Refused(WriteErr::Feature)),
         Some(Object::Slice(_)) => Err(Failure::Refused(WriteErr::Feature)),
-        Some(Object::Error(_)) => Err(Failure::Refused(WriteErr::Feature)),
+        Some(Object::Error(_)) if is_open(path.as_slice(), id) => writer.push("..."),
+        Some(Object::Error(error)) => {
+            let before = error_start(alloc, heap, error.class)?;
+            let args = error.args.as_slice();
+            push_container(
+                alloc,
+                heap,
+                writer,
+                path,
+                id,
+                args,
+                depth,
+                before.as_str(),
+                ")",
+            )
+        }
         _ => {
             let text = plain_text(alloc, heap, id)?;
             writer.push(text.as_str())
@@ -235,4 +385,19 @@ pub fn push_repr(
 {
     let mut path = Seq::new(alloc);
     push_value(alloc, heap, writer, &mut path, value, DEPTH_LIMIT)
+}
+
+/// Writes what `repr` gives of a tuple of these items. Errors as those of `push_repr`.
+pub fn push_tuple(
+    alloc: Global,
+    heap: &Heap,
+    writer: &mut Writer,
+    items: &[Value],
+) -> Result<(), Failure<WriteErr>>
+    ensures { Writes writer.old writer.new result (tuple_pieces heap.now items.now) }
+{
+    let mut path = Seq::new(alloc);
+    writer.push("(")?;
+    push_items(alloc, heap, writer, &mut path, items, DEPTH_LIMIT)?;
+    writer.push(tuple_end(items))
 }

@@ -26,7 +26,7 @@ use Rattle.pt_supported.specs.Built.{Built}
 use Rattle.pt_supported.proofs.Silent.{built_blocks_give_nothing_on}
 use Rattle.pt_front.specs.Text.{IsScript}
 use Rattle.law_compile.specs.read_forms.Laws.{IsWideOf}
-use Rattle.law_compile.proofs.read_forms.Texts.{scripts_of_texts_are_formed}
+use Rattle.law_compile.proofs.read_forms.Texts.{names_begin_without_dot, scripts_of_texts_are_formed}
 use Rattle.law_supported.proofs.Different.{cells_are_different}
 use Rattle.law_supported.proofs.Written.{blocks_have_names}
 use Rattle.pt_run_code.specs.law_loading.script_program.ScriptProgram.{program_of}
@@ -98,7 +98,7 @@ module _ (text : List ℕ) (ss : Stms) (is : IsScript text ss) (built : Built ss
       cells = h.cells;
       frees = h.frees;
     };
-    cells_are_different = cells_are_different ss built;
+    cells_are_different = cells_are_different ss (names_begin_without_dot text ss is) built;
   }
 
   -- no place of what is loaded is too deep, so that its blocks fit

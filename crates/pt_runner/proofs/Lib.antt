@@ -1,4 +1,3 @@
-pub mod ChainLemmas
 pub mod DrainLemmas
 pub mod AdvanceLemmas
 pub mod GoesTo

@@ -1,6 +1,6 @@
 ghost use Rattle.std.specs.Prelude.{◌≡◌, [], ◌∷◌, slice_get, IfOk};
 ghost use Rattle.std.specs.Option.{option_copied};
-ghost use Rattle.sem_rows.specs.pt_host.Leaving.{derives, error_at, exits_with, exits_with_object};
+ghost use Rattle.sem_rows.specs.pt_host.Leaving.{error_at, exits_with, exits_with_object};
 ghost use Rattle.sem_rows.specs.pt_host.Leaving.{leaves_by, status_of};
 ghost use Rattle.pt_runner.specs.Ends.{end_by, table_name};
 ghost use Rattle.pt_tracebacks.specs.Summaries.{summaries};
@@ -8,32 +8,12 @@ ghost use Rattle.pt_tracebacks.specs.Summaries.{summaries};
 use crate::ending::RunEnd;
 use crate::naming::TableNames;
 use pt_base::{Dup, Line, Memory, ObjId, What};
-use pt_dicts::{class_at, object_at};
+use pt_dicts::object_at;
 use pt_heap::{Error, Heap, Object, Value};
 use pt_machine::CodeTables;
 use pt_tracebacks::summaries;
-use sem_rows::SYSTEM_EXIT;
+use sem_rows::{SYSTEM_EXIT, derives};
 use std::alloc::Global;
-
-/// Whether a class is another one or has it among its bases.
-fn derives(heap: &Heap, from: ObjId, class: ObjId) -> bool
-    ensures { result ≡ derives heap.now from class }
-{
-    let mut at = class;
-    for _step in 0..class.0 as u64 + 1 {
-        if at.0 == from.0 {
-            return true;
-        }
-        let Some(class) = class_at(heap, at) else {
-            return false;
-        };
-        let Some(base) = class.base else {
-            return false;
-        };
-        at = base;
-    }
-    false
-}
 
 /// The exception that a value is, if it is one.
 fn error_at(heap: &Heap, value: Value) -> Option<&Error>

@@ -10,7 +10,7 @@ use Rattle.pt_heap.specs.declared.object.Object.{Object}
 use Rattle.pt_heap.specs.declared.object.Object.TheVariants as object
 use Rattle.pt_heap.specs.declared.object.Cursor.{Cursor}
 use Rattle.pt_strs.specs.Answer.{counted}
-use Rattle.pt_attrs.specs.Look.{object_of}
+use Rattle.pt_content.specs.pt_attrs.Look.{object_of}
 use Rattle.pt_content.specs.declared.answer.Helper.{Helper}
 use Rattle.pt_content.specs.declared.answer.Helper.TheVariants.{IterOf, NextOf}
 use Rattle.pt_content.specs.declared.answer.PrimAns.{PrimAns}

@@ -9,7 +9,7 @@ use Rattle.pt_heap.specs.declared.value.Value.TheVariants as value
 use Rattle.pt_heap.specs.declared.object.Object.{Object}
 use Rattle.pt_heap.specs.declared.object.Object.TheVariants as object
 use Rattle.pt_heap.specs.declared.object.Range.{Range}
-use Rattle.pt_attrs.specs.Look.{object_of}
+use Rattle.pt_content.specs.pt_attrs.Look.{object_of}
 use Rattle.pt_content.specs.declared.class.TheConstants.{INDEX_ERROR, TYPE_ERROR}
 use Rattle.pt_content.specs.declared.content.Content.{Content}
 use Rattle.pt_content.specs.declared.content.Content.TheVariants as content

@@ -4,3 +4,4 @@ pub mod Displays
 pub mod Cursors
 pub mod Items
 pub mod Unpacking
+pub mod Starred

@@ -7,7 +7,7 @@ use Rattle.pt_heap.specs.declared.value.Value.{Value}
 use Rattle.pt_heap.specs.declared.object.Object.{Object}
 use Rattle.pt_heap.specs.declared.object.Object.TheVariants as object
 use Rattle.pt_heap.specs.declared.object.Range.{Range}
-use Rattle.pt_attrs.specs.Look.{object_of}
+use Rattle.pt_content.specs.pt_attrs.Look.{object_of}
 use Rattle.pt_content.specs.declared.answer.Helper.TheVariants.{TakeOf}
 use Rattle.pt_content.specs.declared.answer.PrimAns.TheVariants as answer
 use Rattle.pt_content.specs.declared.class.TheConstants.{VALUE_ERROR}

@@ -9,10 +9,9 @@ ghost use Rattle.pt_sequences.specs.Cursors.{not_iterator, started, with_cursor}
 use crate::range::range_value;
 use pt_base::{Memory, ObjId, Seq, Text, What};
 use pt_content::{
-    Change, Content, Helper, Mutable, NewObject, Operand, PrimAns, Replacement, operand_of,
-    use_type_error,
+    Change, Content, Helper, Mutable, NewObject, Operand, PrimAns, Replacement, object_at,
+    operand_of, use_type_error,
 };
-use pt_dicts::object_at;
 use pt_heap::{Cursor, Heap, Object, Str, Value};
 use std::alloc::Global;
 

@@ -1,6 +1,6 @@
 ghost use Rattle.std.specs.Prelude.{◌≡◌, length, IfOk};
 ghost use Rattle.std.specs.Str.{chars};
-ghost use Rattle.pt_attrs.specs.Look.{object_of};
+ghost use Rattle.pt_content.specs.pt_attrs.Look.{object_of};
 ghost use Rattle.pt_content.specs.Operands.{operand_of};
 ghost use Rattle.pt_sequences.specs.Items.{char_at, char_or, index_of, integer_at, item_at};
 ghost use Rattle.pt_sequences.specs.Items.{item_content, item_or, not_subscriptable, place_of};
@@ -9,11 +9,10 @@ ghost use Rattle.pt_sequences.specs.Ranges.{range_length};
 
 use crate::cursor::text_of_char;
 use crate::range::{range_length, range_value};
-use pt_attrs::object_of;
 use pt_base::{Memory, What};
 use pt_content::{
-    Content, INDEX_ERROR, NewObject, Operand, TYPE_ERROR, bad_argument, operand_of, raise,
-    use_type_error,
+    Content, INDEX_ERROR, NewObject, Operand, TYPE_ERROR, bad_argument, object_of, operand_of,
+    raise, use_type_error,
 };
 use pt_heap::{Heap, Object, Range, Str, Value};
 use std::alloc::Global;

@@ -7,6 +7,7 @@ mod display;
 mod item;
 mod range;
 mod size;
+mod starred;
 mod unpacking;
 
 pub use cursor::{asked_or, iterator_content, next_content};
@@ -14,4 +15,5 @@ pub use display::{list_content, repeated_list, repeated_tuple, tuple_content};
 pub use item::item_content;
 pub use range::{has_integer, range_content, range_length};
 pub use size::{length_content, length_of};
+pub use starred::starred_content;
 pub use unpacking::unpack_content;

@@ -5,10 +5,10 @@ ghost use Rattle.pt_sequences.specs.Lengths.{lengthless};
 ghost use Rattle.pt_content.specs.Operands.{operand_of};
 
 use crate::range::{integer, range_length};
-use pt_attrs::object_of;
 use pt_base::{Memory, ObjId};
-use pt_content::{Content, Helper, Operand, TYPE_ERROR, class_name, operand_of, sentence};
-use pt_dicts::object_at;
+use pt_content::{
+    Content, Helper, Operand, TYPE_ERROR, class_name, object_at, object_of, operand_of, sentence,
+};
 use pt_heap::{Heap, Object, Value};
 use std::alloc::Global;
 

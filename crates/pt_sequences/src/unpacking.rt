@@ -1,6 +1,6 @@
 ghost use Rattle.std.specs.Prelude.{◌≡◌, ◌++◌, length, option_to_list, IfOk, OnOk};
 ghost use Rattle.std.specs.Str.{chars};
-ghost use Rattle.pt_attrs.specs.Look.{object_of};
+ghost use Rattle.pt_content.specs.pt_attrs.Look.{object_of};
 ghost use Rattle.pt_sequences.specs.Ranges.{range_value};
 ghost use Rattle.pt_sequences.specs.Unpacking.{char_texts, chars_content, integers_content};
 ghost use Rattle.pt_sequences.specs.Unpacking.{integers_from, items_content, mismatch};
@@ -8,9 +8,8 @@ ghost use Rattle.pt_sequences.specs.Unpacking.{unpack_content, unpacked, values}
 
 use crate::cursor::{asked_or, text_of_char};
 use crate::range::{range_length, range_value};
-use pt_attrs::object_of;
 use pt_base::{Memory, Seq, What};
-use pt_content::{Change, Content, Helper, NewObject, PrimAns, VALUE_ERROR, raise};
+use pt_content::{Change, Content, Helper, NewObject, PrimAns, VALUE_ERROR, object_of, raise};
 use pt_heap::{Heap, Object, Range, Value};
 use pt_strs::{Scan, char_count};
 use std::alloc::Global;

@@ -6,8 +6,8 @@ use Rattle.pt_heap.specs.declared.value.Value.TheVariants as value
 use Rattle.pt_heap.specs.declared.object.Object.{Object}
 use Rattle.pt_heap.specs.declared.object.Object.TheVariants as object
 use Rattle.pt_heap.specs.Entries.{Entry}
-use Rattle.pt_dicts.specs.Combine.{has}
-use Rattle.pt_attrs.specs.Look.{object_of}
+use Rattle.pt_content.specs.pt_attrs.pt_dicts.Combine.{has}
+use Rattle.pt_content.specs.pt_attrs.Look.{object_of}
 use Rattle.pt_content.specs.declared.content.Content.{Content}
 use Rattle.pt_content.specs.declared.content.Content.TheVariants as content
 use Rattle.pt_content.specs.declared.content.Mutable.TheVariants as mutable

@@ -6,7 +6,7 @@ use Rattle.pt_base.specs.declared.what.What.TheVariants as what
 use Rattle.pt_heap.specs.declared.dict.DictErr.{DictErr}
 use Rattle.pt_heap.specs.declared.value.Value.TheVariants as value
 use Rattle.pt_heap.specs.Entries.{Entry}
-use Rattle.pt_dicts.specs.Combine.{combined, limited}
+use Rattle.pt_content.specs.pt_attrs.pt_dicts.Combine.{combined, limited}
 use Rattle.pt_content.specs.declared.answer.PrimAns.TheVariants as answer
 use Rattle.pt_content.specs.declared.content.Content.{Content}
 use Rattle.pt_content.specs.declared.content.Content.TheVariants as content

@@ -2,9 +2,8 @@ ghost use Rattle.std.specs.Prelude.{◌≡◌, IfOk};
 ghost use Rattle.pt_sets.specs.Members.{add_content, all_in, among_by, has_item_content};
 ghost use Rattle.pt_sets.specs.Members.{same_items, set_content, sought};
 
-use pt_attrs::object_of;
 use pt_base::{Dup, Memory, ObjId};
-use pt_content::{Content, Mutable, NewObject, PrimAns};
+use pt_content::{Content, Mutable, NewObject, PrimAns, object_of};
 use pt_heap::{Dict, Heap, Object, Value};
 use pt_mappings::{Keyed, changed, contains_by, enter, key_in};
 use std::alloc::Global;

@@ -1,10 +1,9 @@
 ghost use Rattle.std.specs.Prelude.{◌≡◌, IfOk, IsTrue};
-ghost use Rattle.pt_dicts.specs.Combine.{is_set_operator};
+ghost use Rattle.pt_content.specs.pt_attrs.pt_dicts.Combine.{is_set_operator};
 ghost use Rattle.pt_sets.specs.Operators.{combined_content, combined_in_place};
 
 use pt_base::{BinOp, Memory, ObjId, What};
-use pt_content::{Content, Mutable, NewObject, PrimAns};
-use pt_dicts::combine;
+use pt_content::{Content, Mutable, NewObject, PrimAns, combine};
 use pt_heap::{Dict, DictErr, Value};
 use pt_mappings::changed;
 use std::alloc::Global;

@@ -5,7 +5,6 @@ mod expressions;
 mod laws;
 mod names;
 mod statements;
-mod targets;
 
 pub use laws::{
     blocks_of_supported_scripts_are_no_classes, blocks_of_supported_scripts_give_nothing_on,

@@ -1,12 +1,14 @@
 ghost use Rattle.std.specs.Prelude.{◌≡◌, Some, None, map, option_map, not};
 ghost use Rattle.std.specs.List.{list_any};
-ghost use Rattle.pt_supported.specs.Built.{are_available, is_available, unbuilt_star, unless};
+ghost use Rattle.pt_supported.specs.Built.{are_available, are_bound_available, is_available};
+ghost use Rattle.pt_supported.specs.Built.{is_available_if, is_either_available};
+ghost use Rattle.pt_supported.specs.Built.{unbuilt_star, unless};
 
 use pt_base::{Line, Text};
-use pt_builtins::{BuiltinLookup, builtin};
-use pt_tree::NamedParameter;
+use pt_builtins::{BuiltinLookup, builtin, is_unbuilt_name};
+use pt_tree::{Alias, NamedParameter};
 
-/// Whether a run has what a name means by itself, if it means something.
+/// Whether a name may stand in a script. A builtin that runs don't have is missed where it is read.
 #[tactic(auto, unfolding(crate::specs::Built::is_available))]
 pub fn is_available(name: &str) -> bool
     ensures { result ≡ is_available name.now }
@@ -14,7 +16,17 @@ pub fn is_available(name: &str) -> bool
     match builtin(name) {
         BuiltinLookup::Unbound => true,
         BuiltinLookup::Found(_) => true,
-        BuiltinLookup::Unavailable => false,
+        BuiltinLookup::Unavailable => is_unbuilt_name(name),
+    }
+}
+
+/// The same of a name that need not be written.
+pub fn is_available_if(name: &Option<Text>) -> bool
+    ensures { result ≡ is_available_if name.now }
+{
+    match name {
+        Some(name) => is_available(name.as_str()),
+        None => true,
     }
 }
 
@@ -30,6 +42,28 @@ pub fn are_available(names: &[Text]) -> bool
     true
 }
 
+/// The same of the name that an import binds.
+fn is_either_available(name: &str, alias: &Option<Text>) -> bool
+    ensures { result ≡ is_either_available name.now alias.now }
+{
+    match alias {
+        Some(alias) => is_available(alias.as_str()),
+        None => is_available(name),
+    }
+}
+
+/// The same of the names that imports bind.
+pub fn are_bound_available(names: &[Alias]) -> bool
+    ensures { result ≡ are_bound_available names.now }
+{
+    for alias in names {
+        if !is_either_available(alias.name.as_str(), &alias.alias) {
+            return false;
+        }
+    }
+    true
+}
+
 /// The line of a node, unless it is supported.
 pub fn unless(is_built: bool, line: Line) -> Option<Line>
     ensures { option_map (λ l. l.0) result ≡ unless is_built line.0 }
@@ -37,12 +71,12 @@ pub fn unless(is_built: bool, line: Line) -> Option<Line>
     if is_built { None } else { Some(line) }
 }
 
-/// The line of `*name` or `**name`.
+/// The line of `*name` or `**name`, unless its name is available.
 pub fn star(parameter: &Option<NamedParameter>) -> Option<Line>
     ensures { option_map (λ l. l.0) result ≡ unbuilt_star parameter.now }
 {
     match parameter {
-        Some(parameter) => Some(parameter.line),
+        Some(parameter) => unless(is_available(parameter.name.as_str()), parameter.line),
         None => None,
     }
 }

@@ -12,7 +12,7 @@ use Rattle.pt_strs.specs.Cut.{place_of}
 use Rattle.pt_strs.specs.Replace.{replaced}
 use Rattle.pt_strs.specs.Strip.{stripped}
 use Rattle.pt_strs.specs.Words.{split_by}
-use Rattle.pt_attrs.specs.Look.{object_of}
+use Rattle.pt_content.specs.pt_attrs.Look.{object_of}
 use Rattle.pt_content.specs.declared.answer.Helper.TheVariants.{JoinOf}
 use Rattle.pt_content.specs.declared.class.TheConstants.{TYPE_ERROR}
 use Rattle.pt_content.specs.declared.content.Content.{Content}

@@ -8,7 +8,7 @@ use Rattle.pt_heap.specs.declared.object.Object.TheVariants as object
 use Rattle.pt_heap.specs.declared.object.Slice.{Slice}
 use Rattle.pt_strs.specs.Answer.{within}
 use Rattle.pt_strs.specs.Slice.{sliced}
-use Rattle.pt_attrs.specs.Look.{object_of}
+use Rattle.pt_content.specs.pt_attrs.Look.{object_of}
 use Rattle.pt_content.specs.declared.content.Content.{Content}
 use Rattle.pt_content.specs.declared.content.Content.TheVariants as content
 use Rattle.pt_content.specs.declared.content.NewObject.TheVariants as new

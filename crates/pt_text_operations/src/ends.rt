@@ -1,12 +1,11 @@
 ghost use Rattle.std.specs.Prelude.{◌≡◌, reverse, IfOk};
 ghost use Rattle.std.specs.Str.{chars};
-ghost use Rattle.pt_attrs.specs.Look.{object_of};
+ghost use Rattle.pt_content.specs.pt_attrs.Look.{object_of};
 ghost use Rattle.pt_strs.specs.Cut.{begins_with};
 ghost use Rattle.pt_text_operations.specs.Ends.{ends_content, one_stands, stands_at, truth};
 
-use pt_attrs::object_of;
 use pt_base::Memory;
-use pt_content::{Content, TYPE_ERROR, bad_argument, text_of};
+use pt_content::{Content, TYPE_ERROR, bad_argument, object_of, text_of};
 use pt_heap::{Heap, Object, Value};
 use pt_strs::Scan;
 use std::alloc::Global;

@@ -1,6 +1,6 @@
 ghost use Rattle.std.specs.Prelude.{◌≡◌, IfOk};
 ghost use Rattle.std.specs.Option.{option_copied, option_map};
-ghost use Rattle.pt_attrs.specs.Look.{object_of};
+ghost use Rattle.pt_content.specs.pt_attrs.Look.{object_of};
 ghost use Rattle.pt_content.specs.Operands.{text_of};
 ghost use Rattle.pt_text_operations.specs.Methods.{count_by, find_by, join_by};
 ghost use Rattle.pt_text_operations.specs.Methods.{place_or_none, replaced_by, split_at, split_content};
@@ -12,9 +12,8 @@ use crate::ends::{End, ends_content};
 use crate::joining::joined_content;
 use crate::lists::listed_if;
 use crate::occurrences::occurrences;
-use pt_attrs::object_of;
 use pt_base::{Memory, Text, What};
-use pt_content::{Content, Helper, MethodName, TYPE_ERROR, bad_argument, text_of};
+use pt_content::{Content, Helper, MethodName, TYPE_ERROR, bad_argument, object_of, text_of};
 use pt_heap::{Heap, Object, Str, Value};
 use pt_strs::{find, replace, split, strip};
 use std::alloc::Global;

@@ -1,14 +1,13 @@
 ghost use Rattle.std.specs.Prelude.{◌≡◌, ◌≢◌, Some, pos, IfOk};
-ghost use Rattle.pt_attrs.specs.Look.{object_of};
+ghost use Rattle.pt_content.specs.pt_attrs.Look.{object_of};
 ghost use Rattle.pt_text_operations.specs.Slices.{slice_content, sliced_by, sliced_in, subscript_content};
 
 use crate::answer::answered;
 use crate::bounds::{Bounds, bounds_of};
 use crate::picked::picked;
 use crate::ranges::picked_range;
-use pt_attrs::object_of;
 use pt_base::Memory;
-use pt_content::{Content, NewObject, bad_argument};
+use pt_content::{Content, NewObject, bad_argument, object_of};
 use pt_heap::{Heap, Object, Slice, Value};
 use pt_sequences::{item_content, list_content, tuple_content};
 use pt_strs::slice;

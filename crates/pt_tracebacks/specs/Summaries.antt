@@ -3,33 +3,26 @@ use Rattle.std.specs.Prelude.{ℕ, List, [], ◌∷◌, Option, Some, None, map,
 use Rattle.pt_base.specs.declared.numbers.ObjId.{ObjId}
 use Rattle.pt_heap.specs.declared.value.Value.{Value}
 use Rattle.pt_heap.specs.declared.value.Value.TheVariants.{Obj}
+use Rattle.pt_heap.specs.declared.object.Error.{Error as ErrorObject}
 use Rattle.pt_heap.specs.declared.object.Object.{Object}
 use Rattle.pt_heap.specs.declared.object.TraceEntry.{TraceEntry}
 use Rattle.pt_content.specs.declared.content.Content.{Content}
 use Rattle.pt_content.specs.declared.content.Content.TheVariants as content
 use Rattle.pt_content.specs.declared.content.NewObject.TheVariants as new
 use Rattle.pt_content.specs.Classes.{name_at}
-use Rattle.pt_content.specs.Operands.{text_of}
-use Rattle.pt_reprs.specs.Texts.{str_content}
+use Rattle.pt_reprs.specs.Texts.{error_content}
 use Rattle.pt_tracebacks.specs.declared.summary.FrameSummary.{FrameSummary}
 use Rattle.pt_tracebacks.specs.declared.summary.ExceptionSummary.{ExceptionSummary}
 use Rattle.pt_tracebacks.specs.Chain.{Link, chain}
 
-abbrev pub text_or_none : Option (List ℕ) → List ℕ
-text_or_none (Some t) = t
-text_or_none None = []
-
 -- the text that is given, none where a method of a script would be asked or no text is there
-abbrev pub given_text : List Object → Content → List ℕ
-given_text h (content.Value v) = text_or_none (text_of h v)
-given_text h (content.New (new.Text t)) = t
-given_text h c = []
+abbrev pub given_text : Content → List ℕ
+given_text (content.New (new.Text t)) = t
+given_text c = []
 
--- what `str` gives of an exception with these arguments (Library Reference, `BaseException.args`). With several it is that of their tuple, which is no text
--- of an object yet
-abbrev pub error_text : List Object → (args : List Value) → List ℕ
-error_text h (v ∷ []) = given_text h (str_content h v)
-error_text h vs = []
+-- what `str` gives of an exception
+abbrev pub error_text : List Object → ErrorObject → List ℕ
+error_text h x = given_text (error_content h x)
 
 -- over the names of blocks
 module _ (name : ℕ → List ℕ) where
@@ -40,7 +33,7 @@ module _ (name : ℕ → List ℕ) where
   module _ (h : List Object) where
     -- an exception came to the most recent call first
     abbrev pub summary : Link → ExceptionSummary
-    summary l = record { stack = map frame_summary (reverse l.0.trace); class = name_at h l.0.class; text = error_text h l.0.args; role = l.1 }
+    summary l = record { stack = map frame_summary (reverse l.0.trace); class = name_at h l.0.class; text = error_text h l.0; role = l.1 }
 
     abbrev pub summaries : Value → List ExceptionSummary
     summaries (Obj id) = map summary (reverse (chain h id))

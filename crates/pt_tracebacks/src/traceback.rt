@@ -7,36 +7,26 @@ ghost use Rattle.pt_tracebacks.specs.Summaries.{summaries, summary};
 use crate::chain::{Link, chain};
 use crate::{BlockNames, ExceptionSummary, FrameSummary};
 use pt_base::{Memory, Seq, Text};
-use pt_content::{Content, NewObject, name_at, text_of};
-use pt_heap::{Heap, TraceEntry, Value};
-use pt_reprs::str_content;
+use pt_content::{Content, NewObject, name_at};
+use pt_heap::{Error, Heap, TraceEntry, Value};
+use pt_reprs::error_content;
 use std::alloc::{AllocError, Global};
 
 /// The text that is given, the empty one where there is none.
-fn given_text(alloc: Global, heap: &Heap, content: Content) -> Result<Text, Memory>
-    ensures { IfOk result (λ text. text ≡ given_text heap.now content) }
+fn given_text(alloc: Global, content: Content) -> Text
+    ensures { result ≡ given_text content }
 {
     match content {
-        Content::Value(value) => match text_of(heap, value) {
-            Some(text) => Text::from_str(alloc, text.text().as_str()),
-            None => Ok(Text::new(alloc)),
-        },
-        Content::New(NewObject::Text(text)) => Ok(text),
-        _ => Ok(Text::new(alloc)),
+        Content::New(NewObject::Text(text)) => text,
+        _ => Text::new(alloc),
     }
 }
 
-/// What `str` gives of an exception with these arguments.
-fn error_text(alloc: Global, heap: &Heap, args: &[Value]) -> Result<Text, Memory>
-    ensures { IfOk result (λ text. text ≡ error_text heap.now args.now) }
+/// What `str` gives of an exception.
+fn error_text(alloc: Global, heap: &Heap, error: &Error) -> Result<Text, Memory>
+    ensures { IfOk result (λ text. text ≡ error_text heap.now error.now) }
 {
-    match args {
-        [arg] => {
-            let content = str_content(alloc, heap, *arg)?;
-            given_text(alloc, heap, content)
-        }
-        _ => Ok(Text::new(alloc)),
-    }
+    Ok(given_text(alloc, error_content(alloc, heap, error)?))
 }
 
 fn frame_summary<N: BlockNames>(
@@ -89,7 +79,7 @@ fn summary<N: BlockNames>(
     let trace = oldest_first(alloc, error.trace.as_slice())?;
     let stack = frames(alloc, names, trace.as_slice())?;
     let class = Text::from_str(alloc, name_at(heap, error.class))?;
-    let text = error_text(alloc, heap, error.args.as_slice())?;
+    let text = error_text(alloc, heap, error)?;
     Ok(ExceptionSummary {
         stack,
         class,

@@ -7,7 +7,7 @@ use Rattle.pt_heap.specs.declared.object.Object.{Object}
 use Rattle.pt_heap.specs.declared.object.Object.TheVariants as object
 use Rattle.pt_heap.specs.declared.object.Error.{Error}
 use Rattle.pt_heap.specs.declared.object.TraceEntry.{TraceEntry}
-use Rattle.pt_attrs.proofs.StoreLemmas.{set-back}
+use Rattle.pt_content.proofs.pt_attrs.StoreLemmas.{set-back}
 use Rattle.sem_run.specs.run.Host.{Entry}
 use Rattle.pt_host.specs.Errors.{trace_entry, with_entry}
 

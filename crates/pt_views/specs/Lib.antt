@@ -1,1 +1,4 @@
 pub mod Cursors
+pub use Rattle.pt_mappings.specs as pt_mappings
+pub use Rattle.pt_sequences.specs as pt_sequences
+pub use Rattle.pt_sets.specs as pt_sets

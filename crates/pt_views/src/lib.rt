@@ -5,3 +5,15 @@
 mod cursor;
 
 pub use cursor::{RUNTIME_ERROR, dict_at, iterator_content, next_content};
+pub use pt_mappings::{
+    Keyed, delete_item_content, dict_content, dict_method_content, has_key_content, item_content,
+    key_in, set_item_content,
+};
+pub use pt_sequences::{
+    asked_or, has_integer, length_content, length_of, list_content, range_content, range_length,
+    repeated_list, repeated_tuple, starred_content, tuple_content, unpack_content,
+};
+pub use pt_sets::{
+    add_content, combined_content, combined_in_place, has_item_content, same_items, set_content,
+    set_method_content,
+};

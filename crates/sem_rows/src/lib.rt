@@ -6,6 +6,8 @@ pub mod unsupported_rows;
 pub mod variables;
 
 pub use pt_host::{
-    RECURSION_ERROR, SYSTEM_EXIT, TYPE_ERROR, allot, binding_text, error, error_saying,
-    not_callable_text,
+    ASSERTION_ERROR, ATTRIBUTE_ERROR, BASE_EXCEPTION, IMPORT_ERROR, MODULE_NOT_FOUND_ERROR,
+    RECURSION_ERROR, RUNTIME_ERROR, Raisable, SYS, SYSTEM_EXIT, TYPE_ERROR, allot, are_named,
+    arise_while, binding_text, derives, error, error_saying, missing_text, no_module_text,
+    no_name_text, not_callable_text, raisable_of, values_given,
 };

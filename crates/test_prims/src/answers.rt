@@ -4,7 +4,7 @@ use crate::signs::{BINARY, COMPARISONS};
 use pt_base::{BinOp, CompareOp, ObjId};
 use pt_content::{Helper, Op, Operator, PrimAns};
 use pt_dicts::{class_at, object_at};
-use pt_heap::{Cursor, Heap, Object, Value};
+use pt_heap::{Cursor, Dict, Heap, Object, Value};
 use pt_strs::char_count;
 use test_notation::show;
 
@@ -67,6 +67,24 @@ fn write_items(line: &mut String, row: Row, items: &[Value], depth: u32) -> Resu
     Ok(())
 }
 
+/// Writes the items of a set with commas between them.
+#[cycle(items)]
+fn write_entries(line: &mut String, row: Row, set: &Dict, depth: u32) -> Result<(), NoRow> {
+    if depth == 0 {
+        line.push_str("..")?;
+        return Ok(());
+    }
+    for place in 0..set.len() {
+        if place > 0 {
+            line.push_str(",")?;
+        }
+        if let Some((item, _)) = set.at(place) {
+            write_item(line, row, item, depth - 1)?;
+        }
+    }
+    Ok(())
+}
+
 /// Writes an iterator by what it goes over, and its place.
 #[cycle(items)]
 fn write_cursor(line: &mut String, row: Row, cursor: Cursor, depth: u32) -> Result<(), NoRow> {
@@ -91,6 +109,11 @@ fn write_made(line: &mut String, row: Row, id: ObjId, depth: u32) -> Result<(), 
         Some(Object::Tuple(items)) => {
             line.push_str("tuple(")?;
             write_items(line, row, items.as_slice(), depth)?;
+            line.push_str(")")?;
+        }
+        Some(Object::Set(set)) => {
+            line.push_str("set(")?;
+            write_entries(line, row, set, depth)?;
             line.push_str(")")?;
         }
         Some(Object::Range(range)) => {
@@ -179,7 +202,10 @@ fn write_error(line: &mut String, row: Row, class: ObjId, arg: Option<Value>) ->
                 _ => Err(NoRow),
             }
         }
-        Some(_) => Err(NoRow),
+        Some(key) => {
+            line.push_str(": ")?;
+            write_item(line, row, key, DEPTH)
+        }
         None => Ok(()),
     }
 }
@@ -229,6 +255,7 @@ fn write_helper(line: &mut String, helper: Helper) -> Result<(), NoRow> {
         Helper::NextOrOf => "next_or",
         Helper::InOf => "in",
         Helper::SameOf => "same",
+        Helper::PairsOf => "pairs",
         Helper::ExtendOf => "extend",
         _ => return Err(NoRow),
     };

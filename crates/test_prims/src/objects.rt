@@ -1,6 +1,7 @@
 use crate::no_row::NoRow;
 use pt_base::{BlockId, ObjId, Seq, Text};
 use pt_builtin_objects::start;
+use pt_dicts::key_of;
 use pt_heap::{
     Class, Cursor, Dict, DictView, Error, Function, Heap, Instance, Object, Part, Range, Seed,
     Slice, Str, Value,
@@ -13,45 +14,69 @@ const PLACES: [(&str, u32); 34] = [
     ("P", 47),
     ("O", 75),
     ("M", 77),
-    ("F", 84),
-    ("G", 85),
-    ("L", 86),
-    ("T", 87),
-    ("D", 88),
-    ("S", 89),
-    ("R", 90),
-    ("V", 91),
-    ("E", 92),
-    ("X", 94),
-    ("Y", 96),
-    ("oE", 97),
-    ("oA", 99),
-    ("oB", 101),
-    ("oT", 103),
-    ("oI", 104),
-    ("oJ", 105),
-    ("oQ", 106),
-    ("oU", 108),
-    ("oX", 109),
-    ("oY", 110),
-    ("oS", 111),
-    ("oP", 112),
-    ("oO", 113),
-    ("oW", 117),
-    ("oR", 118),
-    ("oM", 119),
-    ("oN", 120),
-    ("oK", 121),
-    ("oL", 122),
+    ("F", 85),
+    ("G", 86),
+    ("L", 87),
+    ("T", 88),
+    ("D", 89),
+    ("S", 90),
+    ("R", 91),
+    ("V", 92),
+    ("E", 93),
+    ("X", 95),
+    ("Y", 97),
+    ("oE", 98),
+    ("oA", 100),
+    ("oB", 102),
+    ("oT", 104),
+    ("oI", 105),
+    ("oJ", 106),
+    ("oQ", 107),
+    ("oU", 109),
+    ("oX", 110),
+    ("oY", 111),
+    ("oS", 112),
+    ("oP", 113),
+    ("oO", 114),
+    ("oW", 118),
+    ("oR", 119),
+    ("oM", 120),
+    ("oN", 121),
+    ("oK", 122),
+    ("oL", 123),
 ];
 
 /// Where the iterator of a word stands.
 const ITERATORS: [(&str, u32); 5] = [
-    ("oC", 124),
-    ("oZ", 126),
-    ("oF", 128),
-    ("oH", 130),
-    ("oV", 131),
+    ("oC", 125),
+    ("oZ", 127),
+    ("oF", 129),
+    ("oH", 131),
+    ("oV", 132),
+];
+
+/// Where the dictionary, slice, list or tuple of a word stands that is compared or asked for classes.
+const COMPARED: [(&str, u32); 20] = [
+    ("oD", 134),
+    ("oDe", 136),
+    ("oDk", 137),
+    ("oDl", 139),
+    ("oDv", 140),
+    ("oDx", 141),
+    ("oLa", 142),
+    ("oLb", 144),
+    ("oLc", 145),
+    ("oG", 146),
+    ("oGa", 147),
+    ("oGb", 149),
+    ("oGc", 151),
+    ("oGd", 155),
+    ("oGm", 157),
+    ("oKa", 158),
+    ("oKb", 161),
+    ("oKc", 162),
+    ("oKd", 163),
+    ("oKe", 167),
 ];
 
 fn seed() -> Seed {
@@ -108,6 +133,23 @@ fn tuple(alloc: Global, items: &[Value]) -> Result<Object, NoRow> {
     Ok(Object::Tuple(Seq::from_slice(alloc, items)?))
 }
 
+fn dict(alloc: Global, heap: &Heap, entries: &[(Value, Value)]) -> Result<Object, NoRow> {
+    let mut dict = Dict::new(alloc, seed());
+    for entry in entries {
+        let Ok(key) = key_of(alloc, heap, entry.0) else {
+            return Err(NoRow);
+        };
+        let Ok(_) = dict.insert(key, entry.0, entry.1) else {
+            return Err(NoRow);
+        };
+    }
+    Ok(Object::Dict(dict))
+}
+
+fn slice(start: Value, stop: Value, step: Value) -> Object {
+    Object::Slice(Slice { start, stop, step })
+}
+
 fn range(start: i128, stop: i128, step: i128) -> Object {
     Object::Range(Range { start, stop, step })
 }
@@ -133,7 +175,7 @@ fn int(number: i128) -> Value {
     Value::Int(number)
 }
 
-/// From place 84 on.
+/// From place 85 on.
 fn add_plain(alloc: Global, heap: &mut Heap) -> Result<(), NoRow> {
     heap.add(function(alloc, 1))?;
     heap.add(function(alloc, 2))?;
@@ -149,77 +191,134 @@ fn add_plain(alloc: Global, heap: &mut Heap) -> Result<(), NoRow> {
     Ok(())
 }
 
-/// From place 92 on.
+/// From place 93 on.
 fn add_instances(alloc: Global, heap: &mut Heap) -> Result<(), NoRow> {
     heap.add(error(alloc, 46))?;
     heap.add(class(alloc, "Scripted", 0)?)?;
-    heap.add(instance(alloc, 93))?;
+    heap.add(instance(alloc, 94))?;
     heap.add(class(alloc, "ScriptedError", 29)?)?;
-    heap.add(error(alloc, 95))?;
+    heap.add(error(alloc, 96))?;
     Ok(())
 }
 
-/// From place 97 on.
+/// From place 98 on.
 fn add_texts(alloc: Global, heap: &mut Heap) -> Result<(), NoRow> {
     heap.add(Object::List(Seq::new(alloc)))?;
     heap.add(text(alloc, "ab")?)?;
-    heap.add(list(alloc, &[int(1), at(98), Value::None])?)?;
+    heap.add(list(alloc, &[int(1), at(99), Value::None])?)?;
     heap.add(text(alloc, "ab")?)?;
-    heap.add(list(alloc, &[int(1), at(100), Value::None])?)?;
+    heap.add(list(alloc, &[int(1), at(101), Value::None])?)?;
     heap.add(text(alloc, "ab")?)?;
-    heap.add(tuple(alloc, &[int(1), at(102), Value::None])?)?;
+    heap.add(tuple(alloc, &[int(1), at(103), Value::None])?)?;
     Ok(())
 }
 
-/// From place 104 on.
+/// From place 105 on.
 fn add_lists(alloc: Global, heap: &mut Heap) -> Result<(), NoRow> {
     heap.add(list(alloc, &[Value::Bool(true), int(2)])?)?;
     heap.add(list(alloc, &[int(1), int(2)])?)?;
-    heap.add(list(alloc, &[at(86)])?)?;
+    heap.add(list(alloc, &[at(87)])?)?;
     heap.add(list(alloc, &[int(1)])?)?;
-    heap.add(list(alloc, &[at(107)])?)?;
-    heap.add(list(alloc, &[at(94)])?)?;
-    heap.add(tuple(alloc, &[at(94)])?)?;
+    heap.add(list(alloc, &[at(108)])?)?;
+    heap.add(list(alloc, &[at(95)])?)?;
+    heap.add(tuple(alloc, &[at(95)])?)?;
     Ok(())
 }
 
-/// From place 111 on.
+/// From place 112 on.
 fn add_nested(alloc: Global, heap: &mut Heap) -> Result<(), NoRow> {
-    heap.add(list(alloc, &[at(111)])?)?;
     heap.add(list(alloc, &[at(112)])?)?;
+    heap.add(list(alloc, &[at(113)])?)?;
     heap.add(tuple(alloc, &[int(3)])?)?;
     heap.add(list(alloc, &[int(1)])?)?;
     heap.add(text(alloc, "h\u{e9}")?)?;
-    heap.add(tuple(alloc, &[int(2), at(115)])?)?;
-    heap.add(tuple(alloc, &[at(114), at(116)])?)?;
+    heap.add(tuple(alloc, &[int(2), at(116)])?)?;
+    heap.add(tuple(alloc, &[at(115), at(117)])?)?;
     Ok(())
 }
 
-/// From place 118 on.
+/// From place 119 on.
 fn add_ranges(heap: &mut Heap) -> Result<(), NoRow> {
     heap.add(range(0, 10, 3))?;
     heap.add(range(0, 12, 3))?;
     heap.add(range(5, 5, 1))?;
     heap.add(range(7, 0, -2))?;
-    heap.add(Object::Slice(Slice {
-        start: Value::None,
-        stop: Value::None,
-        step: Value::None,
-    }))?;
+    heap.add(slice(Value::None, Value::None, Value::None))?;
     Ok(())
 }
 
-/// From place 123 on.
+/// From place 124 on.
 fn add_iterators(alloc: Global, heap: &mut Heap) -> Result<(), NoRow> {
     heap.add(list(alloc, &[int(4), int(5)])?)?;
-    heap.add(cursor(Some(123), 1))?;
+    heap.add(cursor(Some(124), 1))?;
     heap.add(text(alloc, "h\u{e9}l")?)?;
-    heap.add(cursor(Some(125), 1))?;
+    heap.add(cursor(Some(126), 1))?;
     heap.add(range(9, 1, -3))?;
-    heap.add(cursor(Some(127), 1))?;
+    heap.add(cursor(Some(128), 1))?;
     heap.add(tuple(alloc, &[int(6)])?)?;
-    heap.add(cursor(Some(129), 1))?;
+    heap.add(cursor(Some(130), 1))?;
     heap.add(cursor(None, 0))?;
+    Ok(())
+}
+
+fn add_dict(alloc: Global, heap: &mut Heap, entries: &[(Value, Value)]) -> Result<(), NoRow> {
+    let object = dict(alloc, heap, entries)?;
+    heap.add(object)?;
+    Ok(())
+}
+
+/// From place 133 on.
+fn add_dicts(alloc: Global, heap: &mut Heap) -> Result<(), NoRow> {
+    heap.add(text(alloc, "a")?)?;
+    add_dict(alloc, heap, &[(int(1), int(2)), (at(133), at(87))])?;
+    heap.add(list(alloc, &[int(1)])?)?;
+    add_dict(
+        alloc,
+        heap,
+        &[(at(133), at(135)), (Value::Bool(true), int(2))],
+    )?;
+    let third = (Value::None, int(3));
+    add_dict(alloc, heap, &[(int(1), int(2)), (at(133), at(87)), third])?;
+    heap.add(text(alloc, "b")?)?;
+    add_dict(alloc, heap, &[(int(1), int(2)), (at(138), at(87))])?;
+    add_dict(alloc, heap, &[(int(1), int(3)), (at(133), at(87))])?;
+    add_dict(alloc, heap, &[(int(1), at(95))])?;
+    Ok(())
+}
+
+/// From place 142 on.
+fn add_ordered(alloc: Global, heap: &mut Heap) -> Result<(), NoRow> {
+    heap.add(slice(int(1), at(114), Value::None))?;
+    heap.add(tuple(alloc, &[int(3)])?)?;
+    heap.add(slice(int(1), at(143), Value::None))?;
+    heap.add(slice(int(1), int(2), int(3)))?;
+    heap.add(list(alloc, &[int(1), int(3)])?)?;
+    heap.add(list(alloc, &[int(1), int(2), int(0)])?)?;
+    heap.add(list(alloc, &[int(1), int(2)])?)?;
+    heap.add(list(alloc, &[at(148), int(3)])?)?;
+    heap.add(list(alloc, &[int(1), int(3)])?)?;
+    heap.add(list(alloc, &[at(150), int(0)])?)?;
+    heap.add(list(alloc, &[int(1)])?)?;
+    heap.add(text(alloc, "b")?)?;
+    heap.add(tuple(alloc, &[int(2), at(153)])?)?;
+    heap.add(tuple(alloc, &[at(152), at(154)])?)?;
+    heap.add(text(alloc, "x")?)?;
+    heap.add(list(alloc, &[int(1), at(156)])?)?;
+    Ok(())
+}
+
+/// From place 158 on: tuples of classes.
+fn add_classes(alloc: Global, heap: &mut Heap) -> Result<(), NoRow> {
+    heap.add(tuple(alloc, &[at(4), at(2)])?)?;
+    heap.add(tuple(alloc, &[at(3)])?)?;
+    heap.add(tuple(alloc, &[at(4), at(159)])?)?;
+    heap.add(tuple(alloc, &[at(160), at(5)])?)?;
+    heap.add(tuple(alloc, &[at(2), int(5)])?)?;
+    heap.add(tuple(alloc, &[int(5), at(2)])?)?;
+    heap.add(tuple(alloc, &[at(2)])?)?;
+    heap.add(tuple(alloc, &[at(164)])?)?;
+    heap.add(tuple(alloc, &[at(4), at(165)])?)?;
+    heap.add(tuple(alloc, &[at(88), at(166)])?)?;
     Ok(())
 }
 
@@ -234,6 +333,9 @@ pub fn heap_of_objects(alloc: Global) -> Result<Heap, NoRow> {
     add_nested(alloc, &mut heap)?;
     add_ranges(&mut heap)?;
     add_iterators(alloc, &mut heap)?;
+    add_dicts(alloc, &mut heap)?;
+    add_ordered(alloc, &mut heap)?;
+    add_classes(alloc, &mut heap)?;
     Ok(heap)
 }
 
@@ -258,18 +360,22 @@ fn word_in<'a>(rows: &[(&'a str, u32)], place: u32) -> Option<&'a str> {
 }
 
 fn object_place(word: &str) -> Option<u32> {
-    match place_in(&PLACES, word) {
-        Some(place) => Some(place),
-        None => place_in(&ITERATORS, word),
+    for rows in [&PLACES[..], &ITERATORS[..], &COMPARED[..]] {
+        if let Some(place) = place_in(rows, word) {
+            return Some(place);
+        }
     }
+    None
 }
 
 /// The word of the object at a place.
 pub fn object_word(place: u32) -> Option<&'static str> {
-    match word_in(&PLACES, place) {
-        Some(word) => Some(word),
-        None => word_in(&ITERATORS, place),
+    for rows in [&PLACES[..], &ITERATORS[..], &COMPARED[..]] {
+        if let Some(word) = word_in(rows, place) {
+            return Some(word);
+        }
     }
+    None
 }
 
 /// A text so many times.
@@ -317,7 +423,16 @@ fn nested(alloc: Global, heap: &mut Heap, depth: u32) -> Result<Value, NoRow> {
     Ok(Value::Obj(id))
 }
 
-/// The value of a word that begins with `i`, `s` or `d`.
+/// So many tuples around the class of integers.
+fn around(alloc: Global, heap: &mut Heap, depth: u32) -> Result<Value, NoRow> {
+    let mut value = at(2);
+    for _inside in 0..depth {
+        value = Value::Obj(heap.add(tuple(alloc, &[value])?)?);
+    }
+    Ok(value)
+}
+
+/// The value of a word that begins with `i`, `s`, `u`, `d` or `k`.
 fn longer(alloc: Global, heap: &mut Heap, word: &str) -> Result<Value, NoRow> {
     match word.split_at_checked(1) {
         Some(("i", digits)) => match digits.parse::<i128>() {
@@ -328,8 +443,13 @@ fn longer(alloc: Global, heap: &mut Heap, word: &str) -> Result<Value, NoRow> {
             let text = text_of(alloc, spelling)?;
             Ok(Value::Obj(heap.add(Object::Str(Str::new(text)))?))
         }
+        Some(("u", spelling)) => Ok(Value::Obj(heap.add(text(alloc, spelling)?)?)),
         Some(("d", digits)) => match digits.parse::<u32>() {
             Ok(depth) => nested(alloc, heap, depth),
+            Err(_) => Err(NoRow),
+        },
+        Some(("k", digits)) => match digits.parse::<u32>() {
+            Ok(depth) => around(alloc, heap, depth),
             Err(_) => Err(NoRow),
         },
         _ => Err(NoRow),

@@ -33,17 +33,20 @@ pub const COMPARISONS: [(&str, CompareOp); 10] = [
 ];
 
 /// Builtin functions and classes by their names.
-const FUNCTIONS: [(&str, Function); 17] = [
+const FUNCTIONS: [(&str, Function); 20] = [
     ("print", Function::Print),
     ("len", Function::Len),
     ("repr", Function::Repr),
     ("isinstance", Function::Isinstance),
+    ("issubclass", Function::Issubclass),
     ("iter", Function::Iter),
     ("next", Function::Next),
     ("abs", Function::Abs),
     ("divmod", Function::Divmod),
     ("ord", Function::Ord),
     ("chr", Function::Chr),
+    ("hasattr", Function::Hasattr),
+    ("getattr", Function::Getattr),
     ("callable", Function::Callable),
     ("object", Function::Object),
     ("type", Function::Type),

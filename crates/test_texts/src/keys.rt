@@ -105,7 +105,7 @@ fn read(alloc: Global, heap: &mut Heap, words: &str) -> Result<Value, NoRow> {
 
 /// Writes the number of a class that a run starts with, and `x` for another.
 fn show_class(line: &mut String, alloc: Global, class: ObjId) -> Result<(), NoRow> {
-    if class.0 > 83 {
+    if class.0 > 84 {
         line.push_str("x")?;
         return Ok(());
     }

@@ -1,9 +1,10 @@
 -- The names in the wide tree of a script's text begin as identifiers do.
-use Rattle.std.proofs.Common.{ℕ, List, [], ◌∷◌, Option, Some, None, sym, subst, ◌∙◌, append-nil}
+use Rattle.std.proofs.Common.{◌≡◌, ℕ, false, List, [], ◌∷◌, Option, Some, None, bytes_eq, sym, subst, ◌∙◌, append-nil}
 use Rattle.std.specs.List.{AllByRecursion}
 use Rattle.pt_literals.specs.declared.token.Token.{Token}
 use Rattle.pt_literals.specs.declared.token.TokenKind.{TokenKind}
 use Rattle.pt_literals.specs.declared.token.TokenKind.TheVariants as kind
+use Rattle.pt_tree.specs.Syntax.{Name, Stms}
 use Rattle.pt_wide.specs.Syntax as W
 use Rattle.pt_wide.specs.StatementFold.{stms_from}
 use Rattle.pt_readers.specs.Whole.{Are}
@@ -11,6 +12,10 @@ use Rattle.pt_grammar.specs.declared.sign.Sign.{Sign}
 use Rattle.pt_grammar.specs.Lexemes.{signed, lexeme_at, lexemes, spelled}
 use Rattle.pt_parser.specs.Script.{a_script}
 use Rattle.pt_front.specs.Syntax.{AreWide}
+use Rattle.pt_front.specs.Text.{IsScript}
+use Rattle.pt_scopes.specs.declared.region.Mention.{Mention}
+use Rattle.pt_scopes.specs.Mentions.{places_script}
+use Rattle.sem_names.specs.Naming.{dot}
 use Rattle.law_front.specs.parsed.Parsed.{StmsParsed}
 use Rattle.law_front.specs.parsed_scripts.Laws.{NameIfOne, Names}
 use Rattle.law_front.proofs.parsed_scripts.Statements.{parsed}
@@ -20,7 +25,7 @@ use Rattle.law_front.proofs.script_numbers.Scripts.{numbered}
 use Rattle.law_typed_pieces.proofs.law_operands.law_files.operands_fit.Operands.{operands_fit}
 use Rattle.law_compile.specs.read_forms.Laws.{OperandsOfTextsFit, ScriptsOfTextsAreFormed, ScriptsOfTextsAreRead}
 use Rattle.law_compile.proofs.read_forms.Formed.{IsName, statements}
-use Rattle.law_compile.proofs.read_forms.ClassName.{unused}
+use Rattle.law_compile.proofs.read_forms.ClassName.{undotted, unused}
 
 a-sign : (l : ℕ) (s : Option Sign) → NameIfOne IsName (signed l s)
 a-sign l None = tt
@@ -61,6 +66,14 @@ scripts_of_texts_are_formed text script is =
         class_name_is_unused = unused (stms_from tree.wide) script w tree.is_narrow;
       },
     )
+
+-- no name in it begins with a dot
+pub names_begin_without_dot : (text : List ℕ) (script : Stms) → IsScript text script → (x : Name)
+    → AllByRecursion (λ (m : Mention). bytes_eq m.name (dot ∷ x) ≡ false) (places_script script).mentions
+names_begin_without_dot text script is x =
+    let tree = is.are_script in
+    let w = wide-is-parsed text is.tokens tree.wide (names_begin text is.tokens is.are_tokens) tree.are_wide in
+    undotted x (stms_from tree.wide) script w tree.is_narrow
 
 pub scripts_of_texts_are_read : {V : Type 0} → ScriptsOfTextsAreRead V
 scripts_of_texts_are_read null text script object is blocks =

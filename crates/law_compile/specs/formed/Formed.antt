@@ -1,6 +1,6 @@
 -- Trees as the grammar forms them, in what the code of a script depends on: an argument by name has a name (Language Reference 6.3.4), the body of a
 -- `try` has a statement (8.4), and a `with` has an item (8.5). Annotations have no code.
-use Rattle.std.specs.Prelude.{◌≡◌, true, List, [], ◌∷◌, Option, Some, None}
+use Rattle.std.specs.Prelude.{◌≡◌, true, Option, Some, None}
 use Rattle.pt_tree.specs.Syntax as S
 use Rattle.pt_tree.specs.Syntax.{Exp, Exps, Opt, Pieces, Entries, Links, Args, Made, Clauses, Place, Tgt, Tgts, Params, Formals, Decorators, Items, Stm, Stms, Branches, Handlers, none, more}
 use Rattle.pt_tree.specs.Blocks as B

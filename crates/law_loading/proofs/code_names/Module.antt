@@ -1,5 +1,5 @@
 -- The module of a supported script has no names in slots.
-use Rattle.std.proofs.Common.{◌≡◌, ◌∙◌, ℕ, Bool, true, false, cond, if◌then◌else◌, List, [], ◌∷◌, ◌++◌, filter, Option, Some, None, refl, sym, ap, eq-eqb, eqb-true}
+use Rattle.std.proofs.Common.{◌≡◌, ◌∙◌, ℕ, Bool, true, false, cond, if◌then◌else◌, List, [], ◌∷◌, ◌++◌, filter, Option, Some, None, refl, ap, eq-eqb, eqb-true}
 use Rattle.std.specs.Prelude.{◌==◌}
 use Rattle.std.specs.List.{AllByRecursion}
 use Rattle.pt_tree.specs.Syntax.{Name, Stms}
@@ -18,7 +18,7 @@ use Rattle.sem_names.specs.Script.{functions_of, naming_script}
 use Rattle.law_names.proofs.module_names.Classes.{module_has_no_frees}
 use Rattle.law_typed_pieces.proofs.law_operands.law_files.code_files.Each.{mapped}
 use Rattle.pt_supported.specs.Built.{Built}
-use Rattle.law_supported.proofs.Homes.{home_is}
+use Rattle.law_supported.proofs.Homes.{module_alone}
 use Rattle.law_supported.proofs.Written.{makes_none}
 
 -- a name of the module is neither local nor in a cell
@@ -60,7 +60,7 @@ module _ (ss : Stms) (built : Built ss) where
 
   named_is : (m : Mention) → (home_of rs m.region == 0) ≡ true → Neither (named_at p 0 0 m).scope
   named_is m home =
-      let region : m.region ≡ 0 = sym (home_is ss built m.region) ∙ eqb-true (home_of rs m.region) 0 home in
+      let region : m.region ≡ 0 = module_alone ss built m.region (eqb-true (home_of rs m.region) 0 home) in
       let named : named_at p 0 0 m ≡ own p 0 m.name = ap (λ (i : Bool). if i then own p 0 m.name else seen p m.region m.name) (eq-eqb m.region 0 region) in
       let is = own_is m.name in
       record { local = ap (λ (v : Variable). is_local v.scope) named ∙ is.local; cell = ap (λ (v : Variable). is_cell v.scope) named ∙ is.cell }

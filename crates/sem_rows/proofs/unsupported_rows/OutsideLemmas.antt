@@ -8,13 +8,13 @@ use Rattle.pt_instr.specs.declared.Instr.TheVariants as instr
 use Rattle.pt_heap.specs.declared.value.Value.{Value}
 use Rattle.pt_code.specs.View.{Ins}
 use Rattle.sem_control.specs.control.Turn as T
-use Rattle.sem_control.specs.control.Turn.{Ask, Answer, Deed, Operation, Throw, Turn, stuck}
+use Rattle.sem_control.specs.control.Turn.{Ask, Answer, Deed, Operation, Turn, stuck}
 use Rattle.sem_code.specs.slots.Slots as S
 use Rattle.sem_code.specs.slots.Slots.{Slots, State}
 use Rattle.sem_code.specs.slots.CodeObject.{CodeObject}
 use Rattle.sem_code.specs.slots.Instructions.{perform}
-use Rattle.sem_code.specs.slots.Pops.{Next, values, cells, one, two, an_iterator, an_exception, a_completion, an_exit}
-use Rattle.sem_code.specs.slots.Steps.{mark_of, after, asks, gives, does, throws, delegated, delegates}
+use Rattle.sem_code.specs.slots.Pops.{Next, values, cells, one, two, an_iterator, a_completion, an_exit}
+use Rattle.sem_code.specs.slots.Steps.{mark_of, after, asks, gives, does, delegated, delegates}
 use Rattle.sem_run.specs.run.Host as H
 use Rattle.sem_run.specs.run.Host.{Here}
 use Rattle.pt_host.specs.World.{Stores, Program}
@@ -88,15 +88,6 @@ module _ (program : Program) (code : CodeObject Value) (i : Ins) (h : Here Value
   iterator-out (S.pending c ∷ ss) next f = inl tt
   iterator-out (S.exit v ∷ ss) next f = inl tt
 
-  exception-out : (ss : Slots Value) (next : Next Value Value) → ((v : Value) (below : Slots Value) → Outside (next v below)) → Outside (an_exception ss next)
-  exception-out [] next f = inl tt
-  exception-out (S.value v ∷ ss) next f = inl tt
-  exception-out (S.cell v ∷ ss) next f = inl tt
-  exception-out (S.iterator v ∷ ss) next f = inl tt
-  exception-out (S.exception v ∷ ss) next f = f v ss
-  exception-out (S.pending c ∷ ss) next f = inl tt
-  exception-out (S.exit v ∷ ss) next f = inl tt
-
   completion-out : (ss : Slots Value) (next : Next Value (S.Completion Value)) → ((c : S.Completion Value) (below : Slots Value) → Outside (next c below))
       → Outside (a_completion ss next)
   completion-out [] next f = inl tt
@@ -133,9 +124,6 @@ module _ (program : Program) (code : CodeObject Value) (i : Ins) (h : Here Value
       → Outside (asks code i a ss next)
   asks-out a ss next w e = inr (sym (asks_lead program code i h st a next ss w ∙ ap (by_tree code i (found a next) ss) e))
 
-  throws-out : (t : Throw Value) (ss : Slots Value) → Outside (throws code i t ss)
-  throws-out t ss = asks-out (T.throw t) ss _ tt refl
-
   yields-out : (v : Value) (ss : Slots Value) → Outside (gives code i (T.yielding v) ss)
   yields-out v ss = by_mark i.mark
     where
@@ -151,13 +139,13 @@ module _ (program : Program) (code : CodeObject Value) (i : Ins) (h : Here Value
       by_mark (Some m) = inr refl
 
   performs-out : (pc : ℕ) (j : Instr) (ss : Slots Value) → HasHeapExtras code → is_supported j ≡ false → Outside (perform code pc i j ss)
-  performs-out pc (instr.Attr t) ss x e = operates-out _ 1 ss (λ vs. refl)
+  performs-out pc (instr.Attr t) ss x e = absurd (cc)
   performs-out pc (instr.SetAttr t) ss x e = two-out ss _ (λ v a below. does-out _ below refl)
   performs-out pc (instr.DelAttr t) ss x e = one-out ss _ (λ a below. does-out _ below refl)
   performs-out pc instr.TupleJoin ss x e = operates-out _ 2 ss (λ vs. x.tuple_join program vs h st)
   performs-out pc instr.DictMerge ss x e = operates-out _ 2 ss (λ vs. x.dict_merge program vs h st)
-  performs-out pc instr.Spread ss x e = operates-out _ 1 ss (λ vs. refl)
-  performs-out pc instr.SpreadMap ss x e = operates-out _ 1 ss (λ vs. refl)
+  performs-out pc instr.Spread ss x e = absurd (cc)
+  performs-out pc instr.SpreadMap ss x e = absurd (cc)
   performs-out pc instr.Super ss x e = operates-out _ 2 ss (λ vs. x.super program vs h st)
   performs-out pc (instr.MakeClass b) ss x e = cells-out (code.pool.captures b.0) [] ss _
       (λ cs below. one-out below _ (λ base under. gives-out _ (base ∷ cs) under refl))
@@ -165,16 +153,15 @@ module _ (program : Program) (code : CodeObject Value) (i : Ins) (h : Here Value
       (λ cs below. iterator-out below _ (λ it under. gives-out _ (it ∷ cs) under refl))
   performs-out pc instr.Yield ss x e = one-out ss _ (λ v below. yields-out v below)
   performs-out pc instr.Delegate ss x e = one-out ss _ (λ v below. iterator-out below _ (λ it under. delegates-out pc (T.got v) it v under))
-  performs-out pc instr.Raise ss x e = one-out ss _ (λ v below. throws-out _ below)
-  performs-out pc instr.RaiseFrom ss x e = two-out ss _ (λ v c below. throws-out _ below)
-  performs-out pc instr.RaiseAgain ss x e = throws-out _ ss
-  performs-out pc (instr.AssertFail false) ss x e = throws-out _ ss
-  performs-out pc (instr.AssertFail true) ss x e = one-out ss _ (λ m below. throws-out _ below)
-  performs-out pc instr.Match ss x e = one-out ss _ (λ c below. exception-out below _ (λ v under. asks-out (T.test (T.matches v c)) below _ tt refl))
+  performs-out pc instr.Raise ss x e = absurd (cc)
+  performs-out pc instr.RaiseFrom ss x e = absurd (cc)
+  performs-out pc instr.RaiseAgain ss x e = absurd (cc)
+  performs-out pc (instr.AssertFail b) ss x e = absurd (cc)
+  performs-out pc instr.Match ss x e = absurd (cc)
   performs-out pc instr.Enter ss x e = one-out ss _ (λ v below. asks-out (T.enter v) below _ tt refl)
   performs-out pc instr.Exit ss x e = completion-out ss _ (λ c below. exit-out below _ (λ w under. asks-out (T.test (T.exit_of w (S.raise_of c))) under _ tt refl))
-  performs-out pc (instr.Import t) ss x e = operates-out _ 0 ss (λ vs. refl)
-  performs-out pc (instr.ImportName t) ss x e = one-out ss _ (λ m below. asks-out (T.seek (T.operate (T.import_name (code.pool.text t.0)) (m ∷ []))) ss _ tt refl)
+  performs-out pc (instr.Import t) ss x e = absurd (cc)
+  performs-out pc (instr.ImportName t) ss x e = absurd (cc)
   performs-out pc instr.Nop ss x e = absurd (cc)
   performs-out pc (instr.Next t) ss x e = absurd (cc)
   performs-out pc instr.Iter ss x e = absurd (cc)

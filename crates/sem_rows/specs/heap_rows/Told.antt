@@ -18,6 +18,7 @@ use Rattle.pt_host.specs.World.{Names, Stores, Program}
 use Rattle.pt_host.specs.Errors.{raise_error, raise_saying}
 use Rattle.pt_host.specs.Primitives.{arguments_of}
 use Rattle.pt_host.specs.Calls.{result_of}
+use Rattle.pt_host.specs.Raising.{raise_active, raise_object}
 use Rattle.sem_run.specs.transitions.Successors.{to, behind_print, behind_request, outside, none}
 use Rattle.sem_rows.specs.declared.heap_rows.progress.Progress.{Progress}
 use Rattle.sem_rows.specs.declared.heap_rows.progress.Progress.TheVariants as progress
@@ -48,6 +49,8 @@ module _ (program : Program) (code : CodeObject Value) (i : Ins) where
   told h (progress.Print t) ss st = behind_print t (to (on i.next ss) st)
   told h (progress.Calls block hidden ls) ss st =
       behind_request (opens (opening_of program (block_id block hidden) ls)) st (λ r st1. by_tree code i (giving code i ss) ss (result_of r.end st1))
+  told h (progress.Raises e) ss st = by_tree code i (giving code i ss) ss (raise_object e st.world.heap h st)
+  told h progress.RaisesAgain ss st = by_tree code i (giving code i ss) ss (raise_active h.active h st)
   told h (progress.Fails class arg) ss st = by_tree code i (giving code i ss) ss (raise_error class (arguments_of arg) h st)
   told h (progress.FailsSaying class t) ss st = by_tree code i (giving code i ss) ss (raise_saying class t h st)
   told h (progress.Outside what) ss st = outside what
@@ -55,6 +58,8 @@ module _ (program : Program) (code : CodeObject Value) (i : Ins) where
 
 -- where an exception may arise in the activation, the one that is active is the same as before (7.8)
 abbrev pub IfActive : Progress → Type 0 → Type 0
+IfActive (progress.Raises e) A = A
+IfActive progress.RaisesAgain A = A
 IfActive (progress.Fails class arg) A = A
 IfActive (progress.FailsSaying class t) A = A
 IfActive (progress.Calls block hidden ls) A = A

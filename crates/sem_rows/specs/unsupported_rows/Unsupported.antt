@@ -16,30 +16,20 @@ use Rattle.sem_rows.specs.heap_rows.Told.{told}
 use Rattle.sem_rows.specs.heap_rows.Views.{slots_view}
 
 abbrev pub is_supported : Instr → Bool
--- attributes (6.3.1, 7.2, 7.5)
-is_supported (instr.Attr t) = false
+-- targets that are attributes (7.2, 7.5)
 is_supported (instr.SetAttr t) = false
 is_supported (instr.DelAttr t) = false
--- arguments that are spread (6.3.4), classes (8.8) and generators (6.2.8, 6.2.9)
+-- what no script asks for, classes (8.8) and generators (6.2.8, 6.2.9)
 is_supported instr.TupleJoin = false
 is_supported instr.DictMerge = false
-is_supported instr.Spread = false
-is_supported instr.SpreadMap = false
 is_supported instr.Super = false
 is_supported (instr.MakeClass b) = false
 is_supported (instr.MakeGenerator b) = false
 is_supported instr.Yield = false
 is_supported instr.Delegate = false
--- what is raised (7.3, 7.8), handlers of classes (8.4.1), exits (8.5) and modules (7.11)
-is_supported instr.Raise = false
-is_supported instr.RaiseFrom = false
-is_supported instr.RaiseAgain = false
-is_supported (instr.AssertFail b) = false
-is_supported instr.Match = false
+-- exits (8.5)
 is_supported instr.Enter = false
 is_supported instr.Exit = false
-is_supported (instr.Import t) = false
-is_supported (instr.ImportName t) = false
 is_supported j = true
 
 -- what an instruction comes to is its row whatever the slots and the stores are, unless a bare run is stuck there

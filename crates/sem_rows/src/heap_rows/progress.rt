@@ -30,6 +30,12 @@ pub enum Progress {
         hidden: bool,
         locals: Locals,
     },
+    /// An exception that is there already arises.
+    Raises {
+        exception: ObjId,
+    },
+    /// The exception that is active arises once more, or another one where none is.
+    RaisesAgain,
     /// An exception of this class arises, with this argument.
     Fails {
         class: ObjId,

@@ -1,10 +1,10 @@
 use Rattle.std.proofs.Common.{◌≡◌, ◌++◌, map, drop}
 use Rattle.sem_code.specs.slots.Instructions.{role_of}
-use Rattle.pt_operators.specs.pt_moves.sem_rows.pt_host.Calls.{plain_arguments, named_arguments}
+use Rattle.pt_operators.specs.pt_moves.sem_rows.pt_host.Arguments.{plain_arguments, named_arguments}
 use Rattle.pt_call_rows.proofs.roles.arguments.Given as goal
 
 abbrev pub invariant-loop-at : goal.invariant-loop-at
 invariant-loop-at l = record {
-  plain : l.plain ++ plain_arguments (map role_of (drop l.at l.names)) (drop l.at l.values) ≡ plain_arguments (map role_of l.names) l.values;
-  named : l.named ++ named_arguments (map role_of (drop l.at l.names)) (drop l.at l.values) ≡ named_arguments (map role_of l.names) l.values;
+  plain : l.plain ++ plain_arguments l.heap (map role_of (drop l.at l.names)) (drop l.at l.values) ≡ plain_arguments l.heap (map role_of l.names) l.values;
+  named : l.named ++ named_arguments l.heap (map role_of (drop l.at l.names)) (drop l.at l.values) ≡ named_arguments l.heap (map role_of l.names) l.values;
 }

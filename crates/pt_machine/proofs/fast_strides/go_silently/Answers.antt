@@ -5,7 +5,7 @@ use Rattle.pt_machine.proofs.fast_strides.go_silently.Goals as goal
 
 pub begin_silently-requires : goal.begin_silently-requires
 begin_silently-requires c =
-    let (n, (fits, unit)) = c.requires in
+    let (n, (fits, unit)) = c.requires.unit in
     let same = same_units c.args.tables.now c.args.place.now c.in-Some.pc c.in_ok-pc.field-0 c.args.machine.now c.perform_fast.new.machine
     c.in_ok-pc.ensures c.in-Some.is in
     (n, (fits, subst (λ u. HasUnit c.args.place.now.mark n u) (sym same) unit))

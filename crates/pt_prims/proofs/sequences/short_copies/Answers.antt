@@ -4,7 +4,7 @@ use Rattle.std.proofs.lemmas.Int.{to_z-of_z}
 use Rattle.std.proofs.lemmas.List.{nil_from_length}
 use Rattle.pt_strs.specs.Answer.{length_limit}
 use Rattle.pt_strs.specs.Join.{copies}
-use Rattle.pt_comparisons.specs.pt_sequences.Displays.{times}
+use Rattle.pt_methods.specs.pt_sequences.Displays.{times}
 use Rattle.pt_prims.proofs.SequenceLemmas.{copies_none, few-times}
 use Rattle.pt_prims.proofs.sequences.short_copies.Goals as goal
 

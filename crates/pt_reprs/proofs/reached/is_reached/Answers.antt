@@ -2,7 +2,7 @@ use Rattle.std.proofs.Common.{◌≡◌, ◌∙◌, ◌+◌, [], ◌∷◌, Some
 use Rattle.std.proofs.lemmas.List.{nil_from_length}
 use Rattle.std.proofs.lemmas.Option.{slice_get_within}
 use Rattle.indexmap.specs.IndexSet.{insert_key}
-use Rattle.pt_reprs.specs.Marks.{at_place, has_instance, Follows, MarksFirst}
+use Rattle.pt_reprs.specs.Marks.{at_place, Follows, MarksFirst}
 use Rattle.pt_reprs.specs.Reached.{parts_of}
 use Rattle.pt_reprs.proofs.ReachLemmas.{follows-more, follows-start, marks-below, none-reached, one-reached, past-end}
 use Rattle.pt_reprs.proofs.reached.is_reached.Goals as goal
@@ -25,20 +25,19 @@ returns-in-None c =
 pub returns-then-branch : goal.returns-then-branch
 returns-then-branch c =
     sym (one-reached c.args.heap.now (at_place c.args.id.0) c.loop-at.marks.keys c.loop-at.at c.in-Some.place c.loop-at.invariant.follows (omega (arith, c.loop-at-test.true, c.len-at-end.ensures)) (sym c.marked.ensures ∙ c.in-Some.is)
-    (ap (has_instance c.args.heap.now) (sym c.parts_at.ensures) ∙ sym c.in_ok-mark_all.ensures.found ∙ c.if-branch.true))
+    (sym c.in_ok-mark_parts.ensures.found ∙ c.if-branch.true))
 
 pub loop-at-preserved : goal.loop-at-preserved
 loop-at-preserved c =
     let h = c.args.heap.now in
-    let parts = c.parts_at.result.now in
     let v = at_place c.args.id.0 in
     let old = c.loop-at.marks.keys in
-    let new = c.mark_all.new.marks.keys in
+    let new = c.mark_parts.new.marks.keys in
     let m : MarksFirst h old new (parts_of h (at_place c.in-Some.place)) (length (parts_of h (at_place c.in-Some.place))) =
-    subst (λ l. MarksFirst h old new l (length l)) c.parts_at.ensures (c.in_ok-mark_all.ensures.marks c.if-branch.false) in
+    c.in_ok-mark_parts.ensures.marks c.if-branch.false in
     record {
       follows = follows-more h v old new c.loop-at.at c.in-Some.place c.loop-at.invariant.follows (sym c.marked.ensures ∙ c.in-Some.is) m;
-      unique = c.in_ok-mark_all.ensures.unique c.loop-at.invariant.unique;
+      unique = c.in_ok-mark_parts.ensures.unique c.loop-at.invariant.unique;
     }
 
 pub returns : goal.returns

@@ -15,3 +15,6 @@ decreases-write_made l = 4 * l.depth + 1
 
 abbrev pub decreases-write_items : goal.decreases-write_items
 decreases-write_items l = 4 * l.depth
+
+abbrev pub decreases-write_entries : goal.decreases-write_entries
+decreases-write_entries l = 4 * l.depth

@@ -1,5 +1,0 @@
-use Rattle.law_code_ends.proofs.Ends.{runs_to_one_outcome}
-use Rattle.law_code_ends.proofs.laws.a_code_runs_to_one_outcome.Goals as goal
-
-pub returns : goal.returns
-returns c = runs_to_one_outcome

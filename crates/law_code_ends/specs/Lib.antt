@@ -1,2 +1,0 @@
-pub mod Laws
-pub use Rattle.pt_run_code.specs as pt_run_code

@@ -1,5 +1,0 @@
-use Rattle.law_exec.proofs.exec_answers.CodeFiles.{code_file_has_one_answer}
-use Rattle.law_exec.proofs.exec_answers.laws.a_code_file_has_one_answer.Goals as goal
-
-pub returns : goal.returns
-returns c = code_file_has_one_answer

@@ -1,2 +1,0 @@
-pub mod script_files
-pub mod exec_answers

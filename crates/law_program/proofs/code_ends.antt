@@ -1,0 +1,6 @@
+mod Strides
+mod Turns
+mod Fitting
+mod Outside
+mod Runs
+pub mod Ends

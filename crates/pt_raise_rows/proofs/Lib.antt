@@ -1,0 +1,3 @@
+pub mod CauseLemmas
+pub mod RaiseLemmas
+pub mod RowLemmas

@@ -1,0 +1,32 @@
+ghost use Rattle.std.specs.Prelude.{◌≡◌, ◌++◌, [], IfOk, OnOk};
+ghost use Rattle.pt_heap.specs.Entries.{entry};
+ghost use Rattle.pt_reprs.specs.Shown.{shown, shown_of};
+
+use pt_base::{Memory, Seq};
+use pt_heap::{Dict, Part, Value};
+use std::alloc::Global;
+
+fn push_shown(values: &mut Seq<Value>, part: Part, first: Value, value: Value) -> Result<(), Memory>
+    ensures { OnOk result (values.new ≡ values.old ++ shown_of part (entry [] first value)) }
+{
+    match part {
+        Part::Keys => values.push(first),
+        Part::Values => values.push(value),
+        Part::Items => {
+            values.push(first)?;
+            values.push(value)
+        }
+    }
+}
+
+/// What a view shows of a dictionary: its keys, its values, or both in turn.
+pub fn shown(alloc: Global, part: Part, dict: &Dict) -> Result<Seq<Value>, Memory>
+    ensures { IfOk result (λ values. values ≡ shown part dict.now) }
+{
+    let mut values = Seq::new(alloc);
+    let mut left = dict.entries();
+    while let Some(entry) = left.next() {
+        push_shown(&mut values, part, entry.first, entry.value)?;
+    }
+    Ok(values)
+}

@@ -1,0 +1,3 @@
+import sys
+print("called")
+sys()

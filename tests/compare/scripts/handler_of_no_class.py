@@ -1,0 +1,4 @@
+try:
+    raise GeneratorExit
+except (KeyError, 5):
+    print("never")

@@ -1,0 +1,5 @@
+try:
+    raise 5
+except TypeError:
+    print("caught")
+raise int

@@ -1,0 +1,2 @@
+print("abc"[True:None])
+print("abc"["a":])
