@@ -33,15 +33,6 @@ def nodes(node):
         yield from nodes(part)
 
 
-def of_module(node):
-    """The nodes of the module's own code: not those in bodies of functions and lambdas."""
-    yield node
-    inside = getattr(node, "body", []) if isinstance(node, (ast.FunctionDef, ast.Lambda)) else []
-    for part in parts(node):
-        if part is not inside and not (isinstance(inside, list) and part in inside):
-            yield from of_module(part)
-
-
 def names(node):
     """The names that a node reads, binds, deletes or declares."""
     match node:
@@ -56,10 +47,8 @@ def names(node):
     return []
 
 
-def is_supported(node, outside):
+def is_supported(node):
     match node:
-        case ast.ListComp() | ast.SetComp() | ast.DictComp():
-            return node not in outside
         case ast.Attribute(ctx=ast.Store() | ast.Del()):
             return False
     return isinstance(node, SUPPORTED) and UNAVAILABLE.isdisjoint(names(node))
@@ -71,5 +60,4 @@ def line_of(node):
 
 def first_unsupported(tree):
     """None where there is none."""
-    outside = set(of_module(tree))
-    return next((line_of(n) for n in nodes(tree) if not is_supported(n, outside)), None)
+    return next((line_of(n) for n in nodes(tree) if not is_supported(n)), None)

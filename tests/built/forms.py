@@ -15,9 +15,10 @@ ROWS = [
     ("a = []\n", None),
     ("a = [1, 2]\na[0] = 3\n", None),
     ("a = {\n    1}\n", None),
-    ("x = [a\n     for a in y]\n", 1),
+    ("x = [a\n     for a in y]\n", None),
     ("def f(y):\n    return [a\n            for a in y]\n", None),
-    ("def f(y=\n  [a for a in y]): return [a for a in y]\n", 2),
+    ("def f(y=\n  [a for a in y]): return [a for a in y]\n", None),
+    ("x = [a for a in\n     (b for b in y)]\n", 2),
     ("class A:\n    pass\n", 1),
     ("print(\"a,b,\".split(\",\"))\n", None),
     ("a.b = c.d\n", 1),
@@ -103,9 +104,11 @@ SUPPORTED = [
     "f(*a)\n", "f(**a)\n", "f(1,\n  [2],\n  *a)\n", "f(\n  a=1, **b)\n", "print(*a)\n", "print(1, **a)\n", "f(*a, *b, c=1, **d, **e)\n",
     "def f(*a): pass\n", "def f(\n    a,\n    *b): pass\n", "def f(a,\n  **b): pass\n", "def f(a=\n  b.c, *b): pass\n", "f = lambda *a: a\n",
     "f = lambda a=1, **b: a\n", "def f(a, b=1, *c, d, e=2, **g): return lambda *h, **i: f(*c, *h, **g, **i)\n",
+    "x = [i for i in y]\n", "x = {i for i in y}, {i: i for i in y}\n", "[lambda i=i: i + j for i in y for j in y if i]\n", "[[i for i in j] for j in [k for k in y]]\n",
+    "lambda y=[i for i in ()]: y\n", "@f([i for i in y])\ndef g(): pass\n", "if y:\n    x = {i for i in y}\n", "for a in [\n  b for b in c]: pass\n",
     # builtins that aren't there, and the name of the module
     "open('a')\n", "a = id = 1\n", "hash += 1\n", "del help\n", "dir: int\n", "def f(a,\n  id=1): pass\n", "lambda hash: 1\n", "def f():\n    global eval\n",
-    "def input(): pass\n", "try:\n    pass\nexcept a as vars:\n    pass\n", "for pow in y: pass\n", "x = __name__\n", "__name__ = 1\n",
+    "def input(): pass\n", "try:\n    pass\nexcept a as vars:\n    pass\n", "[id for id in hash]\n", "for pow in y: pass\n", "x = __name__\n", "__name__ = 1\n",
     "if __name__ == '__main__': pass\n", "del __name__\n",
 ]
 
@@ -161,6 +164,6 @@ UNSUPPORTED = [
     "del max[0]\n",
     # comprehensions
     "def f(y):\n    return [a\n        for a.b in y]\n", "def f(y):\n    return [sum\n        for a in y]\n", "def f(y):\n    return [a\n        for sum in y]\n",
-    "def f(y):\n    return [a\n        for a in (b for b in y)]\n", "def f(y): return (i for i in y)\n", "lambda y=[i for i in ()]: y\n",
-    "@f([i for i in y])\ndef g(): pass\n", "if y:\n    x = {i for i in y}\n", "for a in [\n  b for b in c]: pass\n",
+    "def f(y):\n    return [a\n        for a in (b for b in y)]\n", "def f(y): return (i for i in y)\n",
+    "x = [sum\n     for a in y]\n", "x = {a\n     for a.b in y}\n", "x = [a for b in y\n     for a in (c for c in b)]\n", "x = {a:\n     max for a in y}\n",
 ]

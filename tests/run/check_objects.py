@@ -208,8 +208,16 @@ EXITS = [
 ]
 
 
-# scripts of comprehensions in functions, whose names are those of `sem_names`, and of the names of builtins
+# scripts of comprehensions, whose names are those of `sem_names`, in code of the module itself and in functions, and of the names of builtins
 NAMES = [
+    "i = 5\nprint([i for i in range(3) if i], {i: i * i for i in range(3)}, len({i % 2 for i in range(5)}), i)\n",
+    "fs = [lambda: i for i in range(3)]\nprint([f() for f in fs])\n", "x = [[j for j in range(i)] for i in range(4)]\nprint(x)\n",
+    "fs = [lambda j=j: i + j for i in range(2) for j in range(3)]\nprint([f() for f in fs])\n", "print([missing for i in (1,)])\n",
+    "print([i for i in (1,)])\nprint(i)\n", "[1 // i for i in (1, 0)]\n", "[i for i in 5]\n", "def f(i): return [lambda: i for i in (1, i)]\nprint([g() for g in f(3)])\n",
+    "xs = [(a, b) for a, (b, *c) in [(1, (2, 3)), (4, (5,))]]\nprint(xs)\n", "def g(): return x\nprint([x for x in (1,)])\nx = 2\nprint(g(), [g() for x in (5,)])\n",
+    "try:\n    [1 // x for x in (1, 0)]\nexcept ZeroDivisionError:\n    print([x for x in 'ab'])\n",
+    "a = [f() for f in [lambda: [k() for k in [lambda: i + j for j in (1, 2)]] for i in (10, 20)]]\nprint(a)\n",
+    "print(__name__, [__name__ for __name__ in (1,)])\n",
     "def f(i): return [lambda: i for i in (1, i)]\nprint([f(3)[0](), f(3)[1]()])\n", "def f(a):\n    x = 1\n    return [(x, z) for x in a for z in a if x < z], x\nprint(f((1, 2, 3)))\n",
     "def f(xs): return [lambda j=j: i + j for i in xs for j in xs]\nprint(f((1, 2))[1]())\n", "def f(): return [1 // i for i in (1, 0)]\nf()\n",
     "def f(): return __name__\nprint(__name__, f())\n__name__ = 1\nprint(__name__, f())\n",

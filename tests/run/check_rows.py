@@ -45,8 +45,8 @@ class Rows:
         self.active = get("sem_code", "slots.Slots", "active")
         self.pool_of = get("sem_code", "slots.BlockObject", "pool_of")
         self.heap_host = get("pt_host", "HeapHost", "heap_host")
-        self.start_world = get("pt_host", "World", "start_world")
-        self.no_names = get("pt_host", "World", "no_names")
+        self.module_names = get("pt_host", "Calls", "module_names")
+        self.module_world = get("pt_host", "Calls", "module_world")
         self.names_view = get("sem_rows", "heap_rows.Views", "names_view")
 
     def objects(self, script):
@@ -67,10 +67,10 @@ class Rows:
         self.program = {"facts": lambda b: self.facts[b["number"]], "texts": self.runner.texts_of(self.runner.trees(text).tree),
                         "file": word("script.py"), "source": ("Some", word(text))}
         self.host, self.codes = self.heap_host(self.program), list(self.objects(script))
-        self.world, self.most, self.acts, self.out, self.line = self.start_world(self.program), most, [], "", 1
+        self.world, self.most, self.acts, self.out, self.line = self.module_world(self.program), most, [], "", 1
         self.open, self.frames = [], 0
         try:
-            end = self.block(0, self.first_names())
+            end = self.block(0, self.module_names(self.program))
         except Ends as e:
             return self.acts, self.out, e.args
         if end[0] == "gave":
@@ -84,10 +84,6 @@ class Rows:
         texts = items(script.code["texts"])
         names = {"locals": "locals", "cells": "cells", "frees": "free"}
         return {**facts_of(block), **{k: listed(word(texts[t["0"]]) for t in items(code[v])) for k, v in names.items()}}
-
-    def first_names(self):
-        """The names of the module, whose locals and cells are those of comprehensions."""
-        return {**self.no_names(), "values": listed(("×", x, NONE) for x in items(self.facts[0]["locals"]))}
 
     def block(self, number, names):
         """How a block ends."""

@@ -40,8 +40,8 @@ class ObjectRunner(Runner):
     def __init__(self, crates):
         super().__init__(crates)
         self.heap_host = self.get("pt_host", "HeapHost", "heap_host")
-        self.start_world = self.get("pt_host", "World", "start_world")
-        self.no_names = self.get("pt_host", "World", "no_names")
+        self.module_names = self.get("pt_host", "Calls", "module_names")
+        self.module_world = self.get("pt_host", "Calls", "module_world")
         self.texts_of = self.get("pt_host", "Constants", "texts_of")
         self.class_name = self.get("pt_content", "Classes", "class_name")
         self.error_text = self.get("pt_tracebacks", "Summaries", "error_text")
@@ -78,7 +78,7 @@ class ObjectRunner(Runner):
             "code": lambda b: blocks[b["number"]].record["code"],
             "around": lambda b: around[b["number"]],
         })
-        return blocks, machine, self.heap_host(program), ({"hidden": False, "number": 0}, self.no_names(), self.start_world(program))
+        return blocks, machine, self.heap_host(program), ({"hidden": False, "number": 0}, self.module_names(program), self.module_world(program))
 
     def run(self, text, most=20000):
         """The blocks, the outputs, the last state but one and the step that ends the run."""

@@ -127,7 +127,7 @@ keys-along [] (n ∷ ns) e = refl
 keys-along (x ∷ xs) [] e = absurd (omega (arith, e))
 keys-along (x ∷ xs) (n ∷ ns) e = ap (λ ys. x ∷ ys) (keys-along xs ns (omega (arith, e)))
 
-opened-names : (facts : CodeFacts) (f : Name → Option Value) (n : ℕ) (ns : List ℕ) → length ns ≡ length facts.frees
+pub opened-names : (facts : CodeFacts) (f : Name → Option Value) (n : ℕ) (ns : List ℕ) → length ns ≡ length facts.frees
     → HasItsNames facts (record { values = map (λ x. (x, f x)) facts.locals; cells = cells_from n facts.cells ++ cells_along facts.frees ns })
 opened-names facts f n ns e = record {
   values = keys-of-firsts f facts.locals;

@@ -1,9 +1,10 @@
 -- That strides keep the names of a run's activations, from its beginning on.
-use Rattle.std.specs.Prelude.{◌≡◌, ℕ, [], ◌++◌}
+use Rattle.std.specs.Prelude.{◌≡◌, ℕ, []}
 use Rattle.pt_heap.specs.declared.value.Value.{Value}
 use Rattle.sem_code.specs.slots.Slots.{State}
 use Rattle.sem_run.specs.run.Machine.{BlockId}
-use Rattle.sem_rows.specs.pt_host.World.{Names, World, Program, no_names, start_world}
+use Rattle.sem_rows.specs.pt_host.World.{Names, World, Program}
+use Rattle.sem_rows.specs.pt_host.Calls.{module_block, module_names, module_world}
 use Rattle.sem_rows.specs.pt_host.HeapHost.{heap_host}
 use Rattle.pt_bare_runs.specs.Strides as bare
 use Rattle.pt_bare_runs.specs.Strides.{start}
@@ -19,7 +20,7 @@ RunsHaveTheirNames = (program : Program) (code : CodeBlocks Value) → CodeNames
     → (s : bare.State (State Value) Names Value World) → Reaches (machine code) (heap_host program) n (start (machine code) (heap_host program) b x w) s
     → RunHasNames program s
 
--- a block without names begins so
+-- a run begins with those of its module, if that has no free names
 abbrev pub RunsBeginWithTheirNames : Type 0
-RunsBeginWithTheirNames = (program : Program) (b : BlockId) → (program.facts b).locals ≡ [] → (program.facts b).cells ++ (program.facts b).frees ≡ []
-    → StoresHaveNames program b (record { names = no_names; world = start_world program })
+RunsBeginWithTheirNames = (program : Program) → (program.facts module_block).frees ≡ []
+    → StoresHaveNames program module_block (record { names = module_names program; world = module_world program })

@@ -9,8 +9,7 @@ pub fn runs_have_their_names()
     ensures { RunsHaveTheirNames }
 {}
 
-/// Where a run begins this is so of a block without names, as the module of a supported script is.
-#[tactic(auto, using(crate::proofs::Start::begins_with_names))]
+/// So it is where a run begins with the names of its module, if that has no free names.
 pub fn runs_begin_with_their_names()
     ensures { RunsBeginWithTheirNames }
 {}

@@ -1,3 +1,2 @@
-pub mod Module
 pub mod Instructions
 pub mod Blocks

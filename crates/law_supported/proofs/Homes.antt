@@ -1,6 +1,6 @@
 -- Where there are no classes, a block is the block of its own region, a comprehension is none, and a name that a region has is a function's or a
 -- comprehension's.
-use Rattle.std.proofs.Common.{◌≡◌, ◌⊎◌, inl, inr, ℕ, zero, suc, ◌+◌, ◌<◌, Bool, true, false, if◌then◌else◌, List, [], ◌∷◌, Option, Some, None, refl, sym, ap, ◌∙◌, subst, arith, eq-eqb, eqb-true}
+use Rattle.std.proofs.Common.{◌≡◌, ◌⊎◌, inl, inr, ℕ, zero, suc, ◌+◌, Bool, true, false, if◌then◌else◌, List, [], ◌∷◌, Option, Some, None, refl, sym, ap, ◌∙◌, subst, arith, eq-eqb, eqb-true}
 use Rattle.std.specs.Prelude.{◌==◌, ◌||◌, slice_get}
 use Rattle.std.specs.List.{AllByRecursion, list_any}
 use Rattle.pt_scopes.specs.declared.region.Facts.{Facts}
@@ -16,7 +16,7 @@ use Rattle.law_names.proofs.module_names.Homes.{OfKind, regions_have_homes}
 use Rattle.law_operands.proofs.law_files.code_files.Each.{each_at}
 use Rattle.pt_supported.specs.Built.{Built}
 use Rattle.law_operands.proofs.free_names.Outwards.{comprehension_of, never, nothing_is}
-use Rattle.law_supported.proofs.Plain.{IsBlock, IsPlain, Starts, blocks_start, built_is_plain, built_is_within}
+use Rattle.law_supported.proofs.Plain.{IsBlock, IsPlain, Starts, blocks_start, built_is_plain}
 
 -- a name that a region has: a function's, or a comprehension's
 
@@ -180,20 +180,6 @@ module _ (ss : Stms) (built : Built ss) where
   -- a function that owns a name is a block
   pub function_stands : (look : ℕ → Facts) (q : ℕ) → Owner rs look q → Standing rs q
   function_stands look q o = record { here = o.here; at = o.at; is_block = subst IsBlock (sym o.is_function) tt }
-
-  -- no comprehension belongs to the module
-  pub module_alone : (r : ℕ) → home_of rs r ≡ 0 → r ≡ 0
-  module_alone r home = by (slice_get rs r) refl (r == 0) refl
-    where
-      by : (o : Option Region) → slice_get rs r ≡ o → (b : Bool) → (r == 0) ≡ b → r ≡ 0
-      by o at true same = eqb-true r 0 same
-      by None at false other = sym (ap (home_at r) at) ∙ home
-      by (Some here) at false other =
-          comprehension_of rs (regions_have_homes ss) 0 r here at home other
-          (λ k around.
-          let less : 0 < here.home = each_at (λ (r : Region). r.kind ≡ kind.Comprehension → 0 < r.home) rs r here at (built_is_within ss built) k in
-          let none : here.home ≡ 0 = sym (ap (home_at r) at) ∙ home in
-          absurd (omega (arith, less, none)))
 
   -- from a region of a block outwards no other block is left before the block is reached
 

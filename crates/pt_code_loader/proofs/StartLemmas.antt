@@ -1,5 +1,6 @@
 -- Where a run begins.
-use Rattle.std.proofs.Common.{◌≡◌, [], ◌∷◌, ◌++◌, List, map, Bool, true, false, if◌then◌else◌, None, refl, sym, ap, ◌∙◌}
+use Rattle.std.proofs.Common.{◌≡◌, ◌+◌, ◌<◌, ◌≤◌, ℕ, zero, suc, [], ◌∷◌, ◌++◌, List, length, drop, map, Bool, true, false, if◌then◌else◌, Option, None, refl, sym, ap, ◌∙◌, append_assoc, add-one, arith}
+use Rattle.std.proofs.Math.Seq.{drop-cons}
 use Rattle.std.specs.Option.{option_map}
 use Rattle.pt_tree.specs.Syntax.{Name}
 use Rattle.pt_heap.specs.declared.value.Value.{Value}
@@ -8,13 +9,16 @@ use Rattle.pt_heap.specs.declared.object.Object.TheVariants.{Str}
 use Rattle.pt_builtin_objects.specs.Start.{start_objects}
 use Rattle.sem_code.specs.slots.Slots.{on}
 use Rattle.sem_code.specs.slots.Machine as slots
-use Rattle.sem_run.specs.run.Machine.{BlockId}
-use Rattle.pt_code_tables.specs.pt_builtins.pt_host.World.{CodeFacts, Program, no_names, start_world}
+use Rattle.pt_names.specs.Names.{name_value}
+use Rattle.pt_bind.specs.NameSets.{is_among}
+use Rattle.pt_code_facts.specs.declared.facts.BlockFacts.{BlockFacts}
+use Rattle.pt_code_facts.specs.Facts.{facts_view}
+use Rattle.pt_code_tables.specs.pt_builtins.pt_host.World.{CodeFacts, Program, start_world}
+use Rattle.pt_code_tables.specs.pt_builtins.pt_host.Calls.{cells_along, cells_from, first_value, module_block, module_names, module_world, names_along}
 use Rattle.pt_code_tables.specs.pt_builtins.pt_host.HeapHost.{heap_host}
 use Rattle.pt_bare_runs.specs.Strides as bare
 use Rattle.sem_code_machine.specs.code_machine.CodeBlocks.{CodeBlocks, machine, start_of}
 use Rattle.pt_frames.specs.declared.activation.Activation.{Activation}
-use Rattle.pt_code_tables.specs.pt_machine_state.pt_code_facts.sem_rows.heap_rows.Told.{block_id}
 use Rattle.pt_code_tables.specs.pt_machine_state.pt_code_facts.sem_rows.heap_rows.Views.{paired, names_in, slots_view}
 use Rattle.pt_code_tables.specs.declared.tables.CodeTables.{CodeTables}
 use Rattle.pt_code_tables.specs.Tables.{AreTablesOf}
@@ -22,62 +26,107 @@ use Rattle.pt_code_tables.specs.pt_machine_state.declared.machine.Machine.{Machi
 use Rattle.pt_code_tables.specs.pt_machine_state.declared.machine.Standing.TheVariants as standing
 use Rattle.pt_code_tables.specs.pt_machine_state.Changes.{slots_at_start}
 use Rattle.pt_code_tables.specs.pt_machine_state.Views.{run_of, state_of}
-use Rattle.pt_code_loader.specs.Starting.{at_start}
+use Rattle.pt_code_loader.specs.Starting.{at_start, cell_numbers}
 
-abbrev the_module : BlockId
-the_module = block_id (record { 0 = 0 }) false
+-- the numbers of cells, one after the other
+nothing_more : {A : Type 0} (xs : List A) → xs ++ [] ≡ xs
+nothing_more [] = refl
+nothing_more (x ∷ xs) = ap (λ l. x ∷ l) (nothing_more xs)
 
-nothing_paired : {A : Type 0} (xs : List Name) → paired {A = A} xs [] ≡ []
-nothing_paired [] = refl
-nothing_paired (x ∷ xs) = refl
+drop_past : {A : Type 0} (xs : List A) (at : ℕ) → length xs ≤ at → drop at xs ≡ []
+drop_past [] zero h = refl
+drop_past [] (suc at) h = refl
+drop_past (x ∷ xs) zero h = absurd (omega (arith, h))
+drop_past (x ∷ xs) (suc at) h = drop_past xs at (omega (arith, h))
+
+abbrev numbers_behind : (at : ℕ) → List Name → List ℕ
+numbers_behind at xs = map (λ c. c.1) (cells_from at (drop at xs))
+
+pub numbers_next : (ns : List ℕ) (xs : List Name) (at n : ℕ) (d : Name) → n ≡ at → at < length xs → (ns ++ n ∷ []) ++ numbers_behind (at + 1) xs ≡ ns ++ numbers_behind at xs
+numbers_next ns xs at n d e h =
+    append_assoc ns (n ∷ []) (numbers_behind (at + 1) xs)
+    ∙ ap (λ l. ns ++ l) (
+    (λ j. e j ∷ map (λ c. c.1) (cells_from (at + 1) (drop (add-one at j) xs)))
+    ∙ sym (ap (λ l. map (λ c. c.1) (cells_from at l)) (drop-cons xs at d h)))
+
+pub numbers_end : (ns : List ℕ) (xs : List Name) (at : ℕ) → length xs ≤ at → ns ++ numbers_behind at xs ≡ ns
+numbers_end ns xs at h = ap (λ l. ns ++ map (λ c. c.1) (cells_from at l)) (drop_past xs at h) ∙ nothing_more ns
 
 -- the activation that a run begins with
-pub record IsFirst (iterates : Bool) (a : Activation) : Type 0 where
+pub record IsFirst (iterates : Bool) (facts : BlockFacts) (a : Activation) : Type 0 where
   pub frame : a.frame.0 ≡ 0
   pub block : a.block.0 ≡ 0
   pub hidden : a.hidden ≡ false
   pub pc : a.pc.0 ≡ 0
   pub line : a.line ≡ None
-  pub locals : a.locals ≡ []
-  pub cells : a.cells ≡ []
+  pub locals : a.locals ≡ map (λ x. None) facts.locals
+  pub cells : a.cells ≡ cell_numbers facts.cells
   pub names : a.names ≡ []
   pub slots : a.slots ≡ slots_at_start iterates
 
-names_none : (facts : CodeFacts) (i : Bool) (a : Activation) → IsFirst i a → names_in facts a.locals a.cells a.names ≡ no_names
-names_none facts i a h =
-    ap (λ ls. names_in facts ls a.cells a.names) h.locals ∙ (ap (λ cs. names_in facts [] cs a.names) h.cells ∙ (ap (λ ns. names_in facts [] [] ns) h.names
-    ∙ (λ j. record { values = nothing_paired facts.locals j ++ []; cells = nothing_paired (facts.cells ++ facts.frees) j })))
+unbound : (facts : CodeFacts) (x : Name) → None ≡ first_value facts [] x
+unbound facts x = by (is_among facts.cells x)
+  where
+    by : (b : Bool) → ◌≡◌ {A = Option Value} None (if b then None else name_value x [])
+    by true = refl
+    by false = refl
+
+values_paired : (facts : CodeFacts) (xs : List Name) → paired {A = Option Value} xs (map (λ x. None) xs) ++ [] ≡ map (λ x. (x, first_value facts [] x)) xs
+values_paired facts [] = refl
+values_paired facts (x ∷ xs) = λ j. (x, unbound facts x j) ∷ values_paired facts xs j
+
+nothing_along : (ys : List Name) → paired {A = ℕ} ys [] ≡ cells_along ys []
+nothing_along [] = refl
+nothing_along (y ∷ ys) = refl
+
+cells_paired : (n : ℕ) (xs ys : List Name) → paired (xs ++ ys) (map (λ c. c.1) (cells_from n xs)) ≡ cells_from n xs ++ cells_along ys []
+cells_paired n [] ys = nothing_along ys
+cells_paired n (x ∷ xs) ys = ap (λ l. (x, n) ∷ l) (cells_paired (n + 1) xs ys)
+
+names_first : (program : Program) (facts : BlockFacts) (i : Bool) (a : Activation) → IsFirst i facts a
+    → names_in (facts_view facts) a.locals a.cells a.names ≡ names_along (facts_view facts) [] [] (start_world program)
+names_first program facts i a h = λ j. record {
+  values = (ap (λ ls. paired facts.locals ls ++ a.names) h.locals ∙ (ap (λ ns. paired facts.locals (map (λ x. None) facts.locals) ++ ns) h.names
+      ∙ values_paired (facts_view facts) facts.locals)) j;
+  cells = (ap (λ cs. paired (facts.cells ++ facts.frees) cs) h.cells ∙ cells_paired 0 facts.cells facts.frees) j;
+}
 
 begins_so : (i : Bool) → on 0 (slots_view (slots_at_start i)) ≡ (if i then slots.start_generator value.None else slots.start)
 begins_so true = refl
 begins_so false = refl
 
 state_at : (program : Program) (code : CodeBlocks Value) (tables : CodeTables) → AreTablesOf program code tables → (a : Activation)
-    → IsFirst tables.blocks.of_module.iterates a → state_of standing.AtPlace a ≡ start_of code the_module None
+    → IsFirst tables.blocks.of_module.iterates tables.facts.of_module a → state_of standing.AtPlace a ≡ start_of code module_block None
 state_at program code tables are a h =
-    let b = are.blocks the_module in
+    let b = are.blocks module_block in
     ap (λ n. on n (slots_view a.slots)) h.pc ∙ (ap (λ ss. on 0 (slots_view ss)) h.slots ∙ (begins_so tables.blocks.of_module.iterates
     ∙ (ap (λ t. if t then slots.start_generator value.None else slots.start) (sym b.iterates)
-    ∙ ap (λ v. if code.iterates the_module then slots.start_generator v else slots.start) (sym b.truths.null))))
+    ∙ ap (λ v. if code.iterates module_block then slots.start_generator v else slots.start) (sym b.truths.null))))
 
 -- the machine where a run begins
 pub record IsBegun (tables : CodeTables) (texts : List Name) (m : Machine) : Type 0 where
-  pub here : IsFirst tables.blocks.of_module.iterates m.here
+  pub here : IsFirst tables.blocks.of_module.iterates tables.facts.of_module m.here
   pub standing : m.standing ≡ standing.AtPlace
   pub globals : m.frames.globals ≡ []
-  pub cells : m.frames.cells ≡ []
+  pub cells : m.frames.cells ≡ map (λ x. None) tables.facts.of_module.cells
   pub frames : m.frames.frame_count ≡ 1
   pub heap : m.heap ≡ start_objects ++ map Str texts
   pub units : m.units ≡ 0
 
 pub begun : (program : Program) (code : CodeBlocks Value) (tables : CodeTables) (texts : List Name) (m : Machine) → AreTablesOf program code tables
     → program.texts ≡ texts → IsBegun tables texts m
-    → run_of program m at_start ≡ bare.start (machine code) (heap_host program) the_module no_names (start_world program)
+    → run_of program m at_start ≡ bare.start (machine code) (heap_host program) module_block (module_names program) (module_world program)
 begun program code tables texts m are same h =
     let a = m.here in
-    let facts = program.facts (record { hidden = a.hidden; number = a.block.0 }) in
-    let names = names_none facts tables.blocks.of_module.iterates a h.here in
-    let state : state_of m.standing a ≡ start_of code the_module None = ap (λ s. state_of s a) h.standing ∙ state_at program code tables are a h.here in
+    let facts = tables.facts.of_module in
+    let known : program.facts module_block ≡ facts_view facts = are.facts module_block in
+    let of_block : program.facts (record { hidden = a.hidden; number = a.block.0 }) ≡ facts_view facts =
+    (λ i. program.facts (record { hidden = h.here.hidden i; number = h.here.block i })) ∙ known in
+    let names : names_in (program.facts (record { hidden = a.hidden; number = a.block.0 })) a.locals a.cells a.names ≡ module_names program =
+    ap (λ f. names_in f a.locals a.cells a.names) of_block ∙ (names_first program facts tables.blocks.of_module.iterates a h.here
+    ∙ ap (λ f. names_along f [] [] (start_world program)) (sym known)) in
+    let cells : m.frames.cells ≡ (module_world program).cells = h.cells ∙ ap (λ (f : CodeFacts). map (λ x. None) f.cells) (sym known) in
+    let state : state_of m.standing a ≡ start_of code module_block None = ap (λ s. state_of s a) h.standing ∙ state_at program code tables are a h.here in
     let heap : m.heap ≡ start_objects ++ map Str program.texts = h.heap ∙ ap (λ ts. start_objects ++ map Str ts) (sym same) in
     λ i. record {
       here = record {
@@ -95,7 +144,7 @@ begun program code tables texts m are same h =
         behind_jump = false;
       };
       waiting = [];
-      world = record { heap = heap i; globals = h.globals i; cells = h.cells i };
+      world = record { heap = heap i; globals = h.globals i; cells = cells i };
       units = h.units i;
       frames = h.frames i;
     }

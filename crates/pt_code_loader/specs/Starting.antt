@@ -1,10 +1,11 @@
 -- The machine where a run begins (Language Reference 4.1, 4.3).
-use Rattle.std.specs.Prelude.{◌≡◌, [], false}
+use Rattle.std.specs.Prelude.{◌≡◌, ℕ, List, [], map}
+use Rattle.pt_tree.specs.Syntax.{Name}
 use Rattle.pt_heap.specs.declared.value.Value.{Value}
-use Rattle.pt_code_tables.specs.pt_builtins.pt_host.World.{Program, no_names, start_world}
+use Rattle.pt_code_tables.specs.pt_builtins.pt_host.World.{Program}
+use Rattle.pt_code_tables.specs.pt_builtins.pt_host.Calls.{cells_from, module_block, module_names, module_world}
 use Rattle.pt_code_tables.specs.pt_builtins.pt_host.HeapHost.{heap_host}
 use Rattle.pt_bare_runs.specs.Strides as bare
-use Rattle.pt_code_tables.specs.pt_machine_state.pt_code_facts.sem_rows.heap_rows.Told.{block_id}
 use Rattle.sem_code_machine.specs.code_machine.CodeBlocks.{CodeBlocks, machine}
 use Rattle.pt_code_tables.specs.Tables.{AreTablesOf}
 use Rattle.pt_code_tables.specs.pt_machine_state.declared.machine.Machine.{Machine}
@@ -15,7 +16,11 @@ use Rattle.pt_code_loader.specs.declared.loading.Loaded.{Loaded}
 abbrev pub at_start : Beside
 at_start = record { act = 0; waiting = [] }
 
+-- the first cells of a run are those of the module's names
+abbrev pub cell_numbers : List Name → List ℕ
+cell_numbers xs = map (λ c. c.1) (cells_from 0 xs)
+
 -- a run of the module, which is block 0, begins there, of each program whose tables these are
 abbrev pub Begins : Loaded → Machine → Type 0
 Begins l m = (program : Program) (code : CodeBlocks Value) → AreTablesOf program code l.tables → program.texts ≡ l.texts
-    → run_of program m at_start ≡ bare.start (machine code) (heap_host program) (block_id (record { 0 = 0 }) false) no_names (start_world program)
+    → run_of program m at_start ≡ bare.start (machine code) (heap_host program) module_block (module_names program) (module_world program)

@@ -1,13 +1,14 @@
-ghost use Rattle.std.specs.Prelude.{◌≡◌, ◌++◌, ◌∷◌, [], IfOk, OnOk, map};
+ghost use Rattle.std.specs.Prelude.{◌≡◌, ◌++◌, ◌∷◌, [], None, IfOk, OnOk, map};
 ghost use Rattle.pt_frames.specs.Activations.{new_activation};
 ghost use Rattle.pt_heap.specs.declared.object.Object.TheVariants.{Str};
 ghost use Rattle.pt_builtin_objects.specs.Start.{start_objects};
-ghost use Rattle.pt_code_loader.specs.Starting.{Begins};
+ghost use Rattle.pt_code_loader.specs.Starting.{Begins, cell_numbers};
 ghost use Rattle.pt_code_tables.specs.pt_machine_state.Changes.{slots_at_start};
 
 use crate::Loaded;
 use pt_base::{BlockId, Dup, Memory, Seq, Text};
 use pt_bind::Locals;
+use pt_code_facts::BlockFacts;
 use pt_code_tables::{Machine, Standing};
 use pt_frames::{Frames, Slot, Slots};
 use pt_heap::{Heap, Object, Seed, Str as HeapStr, Value};
@@ -42,17 +43,60 @@ fn heap_of(alloc: Global, seed: Seed, texts: &[Text]) -> Result<Heap, Memory>
     Ok(heap)
 }
 
-/// No local names and no cells, as the module has none.
-fn no_locals(alloc: Global) -> Locals
-    ensures values { result.values ≡ [] }
-    ensures cells { result.cells ≡ [] }
+/// No value for each of these names.
+fn no_values(alloc: Global, names: &[Text]) -> Result<Seq<Option<Value>>, Memory>
+    ensures { IfOk result (λ values. values ≡ map (λ name. None) names.now) }
 {
-    Locals {
-        values: Seq::new(alloc),
+    let mut values = Seq::new(alloc);
+    for _name in names {
+        values.push(None)?;
+    }
+    Ok(values)
+}
+
+/// The numbers of the first cells of a run, one for each of these names.
+#[tactic(auto, using(crate::proofs::StartLemmas::numbers_next, crate::proofs::StartLemmas::numbers_end))]
+fn cell_numbers(alloc: Global, names: &[Text]) -> Result<Seq<u32>, Memory>
+    ensures { IfOk result (λ numbers. numbers ≡ cell_numbers names.now) }
+{
+    let mut numbers = Seq::new(alloc);
+    for at in 0..names.len() {
+        let Ok(number) = u32::try_from(at) else {
+            return Err(Memory);
+        };
+        numbers.push(number)?;
+    }
+    Ok(numbers)
+}
+
+/// What the names of the module begin with: those of comprehensions are unbound, in slots or in
+/// cells.
+fn names_at_start(alloc: Global, facts: &BlockFacts) -> Result<Locals, Memory>
+    ensures values { IfOk result
+        (λ locals. locals.values ≡ map (λ name. None) facts.now.locals) }
+    ensures cells { IfOk result (λ locals. locals.cells ≡ cell_numbers facts.now.cells) }
+{
+    let values = no_values(alloc, facts.locals.as_slice())?;
+    let cells = cell_numbers(alloc, facts.cells.as_slice())?;
+    Ok(Locals {
+        values,
         star: Seq::new(alloc),
         stars: Seq::new(alloc),
-        cells: Seq::new(alloc),
-    }
+        cells,
+    })
+}
+
+/// No activation waits and no name is bound; the module's cells hold nothing.
+fn frames_at_start(alloc: Global, seed: Seed, facts: &BlockFacts) -> Result<Frames, Memory>
+    ensures activations { IfOk result (λ frames. frames.activations ≡ []) }
+    ensures cells { IfOk result (λ frames. frames.cells ≡ map (λ name. None) facts.now.cells) }
+    ensures globals { IfOk result (λ frames. frames.globals ≡ []) }
+    ensures frame_count { IfOk result (λ frames. frames.frame_count ≡ 0) }
+{
+    let cells = no_values(alloc, facts.cells.as_slice())?;
+    let mut frames = Frames::new(alloc, seed);
+    frames.cells = cells;
+    Ok(frames)
 }
 
 /// The slots with which a block begins.
@@ -75,10 +119,13 @@ fn slots_at_start(alloc: Global, iterates: bool) -> Result<Slots, Memory>
 pub fn start(alloc: Global, seed: Seed, loaded: &Loaded) -> Result<Machine, Memory>
     ensures begins { IfOk result (λ machine. Begins loaded.now machine) }
     ensures alone { IfOk result (λ machine. machine.frames.activations ≡ []) }
+    ensures names { IfOk result (λ machine. machine.here.names ≡ []) }
 {
     let heap = heap_of(alloc, seed, loaded.texts.as_slice())?;
-    let mut frames = Frames::new(alloc, seed);
-    let mut here = frames.fresh(BlockId(0), false, no_locals(alloc))?;
+    let facts = &loaded.tables.facts.of_module;
+    let names = names_at_start(alloc, facts)?;
+    let mut frames = frames_at_start(alloc, seed, facts)?;
+    let mut here = frames.fresh(BlockId(0), false, names)?;
     here.slots = slots_at_start(alloc, loaded.tables.blocks.of_module.iterates)?;
     Ok(Machine {
         alloc,

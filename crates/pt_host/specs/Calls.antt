@@ -37,7 +37,7 @@ use Rattle.pt_prims.specs.pt_methods.Names.{of_method_number}
 use Rattle.sem_run.specs.run.Machine.{BlockId}
 use Rattle.sem_run.specs.run.Host.{Here, Opening, answer, raise, leave, request, opens, made, beyond}
 use Rattle.pt_host.specs.declared.places.TheConstants.{BASE_EXCEPTION, TYPE_ERROR}
-use Rattle.pt_host.specs.World.{Names, World, Stores, CodeFacts, Program, in_world, with_objects, allot}
+use Rattle.pt_host.specs.World.{Names, World, Stores, CodeFacts, Program, start_world, in_world, with_objects, allot}
 use Rattle.pt_host.specs.Trees.{Tree, answer_with}
 use Rattle.pt_host.specs.Texts.{binding_text, not_callable_text}
 use Rattle.pt_host.specs.Errors.{error, raise_saying}
@@ -91,11 +91,25 @@ cells_along _ _ = []
 abbrev pub with_cells : CodeFacts → Named → World → World
 with_cells facts ps w = record w { cells = w.cells ++ map (λ x. name_value x ps) facts.cells }
 
-abbrev pub names_from : CodeFacts → Function → Named → World → Names
-names_from facts f ps w = record {
+abbrev pub names_along : CodeFacts → (along : List ℕ) → Named → World → Names
+names_along facts ns ps w = record {
   values = first_values facts ps;
-  cells = cells_from (length w.cells) facts.cells ++ cells_along facts.frees f.cells;
+  cells = cells_from (length w.cells) facts.cells ++ cells_along facts.frees ns;
 }
+
+abbrev pub names_from : CodeFacts → Function → Named → World → Names
+names_from facts f ps w = names_along facts f.cells ps w
+
+-- a run begins in its module, block 0, which is given nothing and takes no cells along (4.1): its
+-- names of comprehensions are unbound, and their cells hold nothing
+abbrev pub module_block : BlockId
+module_block = record { hidden = false; number = 0 }
+
+abbrev pub module_names : Program → Names
+module_names p = names_along (p.facts module_block) [] [] (start_world p)
+
+abbrev pub module_world : Program → World
+module_world p = with_cells (p.facts module_block) [] (start_world p)
 
 -- the value that a block gives, or the exception that leaves it
 abbrev pub result_of : End Value → Stores → Tree Value

@@ -82,7 +82,7 @@ abbrev pub IsAllotted : Allotted → Option Value → (heap : List Object) → T
 IsAllotted (made v h) o heap = (o ≡ Some v) × (heap ≡ h)
 IsAllotted (beyond what) o heap = o ≡ None
 
--- as a run begins: the builtin objects, an object for each text of a constant, and no names
+-- before a run begins: the builtin objects, an object for each text of a constant, and no names
 abbrev pub start_world : Program → World
 start_world p = record { heap = start_objects ++ map Str p.texts; globals = []; cells = [] }
 

@@ -7,7 +7,8 @@ use Rattle.pt_tree.specs.Syntax.{Stms}
 use Rattle.pt_heap.specs.declared.value.Value.{Value}
 use Rattle.pt_heap.specs.declared.value.Value.TheVariants as value
 use Rattle.pt_host.specs.HeapHost.{heap_host}
-use Rattle.pt_host.specs.World.{World, no_names, start_world}
+use Rattle.pt_host.specs.World.{World}
+use Rattle.pt_host.specs.Calls.{module_names, module_world}
 use Rattle.sem_run.specs.run.Run.{Write}
 use Rattle.pt_bare_runs.specs.Strides.{Outcome}
 use Rattle.pt_bare_runs.proofs.BareRuns.{bare_runs_once}
@@ -31,7 +32,7 @@ use Rattle.pt_prog.specs.LogText.{Text, final, totals}
 use Rattle.pt_prog.specs.Answer.{IsAnswerFor, IsEndFor, IsUnbuilt, IsBuilt, end_of, is_run, last_writes, run_writes, script_read, tells_events, of_code, refused, unbuilt, ran, wrote_code}
 
 one_ending : (ss : Stms) (n : ℕ) (o p : Outcome Value World) → RunsTo ss n o → RunsTo ss n p → o ≡ p
-one_ending ss n o p a b = bare_runs_once (tree_machine value.None ss) (heap_host (program_of ss)) n the_module no_names (start_world (program_of ss)) o p a b
+one_ending ss n o p a b = bare_runs_once (tree_machine value.None ss) (heap_host (program_of ss)) n the_module (module_names (program_of ss)) (module_world (program_of ss)) o p a b
 
 -- what is run as a script is no code
 run_no_code : (c : Command) → is_run c ≡ true → reads_code c ≡ false

@@ -1,20 +1,17 @@
 -- A code that has a file, fits and is supported is ready to run, and its run is that of its code objects.
-use Rattle.std.proofs.Common.{◌≡◌, ◌++◌, ◌∷◌, ℕ, Bool, true, false, [], List, Result, Ok, Err, refl, sym, ap, subst, ◌<◌, length}
+use Rattle.std.proofs.Common.{◌≡◌, ℕ, Bool, true, false, [], Result, Ok, Err, refl, sym, subst, ◌<◌, length}
 use Rattle.std.specs.Prelude.{IfOk, IfErr}
 use Rattle.pt_base.specs.Taken.{Pieces}
 use Rattle.std.proofs.lemmas.Option.{slice_get_within}
 use Rattle.pt_code.specs.declared.Code.{Code}
 use Rattle.pt_code.specs.File.{HasFile}
 use Rattle.law_files.specs.operands_fit.Laws.{CellsFit}
-use Rattle.pt_machine_state.specs.pt_code_facts.sem_rows.heap_rows.Views.{paired}
 use Rattle.pt_machine_state.specs.pt_code_facts.sem_rows.pt_host.HeapHost.{heap_host}
-use Rattle.pt_machine_state.specs.pt_code_facts.sem_rows.pt_host.World.{Program, World, no_names, start_world}
-use Rattle.sem_run.specs.run.Machine.{BlockId}
+use Rattle.pt_machine_state.specs.pt_code_facts.sem_rows.pt_host.Calls.{module_names, module_world}
 use Rattle.pt_bare_runs.specs.Strides as bare
-use Rattle.pt_heap.specs.declared.value.Value.{Value}
-use Rattle.sem_code_machine.specs.code_machine.CodeBlocks.{CodeBlocks, machine}
+use Rattle.sem_code_machine.specs.code_machine.CodeBlocks.{machine}
 use Rattle.pt_machine_state.specs.declared.machine.Machine.{Machine}
-use Rattle.pt_machine_state.specs.Views.{Bare, Beside, block_of, run_of}
+use Rattle.pt_machine_state.specs.Views.{run_of}
 use Rattle.pt_machine_state.specs.Writing.{kept}
 use Rattle.law_loading.specs.pt_code_loader.declared.loading.Loaded.{Loaded}
 use Rattle.law_loading.specs.pt_code_loader.Loaded.{IsLoadedCode}
@@ -34,16 +31,6 @@ use Rattle.law_loading.proofs.code_program.Operands.{built_code_names_its_blocks
 use Rattle.law_loading.proofs.code_program.Runs.{built_code_is_never_stuck}
 use Rattle.pt_run_code.specs.CodeRun.{CodeBrokeOff, CodeFinished, nothing, of_run}
 
-nothing_behind : {A : Type 0} (xs ys : List A) → xs ++ ys ≡ [] → ys ≡ []
-nothing_behind [] ys e = e
-nothing_behind (x ∷ xs) ys e = absurd (cc)
-
--- a run that begins without names has none of a class
-no_class_names : (program : Program) (code : CodeBlocks Value) (block : BlockId) (world : World) (m : Machine) (x : Beside)
-    → run_of program m x ≡ bare.start (machine code) (heap_host program) block no_names world → m.here.names ≡ []
-no_class_names program code block world m x starts =
-    nothing_behind (paired (program.facts (block_of m.here)).locals m.here.locals) m.here.names (ap (λ (t : Bare). t.here.frame.names.values) starts)
-
 none_kept : (events : Bool) → kept events [] ≡ []
 none_kept true = refl
 none_kept false = refl
@@ -61,24 +48,24 @@ module _ (c : Code) (ready : IsRunnable c) (l : Loaded) (loaded : IsLoadedCode c
     program = program_of_code c;
     code = code_blocks c tables.object;
     block = the_module;
-    names = no_names;
-    world = start_world (program_of_code c);
+    names = module_names (program_of_code c);
+    world = module_world (program_of_code c);
   }
 
   -- it begins where the machine is
   starts : (m : Machine) → Begins l m
       → run_of (program_of_code c) m at_start
-      ≡ bare.start (machine (code_blocks c tables.object)) (heap_host (program_of_code c)) the_module no_names (start_world (program_of_code c))
+      ≡ bare.start (machine (code_blocks c tables.object)) (heap_host (program_of_code c)) the_module (module_names (program_of_code c)) (module_world (program_of_code c))
   starts m begins = begins (program_of_code c) (code_blocks c tables.object) tables.tables tables.texts
 
-  pub is_ready : (m : Machine) → Begins l m → m.frames.activations ≡ [] → (n : ℕ) → IsReady l.tables n m code_run
+  pub is_ready : (m : Machine) → Begins l m → m.frames.activations ≡ [] → m.here.names ≡ [] → (n : ℕ) → IsReady l.tables n m code_run
   unfolding code_run
-  is_ready m begins alone n = record {
+  is_ready m begins alone plain n = record {
     tables_are = tables.tables;
     beside = at_start;
     starts = starts m begins;
     none_waits = alone;
-    no_names = no_class_names (program_of_code c) (code_blocks c tables.object) the_module (start_world (program_of_code c)) m at_start (starts m begins);
+    no_names = plain;
     names_blocks = built_code_names_its_blocks c tables.object ready tables.are;
     has_names = run_begins_with_names c ready;
     never_stuck = built_code_is_never_stuck c tables.object ready tables.are n;

@@ -10,7 +10,8 @@ use Rattle.sem_run.specs.run.Run.{Write}
 use Rattle.pt_bare_runs.specs.Strides.{Outcome}
 use Rattle.pt_bare_writes.specs.Fronts.{RunWritesFirst}
 use Rattle.pt_machine_state.specs.pt_code_facts.sem_rows.pt_host.HeapHost.{heap_host}
-use Rattle.pt_machine_state.specs.pt_code_facts.sem_rows.pt_host.World.{World, no_names, start_world}
+use Rattle.pt_machine_state.specs.pt_code_facts.sem_rows.pt_host.World.{World}
+use Rattle.pt_machine_state.specs.pt_code_facts.sem_rows.pt_host.Calls.{module_names, module_world}
 use Rattle.sem_code_machine.specs.code_machine.CodeBlocks.{machine}
 use Rattle.pt_machine_state.specs.Writing.{kept}
 use Rattle.pt_runner.specs.Ends.{IsEnding, block_name}
@@ -27,13 +28,15 @@ pub record CodeRunsTo (c : Code) (n : ℕ) (o : Outcome Value World) (w : Work) 
   pub cells_fit : CellsFit c
   pub object : ℕ → CodeObject Value
   pub are_objects : AreObjectsOf c object
-  pub does : RunDoes (machine (code_blocks c object)) (heap_host (program_of_code c)) n the_module no_names (start_world (program_of_code c)) o w
+  pub does : RunDoes (machine (code_blocks c object)) (heap_host (program_of_code c)) n the_module
+      (module_names (program_of_code c)) (module_world (program_of_code c)) o w
 
 -- it writes this first, whether or not it comes to an outcome
 pub data CodeWritesFirst (c : Code) (n : ℕ) : List Write → Type 0 where
   nothing : CodeWritesFirst c n []
   of_run : (ws : List Write) → CellsFit c → (object : ℕ → CodeObject Value) → AreObjectsOf c object
-      → RunWritesFirst (machine (code_blocks c object)) (heap_host (program_of_code c)) n the_module no_names (start_world (program_of_code c)) ws
+      → RunWritesFirst (machine (code_blocks c object)) (heap_host (program_of_code c)) n the_module
+      (module_names (program_of_code c)) (module_world (program_of_code c)) ws
       → CodeWritesFirst c n ws
 
 -- the sinks as they were and as they are

@@ -1,5 +1,5 @@
 -- The code of a script that a text is has the runs of the script, and is ready to run.
-use Rattle.std.proofs.Common.{◌≡◌, ◌<◌, ◌++◌, ◌∷◌, ℕ, zero, suc, Bool, [], List, Some, None, Result, Ok, Err, length, sym, ap, subst}
+use Rattle.std.proofs.Common.{◌≡◌, ◌<◌, ◌∷◌, ℕ, zero, suc, Bool, [], List, Some, None, Result, Ok, Err, length, sym, subst}
 use Rattle.std.specs.Prelude.{IfOk, IfErr, slice_get}
 use Rattle.std.proofs.lemmas.Option.{same_Some}
 use Rattle.pt_base.specs.Taken.{Pieces}
@@ -11,16 +11,13 @@ use Rattle.pt_code.specs.declared.Code.{Code}
 use Rattle.law_operands.specs.law_files.sem_compile.compile.ScriptCode.{code_of}
 use Rattle.law_operands.specs.law_files.code_files.Numbers.{NumbersFit}
 use Rattle.law_operands.specs.law_files.operands_fit.Laws.{CellsFit}
-use Rattle.pt_heap.specs.declared.value.Value.{Value}
 use Rattle.pt_heap.specs.declared.value.Value.TheVariants as value
 use Rattle.sem_rows.specs.pt_host.HeapHost.{heap_host}
-use Rattle.sem_rows.specs.pt_host.World.{Program, World, no_names, start_world}
-use Rattle.sem_rows.specs.heap_rows.Views.{paired}
-use Rattle.pt_machine_state.specs.Views.{Bare, Beside, block_of, run_of}
+use Rattle.sem_rows.specs.pt_host.Calls.{module_names, module_world}
+use Rattle.pt_machine_state.specs.Views.{run_of}
 use Rattle.pt_bare_runs.specs.Laws.{NeverStuck}
 use Rattle.pt_bare_runs.specs.Strides as bare
-use Rattle.sem_run.specs.run.Machine.{BlockId}
-use Rattle.sem_rows.specs.sem_code_machine.code_machine.CodeBlocks.{CodeBlocks, machine}
+use Rattle.sem_rows.specs.sem_code_machine.code_machine.CodeBlocks.{machine}
 use Rattle.pt_bare_host.proofs.BlocksOnly.{opens_only}
 use Rattle.pt_supported.specs.Built.{Built}
 use Rattle.pt_supported.proofs.Silent.{built_blocks_give_nothing_on}
@@ -54,16 +51,6 @@ use Rattle.pt_run_code.specs.pt_runner.Runs as coded
 use Rattle.pt_run_code.proofs.pt_runner.GoesTo.{runs_so}
 use Rattle.pt_sinks.specs.declared.writing.WriteErr.{WriteErr}
 use Rattle.pt_run_script.specs.ScriptRun.{ScriptBrokeOff, ScriptFinished}
-
-nothing-behind : {A : Type 0} (xs ys : List A) → xs ++ ys ≡ [] → ys ≡ []
-nothing-behind [] ys e = e
-nothing-behind (x ∷ xs) ys e = absurd (cc)
-
--- a run that begins without names has none of a class
-no-names : (program : Program) (code : CodeBlocks Value) (block : BlockId) (world : World) (m : Machine) (x : Beside)
-    → run_of program m x ≡ bare.start (machine code) (heap_host program) block no_names world → m.here.names ≡ []
-no-names program code block world m x starts =
-    nothing-behind (paired (program.facts (block_of m.here)).locals m.here.locals) m.here.names (ap (λ (t : Bare). t.here.frame.names.values) starts)
 
 pub has_its_module : (ss : Stms) (code : Code) → code ≡ code_of ss → 0 < length code.blocks
 has_its_module ss code is = subst (λ c. 0 < length c.blocks) (sym is) (code_has_its_module ss)
@@ -128,29 +115,31 @@ module _ (text : List ℕ) (ss : Stms) (is : IsScript text ss) (built : Built ss
 
   -- the run of the script's code
   pub code_run : ModuleRun
-  code_run = record { program = program_of ss; code = script_code ss tables.object; block = the_module; names = no_names; world = start_world (program_of ss) }
+  code_run = record { program = program_of ss; code = script_code ss tables.object; block = the_module; names = module_names (program_of ss); world = module_world (program_of ss) }
 
-  never_stuck : (n : ℕ) → NeverStuck (code_machine ss tables.object) (heap_host (program_of ss)) n the_module no_names (start_world (program_of ss))
+  never_stuck : (n : ℕ) → NeverStuck (code_machine ss tables.object) (heap_host (program_of ss)) n the_module
+      (module_names (program_of ss)) (module_world (program_of ss))
   never_stuck n =
-      code_is_never_stuck value.None ss tables.object are_its_objects (built_blocks_give_nothing_on ss built) (heap_host (program_of ss)) (opens_only (program_of ss)) n no_names
-      (start_world (program_of ss))
+      code_is_never_stuck value.None ss tables.object are_its_objects (built_blocks_give_nothing_on ss built) (heap_host (program_of ss)) (opens_only (program_of ss)) n
+      (module_names (program_of ss))
+      (module_world (program_of ss))
 
   -- the run of the module begins where the machine is
   starts : (m : Machine) → Begins l m
       → run_of (program_of ss) m at_start
-      ≡ bare.start (machine (script_code ss tables.object)) (heap_host (program_of ss)) the_module no_names (start_world (program_of ss))
+      ≡ bare.start (machine (script_code ss tables.object)) (heap_host (program_of ss)) the_module (module_names (program_of ss)) (module_world (program_of ss))
   starts m begins = begins (program_of ss) (script_code ss tables.object) tables.tables tables.texts
 
-  pub is_ready : (m : Machine) → Begins l m → m.frames.activations ≡ [] → (n : ℕ) → IsReady l.tables n m code_run
+  pub is_ready : (m : Machine) → Begins l m → m.frames.activations ≡ [] → m.here.names ≡ [] → (n : ℕ) → IsReady l.tables n m code_run
   unfolding code_run
-  is_ready m begins alone n = record {
+  is_ready m begins alone plain n = record {
     tables_are = tables.tables;
     beside = at_start;
     starts = starts m begins;
     none_waits = alone;
-    no_names = no-names (program_of ss) (script_code ss tables.object) the_module (start_world (program_of ss)) m at_start (starts m begins);
+    no_names = plain;
     names_blocks = code_names_blocks tree ss l loadable built tables;
-    has_names = module_begins ss built;
+    has_names = module_begins ss;
     never_stuck = never_stuck n;
   }
 
@@ -159,8 +148,10 @@ module _ (text : List ℕ) (ss : Stms) (is : IsScript text ss) (built : Built ss
     unfolding code_run
     finished x f = record {
       outcome = f.outcome;
-      runs = (script_has_its_bare_runs value.None ss tables.object are_its_objects (heap_host (program_of ss)) n no_names (start_world (program_of ss)) f.outcome).1
-          (runs_so (code_machine ss tables.object) (heap_host (program_of ss)) n the_module no_names (start_world (program_of ss)) f.outcome f.work f.does);
+      runs = (script_has_its_bare_runs value.None ss tables.object are_its_objects (heap_host (program_of ss)) n
+          (module_names (program_of ss)) (module_world (program_of ss)) f.outcome).1
+          (runs_so (code_machine ss tables.object) (heap_host (program_of ss)) n the_module
+          (module_names (program_of ss)) (module_world (program_of ss)) f.outcome f.work f.does);
       work = f.work;
       code_runs = record { fits = code_fits; object = tables.object; are_code = record { of_blocks = tables.of_blocks; truths = λ b. (tables.tables.blocks b).truths; extras = tables.tables.extras }; does = f.does };
       units = f.units;
@@ -175,7 +166,8 @@ module _ (text : List ℕ) (ss : Stms) (is : IsScript text ss) (built : Built ss
     unfolding code_run
     broke_off why b = record {
       written = b.written;
-      first = code_of_script_writes_nothing_else value.None ss tables.object are_its_objects (heap_host (program_of ss)) n no_names (start_world (program_of ss)) b.written b.writes_first;
+      first = code_of_script_writes_nothing_else value.None ss tables.object are_its_objects (heap_host (program_of ss)) n
+          (module_names (program_of ss)) (module_world (program_of ss)) b.written b.writes_first;
       took = b.took;
     }
 

@@ -14,7 +14,8 @@ use Rattle.pt_bare_runs.specs.Strides as bare
 use Rattle.pt_bare_runs.specs.Strides.{Outcome}
 use Rattle.pt_bare_writes.specs.Fronts.{RunWritesFirst}
 use Rattle.sem_rows.specs.pt_host.HeapHost.{heap_host}
-use Rattle.sem_rows.specs.pt_host.World.{World, no_names, start_world}
+use Rattle.sem_rows.specs.pt_host.World.{World}
+use Rattle.sem_rows.specs.pt_host.Calls.{module_names, module_world}
 use Rattle.sem_rows.specs.heap_rows.Leads.{HasHeapTruths, HasHeapExtras}
 use Rattle.pt_machine_state.specs.Writing.{kept}
 use Rattle.pt_run_code.specs.pt_runner.Ends.{IsEnding, block_name}
@@ -29,11 +30,13 @@ use Rattle.pt_sinks.specs.declared.writing.WriteErr.{WriteErr}
 
 -- the run of the script that may take n acts comes to this outcome
 abbrev pub RunsTo : Stms → (n : ℕ) → Outcome Value World → Type 0
-RunsTo ss n o = bare.Runs (tree_machine value.None ss) (heap_host (program_of ss)) n the_module no_names (start_world (program_of ss)) o
+RunsTo ss n o =
+    bare.Runs (tree_machine value.None ss) (heap_host (program_of ss)) n the_module (module_names (program_of ss)) (module_world (program_of ss)) o
 
 -- it writes this first, whether or not it comes to an outcome
 abbrev pub ScriptWritesFirst : Stms → (n : ℕ) → List Write → Type 0
-ScriptWritesFirst ss n ws = RunWritesFirst (tree_machine value.None ss) (heap_host (program_of ss)) n the_module no_names (start_world (program_of ss)) ws
+ScriptWritesFirst ss n ws =
+    RunWritesFirst (tree_machine value.None ss) (heap_host (program_of ss)) n the_module (module_names (program_of ss)) (module_world (program_of ss)) ws
 
 -- code objects of the blocks of the script's code, which know the None, True and False of the heap; operations that no tree asks for leave the profile
 pub record AreCodeOf (ss : Stms) (object : ℕ → CodeObject Value) : Type 0 where
@@ -46,7 +49,7 @@ pub record CodeRunsBy (ss : Stms) (n : ℕ) (o : Outcome Value World) (w : Work)
   pub fits : CodeFits (code_of ss)
   pub object : ℕ → CodeObject Value
   pub are_code : AreCodeOf ss object
-  pub does : RunDoes (code_machine ss object) (heap_host (program_of ss)) n the_module no_names (start_world (program_of ss)) o w
+  pub does : RunDoes (code_machine ss object) (heap_host (program_of ss)) n the_module (module_names (program_of ss)) (module_world (program_of ss)) o w
 
 -- the sinks as they were and as they are
 module _ (ss : Stms) (n : ℕ) (events : Bool) (out_old out_new log_old log_new : Pieces → Pieces → Type 0) where

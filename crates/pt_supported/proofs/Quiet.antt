@@ -38,114 +38,113 @@ quiet_join l (S.field k e c ps (S.literal m t r)) = row refl
 quiet_join l (S.field k e c ps (S.field m f d qs r)) = row refl
 
 mutual
-  pub quiet_exp : (w : Bool) (e : Exp) → unbuilt_exp w e ≡ None → Quiet (acts_exp e)
-  quiet_exp w (S.constant l k) h = row refl
-  quiet_exp w (S.name l x) h = row refl
-  quiet_exp w (S.unary l o a) h = both (quiet_exp w a h) (row refl)
-  quiet_exp w (S.not_of l a) h = both (quiet_exp w a h) (row refl)
-  quiet_exp w (S.binary l o a b) h = both (both (quiet_exp w a (first _ _ h)) (quiet_exp w b (second _ _ h))) (row refl)
-  quiet_exp w (S.compare l a o b r) h =
+  pub quiet_exp : (e : Exp) → unbuilt_exp e ≡ None → Quiet (acts_exp e)
+  quiet_exp (S.constant l k) h = row refl
+  quiet_exp (S.name l x) h = row refl
+  quiet_exp (S.unary l o a) h = both (quiet_exp a h) (row refl)
+  quiet_exp (S.not_of l a) h = both (quiet_exp a h) (row refl)
+  quiet_exp (S.binary l o a b) h = both (both (quiet_exp a (first _ _ h)) (quiet_exp b (second _ _ h))) (row refl)
+  quiet_exp (S.compare l a o b r) h =
       let behind = second _ _ h in
-      both (both (both (quiet_exp w a (first _ _ h)) (quiet_exp w b (first _ _ behind))) (row refl)) (quiet_links w l r (second _ _ behind))
-  quiet_exp w (S.and l a es) h = both (quiet_exp w a (first _ _ h)) (quiet_operands w l es (second _ _ h))
-  quiet_exp w (S.or l a es) h = both (quiet_exp w a (first _ _ h)) (quiet_operands w l es (second _ _ h))
-  quiet_exp w (S.conditional l c a b) h =
+      both (both (both (quiet_exp a (first _ _ h)) (quiet_exp b (first _ _ behind))) (row refl)) (quiet_links l r (second _ _ behind))
+  quiet_exp (S.and l a es) h = both (quiet_exp a (first _ _ h)) (quiet_operands l es (second _ _ h))
+  quiet_exp (S.or l a es) h = both (quiet_exp a (first _ _ h)) (quiet_operands l es (second _ _ h))
+  quiet_exp (S.conditional l c a b) h =
       let behind = second _ _ h in
-      both (both (both (quiet_exp w c (first _ _ behind)) (row refl)) (quiet_exp w a (first _ _ h))) (quiet_exp w b (second _ _ behind))
-  quiet_exp w (S.call l f args) h = both (both (quiet_exp w f (first _ _ h)) (quiet_args w l args (second _ _ h))) (row refl)
-  quiet_exp w (S.lambda l n ps e) h = both (quiet_params w ps (first _ _ h)) (row refl)
-  quiet_exp w (S.tuple l es) h = both (quiet_all w es h) (row refl)
-  quiet_exp w (S.list l es) h = both (quiet_all w es h) (row refl)
-  quiet_exp w (S.set l es) h = both (quiet_all w es h) (row refl)
-  quiet_exp w (S.dict l es) h = both (quiet_entries w es h) (row refl)
-  quiet_exp w (S.item l a i) h = both (both (quiet_exp w a (first _ _ h)) (quiet_exp w i (second _ _ h))) (row refl)
-  quiet_exp w (S.slice l a b c) h =
+      both (both (both (quiet_exp c (first _ _ behind)) (row refl)) (quiet_exp a (first _ _ h))) (quiet_exp b (second _ _ behind))
+  quiet_exp (S.call l f args) h = both (both (quiet_exp f (first _ _ h)) (quiet_args l args (second _ _ h))) (row refl)
+  quiet_exp (S.lambda l n ps e) h = both (quiet_params ps (first _ _ h)) (row refl)
+  quiet_exp (S.tuple l es) h = both (quiet_all es h) (row refl)
+  quiet_exp (S.list l es) h = both (quiet_all es h) (row refl)
+  quiet_exp (S.set l es) h = both (quiet_all es h) (row refl)
+  quiet_exp (S.dict l es) h = both (quiet_entries es h) (row refl)
+  quiet_exp (S.item l a i) h = both (both (quiet_exp a (first _ _ h)) (quiet_exp i (second _ _ h))) (row refl)
+  quiet_exp (S.slice l a b c) h =
       let behind = second _ _ h in
-      both (both (both (quiet_opt w a (first _ _ h)) (quiet_opt w b (first _ _ behind))) (quiet_opt w c (second _ _ behind))) (row refl)
-  quiet_exp w (S.joined l ps) h = both (quiet_pieces w ps h) (row refl)
-  quiet_exp w (S.attribute l a x) h = both (quiet_exp w a h) (row refl)
-  quiet_exp w (S.comprehension l m k t it cs) h =
-      let parts = second _ _ h in
-      let behind = second _ _ parts in
+      both (both (both (quiet_opt a (first _ _ h)) (quiet_opt b (first _ _ behind))) (quiet_opt c (second _ _ behind))) (row refl)
+  quiet_exp (S.joined l ps) h = both (quiet_pieces ps h) (row refl)
+  quiet_exp (S.attribute l a x) h = both (quiet_exp a h) (row refl)
+  quiet_exp (S.comprehension l m k t it cs) h =
+      let behind = second _ _ h in
       let clauses = second _ _ behind in
-      both (both (both (both (both (both (quiet_exp w it (first _ _ clauses)) (row refl)) (row refl)) (row refl)) (quiet_target w t (first _ _ behind)))
-      (quiet_clauses w l cs (second _ _ clauses))) (quiet_made w l m (first _ _ parts))
-  quiet_exp w (S.generator l n e k t it cs) h = told h
-  quiet_exp w (S.yield l v) h = told h
-  quiet_exp w (S.yield_from l e) h = told h
+      both (both (both (both (both (both (quiet_exp it (first _ _ clauses)) (row refl)) (row refl)) (row refl)) (quiet_target t (first _ _ behind)))
+      (quiet_clauses l cs (second _ _ clauses))) (quiet_made l m (first _ _ h))
+  quiet_exp (S.generator l n e k t it cs) h = told h
+  quiet_exp (S.yield l v) h = told h
+  quiet_exp (S.yield_from l e) h = told h
 
-  quiet_all : (w : Bool) (es : Exps) → unbuilt_all w es ≡ None → Quiet (acts_all es)
-  quiet_all w S.no_exps h = nothing
-  quiet_all w (S.more_exps e es) h = both (quiet_exp w e (first _ _ h)) (quiet_all w es (second _ _ h))
+  quiet_all : (es : Exps) → unbuilt_all es ≡ None → Quiet (acts_all es)
+  quiet_all S.no_exps h = nothing
+  quiet_all (S.more_exps e es) h = both (quiet_exp e (first _ _ h)) (quiet_all es (second _ _ h))
 
-  quiet_operands : (w : Bool) (l : ℕ) (es : Exps) → unbuilt_all w es ≡ None → Quiet (acts_operands l es)
-  quiet_operands w l S.no_exps h = nothing
-  quiet_operands w l (S.more_exps e es) h = both (both (row refl) (quiet_exp w e (first _ _ h))) (quiet_operands w l es (second _ _ h))
+  quiet_operands : (l : ℕ) (es : Exps) → unbuilt_all es ≡ None → Quiet (acts_operands l es)
+  quiet_operands l S.no_exps h = nothing
+  quiet_operands l (S.more_exps e es) h = both (both (row refl) (quiet_exp e (first _ _ h))) (quiet_operands l es (second _ _ h))
 
-  quiet_opt : (w : Bool) (o : Opt) → unbuilt_opt w o ≡ None → Quiet (acts_opt o)
-  quiet_opt w S.absent h = nothing
-  quiet_opt w (S.given e) h = quiet_exp w e h
+  quiet_opt : (o : Opt) → unbuilt_opt o ≡ None → Quiet (acts_opt o)
+  quiet_opt S.absent h = nothing
+  quiet_opt (S.given e) h = quiet_exp e h
 
-  quiet_pieces : (w : Bool) (ps : Pieces) → unbuilt_pieces w ps ≡ None → Quiet (acts_pieces ps)
-  quiet_pieces w S.no_pieces h = nothing
-  quiet_pieces w (S.literal l t r) h = both (row refl) (quiet_pieces w r h)
-  quiet_pieces w (S.field l e c ps r) h =
+  quiet_pieces : (ps : Pieces) → unbuilt_pieces ps ≡ None → Quiet (acts_pieces ps)
+  quiet_pieces S.no_pieces h = nothing
+  quiet_pieces (S.literal l t r) h = both (row refl) (quiet_pieces r h)
+  quiet_pieces (S.field l e c ps r) h =
       let behind = second _ _ h in
-      both (both (both (both (quiet_exp w e (first _ _ h)) (quiet_pieces w ps (first _ _ behind))) (quiet_join l ps)) (row refl)) (quiet_pieces w r (second _ _ behind))
+      both (both (both (both (quiet_exp e (first _ _ h)) (quiet_pieces ps (first _ _ behind))) (quiet_join l ps)) (row refl)) (quiet_pieces r (second _ _ behind))
 
-  quiet_entries : (w : Bool) (es : Entries) → unbuilt_entries w es ≡ None → Quiet (acts_entries es)
-  quiet_entries w S.no_entries h = nothing
-  quiet_entries w (S.entry k v r) h =
-      let behind = second _ _ h in both (both (quiet_exp w k (first _ _ h)) (quiet_exp w v (first _ _ behind))) (quiet_entries w r (second _ _ behind))
+  quiet_entries : (es : Entries) → unbuilt_entries es ≡ None → Quiet (acts_entries es)
+  quiet_entries S.no_entries h = nothing
+  quiet_entries (S.entry k v r) h =
+      let behind = second _ _ h in both (both (quiet_exp k (first _ _ h)) (quiet_exp v (first _ _ behind))) (quiet_entries r (second _ _ behind))
 
-  quiet_links : (w : Bool) (l : ℕ) (r : Links) → unbuilt_links w r ≡ None → Quiet (acts_links l r)
-  quiet_links w l S.no_links h = nothing
-  quiet_links w l (S.link o b r) h = both (both (both (row refl) (quiet_exp w b (first _ _ h))) (row refl)) (quiet_links w l r (second _ _ h))
+  quiet_links : (l : ℕ) (r : Links) → unbuilt_links r ≡ None → Quiet (acts_links l r)
+  quiet_links l S.no_links h = nothing
+  quiet_links l (S.link o b r) h = both (both (both (row refl) (quiet_exp b (first _ _ h))) (row refl)) (quiet_links l r (second _ _ h))
 
-  quiet_args : (w : Bool) (l : ℕ) (args : Args) → unbuilt_args w args ≡ None → Quiet (acts_args l args)
-  quiet_args w l S.no_args h = nothing
-  quiet_args w l (S.positional e r) h = both (quiet_exp w e (first _ _ h)) (quiet_args w l r (second _ _ h))
-  quiet_args w l (S.named x e r) h = both (quiet_exp w e (first _ _ h)) (quiet_args w l r (second _ _ h))
-  quiet_args w l (S.spread e r) h = both (both (quiet_exp w e (first _ _ h)) (row refl)) (quiet_args w l r (second _ _ h))
-  quiet_args w l (S.spread_named e r) h = both (both (quiet_exp w e (first _ _ h)) (row refl)) (quiet_args w l r (second _ _ h))
+  quiet_args : (l : ℕ) (args : Args) → unbuilt_args args ≡ None → Quiet (acts_args l args)
+  quiet_args l S.no_args h = nothing
+  quiet_args l (S.positional e r) h = both (quiet_exp e (first _ _ h)) (quiet_args l r (second _ _ h))
+  quiet_args l (S.named x e r) h = both (quiet_exp e (first _ _ h)) (quiet_args l r (second _ _ h))
+  quiet_args l (S.spread e r) h = both (both (quiet_exp e (first _ _ h)) (row refl)) (quiet_args l r (second _ _ h))
+  quiet_args l (S.spread_named e r) h = both (both (quiet_exp e (first _ _ h)) (row refl)) (quiet_args l r (second _ _ h))
 
-  quiet_params : (w : Bool) (ps : Params) → unbuilt_params w ps ≡ None → Quiet (acts_params ps)
-  quiet_params w (S.parameters ps s ks d) h = both (quiet_formals w ps (first _ _ h)) (quiet_formals w ks (first _ _ (second _ _ (second _ _ h))))
+  quiet_params : (ps : Params) → unbuilt_params ps ≡ None → Quiet (acts_params ps)
+  quiet_params (S.parameters ps s ks d) h = both (quiet_formals ps (first _ _ h)) (quiet_formals ks (first _ _ (second _ _ (second _ _ h))))
 
-  quiet_formals : (w : Bool) (fs : Formals) → unbuilt_formals w fs ≡ None → Quiet (acts_formals fs)
-  quiet_formals w S.no_formals h = nothing
-  quiet_formals w (S.formal l x a d r) h = both (quiet_opt w d (first _ _ (second _ _ h))) (quiet_formals w r (second _ _ (second _ _ h)))
+  quiet_formals : (fs : Formals) → unbuilt_formals fs ≡ None → Quiet (acts_formals fs)
+  quiet_formals S.no_formals h = nothing
+  quiet_formals (S.formal l x a d r) h = both (quiet_opt d (first _ _ (second _ _ h))) (quiet_formals r (second _ _ (second _ _ h)))
 
-  quiet_made : (w : Bool) (l : ℕ) (m : Made) → unbuilt_made w m ≡ None → Quiet (acts_made l m)
-  quiet_made w l (S.a_list e) h = both (quiet_exp w e h) (row refl)
-  quiet_made w l (S.a_set e) h = both (quiet_exp w e h) (row refl)
-  quiet_made w l (S.a_dict k v) h = both (both (quiet_exp w k (first _ _ h)) (quiet_exp w v (second _ _ h))) (row refl)
+  quiet_made : (l : ℕ) (m : Made) → unbuilt_made m ≡ None → Quiet (acts_made l m)
+  quiet_made l (S.a_list e) h = both (quiet_exp e h) (row refl)
+  quiet_made l (S.a_set e) h = both (quiet_exp e h) (row refl)
+  quiet_made l (S.a_dict k v) h = both (both (quiet_exp k (first _ _ h)) (quiet_exp v (second _ _ h))) (row refl)
 
-  quiet_clauses : (w : Bool) (l : ℕ) (cs : Clauses) → unbuilt_clauses w cs ≡ None → Quiet (acts_clauses l cs)
-  quiet_clauses w l S.no_clauses h = nothing
-  quiet_clauses w l (S.only_if c cs) h = both (both (quiet_exp w c (first _ _ h)) (row refl)) (quiet_clauses w l cs (second _ _ h))
-  quiet_clauses w l (S.for_each k t it cs) h =
+  quiet_clauses : (l : ℕ) (cs : Clauses) → unbuilt_clauses cs ≡ None → Quiet (acts_clauses l cs)
+  quiet_clauses l S.no_clauses h = nothing
+  quiet_clauses l (S.only_if c cs) h = both (both (quiet_exp c (first _ _ h)) (row refl)) (quiet_clauses l cs (second _ _ h))
+  quiet_clauses l (S.for_each k t it cs) h =
       let behind = second _ _ h in
-      both (both (both (both (quiet_exp w it (first _ _ behind)) (row refl)) (row refl)) (quiet_target w t (first _ _ h))) (quiet_clauses w l cs (second _ _ behind))
+      both (both (both (both (quiet_exp it (first _ _ behind)) (row refl)) (row refl)) (quiet_target t (first _ _ h))) (quiet_clauses l cs (second _ _ behind))
 
-  quiet_place : (w : Bool) (p : Place) → unbuilt_place w p ≡ None → Quiet (acts_place p)
-  quiet_place w (S.name_at l x) h = row refl
-  quiet_place w (S.attribute_at l a x) h = told h
-  quiet_place w (S.item_at l a i) h = both (both (quiet_exp w a (first _ _ h)) (quiet_exp w i (second _ _ h))) (row refl)
+  quiet_place : (p : Place) → unbuilt_place p ≡ None → Quiet (acts_place p)
+  quiet_place (S.name_at l x) h = row refl
+  quiet_place (S.attribute_at l a x) h = told h
+  quiet_place (S.item_at l a i) h = both (both (quiet_exp a (first _ _ h)) (quiet_exp i (second _ _ h))) (row refl)
 
-  quiet_target : (w : Bool) (t : Tgt) → unbuilt_target w t ≡ None → Quiet (acts_target t)
-  quiet_target w (S.single p) h = quiet_place w p h
-  quiet_target w (S.several l f ts) h = both (row refl) (quiet_targets w ts h)
-  quiet_target w (S.starred l t) h = quiet_target w t h
+  quiet_target : (t : Tgt) → unbuilt_target t ≡ None → Quiet (acts_target t)
+  quiet_target (S.single p) h = quiet_place p h
+  quiet_target (S.several l f ts) h = both (row refl) (quiet_targets ts h)
+  quiet_target (S.starred l t) h = quiet_target t h
 
-  quiet_targets : (w : Bool) (ts : Tgts) → unbuilt_targets w ts ≡ None → Quiet (acts_targets ts)
-  quiet_targets w S.no_targets h = nothing
-  quiet_targets w (S.more_targets t ts) h = both (quiet_target w t (first _ _ h)) (quiet_targets w ts (second _ _ h))
+  quiet_targets : (ts : Tgts) → unbuilt_targets ts ≡ None → Quiet (acts_targets ts)
+  quiet_targets S.no_targets h = nothing
+  quiet_targets (S.more_targets t ts) h = both (quiet_target t (first _ _ h)) (quiet_targets ts (second _ _ h))
 
-quiet_got : (w : Bool) (p : Place) → unbuilt_place w p ≡ None → Quiet (acts_got p)
-quiet_got w (S.name_at l x) h = row refl
-quiet_got w (S.attribute_at l a x) h = told h
-quiet_got w (S.item_at l a i) h = both (both (quiet_exp w a (first _ _ h)) (quiet_exp w i (second _ _ h))) (row refl)
+quiet_got : (p : Place) → unbuilt_place p ≡ None → Quiet (acts_got p)
+quiet_got (S.name_at l x) h = row refl
+quiet_got (S.attribute_at l a x) h = told h
+quiet_got (S.item_at l a i) h = both (both (quiet_exp a (first _ _ h)) (quiet_exp i (second _ _ h))) (row refl)
 
 quiet_put : (p : Place) → Quiet (acts_put p)
 quiet_put (S.name_at l x) = row refl
@@ -153,28 +152,28 @@ quiet_put (S.attribute_at l a x) = row refl
 quiet_put (S.item_at l a i) = row refl
 
 mutual
-  quiet_deleted : (w : Bool) (t : Tgt) → unbuilt_target w t ≡ None → Quiet (acts_deleted t)
-  quiet_deleted w (S.single (S.name_at l x)) h = row refl
-  quiet_deleted w (S.single (S.attribute_at l a x)) h = told h
-  quiet_deleted w (S.single (S.item_at l a i)) h = both (both (quiet_exp w a (first _ _ h)) (quiet_exp w i (second _ _ h))) (row refl)
-  quiet_deleted w (S.several l f ts) h = quiet_all_deleted w ts h
-  quiet_deleted w (S.starred l t) h = quiet_deleted w t h
+  quiet_deleted : (t : Tgt) → unbuilt_target t ≡ None → Quiet (acts_deleted t)
+  quiet_deleted (S.single (S.name_at l x)) h = row refl
+  quiet_deleted (S.single (S.attribute_at l a x)) h = told h
+  quiet_deleted (S.single (S.item_at l a i)) h = both (both (quiet_exp a (first _ _ h)) (quiet_exp i (second _ _ h))) (row refl)
+  quiet_deleted (S.several l f ts) h = quiet_all_deleted ts h
+  quiet_deleted (S.starred l t) h = quiet_deleted t h
 
-  quiet_all_deleted : (w : Bool) (ts : Tgts) → unbuilt_targets w ts ≡ None → Quiet (acts_all_deleted ts)
-  quiet_all_deleted w S.no_targets h = nothing
-  quiet_all_deleted w (S.more_targets t ts) h = both (quiet_deleted w t (first _ _ h)) (quiet_all_deleted w ts (second _ _ h))
+  quiet_all_deleted : (ts : Tgts) → unbuilt_targets ts ≡ None → Quiet (acts_all_deleted ts)
+  quiet_all_deleted S.no_targets h = nothing
+  quiet_all_deleted (S.more_targets t ts) h = both (quiet_deleted t (first _ _ h)) (quiet_all_deleted ts (second _ _ h))
 
-quiet_decorators : (w : Bool) (ds : Decorators) → unbuilt_decorators w ds ≡ None → Quiet (acts_decorators ds)
-quiet_decorators w S.no_decorators h = nothing
-quiet_decorators w (S.decorator l e r) h = both (quiet_exp w e (first _ _ h)) (quiet_decorators w r (second _ _ h))
+quiet_decorators : (ds : Decorators) → unbuilt_decorators ds ≡ None → Quiet (acts_decorators ds)
+quiet_decorators S.no_decorators h = nothing
+quiet_decorators (S.decorator l e r) h = both (quiet_exp e (first _ _ h)) (quiet_decorators r (second _ _ h))
 
 quiet_calls : (ds : Decorators) → Quiet (acts_decorator_calls ds)
 quiet_calls S.no_decorators = nothing
 quiet_calls (S.decorator l e r) = both (quiet_calls r) (row refl)
 
-quiet_annotated : (w : Bool) (l : ℕ) (p : Place) (v : Opt) → unbuilt_place w p ≡ None → unbuilt_opt w v ≡ None → Quiet (acts_annotated l p v)
-quiet_annotated w l p S.absent hp hv = row refl
-quiet_annotated w l p (S.given e) hp hv = both (quiet_exp w e hv) (quiet_place w p hp)
+quiet_annotated : (l : ℕ) (p : Place) (v : Opt) → unbuilt_place p ≡ None → unbuilt_opt v ≡ None → Quiet (acts_annotated l p v)
+quiet_annotated l p S.absent hp hv = row refl
+quiet_annotated l p (S.given e) hp hv = both (quiet_exp e hv) (quiet_place p hp)
 
 quiet_named : (l : ℕ) (x : Option (List ℕ)) → Quiet (acts_named l x)
 quiet_named l None = nothing
@@ -189,57 +188,57 @@ quiet_import_names l [] = nothing
 quiet_import_names l (x ∷ xs) = item refl (item refl (quiet_import_names l xs))
 
 mutual
-  pub quiet_stm : (w : Bool) (s : Stm) → unbuilt_stm w s ≡ None → Quiet (acts_stm s)
-  quiet_stm w (S.expr l e) h = both (quiet_exp w e h) (row refl)
-  quiet_stm w (S.assign l ts e) h = both (quiet_exp w e (second _ _ h)) (quiet_targets w ts (first _ _ h))
-  quiet_stm w (S.augmented l p o e) h = both (both (both (quiet_got w p (first _ _ h)) (quiet_exp w e (second _ _ h))) (row refl)) (quiet_put p)
-  quiet_stm w (S.annotated l p a v) h = quiet_annotated w l p v (first _ _ h) (second _ _ h)
-  quiet_stm w (S.pass l) h = row refl
-  quiet_stm w (S.del l ts) h = quiet_all_deleted w ts h
-  quiet_stm w (S.return l v) h = both (quiet_opt w v h) (row refl)
-  quiet_stm w (S.break l) h = row refl
-  quiet_stm w (S.continue l) h = row refl
-  quiet_stm w (S.global l xs) h = nothing
-  quiet_stm w (S.nonlocal l xs) h = nothing
-  quiet_stm w (S.choice l bs els) h = both (quiet_branches w bs (first _ _ h)) (quiet_stms w els (second _ _ h))
-  quiet_stm w (S.while l c body els) h =
+  pub quiet_stm : (s : Stm) → unbuilt_stm s ≡ None → Quiet (acts_stm s)
+  quiet_stm (S.expr l e) h = both (quiet_exp e h) (row refl)
+  quiet_stm (S.assign l ts e) h = both (quiet_exp e (second _ _ h)) (quiet_targets ts (first _ _ h))
+  quiet_stm (S.augmented l p o e) h = both (both (both (quiet_got p (first _ _ h)) (quiet_exp e (second _ _ h))) (row refl)) (quiet_put p)
+  quiet_stm (S.annotated l p a v) h = quiet_annotated l p v (first _ _ h) (second _ _ h)
+  quiet_stm (S.pass l) h = row refl
+  quiet_stm (S.del l ts) h = quiet_all_deleted ts h
+  quiet_stm (S.return l v) h = both (quiet_opt v h) (row refl)
+  quiet_stm (S.break l) h = row refl
+  quiet_stm (S.continue l) h = row refl
+  quiet_stm (S.global l xs) h = nothing
+  quiet_stm (S.nonlocal l xs) h = nothing
+  quiet_stm (S.choice l bs els) h = both (quiet_branches bs (first _ _ h)) (quiet_stms els (second _ _ h))
+  quiet_stm (S.while l c body els) h =
       let behind = second _ _ h in
-      both (both (both (quiet_again (quiet_exp w c (first _ _ h))) (row refl)) (quiet_stms w body (first _ _ behind))) (quiet_stms w els (second _ _ behind))
-  quiet_stm w (S.for l t e body els) h =
+      both (both (both (quiet_again (quiet_exp c (first _ _ h))) (row refl)) (quiet_stms body (first _ _ behind))) (quiet_stms els (second _ _ behind))
+  quiet_stm (S.for l t e body els) h =
       let parts = second _ _ h in
       let behind = second _ _ parts in
-      both (both (both (both (both (quiet_exp w e (first _ _ parts)) (row refl)) (row refl)) (quiet_target w t (first _ _ h)))
-      (quiet_stms w body (first _ _ behind))) (quiet_stms w els (second _ _ behind))
-  quiet_stm w (S.def l ds k n x ps r body) h =
+      both (both (both (both (both (quiet_exp e (first _ _ parts)) (row refl)) (row refl)) (quiet_target t (first _ _ h)))
+      (quiet_stms body (first _ _ behind))) (quiet_stms els (second _ _ behind))
+  quiet_stm (S.def l ds k n x ps r body) h =
       let parts = second _ _ h in
-      both (both (both (both (quiet_decorators w ds (first _ _ parts)) (quiet_params w ps (first _ _ (second _ _ parts)))) (row refl)) (quiet_calls ds)) (row refl)
-  quiet_stm w (S.docstring l) h = nothing
-  quiet_stm w (S.assert l c m) h = both (both (both (quiet_exp w c (first _ _ h)) (row refl)) (quiet_opt w m (second _ _ h))) (row refl)
-  quiet_stm w (S.raise l e c) h = both (both (quiet_exp w e (first _ _ h)) (quiet_opt w c (second _ _ h))) (row refl)
-  quiet_stm w (S.raise_again l) h = row refl
-  quiet_stm w (S.try l body hs els fin) h =
-      let parts = second _ _ h in
-      let behind = second _ _ parts in
-      both (both (both (both (row refl) (quiet_stms w body (first _ _ h))) (quiet_handlers w hs (first _ _ parts))) (quiet_stms w els (first _ _ behind)))
-      (quiet_stms w fin (second _ _ behind))
-  quiet_stm w (S.import l xs) h = quiet_imports l xs
-  quiet_stm w (S.import_from l m xs) h = item refl (quiet_import_names l xs)
-  quiet_stm w (S.with l is body) h = told h
-  quiet_stm w (S.class l ds k n x base body) h = told h
-
-  pub quiet_stms : (w : Bool) (ss : Stms) → unbuilt_stms w ss ≡ None → Quiet (acts_stms ss)
-  quiet_stms w S.none h = nothing
-  quiet_stms w (S.more s ss) h = both (quiet_stm w s (first _ _ h)) (quiet_stms w ss (second _ _ h))
-
-  quiet_branches : (w : Bool) (bs : Branches) → unbuilt_branches w bs ≡ None → Quiet (acts_branches bs)
-  quiet_branches w S.no_branches h = nothing
-  quiet_branches w (S.branch l c body r) h =
-      both (both (both (quiet_exp w c (first _ _ h)) (row refl)) (quiet_stms w body (first _ _ (second _ _ h)))) (quiet_branches w r (second _ _ (second _ _ h)))
-
-  quiet_handlers : (w : Bool) (hs : Handlers) → unbuilt_handlers w hs ≡ None → Quiet (acts_handlers hs)
-  quiet_handlers w S.no_handlers h = nothing
-  quiet_handlers w (S.handler l c x body r) h =
+      both (both (both (both (quiet_decorators ds (first _ _ parts)) (quiet_params ps (first _ _ (second _ _ parts)))) (row refl)) (quiet_calls ds)) (row refl)
+  quiet_stm (S.docstring l) h = nothing
+  quiet_stm (S.assert l c m) h = both (both (both (quiet_exp c (first _ _ h)) (row refl)) (quiet_opt m (second _ _ h))) (row refl)
+  quiet_stm (S.raise l e c) h = both (both (quiet_exp e (first _ _ h)) (quiet_opt c (second _ _ h))) (row refl)
+  quiet_stm (S.raise_again l) h = row refl
+  quiet_stm (S.try l body hs els fin) h =
       let parts = second _ _ h in
       let behind = second _ _ parts in
-      both (both (both (both (quiet_opt w c (first _ _ parts)) (row refl)) (quiet_named l x)) (quiet_stms w body (first _ _ behind)))
-      (quiet_handlers w r (second _ _ behind))
+      both (both (both (both (row refl) (quiet_stms body (first _ _ h))) (quiet_handlers hs (first _ _ parts))) (quiet_stms els (first _ _ behind)))
+      (quiet_stms fin (second _ _ behind))
+  quiet_stm (S.import l xs) h = quiet_imports l xs
+  quiet_stm (S.import_from l m xs) h = item refl (quiet_import_names l xs)
+  quiet_stm (S.with l is body) h = told h
+  quiet_stm (S.class l ds k n x base body) h = told h
+
+  pub quiet_stms : (ss : Stms) → unbuilt_stms ss ≡ None → Quiet (acts_stms ss)
+  quiet_stms S.none h = nothing
+  quiet_stms (S.more s ss) h = both (quiet_stm s (first _ _ h)) (quiet_stms ss (second _ _ h))
+
+  quiet_branches : (bs : Branches) → unbuilt_branches bs ≡ None → Quiet (acts_branches bs)
+  quiet_branches S.no_branches h = nothing
+  quiet_branches (S.branch l c body r) h =
+      both (both (both (quiet_exp c (first _ _ h)) (row refl)) (quiet_stms body (first _ _ (second _ _ h)))) (quiet_branches r (second _ _ (second _ _ h)))
+
+  quiet_handlers : (hs : Handlers) → unbuilt_handlers hs ≡ None → Quiet (acts_handlers hs)
+  quiet_handlers S.no_handlers h = nothing
+  quiet_handlers (S.handler l c x body r) h =
+      let parts = second _ _ h in
+      let behind = second _ _ parts in
+      both (both (both (both (quiet_opt c (first _ _ parts)) (row refl)) (quiet_named l x)) (quiet_stms body (first _ _ behind)))
+      (quiet_handlers r (second _ _ behind))

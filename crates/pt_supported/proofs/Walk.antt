@@ -1,5 +1,5 @@
 -- The first node that isn't supported, of the parts of lists as code walks them.
-use Rattle.std.proofs.Common.{◌≡◌, ℕ, Bool, List, [], ◌∷◌, Option, Some, None, refl, sym, ap, ◌∙◌}
+use Rattle.std.proofs.Common.{◌≡◌, ℕ, List, [], ◌∷◌, Option, Some, None, refl, sym, ap, ◌∙◌}
 use Rattle.std.specs.Option.{option_or}
 use Rattle.pt_tree.specs.declared.expression.Argument.{Argument}
 use Rattle.pt_tree.specs.declared.expression.Argument.TheOpen as node
@@ -21,52 +21,52 @@ pub or-none : (a : Option ℕ) → option_or a None ≡ a
 or-none None = refl
 or-none (Some l) = refl
 
-argument-first : (w : Bool) (a : Argument-P) (r : Args) → unbuilt_args w (argument_plain a r) ≡ option_or (unbuilt_args w (argument_plain a S.no_args)) (unbuilt_args w r)
-argument-first w (node.Positional e) r = simp or-none
-argument-first w (node.Named x e) r = simp or-none
-argument-first w (node.Spread e) r = simp or-none
-argument-first w (node.SpreadNamed e) r = simp or-none
+argument-first : (a : Argument-P) (r : Args) → unbuilt_args (argument_plain a r) ≡ option_or (unbuilt_args (argument_plain a S.no_args)) (unbuilt_args r)
+argument-first (node.Positional e) r = simp or-none
+argument-first (node.Named x e) r = simp or-none
+argument-first (node.Spread e) r = simp or-none
+argument-first (node.SpreadNamed e) r = simp or-none
 
-pub arguments-first : (w : Bool) (a : Argument) (r : Args) → unbuilt_args w (argument_of a r) ≡ option_or (unbuilt_args w (argument_of a S.no_args)) (unbuilt_args w r)
-arguments-first w a r = rw (argument_of-is a) (argument-first w (opened-Argument a) r)
+pub arguments-first : (a : Argument) (r : Args) → unbuilt_args (argument_of a r) ≡ option_or (unbuilt_args (argument_of a S.no_args)) (unbuilt_args r)
+arguments-first a r = rw (argument_of-is a) (argument-first (opened-Argument a) r)
 
-piece-first : (w : Bool) (p : Piece-P) (r : Pieces) → unbuilt_pieces w (piece_plain p r) ≡ option_or (unbuilt_pieces w (piece_plain p S.no_pieces)) (unbuilt_pieces w r)
-piece-first w (node.Literal l t) r = refl
-piece-first w (node.Field l e c spec) r = simp (or-assoc, or-none)
+piece-first : (p : Piece-P) (r : Pieces) → unbuilt_pieces (piece_plain p r) ≡ option_or (unbuilt_pieces (piece_plain p S.no_pieces)) (unbuilt_pieces r)
+piece-first (node.Literal l t) r = refl
+piece-first (node.Field l e c spec) r = simp (or-assoc, or-none)
 
-pub pieces-first : (w : Bool) (p : Piece) (r : Pieces) → unbuilt_pieces w (piece_of p r) ≡ option_or (unbuilt_pieces w (piece_of p S.no_pieces)) (unbuilt_pieces w r)
-pieces-first w p r = rw (piece_of-is p) (piece-first w (opened-Piece p) r)
+pub pieces-first : (p : Piece) (r : Pieces) → unbuilt_pieces (piece_of p r) ≡ option_or (unbuilt_pieces (piece_of p S.no_pieces)) (unbuilt_pieces r)
+pieces-first p r = rw (piece_of-is p) (piece-first (opened-Piece p) r)
 
-pub entries-first : (w : Bool) (e : Entry) (r : Entries)
-    → unbuilt_entries w (entry_of e r) ≡ option_or (unbuilt_exp w (exp_of e.key)) (option_or (unbuilt_exp w (exp_of e.value)) (unbuilt_entries w r))
-entries-first w e r = ap (unbuilt_entries w) (entry_of-parts e r)
+pub entries-first : (e : Entry) (r : Entries)
+    → unbuilt_entries (entry_of e r) ≡ option_or (unbuilt_exp (exp_of e.key)) (option_or (unbuilt_exp (exp_of e.value)) (unbuilt_entries r))
+entries-first e r = ap unbuilt_entries (entry_of-parts e r)
 
-pub links-first : (w : Bool) (c : Comparison) (r : Links) → unbuilt_links w (link_of c r) ≡ option_or (unbuilt_exp w (exp_of c.right)) (unbuilt_links w r)
-links-first w c r = ap (unbuilt_links w) (link_of-parts c r)
+pub links-first : (c : Comparison) (r : Links) → unbuilt_links (link_of c r) ≡ option_or (unbuilt_exp (exp_of c.right)) (unbuilt_links r)
+links-first c r = ap unbuilt_links (link_of-parts c r)
 
-pub formals-first : (w : Bool) (p : Parameter) (r : Formals) → unbuilt_formals w (formal_of p r) ≡ option_or (unbuilt_formals w (formal_of p S.no_formals)) (unbuilt_formals w r)
-formals-first w p r = simp (formal_of-parts p, or-assoc, or-none)
+pub formals-first : (p : Parameter) (r : Formals) → unbuilt_formals (formal_of p r) ≡ option_or (unbuilt_formals (formal_of p S.no_formals)) (unbuilt_formals r)
+formals-first p r = simp (formal_of-parts p, or-assoc, or-none)
 
 -- the conditions of a clause, and what stands behind them
-pub conditions-first : (w : Bool) (es : List Exp) (cs : Clauses) → unbuilt_clauses w (conditions_of es cs) ≡ option_or (unbuilt_all w (all_of es)) (unbuilt_clauses w cs)
-conditions-first w [] cs = refl
-conditions-first w (e ∷ es) cs =
-    ap (option_or (unbuilt_exp w e)) (conditions-first w es cs) ∙ sym (or-assoc (unbuilt_exp w e) (unbuilt_all w (all_of es)) (unbuilt_clauses w cs))
+pub conditions-first : (es : List Exp) (cs : Clauses) → unbuilt_clauses (conditions_of es cs) ≡ option_or (unbuilt_all (all_of es)) (unbuilt_clauses cs)
+conditions-first [] cs = refl
+conditions-first (e ∷ es) cs =
+    ap (option_or (unbuilt_exp e)) (conditions-first es cs) ∙ sym (or-assoc (unbuilt_exp e) (unbuilt_all (all_of es)) (unbuilt_clauses cs))
 
 -- a clause by itself
-pub clause-is : (w : Bool) (c : ClauseOf)
-    → unbuilt_clauses w (clauses_of (c ∷ [])) ≡ option_or (unbuilt_target w c.target) (option_or (unbuilt_exp w c.iterable) (unbuilt_all w (all_of c.conditions)))
-clause-is w c =
-    ap (λ o. option_or (unbuilt_target w c.target) (option_or (unbuilt_exp w c.iterable) o))
-    (conditions-first w c.conditions S.no_clauses ∙ or-none (unbuilt_all w (all_of c.conditions)))
+pub clause-is : (c : ClauseOf)
+    → unbuilt_clauses (clauses_of (c ∷ [])) ≡ option_or (unbuilt_target c.target) (option_or (unbuilt_exp c.iterable) (unbuilt_all (all_of c.conditions)))
+clause-is c =
+    ap (λ o. option_or (unbuilt_target c.target) (option_or (unbuilt_exp c.iterable) o))
+    (conditions-first c.conditions S.no_clauses ∙ or-none (unbuilt_all (all_of c.conditions)))
 
 -- and with those behind it
-pub clauses-first : (w : Bool) (c : ClauseOf) (cs : List ClauseOf)
-    → unbuilt_clauses w (clauses_of (c ∷ cs)) ≡ option_or (unbuilt_clauses w (clauses_of (c ∷ []))) (unbuilt_clauses w (clauses_of cs))
-clauses-first w c cs =
-    let t = unbuilt_target w c.target in
-    let i = unbuilt_exp w c.iterable in
-    let es = unbuilt_all w (all_of c.conditions) in
-    let rest = unbuilt_clauses w (clauses_of cs) in
-    ap (λ o. option_or t (option_or i o)) (conditions-first w c.conditions (clauses_of cs))
-    ∙ (ap (option_or t) (sym (or-assoc i es rest)) ∙ sym (or-assoc t (option_or i es) rest)) ∙ ap (λ o. option_or o rest) (sym (clause-is w c))
+pub clauses-first : (c : ClauseOf) (cs : List ClauseOf)
+    → unbuilt_clauses (clauses_of (c ∷ cs)) ≡ option_or (unbuilt_clauses (clauses_of (c ∷ []))) (unbuilt_clauses (clauses_of cs))
+clauses-first c cs =
+    let t = unbuilt_target c.target in
+    let i = unbuilt_exp c.iterable in
+    let es = unbuilt_all (all_of c.conditions) in
+    let rest = unbuilt_clauses (clauses_of cs) in
+    ap (λ o. option_or t (option_or i o)) (conditions-first c.conditions (clauses_of cs))
+    ∙ (ap (option_or t) (sym (or-assoc i es rest)) ∙ sym (or-assoc t (option_or i es) rest)) ∙ ap (λ o. option_or o rest) (sym (clause-is c))

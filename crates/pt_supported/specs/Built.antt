@@ -1,7 +1,6 @@
 -- Which forms of the language are supported, and the line of the first node of a script that isn't: a node comes before its parts, and parts
 -- come in the order of the source. Annotations aren't looked at, since they never run. A part without a line of its own, as an argument, a link
--- of a comparison, a declared name or one that is imported, is told with the node that it belongs to. A comprehension is supported within a
--- function or a lambda, and not in code of the module itself, whose names are looked up by their texts: there it would have names of its own.
+-- of a comparison, a declared name or one that is imported, is told with the node that it belongs to.
 use Rattle.std.specs.Prelude.{◌≡◌, ◌||◌, ℕ, List, Bool, true, false, not, Option, Some, None, if◌then◌else◌}
 use Rattle.std.specs.List.{list_any}
 use Rattle.std.specs.Option.{option_or}
@@ -49,144 +48,144 @@ unbuilt_star None = None
 unbuilt_star (Some p) = unless (is_available p.name) p.line.0
 
 abbrev mutual
-  pub unbuilt_exp : (inside : Bool) → Exp → Option ℕ
-  unbuilt_exp w (S.constant l k) = None
-  unbuilt_exp w (S.name l x) = unless (is_available x) l
-  unbuilt_exp w (S.unary l o a) = unbuilt_exp w a
-  unbuilt_exp w (S.not_of l a) = unbuilt_exp w a
-  unbuilt_exp w (S.binary l o a b) = option_or (unbuilt_exp w a) (unbuilt_exp w b)
-  unbuilt_exp w (S.compare l a o b r) = option_or (unbuilt_exp w a) (option_or (unbuilt_exp w b) (unbuilt_links w r))
-  unbuilt_exp w (S.and l a es) = option_or (unbuilt_exp w a) (unbuilt_all w es)
-  unbuilt_exp w (S.or l a es) = option_or (unbuilt_exp w a) (unbuilt_all w es)
-  unbuilt_exp w (S.conditional l c a b) = option_or (unbuilt_exp w a) (option_or (unbuilt_exp w c) (unbuilt_exp w b))
-  unbuilt_exp w (S.call l f args) = option_or (unbuilt_exp w f) (unbuilt_args w args)
-  unbuilt_exp w (S.lambda l n ps e) = option_or (unbuilt_params w ps) (unbuilt_exp true e)
-  unbuilt_exp w (S.tuple l es) = unbuilt_all w es
-  unbuilt_exp w (S.list l es) = unbuilt_all w es
-  unbuilt_exp w (S.set l es) = unbuilt_all w es
-  unbuilt_exp w (S.dict l es) = unbuilt_entries w es
-  unbuilt_exp w (S.item l a i) = option_or (unbuilt_exp w a) (unbuilt_exp w i)
-  unbuilt_exp w (S.slice l a b c) = option_or (unbuilt_opt w a) (option_or (unbuilt_opt w b) (unbuilt_opt w c))
-  unbuilt_exp w (S.joined l ps) = unbuilt_pieces w ps
-  unbuilt_exp w (S.attribute l a x) = unbuilt_exp w a
-  unbuilt_exp w (S.comprehension l m k t it cs) =
-      option_or (unless w l) (option_or (unbuilt_made w m) (option_or (unbuilt_target w t) (option_or (unbuilt_exp w it) (unbuilt_clauses w cs))))
-  unbuilt_exp w (S.generator l n e k t it cs) = Some l
-  unbuilt_exp w (S.yield l v) = Some l
-  unbuilt_exp w (S.yield_from l e) = Some l
+  pub unbuilt_exp : Exp → Option ℕ
+  unbuilt_exp (S.constant l k) = None
+  unbuilt_exp (S.name l x) = unless (is_available x) l
+  unbuilt_exp (S.unary l o a) = unbuilt_exp a
+  unbuilt_exp (S.not_of l a) = unbuilt_exp a
+  unbuilt_exp (S.binary l o a b) = option_or (unbuilt_exp a) (unbuilt_exp b)
+  unbuilt_exp (S.compare l a o b r) = option_or (unbuilt_exp a) (option_or (unbuilt_exp b) (unbuilt_links r))
+  unbuilt_exp (S.and l a es) = option_or (unbuilt_exp a) (unbuilt_all es)
+  unbuilt_exp (S.or l a es) = option_or (unbuilt_exp a) (unbuilt_all es)
+  unbuilt_exp (S.conditional l c a b) = option_or (unbuilt_exp a) (option_or (unbuilt_exp c) (unbuilt_exp b))
+  unbuilt_exp (S.call l f args) = option_or (unbuilt_exp f) (unbuilt_args args)
+  unbuilt_exp (S.lambda l n ps e) = option_or (unbuilt_params ps) (unbuilt_exp e)
+  unbuilt_exp (S.tuple l es) = unbuilt_all es
+  unbuilt_exp (S.list l es) = unbuilt_all es
+  unbuilt_exp (S.set l es) = unbuilt_all es
+  unbuilt_exp (S.dict l es) = unbuilt_entries es
+  unbuilt_exp (S.item l a i) = option_or (unbuilt_exp a) (unbuilt_exp i)
+  unbuilt_exp (S.slice l a b c) = option_or (unbuilt_opt a) (option_or (unbuilt_opt b) (unbuilt_opt c))
+  unbuilt_exp (S.joined l ps) = unbuilt_pieces ps
+  unbuilt_exp (S.attribute l a x) = unbuilt_exp a
+  unbuilt_exp (S.comprehension l m k t it cs) =
+      option_or (unbuilt_made m) (option_or (unbuilt_target t) (option_or (unbuilt_exp it) (unbuilt_clauses cs)))
+  unbuilt_exp (S.generator l n e k t it cs) = Some l
+  unbuilt_exp (S.yield l v) = Some l
+  unbuilt_exp (S.yield_from l e) = Some l
 
-  pub unbuilt_all : (inside : Bool) → Exps → Option ℕ
-  unbuilt_all w S.no_exps = None
-  unbuilt_all w (S.more_exps e es) = option_or (unbuilt_exp w e) (unbuilt_all w es)
+  pub unbuilt_all : Exps → Option ℕ
+  unbuilt_all S.no_exps = None
+  unbuilt_all (S.more_exps e es) = option_or (unbuilt_exp e) (unbuilt_all es)
 
-  pub unbuilt_opt : (inside : Bool) → Opt → Option ℕ
-  unbuilt_opt w S.absent = None
-  unbuilt_opt w (S.given e) = unbuilt_exp w e
+  pub unbuilt_opt : Opt → Option ℕ
+  unbuilt_opt S.absent = None
+  unbuilt_opt (S.given e) = unbuilt_exp e
 
   -- the fields of a spec are parts of its field
-  pub unbuilt_pieces : (inside : Bool) → Pieces → Option ℕ
-  unbuilt_pieces w S.no_pieces = None
-  unbuilt_pieces w (S.literal l t r) = unbuilt_pieces w r
-  unbuilt_pieces w (S.field l e c ps r) = option_or (unbuilt_exp w e) (option_or (unbuilt_pieces w ps) (unbuilt_pieces w r))
+  pub unbuilt_pieces : Pieces → Option ℕ
+  unbuilt_pieces S.no_pieces = None
+  unbuilt_pieces (S.literal l t r) = unbuilt_pieces r
+  unbuilt_pieces (S.field l e c ps r) = option_or (unbuilt_exp e) (option_or (unbuilt_pieces ps) (unbuilt_pieces r))
 
-  pub unbuilt_entries : (inside : Bool) → Entries → Option ℕ
-  unbuilt_entries w S.no_entries = None
-  unbuilt_entries w (S.entry k v r) = option_or (unbuilt_exp w k) (option_or (unbuilt_exp w v) (unbuilt_entries w r))
+  pub unbuilt_entries : Entries → Option ℕ
+  unbuilt_entries S.no_entries = None
+  unbuilt_entries (S.entry k v r) = option_or (unbuilt_exp k) (option_or (unbuilt_exp v) (unbuilt_entries r))
 
-  pub unbuilt_links : (inside : Bool) → Links → Option ℕ
-  unbuilt_links w S.no_links = None
-  unbuilt_links w (S.link o b r) = option_or (unbuilt_exp w b) (unbuilt_links w r)
+  pub unbuilt_links : Links → Option ℕ
+  unbuilt_links S.no_links = None
+  unbuilt_links (S.link o b r) = option_or (unbuilt_exp b) (unbuilt_links r)
 
-  pub unbuilt_args : (inside : Bool) → Args → Option ℕ
-  unbuilt_args w S.no_args = None
-  unbuilt_args w (S.positional e r) = option_or (unbuilt_exp w e) (unbuilt_args w r)
-  unbuilt_args w (S.named x e r) = option_or (unbuilt_exp w e) (unbuilt_args w r)
-  unbuilt_args w (S.spread e r) = option_or (unbuilt_exp w e) (unbuilt_args w r)
-  unbuilt_args w (S.spread_named e r) = option_or (unbuilt_exp w e) (unbuilt_args w r)
+  pub unbuilt_args : Args → Option ℕ
+  unbuilt_args S.no_args = None
+  unbuilt_args (S.positional e r) = option_or (unbuilt_exp e) (unbuilt_args r)
+  unbuilt_args (S.named x e r) = option_or (unbuilt_exp e) (unbuilt_args r)
+  unbuilt_args (S.spread e r) = option_or (unbuilt_exp e) (unbuilt_args r)
+  unbuilt_args (S.spread_named e r) = option_or (unbuilt_exp e) (unbuilt_args r)
 
   -- `*name` and `**name` have a line of their own
-  pub unbuilt_params : (inside : Bool) → Params → Option ℕ
-  unbuilt_params w (S.parameters ps s ks d) = option_or (unbuilt_formals w ps) (option_or (unbuilt_star s) (option_or (unbuilt_formals w ks) (unbuilt_star d)))
+  pub unbuilt_params : Params → Option ℕ
+  unbuilt_params (S.parameters ps s ks d) = option_or (unbuilt_formals ps) (option_or (unbuilt_star s) (option_or (unbuilt_formals ks) (unbuilt_star d)))
 
-  pub unbuilt_formals : (inside : Bool) → Formals → Option ℕ
-  unbuilt_formals w S.no_formals = None
-  unbuilt_formals w (S.formal l x a d r) = option_or (unless (is_available x) l) (option_or (unbuilt_opt w d) (unbuilt_formals w r))
+  pub unbuilt_formals : Formals → Option ℕ
+  unbuilt_formals S.no_formals = None
+  unbuilt_formals (S.formal l x a d r) = option_or (unless (is_available x) l) (option_or (unbuilt_opt d) (unbuilt_formals r))
 
   -- what a comprehension makes
-  pub unbuilt_made : (inside : Bool) → Made → Option ℕ
-  unbuilt_made w (S.a_list e) = unbuilt_exp w e
-  unbuilt_made w (S.a_set e) = unbuilt_exp w e
-  unbuilt_made w (S.a_dict k v) = option_or (unbuilt_exp w k) (unbuilt_exp w v)
+  pub unbuilt_made : Made → Option ℕ
+  unbuilt_made (S.a_list e) = unbuilt_exp e
+  unbuilt_made (S.a_set e) = unbuilt_exp e
+  unbuilt_made (S.a_dict k v) = option_or (unbuilt_exp k) (unbuilt_exp v)
 
   -- what stands behind its first iterable
-  pub unbuilt_clauses : (inside : Bool) → Clauses → Option ℕ
-  unbuilt_clauses w S.no_clauses = None
-  unbuilt_clauses w (S.only_if c cs) = option_or (unbuilt_exp w c) (unbuilt_clauses w cs)
-  unbuilt_clauses w (S.for_each l t it cs) = option_or (unbuilt_target w t) (option_or (unbuilt_exp w it) (unbuilt_clauses w cs))
+  pub unbuilt_clauses : Clauses → Option ℕ
+  unbuilt_clauses S.no_clauses = None
+  unbuilt_clauses (S.only_if c cs) = option_or (unbuilt_exp c) (unbuilt_clauses cs)
+  unbuilt_clauses (S.for_each l t it cs) = option_or (unbuilt_target t) (option_or (unbuilt_exp it) (unbuilt_clauses cs))
 
-  pub unbuilt_place : (inside : Bool) → Place → Option ℕ
-  unbuilt_place w (S.name_at l x) = unless (is_available x) l
-  unbuilt_place w (S.attribute_at l a x) = Some l
-  unbuilt_place w (S.item_at l a i) = option_or (unbuilt_exp w a) (unbuilt_exp w i)
+  pub unbuilt_place : Place → Option ℕ
+  unbuilt_place (S.name_at l x) = unless (is_available x) l
+  unbuilt_place (S.attribute_at l a x) = Some l
+  unbuilt_place (S.item_at l a i) = option_or (unbuilt_exp a) (unbuilt_exp i)
 
-  pub unbuilt_target : (inside : Bool) → Tgt → Option ℕ
-  unbuilt_target w (S.single p) = unbuilt_place w p
-  unbuilt_target w (S.several l f ts) = unbuilt_targets w ts
-  unbuilt_target w (S.starred l t) = unbuilt_target w t
+  pub unbuilt_target : Tgt → Option ℕ
+  unbuilt_target (S.single p) = unbuilt_place p
+  unbuilt_target (S.several l f ts) = unbuilt_targets ts
+  unbuilt_target (S.starred l t) = unbuilt_target t
 
-  pub unbuilt_targets : (inside : Bool) → Tgts → Option ℕ
-  unbuilt_targets w S.no_targets = None
-  unbuilt_targets w (S.more_targets t ts) = option_or (unbuilt_target w t) (unbuilt_targets w ts)
+  pub unbuilt_targets : Tgts → Option ℕ
+  unbuilt_targets S.no_targets = None
+  unbuilt_targets (S.more_targets t ts) = option_or (unbuilt_target t) (unbuilt_targets ts)
 
-abbrev pub unbuilt_decorators : (inside : Bool) → Decorators → Option ℕ
-unbuilt_decorators w S.no_decorators = None
-unbuilt_decorators w (S.decorator l e r) = option_or (unbuilt_exp w e) (unbuilt_decorators w r)
+abbrev pub unbuilt_decorators : Decorators → Option ℕ
+unbuilt_decorators S.no_decorators = None
+unbuilt_decorators (S.decorator l e r) = option_or (unbuilt_exp e) (unbuilt_decorators r)
 
 abbrev mutual
-  pub unbuilt_stm : (inside : Bool) → Stm → Option ℕ
-  unbuilt_stm w (S.expr l e) = unbuilt_exp w e
-  unbuilt_stm w (S.assign l ts e) = option_or (unbuilt_targets w ts) (unbuilt_exp w e)
-  unbuilt_stm w (S.augmented l p o e) = option_or (unbuilt_place w p) (unbuilt_exp w e)
-  unbuilt_stm w (S.annotated l p a v) = option_or (unbuilt_place w p) (unbuilt_opt w v)
-  unbuilt_stm w (S.pass l) = None
-  unbuilt_stm w (S.del l ts) = unbuilt_targets w ts
-  unbuilt_stm w (S.return l v) = unbuilt_opt w v
-  unbuilt_stm w (S.break l) = None
-  unbuilt_stm w (S.continue l) = None
-  unbuilt_stm w (S.global l xs) = unless (are_available xs) l
-  unbuilt_stm w (S.nonlocal l xs) = unless (are_available xs) l
-  unbuilt_stm w (S.choice l bs els) = option_or (unbuilt_branches w bs) (unbuilt_stms w els)
-  unbuilt_stm w (S.while l c body els) = option_or (unbuilt_exp w c) (option_or (unbuilt_stms w body) (unbuilt_stms w els))
-  unbuilt_stm w (S.for l t e body els) = option_or (unbuilt_target w t) (option_or (unbuilt_exp w e) (option_or (unbuilt_stms w body) (unbuilt_stms w els)))
-  unbuilt_stm w (S.def l ds k n x ps r body) =
-      option_or (unless (is_available x) l) (option_or (unbuilt_decorators w ds) (option_or (unbuilt_params w ps) (unbuilt_stms true body)))
-  unbuilt_stm w (S.docstring l) = None
-  unbuilt_stm w (S.assert l c m) = option_or (unbuilt_exp w c) (unbuilt_opt w m)
-  unbuilt_stm w (S.raise l e c) = option_or (unbuilt_exp w e) (unbuilt_opt w c)
-  unbuilt_stm w (S.raise_again l) = None
-  unbuilt_stm w (S.try l body hs els fin) =
-      option_or (unbuilt_stms w body) (option_or (unbuilt_handlers w hs) (option_or (unbuilt_stms w els) (unbuilt_stms w fin)))
-  unbuilt_stm w (S.import l xs) = unless (are_bound_available xs) l
-  unbuilt_stm w (S.import_from l m xs) = unless (are_bound_available xs) l
-  unbuilt_stm w (S.with l is body) = Some l
-  unbuilt_stm w (S.class l ds k n x base body) = Some l
+  pub unbuilt_stm : Stm → Option ℕ
+  unbuilt_stm (S.expr l e) = unbuilt_exp e
+  unbuilt_stm (S.assign l ts e) = option_or (unbuilt_targets ts) (unbuilt_exp e)
+  unbuilt_stm (S.augmented l p o e) = option_or (unbuilt_place p) (unbuilt_exp e)
+  unbuilt_stm (S.annotated l p a v) = option_or (unbuilt_place p) (unbuilt_opt v)
+  unbuilt_stm (S.pass l) = None
+  unbuilt_stm (S.del l ts) = unbuilt_targets ts
+  unbuilt_stm (S.return l v) = unbuilt_opt v
+  unbuilt_stm (S.break l) = None
+  unbuilt_stm (S.continue l) = None
+  unbuilt_stm (S.global l xs) = unless (are_available xs) l
+  unbuilt_stm (S.nonlocal l xs) = unless (are_available xs) l
+  unbuilt_stm (S.choice l bs els) = option_or (unbuilt_branches bs) (unbuilt_stms els)
+  unbuilt_stm (S.while l c body els) = option_or (unbuilt_exp c) (option_or (unbuilt_stms body) (unbuilt_stms els))
+  unbuilt_stm (S.for l t e body els) = option_or (unbuilt_target t) (option_or (unbuilt_exp e) (option_or (unbuilt_stms body) (unbuilt_stms els)))
+  unbuilt_stm (S.def l ds k n x ps r body) =
+      option_or (unless (is_available x) l) (option_or (unbuilt_decorators ds) (option_or (unbuilt_params ps) (unbuilt_stms body)))
+  unbuilt_stm (S.docstring l) = None
+  unbuilt_stm (S.assert l c m) = option_or (unbuilt_exp c) (unbuilt_opt m)
+  unbuilt_stm (S.raise l e c) = option_or (unbuilt_exp e) (unbuilt_opt c)
+  unbuilt_stm (S.raise_again l) = None
+  unbuilt_stm (S.try l body hs els fin) =
+      option_or (unbuilt_stms body) (option_or (unbuilt_handlers hs) (option_or (unbuilt_stms els) (unbuilt_stms fin)))
+  unbuilt_stm (S.import l xs) = unless (are_bound_available xs) l
+  unbuilt_stm (S.import_from l m xs) = unless (are_bound_available xs) l
+  unbuilt_stm (S.with l is body) = Some l
+  unbuilt_stm (S.class l ds k n x base body) = Some l
 
-  pub unbuilt_stms : (inside : Bool) → Stms → Option ℕ
-  unbuilt_stms w S.none = None
-  unbuilt_stms w (S.more s ss) = option_or (unbuilt_stm w s) (unbuilt_stms w ss)
+  pub unbuilt_stms : Stms → Option ℕ
+  unbuilt_stms S.none = None
+  unbuilt_stms (S.more s ss) = option_or (unbuilt_stm s) (unbuilt_stms ss)
 
-  pub unbuilt_branches : (inside : Bool) → Branches → Option ℕ
-  unbuilt_branches w S.no_branches = None
-  unbuilt_branches w (S.branch l c body r) = option_or (unbuilt_exp w c) (option_or (unbuilt_stms w body) (unbuilt_branches w r))
+  pub unbuilt_branches : Branches → Option ℕ
+  unbuilt_branches S.no_branches = None
+  unbuilt_branches (S.branch l c body r) = option_or (unbuilt_exp c) (option_or (unbuilt_stms body) (unbuilt_branches r))
 
-  pub unbuilt_handlers : (inside : Bool) → Handlers → Option ℕ
-  unbuilt_handlers w S.no_handlers = None
-  unbuilt_handlers w (S.handler l c x body r) =
-      option_or (unless (is_available_if x) l) (option_or (unbuilt_opt w c) (option_or (unbuilt_stms w body) (unbuilt_handlers w r)))
+  pub unbuilt_handlers : Handlers → Option ℕ
+  unbuilt_handlers S.no_handlers = None
+  unbuilt_handlers (S.handler l c x body r) =
+      option_or (unless (is_available_if x) l) (option_or (unbuilt_opt c) (option_or (unbuilt_stms body) (unbuilt_handlers r)))
 
 -- the line of the first node of a script that isn't supported
 abbrev pub unbuilt_of : Stms → Option ℕ
-unbuilt_of ss = unbuilt_stms false ss
+unbuilt_of ss = unbuilt_stms ss
 
 -- a script is supported where there is none
 abbrev pub Built : Stms → Type 0

@@ -15,21 +15,21 @@ use crate::names::{are_available, are_bound_available, is_available, is_availabl
 use pt_base::Line;
 use pt_tree::{Branch, Decorator, Expr, Handler, Script, Stmt, StmtNode};
 
-fn unbuilt_optional(inside: bool, e: &Option<Expr>) -> Option<Line>
-    ensures { option_map (λ l. l.0) result ≡ unbuilt_opt inside (opt_exp e.now) }
+fn unbuilt_optional(e: &Option<Expr>) -> Option<Line>
+    ensures { option_map (λ l. l.0) result ≡ unbuilt_opt (opt_exp e.now) }
 {
     match e {
-        Some(e) => unbuilt_expression(inside, e),
+        Some(e) => unbuilt_expression(e),
         None => None,
     }
 }
 
-fn unbuilt_decorators(inside: bool, decorators: &[Decorator]) -> Option<Line>
+fn unbuilt_decorators(decorators: &[Decorator]) -> Option<Line>
     ensures { option_map (λ l. l.0) result
-        ≡ unbuilt_decorators inside (decorators_of decorators.now) }
+        ≡ unbuilt_decorators (decorators_of decorators.now) }
 {
     for decorator in decorators {
-        let found = unbuilt_expression(inside, &decorator.value);
+        let found = unbuilt_expression(&decorator.value);
         if found.is_some() {
             return found;
         }
@@ -39,23 +39,23 @@ fn unbuilt_decorators(inside: bool, decorators: &[Decorator]) -> Option<Line>
 
 #[cycle(statements)]
 #[tactic(auto, using(pt_tree::proofs::StatementFolds::statements))]
-fn unbuilt_statement(inside: bool, s: &Stmt) -> Option<Line>
-    ensures { option_map (λ l. l.0) result ≡ unbuilt_stm inside (stm_of s.now) }
+fn unbuilt_statement(s: &Stmt) -> Option<Line>
+    ensures { option_map (λ l. l.0) result ≡ unbuilt_stm (stm_of s.now) }
 {
     match &s.node {
-        StmtNode::Expr(value) => unbuilt_expression(inside, value),
+        StmtNode::Expr(value) => unbuilt_expression(value),
         StmtNode::Assign { targets, value } => {
-            unbuilt_targets(inside, targets.as_slice()).or(unbuilt_expression(inside, value))
+            unbuilt_targets(targets.as_slice()).or(unbuilt_expression(value))
         }
         StmtNode::Augmented { target, value, .. } => {
-            unbuilt_place(inside, target.line, &target.node).or(unbuilt_expression(inside, value))
+            unbuilt_place(target.line, &target.node).or(unbuilt_expression(value))
         }
         StmtNode::Annotated { target, value, .. } => {
-            unbuilt_place(inside, target.line, &target.node).or(unbuilt_optional(inside, value))
+            unbuilt_place(target.line, &target.node).or(unbuilt_optional(value))
         }
         StmtNode::Pass | StmtNode::Break | StmtNode::Continue => None,
-        StmtNode::Del(targets) => unbuilt_targets(inside, targets.as_slice()),
-        StmtNode::Return(value) => unbuilt_optional(inside, value),
+        StmtNode::Del(targets) => unbuilt_targets(targets.as_slice()),
+        StmtNode::Return(value) => unbuilt_optional(value),
         StmtNode::Global(names) | StmtNode::Nonlocal(names) => {
             unless(are_available(names.as_slice()), s.line)
         }
@@ -63,17 +63,17 @@ fn unbuilt_statement(inside: bool, s: &Stmt) -> Option<Line>
             branches,
             otherwise,
         } => {
-            let otherwise = unbuilt_statements(inside, otherwise.as_slice());
-            unbuilt_branches(inside, branches.as_slice()).or(otherwise)
+            let otherwise = unbuilt_statements(otherwise.as_slice());
+            unbuilt_branches(branches.as_slice()).or(otherwise)
         }
         StmtNode::While {
             test,
             body,
             otherwise,
         } => {
-            let otherwise = unbuilt_statements(inside, otherwise.as_slice());
-            let behind = unbuilt_statements(inside, body.as_slice()).or(otherwise);
-            unbuilt_expression(inside, test).or(behind)
+            let otherwise = unbuilt_statements(otherwise.as_slice());
+            let behind = unbuilt_statements(body.as_slice()).or(otherwise);
+            unbuilt_expression(test).or(behind)
         }
         StmtNode::For {
             target,
@@ -81,9 +81,9 @@ fn unbuilt_statement(inside: bool, s: &Stmt) -> Option<Line>
             body,
             otherwise,
         } => {
-            let otherwise = unbuilt_statements(inside, otherwise.as_slice());
-            let behind = unbuilt_statements(inside, body.as_slice()).or(otherwise);
-            unbuilt_target(inside, target).or(unbuilt_expression(inside, iterable).or(behind))
+            let otherwise = unbuilt_statements(otherwise.as_slice());
+            let behind = unbuilt_statements(body.as_slice()).or(otherwise);
+            unbuilt_target(target).or(unbuilt_expression(iterable).or(behind))
         }
         StmtNode::Def {
             decorators,
@@ -92,16 +92,16 @@ fn unbuilt_statement(inside: bool, s: &Stmt) -> Option<Line>
             body,
             ..
         } => {
-            let parameters = unbuilt_parameters(inside, parameters);
-            let inner = parameters.or(unbuilt_statements(true, body.as_slice()));
-            let parts = unbuilt_decorators(inside, decorators.as_slice()).or(inner);
+            let parameters = unbuilt_parameters(parameters);
+            let inner = parameters.or(unbuilt_statements(body.as_slice()));
+            let parts = unbuilt_decorators(decorators.as_slice()).or(inner);
             unless(is_available(name.as_str()), s.line).or(parts)
         }
         StmtNode::Assert { test, message } => {
-            unbuilt_expression(inside, test).or(unbuilt_optional(inside, message))
+            unbuilt_expression(test).or(unbuilt_optional(message))
         }
         StmtNode::Raise { exception, cause } => {
-            unbuilt_expression(inside, exception).or(unbuilt_optional(inside, cause))
+            unbuilt_expression(exception).or(unbuilt_optional(cause))
         }
         StmtNode::RaiseAgain => None,
         StmtNode::Try {
@@ -110,10 +110,10 @@ fn unbuilt_statement(inside: bool, s: &Stmt) -> Option<Line>
             otherwise,
             finally,
         } => {
-            let behind = unbuilt_statements(inside, otherwise.as_slice());
-            let parts = behind.or(unbuilt_statements(inside, finally.as_slice()));
-            let parts = unbuilt_handlers(inside, handlers.as_slice()).or(parts);
-            unbuilt_statements(inside, body.as_slice()).or(parts)
+            let behind = unbuilt_statements(otherwise.as_slice());
+            let parts = behind.or(unbuilt_statements(finally.as_slice()));
+            let parts = unbuilt_handlers(handlers.as_slice()).or(parts);
+            unbuilt_statements(body.as_slice()).or(parts)
         }
         StmtNode::Import(names) => unless(are_bound_available(names.as_slice()), s.line),
         StmtNode::ImportFrom { names, .. } => {
@@ -125,11 +125,11 @@ fn unbuilt_statement(inside: bool, s: &Stmt) -> Option<Line>
 
 #[cycle(statements)]
 #[tactic(auto, using(pt_tree::proofs::StatementFolds::statements))]
-fn unbuilt_statements(inside: bool, statements: &[Stmt]) -> Option<Line>
-    ensures { option_map (λ l. l.0) result ≡ unbuilt_stms inside (stms_of statements.now) }
+fn unbuilt_statements(statements: &[Stmt]) -> Option<Line>
+    ensures { option_map (λ l. l.0) result ≡ unbuilt_stms (stms_of statements.now) }
 {
     for s in statements {
-        let found = unbuilt_statement(inside, s);
+        let found = unbuilt_statement(s);
         if found.is_some() {
             return found;
         }
@@ -139,13 +139,13 @@ fn unbuilt_statements(inside: bool, statements: &[Stmt]) -> Option<Line>
 
 #[cycle(statements)]
 #[tactic(auto, using(pt_tree::proofs::StatementFolds::statements))]
-fn unbuilt_branches(inside: bool, branches: &[Branch]) -> Option<Line>
+fn unbuilt_branches(branches: &[Branch]) -> Option<Line>
     ensures { option_map (λ l. l.0) result
-        ≡ unbuilt_branches inside (chained no_branches (map branch_of branches.now)) }
+        ≡ unbuilt_branches (chained no_branches (map branch_of branches.now)) }
 {
     for branch in branches {
-        let test = unbuilt_expression(inside, &branch.test);
-        let found = test.or(unbuilt_statements(inside, branch.body.as_slice()));
+        let test = unbuilt_expression(&branch.test);
+        let found = test.or(unbuilt_statements(branch.body.as_slice()));
         if found.is_some() {
             return found;
         }
@@ -155,14 +155,14 @@ fn unbuilt_branches(inside: bool, branches: &[Branch]) -> Option<Line>
 
 #[cycle(statements)]
 #[tactic(auto, using(pt_tree::proofs::StatementFolds::statements))]
-fn unbuilt_handlers(inside: bool, handlers: &[Handler]) -> Option<Line>
+fn unbuilt_handlers(handlers: &[Handler]) -> Option<Line>
     ensures { option_map (λ l. l.0) result
-        ≡ unbuilt_handlers inside (chained no_handlers (map handler_of handlers.now)) }
+        ≡ unbuilt_handlers (chained no_handlers (map handler_of handlers.now)) }
 {
     for handler in handlers {
         let name = unless(is_available_if(&handler.name), handler.line);
-        let body = unbuilt_statements(inside, handler.body.as_slice());
-        let found = name.or(unbuilt_optional(inside, &handler.class).or(body));
+        let body = unbuilt_statements(handler.body.as_slice());
+        let found = name.or(unbuilt_optional(&handler.class).or(body));
         if found.is_some() {
             return found;
         }
@@ -176,5 +176,5 @@ fn unbuilt_handlers(inside: bool, handlers: &[Handler]) -> Option<Line>
 pub fn first_unbuilt(script: &Script) -> Option<Line>
     ensures { option_map (λ l. l.0) result ≡ unbuilt_of (script_of script.now) }
 {
-    unbuilt_statements(false, script.body.as_slice())
+    unbuilt_statements(script.body.as_slice())
 }

@@ -15,7 +15,7 @@ use Rattle.pt_places.specs.declared.places.Place.{Place}
 use Rattle.pt_places.specs.PlaceTable.{HasPlaces, place_at, place_of}
 use Rattle.sem_fits.proofs.fits.ViewLaid.{view_is_laid}
 use Rattle.pt_verify_depths.proofs.ViewLemmas.{blocks_are_seen}
-use Rattle.pt_supported_code.specs.Built.{IsBuiltBlock, TakesAsListed, has_slots_by_kind, is_plain_kind, named_by}
+use Rattle.pt_supported_code.specs.Built.{IsBuiltBlock, TakesAsListed, is_plain_kind, named_by}
 use Rattle.pt_supported_code.specs.Numbers.{IsReadBlock, AllTake}
 
 some_is : {A : Type 0} (a b : A) → Some a ≡ Some b → a ≡ b
@@ -91,7 +91,7 @@ module _ (c : Code) (b : CodeBlock) (read : IsReadBlock c b) where
   Takes = (pc : ℕ) (i : Ins) → read.view pc ≡ Some i → TakesAsListed c.lists i.instr
 
   abbrev has_kind : Bool
-  has_kind = is_plain_kind b.kind && has_slots_by_kind b.kind (length b.locals + length b.cells)
+  has_kind = is_plain_kind b.kind
 
   both_true : (s t : Bool) → (s && t) ≡ true → (s ≡ true) × (t ≡ true)
   both_true true t e = (refl, e)
@@ -112,14 +112,13 @@ module _ (c : Code) (b : CodeBlock) (read : IsReadBlock c b) where
       told : (has_kind && (locals && (cells && takes))) ≡ true → IsBuiltBlock c b
       told e =
           let p = both_true has_kind (locals && (cells && takes)) e in
-          let k = both_true (is_plain_kind b.kind) (has_slots_by_kind b.kind (length b.locals + length b.cells)) p.0 in
           let q = both_true locals (cells && takes) p.1 in
           let r = both_true cells takes q.1 in
-          record { is_plain = k.0; has_slots = k.1; locals = l.0 q.0; cells = m.0 r.0; takes = one_view_takes (n.0 r.1) }
+          record { is_plain = p.0; locals = l.0 q.0; cells = m.0 r.0; takes = one_view_takes (n.0 r.1) }
 
       asked : IsBuiltBlock c b → (has_kind && (locals && (cells && takes))) ≡ true
       asked x =
-          both has_kind (locals && (cells && takes)) (both (is_plain_kind b.kind) (has_slots_by_kind b.kind (length b.locals + length b.cells)) x.is_plain x.has_slots)
+          both has_kind (locals && (cells && takes)) x.is_plain
           (both locals (cells && takes) (l.1 x.locals) (both cells takes (m.1 x.cells) (n.1 (x.takes read.view read.is_view))))
 
 -- blocks one after another

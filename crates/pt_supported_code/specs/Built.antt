@@ -1,6 +1,6 @@
 -- Which code is supported yet. No rule of code asks for it: each condition is what the machine lacks. The code of each supported script that has a file
 -- meets them (Library Reference, "inspect": code objects; Language Reference 4.2.2, 6.2.8, 6.2.9, 8.8).
-use Rattle.std.specs.Prelude.{◌≡◌, ◌<◌, ℕ, ◌+◌, nat_eq, List, [], ◌++◌, length, map, slice_get, slice_index_or, Bool, true, false, Option, Some}
+use Rattle.std.specs.Prelude.{◌≡◌, ◌<◌, ℕ, List, [], ◌++◌, length, map, slice_get, slice_index_or, Bool, true, false, Option, Some}
 use Rattle.std.specs.List.{IsDistinct}
 use Rattle.std.specs.Str.{bytes_eq}
 use Rattle.pt_base.specs.declared.numbers.Line.{Line}
@@ -21,11 +21,6 @@ is_plain_kind kind.Module = true
 is_plain_kind kind.Function = true
 is_plain_kind k = false
 
--- the names of a module are looked up by their texts
-abbrev pub has_slots_by_kind : BlockKind → (names : ℕ) → Bool
-has_slots_by_kind kind.Module n = nat_eq n 0
-has_slots_by_kind k n = true
-
 abbrev pub named_by : (texts : List Name) → List TextNo → List Name
 named_by texts xs = map (λ x. text_in texts x.0) xs
 
@@ -36,7 +31,6 @@ TakesAsListed lists i = Unit {0}
 
 pub record IsBuiltBlock (c : Code) (b : CodeBlock) : Type 0 where
   pub is_plain : is_plain_kind b.kind ≡ true
-  pub has_slots : has_slots_by_kind b.kind (length b.locals + length b.cells) ≡ true
   -- no two local names are the same text, and no two names of cells or free ones
   pub locals : IsDistinct bytes_eq (named_by c.texts b.locals)
   pub cells : IsDistinct bytes_eq (named_by c.texts (b.cells ++ b.free))

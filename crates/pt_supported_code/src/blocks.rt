@@ -1,10 +1,9 @@
 //! Whether a block is supported yet.
 
-ghost use Rattle.std.specs.Prelude.{◌≡◌, ◌+◌, ◌++◌, ℕ, ◌&&◌, IfOk, Decides};
-ghost use Rattle.std.specs.Prelude.{length, nat_eq, not};
+ghost use Rattle.std.specs.Prelude.{◌≡◌, ◌++◌, ◌&&◌, IfOk, Decides};
 ghost use Rattle.std.specs.List.{IsDistinct};
 ghost use Rattle.std.specs.Str.{bytes_eq};
-ghost use Rattle.pt_supported_code.specs.Built.{IsBuiltBlock, has_slots_by_kind, is_plain_kind, named_by};
+ghost use Rattle.pt_supported_code.specs.Built.{IsBuiltBlock, is_plain_kind, named_by};
 ghost use Rattle.pt_supported_code.specs.Numbers.{IsReadBlock};
 ghost use Rattle.pt_standing.specs.Texts.{AreIds};
 
@@ -14,6 +13,7 @@ use pt_base::{Memory, Seq};
 use pt_code::{BlockKind, Code, CodeBlock};
 use std::alloc::Global;
 
+/// Whether a block is neither of a class nor of a generator.
 fn is_plain_kind(kind: BlockKind) -> bool
     ensures { result ≡ is_plain_kind kind }
 {
@@ -21,32 +21,6 @@ fn is_plain_kind(kind: BlockKind) -> bool
         BlockKind::Module | BlockKind::Function => true,
         _ => false,
     }
-}
-
-fn has_slots_by_kind(kind: BlockKind, has_names: bool) -> bool
-    ensures { (names : ℕ) → (has_names ≡ not (nat_eq names 0))
-        → result ≡ has_slots_by_kind kind names }
-{
-    match kind {
-        BlockKind::Module => !has_names,
-        _ => true,
-    }
-}
-
-fn has_its_slots(block: &CodeBlock) -> bool
-    ensures { result ≡ has_slots_by_kind block.now.kind
-        (length block.now.locals + length block.now.cells) }
-{
-    let has_names = !block.locals.is_empty() || !block.cells.is_empty();
-    has_slots_by_kind(block.kind, has_names)
-}
-
-/// Whether a block is neither of a class nor of a generator, and a module without names in slots.
-fn is_of_built_kind(block: &CodeBlock) -> bool
-    ensures { result ≡ (is_plain_kind block.now.kind && has_slots_by_kind block.now.kind
-        (length block.now.locals + length block.now.cells)) }
-{
-    is_plain_kind(block.kind) && has_its_slots(block)
 }
 
 /// Whether no two local names are the same text.
@@ -91,7 +65,7 @@ pub fn is_built(
     requires read { IsReadBlock code.now block.now }
     ensures { IfOk result (λ built. Decides built (IsBuiltBlock code.now block.now)) }
 {
-    let kind = is_of_built_kind(block);
+    let kind = is_plain_kind(block.kind);
     let locals = has_different_locals(alloc, ids, block)?;
     let cells = has_different_cells(alloc, ids, block)?;
     let takes = all_take(alloc, code.lists.as_slice(), block)?;

@@ -3,7 +3,7 @@ use Rattle.std.proofs.Common.{◌≡◌, ◌∙◌, ◌+◌, ℕ, zero, suc, Boo
 use Rattle.std.specs.Prelude.{slice_get}
 use Rattle.std.specs.List.{AllByRecursion}
 use Rattle.std.proofs.lemmas.List.{length-map, length-append}
-use Rattle.pt_tree.specs.Syntax.{Name, Stms}
+use Rattle.pt_tree.specs.Syntax.{Stms}
 use Rattle.pt_tree.specs.Blocks as B
 use Rattle.pt_tree.specs.Blocks.{Block, Code as BlockCode, blocks_script, yields}
 use Rattle.pt_wide.specs.Syntax as wide
@@ -24,7 +24,7 @@ use Rattle.law_typed_pieces.specs.law_operands.law_files.sem_compile.compile.Law
 use Rattle.law_typed_pieces.proofs.law_operands.law_files.sem_compile.compile.Blocks.{as_many_blocks, blocks_are_laid_out}
 use Rattle.law_front.proofs.script_numbers.Scripts.{numbered}
 use Rattle.law_compile.specs.script_objects.Laws.{HasCode}
-use Rattle.pt_builtins.specs.pt_host.World.{no_names, start_world}
+use Rattle.pt_builtins.specs.pt_host.Calls.{module_names, module_world}
 use Rattle.pt_supported.specs.Built.{Built}
 use Rattle.pt_supported.specs.Laws.{is_class_code}
 use Rattle.pt_supported.proofs.Silent.{built_blocks_are_no_classes}
@@ -41,7 +41,6 @@ use Rattle.law_frames.specs.Operands.{CodeNamesItsBlocks, OperandsNameIn}
 use Rattle.law_frames.proofs.Runs.{reached_has_names}
 use Rattle.law_frames.proofs.Start.{begins_with_names}
 use Rattle.law_loading.specs.code_names.Laws.{SupportedCodeNamesItsBlocks, SupportedCodeRunsWithItsNames}
-use Rattle.law_loading.proofs.code_names.Module.{module_has_no_locals, module_has_no_slots}
 use Rattle.law_loading.proofs.code_names.Instructions.{TakesAsNamed, all-take, laid-is, mapped-at, operands-name, seen-names, within_of}
 
 mapped-count : {A B : Type 0} (f : A → B) (xs : List A) (ys : List B) → map f xs ≡ ys → length xs ≡ length ys
@@ -178,10 +177,11 @@ pub code_names_blocks : SupportedCodeNamesItsBlocks
 code_names_blocks script ss l ready built t = names-blocks script ss l ready built t
 
 -- the run of the module begins with its names
-pub module_begins : (ss : Stms) → Built ss → StoresHaveNames (program_of ss) the_module (record { names = no_names; world = start_world (program_of ss) })
-module_begins ss built = begins_with_names (program_of ss) the_module (module_has_no_locals ss built) (module_has_no_slots ss built)
+pub module_begins : (ss : Stms)
+    → StoresHaveNames (program_of ss) the_module (record { names = module_names (program_of ss); world = module_world (program_of ss) })
+module_begins ss = begins_with_names (program_of ss) (module_has_no_frees ss)
 
 pub runs_with_names : SupportedCodeRunsWithItsNames
 runs_with_names script ss l ready built t n s r =
-    reached_has_names (program_of ss) (script_code ss t.object) (names-blocks script ss l ready built t) n the_module no_names (start_world (program_of ss))
-    (module_begins ss built) s r
+    reached_has_names (program_of ss) (script_code ss t.object) (names-blocks script ss l ready built t) n the_module
+    (module_names (program_of ss)) (module_world (program_of ss)) (module_begins ss) s r

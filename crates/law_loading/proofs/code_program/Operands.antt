@@ -1,4 +1,4 @@
--- The operands of a supported code name what their blocks have, and its module has no names in slots.
+-- The operands of a supported code name what their blocks have, and its module has no free names.
 use Rattle.std.proofs.Common.{◌≡◌, ◌<◌, ◌^◌, ℕ, ◌+◌, Bool, true, false, if◌then◌else◌, nat_eq, eqb-true, List, [], ◌∷◌, ◌++◌, length, map, Option, Some, None, refl, sym, ap, ◌∙◌, subst, arith}
 use Rattle.std.specs.Prelude.{slice_get, slice_index_or}
 use Rattle.std.specs.List.{AllByRecursion}
@@ -25,10 +25,10 @@ use Rattle.pt_code_loader.proofs.pt_code_tables.pt_machine_state.pt_code_facts.N
 use Rattle.pt_code_loader.specs.pt_code_tables.pt_machine_state.pt_code_facts.sem_rows.variables.Numbers.{KnowsNames}
 use Rattle.law_frames.specs.Operands.{CodeNamesItsBlocks, OperandsName, OperandsNameIn}
 use Rattle.law_frames.proofs.Start.{begins_with_names}
-use Rattle.pt_supported_code.specs.Built.{TakesAsListed, has_slots_by_kind, is_plain_kind}
+use Rattle.pt_supported_code.specs.Built.{TakesAsListed, is_plain_kind}
 use Rattle.pt_supported_code.proofs.BlockLemmas.{fields_of}
 use Rattle.law_loading.proofs.loaded_scripts.Lists.{same_some}
-use Rattle.law_loading.specs.code_program.CodeProgram.{AreObjectsOf, code_blocks, facts_by, number_in, number_or_module, program_of_code, the_module}
+use Rattle.law_loading.specs.code_program.CodeProgram.{AreObjectsOf, code_blocks, facts_by, number_in, number_or_module, program_of_code}
 use Rattle.law_loading.specs.code_program.Laws.{IsRunnable, BuiltCodeNamesItsBlocks, RunOfCodeBeginsWithNames}
 use Rattle.law_loading.proofs.code_program.Objects.{at_number, the_first}
 
@@ -78,20 +78,13 @@ no_items : {A : Type 0} (xs : List A) → length xs ≡ 0 → xs ≡ []
 no_items [] e = refl
 no_items (x ∷ xs) e = absurd (omega (arith, e))
 
--- the module has neither local names nor cells, nor free names
+-- the module has no free names
 module_free : (k : BlockKind) (n : ℕ) → stands_first true k ≡ true → may_be_free k n ≡ true → n ≡ 0
 module_free kind.Module n e f = eqb-true n 0 f
 module_free kind.Function n e f = absurd (false≢true e)
 module_free kind.Generator n e f = absurd (false≢true e)
 module_free kind.Class n e f = absurd (false≢true e)
 module_free kind.GeneratorExpression n e f = absurd (false≢true e)
-
-module_slots : (k : BlockKind) (n : ℕ) → stands_first true k ≡ true → has_slots_by_kind k n ≡ true → n ≡ 0
-module_slots kind.Module n e f = eqb-true n 0 f
-module_slots kind.Function n e f = absurd (false≢true e)
-module_slots kind.Generator n e f = absurd (false≢true e)
-module_slots kind.Class n e f = absurd (false≢true e)
-module_slots kind.GeneratorExpression n e f = absurd (false≢true e)
 
 -- in either case the module's number is 0
 pub module_number : (o : Option CodeBlock) → number_or_module o 0 ≡ 0
@@ -106,23 +99,6 @@ module _ (c : Code) (ready : IsRunnable c) where
       let same : f.0 ≡ b = same_some f.0 b (sym f.1 ∙ e) in
       let none : length f.0.free ≡ 0 = module_free f.0.kind (length f.0.free) f.2.0.1.0.1 f.2.1.0.1.1.1 in
       length-map b.free (λ x. text_in c.texts x.0) ∙ (ap (λ (x : CodeBlock). length x.free) (sym same) ∙ none)
-
-  module_has_none : (o : Option CodeBlock) → slice_get c.blocks 0 ≡ o
-      → ((facts_by c.texts o).locals ≡ []) × ((facts_by c.texts o).cells ++ (facts_by c.texts o).frees ≡ [])
-  module_has_none None e = (refl, refl)
-  module_has_none (Some b) e =
-      let f = the_first c ready.has_file in
-      let same : f.0 ≡ b = same_some f.0 b (sym f.1 ∙ e) in
-      let built = ready.built 0 f.0 f.1 in
-      let none : length f.0.free ≡ 0 = module_free f.0.kind (length f.0.free) f.2.0.1.0.1 f.2.1.0.1.1.1 in
-      let no_slots : length f.0.locals + length f.0.cells ≡ 0 = module_slots f.0.kind (length f.0.locals + length f.0.cells) f.2.0.1.0.1 built.has_slots in
-      let no_locals : f.0.locals ≡ [] = no_items f.0.locals (omega (arith, no_slots)) in
-      let no_cells : f.0.cells ≡ [] = no_items f.0.cells (omega (arith, no_slots)) in
-      let no_free : f.0.free ≡ [] = no_items f.0.free none in (
-        ap (λ (x : CodeBlock). named_texts c.texts x.locals) (sym same) ∙ ap (named_texts c.texts) no_locals,
-        ap (λ (x : CodeBlock). named_texts c.texts x.cells ++ named_texts c.texts x.free) (sym same)
-            ∙ (ap (λ xs. named_texts c.texts xs ++ named_texts c.texts f.0.free) no_cells ∙ ap (named_texts c.texts) no_free),
-      )
 
   module _ (object : ℕ → CodeObject Value) (are : AreObjectsOf c object) where
     -- of the block at a number
@@ -189,6 +165,6 @@ built_code_names_its_blocks c object ready are = names_its_blocks c ready object
 
 pub run_begins_with_names : RunOfCodeBeginsWithNames
 run_begins_with_names c ready =
-    let n = number_or_module (slice_get c.blocks 0) 0 in
-    let none = module_has_none c ready (slice_get c.blocks n) (ap (slice_get c.blocks) (sym (module_number (slice_get c.blocks 0)))) in
-    begins_with_names (program_of_code c) the_module none.0 none.1
+    let n = number_in c 0 in
+    let at = ap (slice_get c.blocks) (sym (module_number (slice_get c.blocks 0))) in
+    begins_with_names (program_of_code c) (no_items (facts_by c.texts (slice_get c.blocks n)).frees (module_frees c ready (slice_get c.blocks n) at))

@@ -18,7 +18,7 @@ use Rattle.sem_fits.specs.fits.Laws as laws
 use Rattle.pt_verify_depths.proofs.ObjectRuns.{object_runs}
 use Rattle.sem_run.specs.run.Machine.{BlockId}
 use Rattle.sem_run.specs.run.Source.{or_null}
-use Rattle.pt_builtins.specs.pt_host.World.{no_names, start_world}
+use Rattle.pt_builtins.specs.pt_host.Calls.{module_names, module_world}
 use Rattle.pt_builtins.specs.pt_host.HeapHost.{heap_host}
 use Rattle.pt_bare_host.proofs.BlocksOnly.{opens_only}
 use Rattle.sem_code_machine.specs.code_machine.CodeBlocks.{start_of}
@@ -86,4 +86,4 @@ module _ (c : Code) (object : ℕ → CodeObject Value) (ready : IsRunnable c) (
 pub built_code_is_never_stuck : BuiltCodeIsNeverStuck
 built_code_is_never_stuck c object ready are n =
     runs_on (code_blocks c object) (blocks c object ready are) (are_fitting c object ready are) (heap_host (program_of_code c)) (opens_only (program_of_code c)) n the_module
-    no_names (start_world (program_of_code c))
+    (module_names (program_of_code c)) (module_world (program_of_code c))

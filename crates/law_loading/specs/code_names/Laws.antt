@@ -4,7 +4,8 @@ use Rattle.pt_tree.specs.Syntax.{Stms}
 use Rattle.pt_wide.specs.Syntax as wide
 use Rattle.pt_heap.specs.declared.value.Value.{Value}
 use Rattle.sem_code.specs.slots.Slots.{State}
-use Rattle.pt_builtins.specs.pt_host.World.{Names, World, no_names, start_world}
+use Rattle.pt_builtins.specs.pt_host.World.{Names, World}
+use Rattle.pt_builtins.specs.pt_host.Calls.{module_names, module_world}
 use Rattle.pt_builtins.specs.pt_host.HeapHost.{heap_host}
 use Rattle.pt_bare_runs.specs.Strides as bare
 use Rattle.pt_bare_runs.specs.Laws.{Reaches}
@@ -25,5 +26,5 @@ abbrev pub SupportedCodeRunsWithItsNames : Type 0
 SupportedCodeRunsWithItsNames = (script : wide.Stms) (ss : Stms) (l : Loaded) → IsLoadable script ss → Built ss → (t : HasTables ss l)
     → (n : ℕ) (s : bare.State (State Value) Names Value World)
     → Reaches (machine (script_code ss t.object)) (heap_host (program_of ss)) n
-    (bare.start (machine (script_code ss t.object)) (heap_host (program_of ss)) the_module no_names (start_world (program_of ss))) s
+    (bare.start (machine (script_code ss t.object)) (heap_host (program_of ss)) the_module (module_names (program_of ss)) (module_world (program_of ss))) s
     → RunHasNames (program_of ss) s

@@ -5,7 +5,7 @@ use Rattle.pt_code.specs.declared.Code.{Code}
 use Rattle.pt_code.specs.File.{HasFile}
 use Rattle.sem_code.specs.slots.CodeObject.{CodeObject}
 use Rattle.sem_fits.specs.fits.Fits.{AllFit}
-use Rattle.pt_builtins.specs.pt_host.World.{no_names, start_world}
+use Rattle.pt_builtins.specs.pt_host.Calls.{module_names, module_world}
 use Rattle.pt_builtins.specs.pt_host.HeapHost.{heap_host}
 use Rattle.pt_bare_runs.specs.Laws.{NeverStuck}
 use Rattle.sem_code_machine.specs.code_machine.CodeBlocks.{machine}
@@ -38,8 +38,9 @@ BuiltCodeNamesItsBlocks = (c : Code) (object : ℕ → CodeObject Value) → IsR
 
 abbrev pub RunOfCodeBeginsWithNames : Type 0
 RunOfCodeBeginsWithNames = (c : Code) → IsRunnable c
-    → StoresHaveNames (program_of_code c) the_module (record { names = no_names; world = start_world (program_of_code c) })
+    → StoresHaveNames (program_of_code c) the_module (record { names = module_names (program_of_code c); world = module_world (program_of_code c) })
 
 abbrev pub BuiltCodeIsNeverStuck : Type 0
 BuiltCodeIsNeverStuck = (c : Code) (object : ℕ → CodeObject Value) → IsRunnable c → AreObjectsOf c object → (n : ℕ)
-    → NeverStuck (machine (code_blocks c object)) (heap_host (program_of_code c)) n the_module no_names (start_world (program_of_code c))
+    → NeverStuck (machine (code_blocks c object)) (heap_host (program_of_code c)) n the_module
+    (module_names (program_of_code c)) (module_world (program_of_code c))

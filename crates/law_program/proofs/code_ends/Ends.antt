@@ -24,7 +24,8 @@ use Rattle.pt_verify_depths.proofs.ObjectRuns.{object_runs}
 use Rattle.sem_run.specs.run.Machine.{BlockId, Machine, refuses, not_at_line}
 use Rattle.sem_run.specs.run.Source.{or_null}
 use Rattle.sem_code.specs.comp_expr.Law.{active_at}
-use Rattle.sem_rows.specs.pt_host.World.{Names, World, no_names, start_world}
+use Rattle.sem_rows.specs.pt_host.World.{Names, World}
+use Rattle.sem_rows.specs.pt_host.Calls.{module_names, module_world}
 use Rattle.sem_rows.specs.pt_host.HeapHost.{heap_host}
 use Rattle.pt_bare_runs.specs.Strides as bare
 use Rattle.pt_bare_runs.specs.Strides.{Outcome, take_turn}
@@ -154,20 +155,27 @@ module _ (c : Code) (has : HasFile c) where
 
       -- a run of the one is one of the other
       does_too : (n : ℕ) (o : Outcome Value World) (k : Work)
-          → RunDoes (machine (code_blocks c object)) (heap_host (program_of_code c)) n the_module no_names (start_world (program_of_code c)) o k
-          → RunDoes (machine (code_blocks c other)) (heap_host (program_of_code c)) n the_module no_names (start_world (program_of_code c)) o k
+          → RunDoes (machine (code_blocks c object)) (heap_host (program_of_code c)) n the_module
+          (module_names (program_of_code c)) (module_world (program_of_code c)) o k
+          → RunDoes (machine (code_blocks c other)) (heap_host (program_of_code c)) n the_module
+          (module_names (program_of_code c)) (module_world (program_of_code c)) o k
       does_too n o k d =
-          subst (λ m. RunDoes m (heap_host (program_of_code c)) n the_module no_names (start_world (program_of_code c)) o k) (sym second_is)
-          (run_does_too first turn (heap_host (program_of_code c)) n Within begin stay (alike n) the_module no_names (start_world (program_of_code c)) o k d)
+          subst (λ m. RunDoes m (heap_host (program_of_code c)) n the_module
+          (module_names (program_of_code c)) (module_world (program_of_code c)) o k) (sym second_is)
+          (run_does_too first turn (heap_host (program_of_code c)) n Within begin stay (alike n) the_module
+          (module_names (program_of_code c)) (module_world (program_of_code c)) o k d)
 
 pub runs_to_one_outcome : CodeRunsToOneOutcome
 runs_to_one_outcome c has fit n o p k l r q =
-    does_one_work (machine (code_blocks c q.object)) (heap_host (program_of_code c)) n the_module no_names (start_world (program_of_code c)) o p k l
+    does_one_work (machine (code_blocks c q.object)) (heap_host (program_of_code c)) n the_module
+    (module_names (program_of_code c)) (module_world (program_of_code c)) o p k l
     (does_too c has fit r.object q.object r.are_objects q.are_objects n o k r.does) q.does
 
 pub begins_with_first_writes : OutcomeBeginsWithFirstWrites
 begins_with_first_writes c has fit n o k _ r nothing = (o.written, refl)
 begins_with_first_writes c has fit n o k _ r (of_run ws cells object are first) =
-    outcomes_begin_so (machine (code_blocks c object)) (heap_host (program_of_code c)) n the_module no_names (start_world (program_of_code c)) o ws
-    (runs_so (machine (code_blocks c object)) (heap_host (program_of_code c)) n the_module no_names (start_world (program_of_code c)) o k
+    outcomes_begin_so (machine (code_blocks c object)) (heap_host (program_of_code c)) n the_module
+    (module_names (program_of_code c)) (module_world (program_of_code c)) o ws
+    (runs_so (machine (code_blocks c object)) (heap_host (program_of_code c)) n the_module
+    (module_names (program_of_code c)) (module_world (program_of_code c)) o k
     (does_too c has fit r.object object r.are_objects are n o k r.does)) first

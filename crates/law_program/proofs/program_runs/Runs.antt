@@ -6,7 +6,7 @@ use Rattle.pt_bare_runs.proofs.BareRuns.{bare_runs_are_runs}
 use Rattle.pt_bare_writes.proofs.Fronting.{runs_write_it_first}
 use Rattle.sem_code_machine.specs.code_machine.CodeBlocks.{machine}
 use Rattle.pt_host.specs.HeapHost.{heap_host}
-use Rattle.pt_host.specs.World.{no_names, start_world}
+use Rattle.pt_host.specs.Calls.{module_names, module_world}
 use Rattle.pt_prog.proofs.pt_run_script.pt_run_code.pt_runner.GoesTo.{runs_so}
 use Rattle.pt_prog.specs.pt_run_script.law_compile.script_runs.Blocks.{script_code, number_of, the_module}
 use Rattle.pt_prog.specs.pt_run_script.law_compile.script_runs.Laws.{tree_machine}
@@ -19,34 +19,36 @@ use Rattle.law_program.specs.program_runs.Laws.{ScriptRunsAreRuns, ScriptFrontsA
 
 pub script_runs_are_runs : ScriptRunsAreRuns
 script_runs_are_runs ss n o runs =
-    bare_runs_are_runs (tree_machine value.None ss) (heap_host (program_of ss)) n the_module no_names
-    (start_world (program_of ss)) o runs
+    bare_runs_are_runs (tree_machine value.None ss) (heap_host (program_of ss)) n the_module (module_names (program_of ss))
+    (module_world (program_of ss)) o runs
 
 pub script_fronts_are_fronts : ScriptFrontsAreFronts
 script_fronts_are_fronts ss n ws first =
     runs_write_it_first (tree_machine value.None ss) (heap_host (program_of ss)) n the_module
-    no_names (start_world (program_of ss)) ws first
+    (module_names (program_of ss)) (module_world (program_of ss)) ws first
 
 pub code_of_script_has_its_run : CodeOfScriptHasItsRun
 code_of_script_has_its_run ss known n o w c =
     let host = heap_host (program_of ss) in
-    let world = start_world (program_of ss) in
+    let names = module_names (program_of ss) in
+    let world = module_world (program_of ss) in
     let blocks = script_code ss c.object in
     code_bare_runs_are_runs blocks (λ b. slice_get (compile.code_of ss).blocks (number_of ss b))
-    (λ b. known (number_of ss b)) host n the_module no_names world o
-    (runs_so (machine blocks) host n the_module no_names world o w c.does)
+    (λ b. known (number_of ss b)) host n the_module names world o
+    (runs_so (machine blocks) host n the_module names world o w c.does)
 
 pub code_file_runs_are_runs : CodeFileRunsAreRuns
 code_file_runs_are_runs c known n o w r =
     let host = heap_host (program_of_code c) in
-    let world = start_world (program_of_code c) in
+    let names = module_names (program_of_code c) in
+    let world = module_world (program_of_code c) in
     let blocks = code_blocks c r.object in
     record {
       object = r.object;
       are_objects = r.are_objects;
       runs = code_bare_runs_are_runs blocks (λ b. slice_get c.blocks (number_in c b.number))
-          (λ b. known (number_in c b.number)) host n the_module no_names world o
-          (runs_so (machine blocks) host n the_module no_names world o w r.does);
+          (λ b. known (number_in c b.number)) host n the_module names world o
+          (runs_so (machine blocks) host n the_module names world o w r.does);
     }
 
 pub code_file_fronts_are_fronts : CodeFileFrontsAreFronts
@@ -54,5 +56,5 @@ code_file_fronts_are_fronts c known n _ run.nothing = nothing
 code_file_fronts_are_fronts c known n _ (run.of_run ws cells object are first) =
     of_run ws object are
     (code_bare_fronts_are_fronts (code_blocks c object) (λ b. slice_get c.blocks (number_in c b.number))
-    (λ b. known (number_in c b.number)) (heap_host (program_of_code c)) n the_module no_names
-    (start_world (program_of_code c)) ws first)
+    (λ b. known (number_in c b.number)) (heap_host (program_of_code c)) n the_module (module_names (program_of_code c))
+    (module_world (program_of_code c)) ws first)

@@ -20,7 +20,8 @@ use Rattle.law_typed_pieces.proofs.law_operands.law_files.operands_fit.Operands.
 use Rattle.sem_rows.specs.sem_code_machine.code_machine.CodeBlocks.{CodeBlocks, machine}
 use Rattle.law_code_runs.specs.code_follows.Laws as follows
 use Rattle.sem_rows.specs.pt_host.HeapHost.{heap_host}
-use Rattle.sem_rows.specs.pt_host.World.{Program, World, no_names, start_world}
+use Rattle.sem_rows.specs.pt_host.World.{Program, World}
+use Rattle.sem_rows.specs.pt_host.Calls.{module_names, module_world}
 use Rattle.sem_rows.specs.heap_rows.Leads.{HasHeapExtras, HasHeapTruths, known_truth}
 use Rattle.pt_prog.specs.pt_run_script.pt_run_code.pt_code_loader.Loaded.{iterates}
 use Rattle.pt_prog.specs.pt_run_script.pt_run_code.pt_runner.Work.{Work, RunDoes}
@@ -80,7 +81,7 @@ module _ (ss : Stms) where
 
 -- a run by a program and code
 abbrev Run : (n : ℕ) → Outcome Value World → Work → Program → CodeBlocks Value → Type 0
-Run n o w p code = RunDoes (machine code) (heap_host p) n the_module no_names (start_world p) o w
+Run n o w p code = RunDoes (machine code) (heap_host p) n the_module (module_names p) (module_world p) o w
 
 module _ (text : List ℕ) (ss : Stms) (h : HasCodeFile text ss) where
   abbrev code : Code
@@ -156,16 +157,17 @@ module _ (text : List ℕ) (ss : Stms) (h : HasCodeFile text ss) where
       tree_run : CodeRunsBy ss n o w → RunsTo ss n o
       tree_run r =
           let host = heap_host (program_of ss) in
-          let world = start_world (program_of ss) in
-          (script_has_its_bare_runs value.None ss r.object (are_its_objects r.object r.are_code) host n no_names world o).1
-          (runs_so (code_machine ss r.object) host n the_module no_names world o w r.does)
+          let names = module_names (program_of ss) in
+          let world = module_world (program_of ss) in
+          (script_has_its_bare_runs value.None ss r.object (are_its_objects r.object r.are_code) host n names world o).1
+          (runs_so (code_machine ss r.object) host n the_module names world o w r.does)
 
     writes_first : (ws : List Write) → CodeWritesFirst code n ws → ScriptWritesFirst ss n ws
     writes_first _ nothing = within _ [] _ refl
     writes_first _ (of_run ws cells object are writes) =
-        let First : Program → CodeBlocks Value → Type 0 = λ p c. RunWritesFirst (machine c) (heap_host p) n the_module no_names (start_world p) ws in
-        code_of_script_writes_nothing_else value.None ss object (are_its_objects object (as_code object are)) (heap_host (program_of ss)) n no_names
-        (start_world (program_of ss)) ws
+        let First : Program → CodeBlocks Value → Type 0 = λ p c. RunWritesFirst (machine c) (heap_host p) n the_module (module_names p) (module_world p) ws in
+        code_of_script_writes_nothing_else value.None ss object (are_its_objects object (as_code object are)) (heap_host (program_of ss)) n (module_names (program_of ss))
+        (module_world (program_of ss)) ws
         (subst (First (program_of ss)) (one_code ss object object (λ k. refl)) (subst (λ p. First p (code_blocks code object)) program writes))
 
 pub code_runs_as_script : CodeRunsAsScript

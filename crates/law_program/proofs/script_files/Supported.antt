@@ -1,5 +1,5 @@
 -- The code of a supported script is supported, and it is run where it isn't too deep.
-use Rattle.std.proofs.Common.{◌≡◌, ◌+◌, ◌++◌, ℕ, zero, suc, Bool, true, false, if◌then◌else◌, nat_eq, List, [], ◌∷◌, length, map, Option, Some, refl, sym, ap, ◌∙◌, subst, arith}
+use Rattle.std.proofs.Common.{◌≡◌, ◌+◌, ◌++◌, ℕ, Bool, true, false, if◌then◌else◌, List, [], length, Option, Some, refl, sym, ap, ◌∙◌, subst}
 use Rattle.std.specs.Prelude.{slice_get, slice_index_or, ◌||◌}
 use Rattle.std.specs.List.{AllByRecursion, IsDistinct, list_any}
 use Rattle.std.specs.Str.{bytes_eq}
@@ -7,37 +7,30 @@ use Rattle.std.proofs.Math.Bool.{or-true}
 use Rattle.std.proofs.lemmas.Bool.{false≢true}
 use Rattle.std.proofs.lemmas.List.{length-map}
 use Rattle.std.proofs.lemmas.List.Folds.{list_any-append}
-use Rattle.pt_tree.specs.Syntax.{Name, Stms}
+use Rattle.pt_tree.specs.Syntax.{Stms}
 use Rattle.pt_tree.specs.Acts.{act, acts_clauses, acts_exp, acts_target}
 use Rattle.pt_tree.specs.declared.act.ActKind.TheVariants as A
 use Rattle.pt_tree.specs.declared.act.ActRow.{ActRow}
 use Rattle.pt_tree.specs.Blocks as B
 use Rattle.pt_tree.specs.Blocks.{Code as BlockCode, yields}
-use Rattle.sem_names.specs.Around.{names_of}
-use Rattle.pt_instr.specs.declared.TextNo.{TextNo}
 use Rattle.pt_instr.specs.declared.Instr.{Instr}
 use Rattle.pt_instr.specs.declared.Instr.TheVariants as instr
-use Rattle.pt_code.specs.declared.BlockKind.{BlockKind}
 use Rattle.pt_code.specs.declared.BlockKind.TheVariants as kind
 use Rattle.pt_code.specs.declared.Code.{Code}
 use Rattle.pt_code.specs.declared.CodeBlock.{CodeBlock}
-use Rattle.pt_code.specs.File.{AreBlocks, IsBlock, inside, is_module}
 use Rattle.pt_code.specs.View.{Ins, IsView, laid_from}
 use Rattle.pt_code.proofs.OneView.{one_view}
-use Rattle.sem_code.specs.slots.BlockObject.{text_in}
 use Rattle.pt_assembler.specs.Layout.{instrs_of}
 use Rattle.law_typed_pieces.specs.law_operands.law_files.sem_compile.compile.ScriptCode.{BlockLayout, code_block, code_of, kind_of, script_layouts}
-use Rattle.law_typed_pieces.proofs.law_operands.law_files.code_files.Each.{each_at}
 use Rattle.law_typed_pieces.proofs.law_operands.law_files.operands_fit.Operands.{operands_fit}
 use Rattle.sem_fits.specs.fits.Block.{links_of}
 use Rattle.law_typed_pieces.proofs.standing_pieces.Script.{instructions_may_stand}
 use Rattle.pt_supported.specs.Laws.{is_class_code}
 use Rattle.pt_supported.proofs.Quiet.{gives_on}
 use Rattle.pt_supported.proofs.Silent.{built_blocks_are_no_classes, built_blocks_give_nothing_on}
-use Rattle.pt_supported_code.specs.Built.{IsBuiltBlock, TakesAsListed, has_slots_by_kind, is_plain_kind}
+use Rattle.pt_supported_code.specs.Built.{IsBuiltBlock, TakesAsListed, is_plain_kind}
 use Rattle.pt_prog.proofs.pt_run_script.pt_run_code.law_loading.script_program.Facts.{locals_are_different}
 use Rattle.pt_prog.proofs.pt_run_script.pt_run_code.law_loading.code_names.Instructions.{TakesAsNamed, all-take, laid-is}
-use Rattle.pt_prog.proofs.pt_run_script.pt_run_code.law_loading.code_names.Module.{module_has_no_cells, module_has_no_locals}
 use Rattle.law_compile.proofs.fitting_scripts.Fitting.{code_of_texts_fits}
 use Rattle.law_program.specs.script_files.Laws.{CodeIsSupported, HasCodeFile, ShallowCodeIsRunnable}
 use Rattle.law_program.proofs.script_files.Named.{cells_fit, different_cells, in_script, names, numbered_blocks, numbers}
@@ -61,26 +54,6 @@ plain_kind (B.of_generator l e k t cs) plain silent =
     let gives : yields (B.of_generator l e k t cs) ≡ true =
     gives_within (act A.Next k ++ acts_target t ++ acts_clauses l cs ++ acts_exp e) (act A.Yield l) (act A.Discard l) refl in
     absurd (false≢true (sym silent ∙ gives))
-
--- the module alone is one
-module_is_first : (texts constants lists : ℕ) (bs : List CodeBlock) → AreBlocks texts constants lists bs → (n : ℕ) (b : CodeBlock) → slice_get bs n ≡ Some b
-    → is_module b.kind ≡ true → n ≡ 0
-module_is_first texts constants lists [] are n b e m = absurd are
-module_is_first texts constants lists (a ∷ bs) are zero b e m = refl
-module_is_first texts constants lists (a ∷ bs) are (suc n) b e m =
-    let within = inside texts constants lists (length (a ∷ bs)) false in
-    let is : IsBlock within b = each_at (IsBlock within) bs n b e are.2 in
-    absurd (false≢true (ap (λ (t : Bool). if t then false else true) (sym m) ∙ is.0.1.0.1))
-
-no_items : {A B : Type 0} (f : A → B) (xs : List A) → map f xs ≡ [] → length xs ≡ 0
-no_items f xs e = sym (length-map xs f) ∙ ap length e
-
-slots_by_kind : (k : BlockKind) (n : ℕ) → (is_module k ≡ true → n ≡ 0) → has_slots_by_kind k n ≡ true
-slots_by_kind kind.Module n f = ap (λ m. nat_eq m 0) (f refl)
-slots_by_kind kind.Function n f = refl
-slots_by_kind kind.Generator n f = refl
-slots_by_kind kind.Class n f = refl
-slots_by_kind kind.GeneratorExpression n f = refl
 
 -- as many defaults as the code lists
 as_listed : (c : Code) (i : Instr) → TakesAsNamed (λ l. length ((links_of c).texts l)) i → TakesAsListed c.lists i
@@ -111,28 +84,15 @@ module _ (text : List ℕ) (ss : Stms) (h : HasCodeFile text ss) where
         (instructions_may_stand ss h.is_script.no_fault (numbered_blocks text ss h) n b at) in
         as_listed c i.instr (laid-is T (code_block b) 0 (instrs_of b.written) pc i all (ap (λ v. v pc) (sym same) ∙ e))
 
-    no_slots : n ≡ 0 → length (code_block b).locals + length (code_block b).cells ≡ 0
-    no_slots first =
-        let f : TextNo → Name = λ x. text_in c.texts x.0 in
-        let has = names text ss h n b at in
-        let locals : length (code_block b).locals ≡ 0 =
-        no_items f (code_block b).locals (has.locals ∙ (ap (λ m. (names_of ss m).locals) first ∙ module_has_no_locals ss h.is_built)) in
-        let cells : length (code_block b).cells ≡ 0 =
-        no_items f (code_block b).cells (has.cells ∙ (ap (λ m. (names_of ss m).cells) first ∙ module_has_no_cells ss h.is_built)) in
-        omega (arith, locals, cells)
-
   built_block : (n : ℕ) (b : CodeBlock) → slice_get c.blocks n ≡ Some b → IsBuiltBlock c b
   built_block n b e =
       let i = in_script ss n b e in
       let k = i.layout in
-      let first : is_module b.kind ≡ true → n ≡ 0 = module_is_first (length c.texts) (length c.constants) (length c.lists) c.blocks h.has_file.1.1.1 n b e in
       subst (IsBuiltBlock c) i.is (record {
         is_plain =
             ap is_plain_kind i.kind
             ∙ plain_kind i.block.code (built_blocks_are_no_classes ss h.is_built n i.block i.is_block)
             (built_blocks_give_nothing_on ss h.is_built n i.block i.is_block);
-        has_slots = slots_by_kind (code_block k).kind (length (code_block k).locals + length (code_block k).cells)
-            (λ m. no_slots n k i.is_layout (first (subst (λ (d : CodeBlock). is_module d.kind ≡ true) i.is m)));
         locals = subst (IsDistinct bytes_eq) (sym (names text ss h n k i.is_layout).locals) (locals_are_different ss n);
         cells = different_cells text ss h n k i.is_layout;
         takes = takes n k i.is_layout;

@@ -8,7 +8,8 @@ use Rattle.sem_run.specs.run.Machine.{Machine}
 use Rattle.sem_run.specs.run.Run.{Write}
 use Rattle.sem_run.specs.run.Shown.{Outcome, RunsTo, WritesFirst}
 use Rattle.pt_host.specs.HeapHost.{heap_host}
-use Rattle.pt_host.specs.World.{World, no_names, start_world}
+use Rattle.pt_host.specs.World.{World}
+use Rattle.pt_host.specs.Calls.{module_names, module_world}
 use Rattle.pt_prog.specs.pt_run_script.pt_run_code.law_loading.code_program.CodeProgram.{AreObjectsOf, code_blocks, number_in, program_of_code, the_module}
 use Rattle.law_code_runs.specs.code_run.CodeMachine.{CodeSource, Position, machine}
 use Rattle.law_code_jumps.specs.jump_answers.Known.{SlotsKnown}
@@ -30,12 +31,12 @@ pub record HasRun (c : Code) (known : ℕ → SlotsKnown) (n : ℕ) (o : Outcome
   pub object : ℕ → CodeObject Value
   pub are_objects : AreObjectsOf c object
   pub runs : RunsTo (file_machine c object known) (heap_host (program_of_code c)) n the_module
-      no_names (start_world (program_of_code c)) o
+      (module_names (program_of_code c)) (module_world (program_of_code c)) o
 
 -- it writes this first, whether or not it comes to one
 pub data HasFront (c : Code) (known : ℕ → SlotsKnown) (n : ℕ) : List Write → Type 0 where
   nothing : HasFront c known n []
   of_run : (ws : List Write) (object : ℕ → CodeObject Value) → AreObjectsOf c object
       → WritesFirst (file_machine c object known) (heap_host (program_of_code c)) n the_module
-      no_names (start_world (program_of_code c)) ws
+      (module_names (program_of_code c)) (module_world (program_of_code c)) ws
       → HasFront c known n ws

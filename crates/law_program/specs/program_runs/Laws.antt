@@ -15,7 +15,8 @@ use Rattle.sem_run.specs.run.Run.{Debugger, Write}
 use Rattle.sem_run.specs.run.Shown as run
 use Rattle.sem_run.specs.run.Shown.{Outcome}
 use Rattle.pt_host.specs.HeapHost.{heap_host}
-use Rattle.pt_host.specs.World.{World, no_names, start_world}
+use Rattle.pt_host.specs.World.{World}
+use Rattle.pt_host.specs.Calls.{module_names, module_world}
 use Rattle.pt_prog.specs.pt_run_script.pt_run_code.pt_runner.Work.{Work}
 use Rattle.pt_prog.specs.pt_run_script.law_compile.script_runs.Blocks.{the_module}
 use Rattle.pt_prog.specs.pt_run_script.law_compile.script_runs.Laws.{tree_machine}
@@ -30,13 +31,13 @@ use Rattle.law_program.specs.program_runs.CodeFiles.{file_machine, HasRun, HasFr
 -- the run of a script over the heap comes to an outcome, and writes this first
 abbrev pub ScriptHasRun : Stms → (n : ℕ) → Outcome Value World → Type 0
 ScriptHasRun ss n o =
-    run.RunsTo (tree_machine value.None ss) (heap_host (program_of ss)) n the_module no_names
-    (start_world (program_of ss)) o
+    run.RunsTo (tree_machine value.None ss) (heap_host (program_of ss)) n the_module
+    (module_names (program_of ss)) (module_world (program_of ss)) o
 
 abbrev pub ScriptHasFront : Stms → (n : ℕ) → List Write → Type 0
 ScriptHasFront ss n ws =
-    run.WritesFirst (tree_machine value.None ss) (heap_host (program_of ss)) n the_module no_names
-    (start_world (program_of ss)) ws
+    run.WritesFirst (tree_machine value.None ss) (heap_host (program_of ss)) n the_module
+    (module_names (program_of ss)) (module_world (program_of ss)) ws
 
 -- what the program says of the bare run of a script it says of its run
 abbrev pub ScriptRunsAreRuns : Type 0
@@ -52,7 +53,7 @@ abbrev pub CodeOfScriptHasItsRun : Type 0
 CodeOfScriptHasItsRun = (ss : Stms) (known : ℕ → SlotsKnown) (n : ℕ) (o : Outcome Value World)
     (w : Work) (c : CodeRunsBy ss n o w)
     → run.RunsTo (told_machine (record { script = ss; object = c.object; known = known }))
-    (heap_host (program_of ss)) n the_module no_names (start_world (program_of ss)) o
+    (heap_host (program_of ss)) n the_module (module_names (program_of ss)) (module_world (program_of ss)) o
 
 -- and so with the code of a file
 abbrev pub CodeFileRunsAreRuns : Type 0

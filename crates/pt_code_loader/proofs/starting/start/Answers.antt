@@ -20,20 +20,23 @@ returns-clause-begins c program code are same =
     } in
     begun program code c.args.loaded.now.tables c.args.loaded.now.texts m are same (record {
       here = record {
-        frame = ap (λ a. a.frame.0) h ∙ c.new-frames.ensures.frame_count;
+        frame = ap (λ a. a.frame.0) h ∙ c.in_ok-frames.ensures.frame_count;
         block = ap (λ a. a.block.0) h;
         hidden = ap (λ a. a.hidden) h;
         pc = ap (λ a. a.pc.0) h;
         line = ap (λ a. a.line) h;
-        locals = ap (λ a. a.locals) h ∙ c.no_locals.ensures.values;
-        cells = ap (λ a. a.cells) h ∙ c.no_locals.ensures.cells;
+        locals = ap (λ a. a.locals) h ∙ c.in_ok-names.ensures.values;
+        cells = ap (λ a. a.cells) h ∙ c.in_ok-names.ensures.cells;
         names = ap (λ a. a.names) h;
         slots = c.in_ok-here-2.ensures;
       };
       standing = refl;
-      globals = ap (λ f. f.globals) next ∙ c.new-frames.ensures.globals;
-      cells = ap (λ f. f.cells) next ∙ c.new-frames.ensures.cells;
-      frames = ap (λ f. f.frame_count) next ∙ ap (λ n. n + 1) c.new-frames.ensures.frame_count;
+      globals = ap (λ f. f.globals) next ∙ c.in_ok-frames.ensures.globals;
+      cells = ap (λ f. f.cells) next ∙ c.in_ok-frames.ensures.cells;
+      frames = ap (λ f. f.frame_count) next ∙ ap (λ n. n + 1) c.in_ok-frames.ensures.frame_count;
       heap = c.in_ok-heap.ensures ∙ ap (λ ts. start_objects ++ map Str ts) c.as_slice.ensures;
       units = refl;
     })
+
+pub returns-clause-names : goal.returns-clause-names
+returns-clause-names c = ap (λ a. a.names) c.in_ok-here.ensures.activation

@@ -15,7 +15,7 @@ run-requires g c = record {
   ready = (
     code_run c.args.code.now c.requires c.in_ok-loaded.loaded c.in_ok-loaded.ensures.tables c.in_ok-loaded.ensures.room,
     is_ready c.args.code.now c.requires c.in_ok-loaded.loaded c.in_ok-loaded.ensures.tables c.in_ok-loaded.ensures.room c.in_ok-machine.machine c.in_ok-machine.ensures.begins
-        c.in_ok-machine.ensures.alone c.args.bound,
+        c.in_ok-machine.ensures.alone c.in_ok-machine.ensures.names c.args.bound,
   );
 }
 
@@ -33,10 +33,10 @@ pub returns-clause-ok : goal.returns-clause-ok
 returns-clause-ok g c =
     all_finished c.args.code.now c.requires c.in_ok-loaded.loaded c.in_ok-loaded.ensures.tables c.in_ok-loaded.ensures.room c.args.bound c.args.events _ _ _ _ c.in_ok-machine.machine
     (is_ready c.args.code.now c.requires c.in_ok-loaded.loaded c.in_ok-loaded.ensures.tables c.in_ok-loaded.ensures.room c.in_ok-machine.machine c.in_ok-machine.ensures.begins
-    c.in_ok-machine.ensures.alone c.args.bound) c.run.result c.run.ensures.ok
+    c.in_ok-machine.ensures.alone c.in_ok-machine.ensures.names c.args.bound) c.run.result c.run.ensures.ok
 
 pub returns-clause-err : goal.returns-clause-err
 returns-clause-err g c =
     all_broke_off c.args.code.now c.requires c.in_ok-loaded.loaded c.in_ok-loaded.ensures.tables c.in_ok-loaded.ensures.room c.args.bound c.args.events _ _ _ _ c.in_ok-machine.machine
     (is_ready c.args.code.now c.requires c.in_ok-loaded.loaded c.in_ok-loaded.ensures.tables c.in_ok-loaded.ensures.room c.in_ok-machine.machine c.in_ok-machine.ensures.begins
-    c.in_ok-machine.ensures.alone c.args.bound) c.run.result c.run.ensures.err
+    c.in_ok-machine.ensures.alone c.in_ok-machine.ensures.names c.args.bound) c.run.result c.run.ensures.err

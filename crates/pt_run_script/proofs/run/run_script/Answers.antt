@@ -18,7 +18,7 @@ run-requires g c = record {
         c.in_ok-loaded.ensures.tables c.in_ok-loaded.ensures.room,
     is_ready c.requires.read.0 (script_of c.args.script.now) c.requires.read.1 c.requires.built c.in_ok-code.code c.in_ok-code.ensures c.in_ok-loaded.loaded
         c.in_ok-loaded.ensures.tables c.in_ok-loaded.ensures.room
-        c.in_ok-machine.machine c.in_ok-machine.ensures.begins c.in_ok-machine.ensures.alone c.args.bound,
+        c.in_ok-machine.machine c.in_ok-machine.ensures.begins c.in_ok-machine.ensures.alone c.in_ok-machine.ensures.names c.args.bound,
   );
 }
 
@@ -45,7 +45,7 @@ returns-clause-ok g c =
     c.args.bound c.args.events _ _ _ _ c.in_ok-machine.machine
     (is_ready c.requires.read.0 (script_of c.args.script.now) c.requires.read.1 c.requires.built c.in_ok-code.code c.in_ok-code.ensures c.in_ok-loaded.loaded
     c.in_ok-loaded.ensures.tables c.in_ok-loaded.ensures.room
-    c.in_ok-machine.machine c.in_ok-machine.ensures.begins c.in_ok-machine.ensures.alone c.args.bound) c.run.result c.run.ensures.ok
+    c.in_ok-machine.machine c.in_ok-machine.ensures.begins c.in_ok-machine.ensures.alone c.in_ok-machine.ensures.names c.args.bound) c.run.result c.run.ensures.ok
 
 pub returns-clause-err : goal.returns-clause-err
 returns-clause-err g c =
@@ -54,4 +54,4 @@ returns-clause-err g c =
     c.args.bound c.args.events _ _ _ _ c.in_ok-machine.machine
     (is_ready c.requires.read.0 (script_of c.args.script.now) c.requires.read.1 c.requires.built c.in_ok-code.code c.in_ok-code.ensures c.in_ok-loaded.loaded
     c.in_ok-loaded.ensures.tables c.in_ok-loaded.ensures.room
-    c.in_ok-machine.machine c.in_ok-machine.ensures.begins c.in_ok-machine.ensures.alone c.args.bound) c.run.result c.run.ensures.err
+    c.in_ok-machine.machine c.in_ok-machine.ensures.begins c.in_ok-machine.ensures.alone c.in_ok-machine.ensures.names c.args.bound) c.run.result c.run.ensures.err

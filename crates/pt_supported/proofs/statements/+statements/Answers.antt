@@ -22,6 +22,6 @@ unbuilt_handlers-loop-handler-preserved t c = grind (arith, common_steps, or-ass
 
 pub unbuilt_statement-returns-in-With : goal.unbuilt_statement-returns-in-With
 unbuilt_statement-returns-in-With t c = elim c.in-With.is [
-  | inl (x0, x1, is) ↦ sym (ap (unbuilt_stm c.args.inside) (stm_of-With c.args.s.now x0 x1 is))
-  | inr (x0, x1, x2, x3, x4, x5, is) ↦ sym (ap (unbuilt_stm c.args.inside) (stm_of-Class c.args.s.now x0 x1 x2 x3 x4 x5 is))
+  | inl (x0, x1, is) ↦ sym (ap unbuilt_stm (stm_of-With c.args.s.now x0 x1 is))
+  | inr (x0, x1, x2, x3, x4, x5, is) ↦ sym (ap unbuilt_stm (stm_of-Class c.args.s.now x0 x1 x2 x3 x4 x5 is))
 ]

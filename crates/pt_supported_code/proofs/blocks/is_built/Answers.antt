@@ -15,4 +15,4 @@ returns c =
     (c.in_ok-locals.ensures c.args.code.now read c.requires.texts) (c.in_ok-cells.ensures c.args.code.now read c.requires.texts) takes in
     let rest = c.in_ok-locals.locals && (c.in_ok-cells.cells && c.in_ok-takes.takes) in
     subst (λ b. Decides b (IsBuiltBlock c.args.code.now c.args.block.now))
-    (sym (c.all_hold.ensures ∙ ap (λ k. k && rest) c.is_of_built_kind-kind.ensures)) told
+    (sym (c.all_hold.ensures ∙ ap (λ k. k && rest) c.is_plain_kind-kind.ensures)) told
