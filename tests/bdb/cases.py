@@ -1,4 +1,4 @@
-"""Random cases for a debugger: lines of commands, breakpoints, views and events."""
+"""Random cases for a debugger: lines of commands, breakpoints, views and sessions."""
 import random
 
 import rules
@@ -49,6 +49,19 @@ def breaks():
     return out
 
 
+BREAKS = [("break", 1, False, None), ("break", 2, True, None), ("break", 3, False, "true"), ("break", 3, True, "true"), ("break", 4, False, "false"),
+          ("break", 4, False, "x > 1"), ("break", 2, True, "x > 1"), ("break", 3, True, "broken"), ("break", 9, False, None), ("clear", 1), ("clear", 3), ("clear_all",),
+          ("condition", 1, None), ("condition", 2, "x > 1"), ("condition", 2, "false"), ("ignore", 1, 2), ("ignore", 2, 1), ("ignore", 3, 0), ("enable", 1, True),
+          ("enable", 1, False), ("enable", 2, False), ("enable", 9, True)]
+GOING = [("step",), ("next",), ("until", None), ("until", 2), ("until", 4), ("return",), ("continue",), ("continue",)]
+
+
+def commands(line):
+    """Commands at a stop on a line, the last of which goes on."""
+    going = [it for it in GOING if it[0] != "until" or it[1] is None or it[1] > line]
+    return [*random.choices(BREAKS, k=random.choice([0, 0, 1, 2, 4])), random.choice(going)]
+
+
 class Frame:
     def __init__(self, name, line, params, values):
         self.name, self.line, self.params, self.values = name, line, params, values
@@ -75,3 +88,22 @@ def event():
     frame = random.randrange(3)
     kind = random.choice(["line"] * 5 + ["call", "return", "exception"])
     return rules.Event(kind, frame, frame, random.randrange(1, 7), frame == 2), frame - 1 if frame and random.random() < 0.9 else None
+
+
+SESSION = ["break 1", "break 2", "b 3, true", "b 4, false", "b 4, x", "b 2, x > 1", "tbreak 2", "tbreak 3, broken", "tbreak 3, true", "tbreak 1, x", "b 9", "break",
+           "clear 1", "clear 2", "clear", "condition 1", "condition 2 false", "condition 1 true", "condition 3 x", "ignore 1 2", "ignore 2", "ignore 3 1", "enable 1",
+           "disable 1", "disable 2", "enable 9", "", "hello", "up", "p x"]
+GO = ["step", "next", "until", "until 4", "until 2", "return", "continue", "s", "n", "unt", "r", "c", ""]
+
+
+def session():
+    """Events of a run and lines of commands at them, and what conditions on `x` are worth."""
+    out = []
+    for _ in range(random.randrange(1, 12)):
+        if random.random() < 0.4:
+            out.append(rules.Worth(random.choice([True, False, None])))
+        out.append(event())
+        out += [random.choice(SESSION) if random.random() < 0.97 else line() for _ in range(random.choice([0, 0, 1, 1, 2, 4]))]
+        if random.random() < 0.7:
+            out.append(random.choice(GO))
+    return out

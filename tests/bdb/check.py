@@ -1,5 +1,5 @@
-"""Runs the definitions of pt_commands, pt_pdb, pt_bdb, pt_breakpoints_text and pt_command_files beside the rules of rules.py, over
-random lines, files of commands, breakpoints, stops and texts, and the list of breakpoints and the words of commands beside CPython's
+"""Runs the definitions of pt_commands, pt_pdb, pt_bdb, pt_breakpoints_text, pt_command_files and pt_sessions beside the rules of rules.py, over random
+lines, files of commands, breakpoints, stops, texts and sessions, and the list of breakpoints and the words of commands beside CPython's
 own bdb and pdb.
 
 usage: check.py [--many N]. Run with CPython 3.12 in this folder.
@@ -13,6 +13,8 @@ import sys
 from pathlib import Path
 
 import cases
+import cpython
+import rows
 import rules
 
 HERE = Path(__file__).resolve().parent
@@ -191,6 +193,74 @@ def check_stops(given, count, many):
         count.see((word, line), stops_at(data, what), stops.here(next_one))
 
 
+def optional(value, of):
+    return ("None",) if value is None else ("Some", of(value))
+
+
+def line_number(n):
+    return {"0": n}
+
+
+def stop_data_of(stops):
+    """What rules.py keeps of the last command, as the definitions have it."""
+    frame = {rules.ANY: ("Any",), rules.NEVER: ("Never",)}.get(stops.frame)
+    return {"frame": frame or ("One", line_number(stops.frame)), "line": optional(stops.line, line_number), "return_frame": optional(stops.back, line_number)}
+
+
+def event_of(e):
+    return {"kind": (e.kind.title(),), "frame": line_number(e.frame), "block": line_number(e.block), "act": line_number(0),
+            "line": line_number(e.line), "generator": e.generator}
+
+
+class Sessions:
+    """A session of the definitions beside one of rules.py."""
+
+    def __init__(self, given, count):
+        self.given, self.count = given, count
+        self.told = rules.Debugger("b.py", range(1, 5))
+        self.judge = lambda c: ({True: "True", False: "False", None: "Broken"}[self.told.judge(text(c))],)
+        self.session = self.get("new_session")(bytes_of("b.py"), listed(map(line_number, range(1, 5))))
+
+    def get(self, name):
+        return self.given.get("pt_sessions", "Sessions", name)
+
+    def come(self, event, caller):
+        told, e = self.told.at(event, caller), event_of(event)
+        out = text(self.get("event_text")(self.judge, e, self.session))
+        out += "stop\n" if self.get("session_stops")(self.judge, e, self.session) else "-\n"
+        self.count.see((event.kind, event.line), out, told)
+        self.session = self.get("behind_event")(self.judge, e, self.session)
+        self.event = event
+        self.frame = {"frame": line_number(event.frame), "caller": optional(caller, line_number), "generator": event.generator, "line": line_number(event.line)}
+
+    def take(self, line):
+        told = self.told.do(line)
+        outcome = self.get("line_outcome")(self.frame, bytes_of(line), self.session)
+        self.count.see(line, text(self.get("line_text")(self.frame, bytes_of(line), self.session)), told)
+        kind, *asked = self.told.outcome
+        self.count.see(line, (outcome[0], *map(command_of, outcome[1:])), (kind.title(), *([tuple(asked)] if asked else [])))
+        self.session = self.get("behind_line")(self.frame, bytes_of(line), event_of(self.event), self.session)
+
+    def compare(self):
+        breaks, stops = self.told.breaks, self.told.stops
+        self.count.see("rows", items(self.session["breaks"]["rows"]), [breakpoint(n, row) for n, row in sorted(breaks.rows.items())])
+        self.count.see("last", self.session["breaks"]["last"], breaks.last)
+        self.count.see("stops", self.session["stops"], stop_data_of(stops))
+
+
+def check_sessions(given, count, many):
+    for _ in range(many):
+        sessions = Sessions(given, count)
+        for item in cases.session():
+            if isinstance(item, str):
+                sessions.take(item)
+            elif isinstance(item, rules.Worth):
+                sessions.told.x = item.x
+            else:
+                sessions.come(*item)
+            sessions.compare()
+
+
 def check_texts(given, count, many):
     get = lambda module, name: given.get("pt_pdb", module, name)
     stop, frames, args = get("Positions", "stop_text"), get("Positions", "frames_text"), get("Arguments", "arguments_text")
@@ -218,6 +288,146 @@ def check_texts(given, count, many):
                     count.see(word, text(failed(told)), rules.jump_failed(ended, at_line, bottom, word, 7))
 
 
+def written(name, *words):
+    """A command of cases.commands as a line."""
+    if name == "break":
+        line, temporary, condition = words
+        return f"{'tbreak' if temporary else 'break'} {line}{'' if condition is None else f', {condition}'}"
+    if name == "enable":
+        return f"{'enable' if words[1] else 'disable'} {words[0]}"
+    return " ".join([name.removesuffix("_all"), *(str(word) for word in words if word is not None)])
+
+
+def check_beside_cpython(count, many):
+    """CPython's bdb reads the same commands at the same events."""
+    for _ in range(many):
+        told, beside = rules.Debugger("b.py", range(1, 5)), cpython.Debugger(range(1, 5))
+        for _ in range(random.randrange(1, 16)):
+            event, caller = cases.event()
+            if event.kind == "call" and event.block == 0:
+                continue
+            told.x, commands = random.choice([True, False, None]), cases.commands(event.line)
+            *deleted, last = told.at(event, caller).splitlines()
+            by_bdb, went = beside.come(event, caller, told.x, commands)
+            count.see((event.kind, event.line), by_bdb, last == "stop")
+            count.see("deleted", [f"Deleted breakpoint {n} at b.py:{event.line}" for n in went], deleted)
+            for command in commands if by_bdb else []:
+                told.do(written(*command))
+            rows = {n: (row.line, row.temporary, row.enabled, row.condition, row.ignore, row.hits) for n, row in told.breaks.rows.items()}
+            count.see("rows", beside.rows(), rows)
+
+
+KNOWN = {
+    "break 5, x > 1": """-
+stop
+(Pdb) break 5, x > 1
+Breakpoint 1 at b.py:5
+(Pdb) ignore 1 1
+Will ignore next 1 crossings of breakpoint 1.
+(Pdb) continue
+-
+-
+-
+-
+-
+-
+-
+-
+-
+-
+-
+-
+stop
+(Pdb) p x
+(Pdb) break
+Num Type         Disp Enb   Where
+1   breakpoint   keep yes   at b.py:5
+\tstop only if x > 1
+\tbreakpoint already hit 4 times
+(Pdb) continue
+-
+-
+-
+""",
+    "tbreak 5, nosuch": """-
+stop
+(Pdb) tbreak 5, nosuch
+Breakpoint 1 at b.py:5
+(Pdb) continue
+-
+-
+-
+stop
+(Pdb) break
+Num Type         Disp Enb   Where
+1   breakpoint   del  yes   at b.py:5
+\tstop only if nosuch
+\tbreakpoint already hit 1 times
+(Pdb) clear 1
+Deleted breakpoint 1 at b.py:5
+(Pdb) continue
+-
+-
+-
+-
+-
+-
+-
+-
+-
+-
+-
+-
+""",
+    "break 3": """-
+stop
+(Pdb) break 3
+Breakpoint 1 at b.py:3
+(Pdb) continue
+-
+-
+-
+stop
+(Pdb) clear 1
+Deleted breakpoint 1 at b.py:3
+(Pdb) until
+-
+-
+-
+-
+-
+stop
+(Pdb) until
+stop
+(Pdb) continue
+-
+-
+""",
+}
+
+
+def check_known(count):
+    """Sessions whose text is written down: a condition with a count, a temporary breakpoint that can't be judged, `until`."""
+    for items_of in rows.told_sessions():
+        known = KNOWN.get(items_of[2]) if items_of[0][0].kind == "call" else None
+        if known:
+            count.see(items_of[2], transcript(items_of), known)
+            del KNOWN[items_of[2]]
+    count.see("known sessions", list(KNOWN), [])
+
+
+def transcript(items_of):
+    told, out = rules.Debugger("b.py", range(1, 7)), ""
+    for item in items_of:
+        if isinstance(item, str):
+            out += told.do(item)
+        elif isinstance(item, rules.Worth):
+            told.x = item.x
+        else:
+            out += told.at(*item)
+    return out
+
+
 def check_words(count):
     """CPython's pdb has each word of a command, and each stands for the method that the rules say."""
     for word, verb in rules.WORDS.items():
@@ -230,9 +440,12 @@ def main():
     random.seed(20)
     given, count = Given(), Count("definitions", "rules")
     check_words(count)
+    check_known(count)
+    check_beside_cpython(count, 4 * many)
     check_commands(given, count, 3 * many)
     check_files(given, count, 2 * many)
     check_breakpoints(given, count, many)
+    check_sessions(given, count, many // 5)
     check_stops(given, count, 4 * many)
     check_texts(given, count, many // 5)
     print(f"{count.all} answers of definitions, {count.differ} differ")

@@ -168,9 +168,16 @@ class Event:
         self.kind, self.frame, self.block, self.line, self.generator = kind, frame, block, line, generator
 
 
-def judge(condition):
-    """Conditions of rows are judged by their first letter."""
-    return {"t": True, "f": False}.get(condition[0])
+def judge(condition, x=None):
+    """Conditions of rows are judged by their first letter: true, false, or what `x` is worth; None where that can't be said."""
+    return {"t": True, "f": False, "x": x}.get(condition[0])
+
+
+class Worth:
+    """What the conditions on `x` are worth from now on."""
+
+    def __init__(self, x):
+        self.x = x
 
 
 class Debugger:
@@ -178,6 +185,10 @@ class Debugger:
 
     def __init__(self, file, lines):
         self.file, self.breaks, self.stops, self.last, self.event, self.caller = file, Breaks(lines), Stops(), None, None, None
+        self.x, self.outcome = None, ("answered",)
+
+    def judge(self, condition):
+        return judge(condition, self.x)
 
     def at(self, event, caller):
         """What is written at an event."""
@@ -187,7 +198,7 @@ class Debugger:
         hit = None
         if event.kind == "line":
             lines = {n: row.line for n, row in self.breaks.rows.items()}
-            hit = self.breaks.effective(event.line, judge)
+            hit = self.breaks.effective(event.line, self.judge)
         if hit is None:
             return "-\n"
         number, removed = hit
@@ -199,7 +210,8 @@ class Debugger:
         return f"*** No breakpoint numbered {number}\n" if row is None else answer(row)
 
     def do(self, line):
-        """What is written of a line of commands: the prompt with the line, and the answer."""
+        """What is written of a line of commands: the prompt with the line, and the answer. What comes of it stands in `outcome`."""
+        self.outcome = ("answered",)
         return f"(Pdb) {line}\n" + self.answer(line)
 
     def answer(self, line):
@@ -255,7 +267,9 @@ class Debugger:
         elif kind == "continue":
             self.stops.cont()
         else:
+            self.outcome = ("asks", kind, *args)
             return ""
+        self.outcome = ("goes",)
         if self.event.kind == "return":
             self.stops.returned(frame)
         return ""

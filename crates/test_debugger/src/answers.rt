@@ -32,9 +32,8 @@ fn reason(words: &str) -> Result<JumpReason, NoRow> {
 }
 
 /// Writes a line of commands as it is, and what `command` says of it.
-fn write_line(out: &mut Vec<u8>, alloc: Global, row: &str) -> Result<(), NoRow> {
-    let bytes = text_of(alloc, row)?;
-    let line = shown_line(bytes.as_slice());
+pub fn write_line(out: &mut Vec<u8>, alloc: Global, line: &[u8]) -> Result<(), NoRow> {
+    let line = shown_line(line);
     push_prompt(out, line)?;
     let command = Command::parse(alloc, line)?;
     let told = format!(in alloc; "{command:?}\n")?;
@@ -88,7 +87,7 @@ fn write_answer(out: &mut Vec<u8>, alloc: Global, kind: &str, told: &str) -> Res
 pub fn write(out: &mut Vec<u8>, alloc: Global, row: &str) -> Result<(), NoRow> {
     let (kind, told) = row.split_once("\t").ok_or(NoRow)?;
     if kind == "line" {
-        return write_line(out, alloc, told);
+        return write_line(out, alloc, text_of(alloc, told)?.as_slice());
     }
     if kind == "break" {
         return Ok(push_break_answer(alloc, out, "b.py", break_answer(told)?)?);

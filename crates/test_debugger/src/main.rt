@@ -2,8 +2,11 @@
 #![tactic(auto)]
 
 mod answers;
+mod events;
+mod files;
 mod frames;
 mod no_row;
+mod sessions;
 mod words;
 
 use no_row::NoRow;
@@ -21,6 +24,10 @@ enum Rows {
     Frames,
     /// Single answers.
     Answers,
+    /// Files of commands.
+    Files,
+    /// Events of a run, and lines of commands at them.
+    Sessions,
 }
 
 fn write_command(out: &mut String, alloc: Global, row: &str) -> Result<(), NoRow> {
@@ -36,6 +43,8 @@ fn write_row(out: &mut String, alloc: Global, rows: Rows, row: &str) -> Result<(
         Rows::Commands => return write_command(out, alloc, row),
         Rows::Frames => frames::write(&mut bytes, alloc, row)?,
         Rows::Answers => answers::write(&mut bytes, alloc, row)?,
+        Rows::Files => files::write(&mut bytes, alloc, row)?,
+        Rows::Sessions => sessions::write(&mut bytes, alloc, row)?,
     }
     write!(out, "{}", bytes.as_slice().escape_ascii())?;
     Ok(())
@@ -47,6 +56,8 @@ impl Kind for Rows {
             "commands" => Some(Rows::Commands),
             "frames" => Some(Rows::Frames),
             "answers" => Some(Rows::Answers),
+            "files" => Some(Rows::Files),
+            "sessions" => Some(Rows::Sessions),
             _ => None,
         }
     }

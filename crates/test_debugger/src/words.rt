@@ -1,6 +1,6 @@
 //! The words of rows.
 use crate::no_row::NoRow;
-use pt_base::{Seq, Text};
+use pt_base::{Line, Seq, Text};
 use std::alloc::Global;
 use std::str;
 use test_notation::text_of;
@@ -22,6 +22,15 @@ pub fn text_lines(alloc: Global, word: &str) -> Result<Seq<Seq<u8>>, NoRow> {
     let mut lines = Seq::new(alloc);
     for line in text.as_str().split("\n") {
         lines.push(Seq::from_slice(alloc, line.as_bytes())?)?;
+    }
+    Ok(lines)
+}
+
+/// Numbers of lines, between commas.
+pub fn lines(alloc: Global, word: &str) -> Result<Seq<Line>, NoRow> {
+    let mut lines = Seq::new(alloc);
+    for line in word.split(",") {
+        lines.push(Line(number(line)?))?;
     }
     Ok(lines)
 }

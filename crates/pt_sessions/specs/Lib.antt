@@ -1,0 +1,3 @@
+pub mod OnBreakpoints
+pub mod Going
+pub mod Sessions
