@@ -89,7 +89,11 @@ def answer(command, script):
         with open(os.path.join(folder, "script.py"), "w", encoding="utf-8") as file:
             file.write(script)
         start = time.monotonic()
-        done = subprocess.run([*command, "run", "script.py"], cwd=folder, capture_output=True, text=True, stdin=subprocess.DEVNULL, timeout=120)
+        words = [*command, "run", "script.py"]
+        try:
+            done = subprocess.run(words, cwd=folder, capture_output=True, text=True, stdin=subprocess.DEVNULL, timeout=6 * SECONDS)
+        except subprocess.TimeoutExpired:
+            return None, "", [], time.monotonic() - start
         return done.returncode, done.stdout, done.stderr.splitlines()[-1:], time.monotonic() - start
 
 

@@ -1,9 +1,8 @@
 -- Numbers that have no 128 bits are beyond the range of integers, whatever their sign.
-use Rattle.std.proofs.Common.{◌≡◌, ◌∙◌, ◌+◌, ◌-◌, ◌≤◌, ◌<◌, ℕ, zero, suc, ℤ, pos, negsuc, Bool, true, false, Option, Some, None, nat_le, if◌then◌else◌, refl, sym, ap, arith}
-use Rattle.std.specs.Prelude.{◌^◌, min, nat_lt}
+use Rattle.std.proofs.Common.{◌≡◌, ◌∙◌, ◌-◌, ◌≤◌, ℕ, zero, suc, ℤ, Bool, true, false, Option, Some, None, nat_le, if◌then◌else◌, refl, sym, ap, arith}
+use Rattle.std.specs.Prelude.{◌^◌, nat_lt}
 use Rattle.std.proofs.lemmas.Bool.Decides.{nat_tests}
 use Rattle.std.specs.Option.{option_map}
-use Rattle.pt_ints.specs.declared.answer.IntAns.{IntAns}
 use Rattle.pt_ints.specs.declared.answer.IntAns.TheVariants.{Value, Range}
 use Rattle.pt_ints.specs.Answer.{is_in_range, ranged}
 use Rattle.pt_prims.specs.IntegerTexts.{saturated, signed}

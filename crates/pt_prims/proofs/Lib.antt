@@ -12,3 +12,4 @@ pub mod StarLemmas
 pub mod MethodLemmas
 pub mod AttributeLemmas
 pub mod WithinLemmas
+pub mod UpdateLemmas

@@ -8,5 +8,6 @@ pub mod Calls
 pub mod Subscripts
 pub mod Spreads
 pub mod Operations
+pub mod Updates
 pub mod Laws
 pub use Rattle.pt_methods.specs as pt_methods

@@ -14,6 +14,7 @@ mod operation;
 mod sequences;
 mod spreads;
 mod subscripts;
+mod updates;
 
 pub use attribute_calls::ATTRIBUTE_ERROR;
 pub use calls::STOP_ITERATION;

@@ -4,12 +4,14 @@ ghost use Rattle.pt_builtin_objects.specs.Start.{start_objects};
 ghost use Rattle.pt_prims.specs.Laws.{AllWithin};
 ghost use Rattle.pt_prims.specs.Operations.{content_of, content_of_few, content_of_one, content_of_three, content_of_two};
 ghost use Rattle.pt_prims.specs.Operations.{grown, placed, prim_answer, prim_heap};
+ghost use Rattle.pt_prims.specs.Updates.{IsMade};
 
 use crate::arithmetic::{binary_content, unary_content};
 use crate::calls::call_content;
 use crate::in_place::in_place_content;
 use crate::spreads::{spread, spread_named};
 use crate::subscripts::{add_to_dict, add_to_set, delete_subscript, set_subscript, subscript};
+use crate::updates::update_of;
 use pt_base::{Memory, ObjId, Seq, Text, What};
 use pt_content::{Change, Content, NewObject, Op, PrimAns, add, add_values, apply};
 use pt_heap::{Heap, Value};
@@ -18,6 +20,7 @@ use pt_methods::{
     join_content, list_add_content, list_content, method_content, next_content, set_content,
     slice_content, starred_content, truth_content, tuple_content, unpack_content,
 };
+use pt_updates::update_at;
 use std::alloc::Global;
 
 /// What an operation on one value answers.
@@ -191,11 +194,35 @@ fn place(
     }
 }
 
+/// What an operation does by what it answers.
+fn answered(alloc: Global, op: Op, args: &[Value], heap: &mut Heap) -> Result<PrimAns, Memory>
+    ensures answer { IfOk result (λ answer. answer ≡ prim_answer op args.now heap.old) }
+    ensures heap { OnOk result (heap.new ≡ prim_heap op args.now heap.old) }
+    ensures memory { OnErr result (heap.new ≡ heap.old) }
+{
+    let content = content_of(alloc, op, args, heap)?;
+    place(alloc, content, args, heap)
+}
+
+/// Updates the object of an operation that is an update, and answers whether it did.
+#[tactic(auto, using(crate::proofs::UpdateLemmas::left_alone, crate::proofs::UpdateLemmas::made_or_left))]
+fn update(alloc: Global, op: Op, args: &[Value], heap: &mut Heap) -> Result<bool, Memory>
+    ensures ok { IfOk result (IsMade op args.now heap.old heap.new) }
+    ensures err { OnErr result (heap.new ≡ heap.old) }
+{
+    let Some((id, update)) = update_of(alloc, op, args, heap)? else {
+        return Ok(false);
+    };
+    let done = update_at(heap, id, update)?;
+    Ok(done)
+}
+
 /// What an operation on values answers. A new object, and the text of an exception, stand in the
 /// heap behind the others; a list, dictionary, set or cursor may hold something else. Outside with
 /// the cause Heap, with nothing changed, where it is full. Outside with the cause Feature for
 /// operands, and for a number of them, that the operation isn't supported for. After Memory the
-/// heap is as before.
+/// heap is as before. An item that is put into a list, dictionary or set is put into the object
+/// itself, so that it costs nothing of what else is there.
 pub fn prim(alloc: Global, op: Op, args: &[Value], heap: &mut Heap) -> Result<PrimAns, Memory>
     ensures answer { IfOk result (λ answer. answer ≡ prim_answer op args.now heap.old) }
     ensures heap { OnOk result (heap.new ≡ prim_heap op args.now heap.old) }
@@ -203,6 +230,8 @@ pub fn prim(alloc: Global, op: Op, args: &[Value], heap: &mut Heap) -> Result<Pr
     ensures sound { IsSound start_objects heap.old → AllWithin heap.old args.now →
         IsSound start_objects heap.new }
 {
-    let content = content_of(alloc, op, args, heap)?;
-    place(alloc, content, args, heap)
+    if update(alloc, op, args, heap)? {
+        return Ok(PrimAns::Value(Value::None));
+    }
+    answered(alloc, op, args, heap)
 }

@@ -1,4 +1,4 @@
-use Rattle.std.proofs.Common.{◌≡◌, ◌∙◌, ap, sym, arith}
+use Rattle.std.proofs.Common.{◌∙◌, ap, sym, arith}
 use Rattle.pt_prims.specs.Classes.{tuple_kinship}
 use Rattle.pt_prims.proofs.KinshipLemmas.{deep, one-less}
 use Rattle.pt_prims.proofs.classes.+kinships.Goals as goal
