@@ -1,5 +1,5 @@
 -- The text of a script says one end at most, and its run prints one output.
-use Rattle.std.proofs.Common.{◌≡◌, ◌++◌, ◌-◌, ◌^◌, ℕ, min, List, [], Bool, true, false, Some, None, refl, sym, ap, ◌∙◌, subst}
+use Rattle.std.proofs.Common.{◌≡◌, ◌++◌, ◌-◌, ◌^◌, ℕ, min, List, [], ◌∷◌, map, Bool, true, false, Option, Some, None, refl, sym, ap, ◌∙◌, subst, append-nil}
 use Rattle.std.proofs.lemmas.Bool.{true≢false}
 use Rattle.pt_base.specs.declared.numbers.Line.{Line}
 use Rattle.pt_base.specs.Taken.{Pieces}
@@ -9,11 +9,11 @@ use Rattle.pt_heap.specs.declared.value.Value.TheVariants as value
 use Rattle.pt_host.specs.HeapHost.{heap_host}
 use Rattle.pt_host.specs.World.{World}
 use Rattle.pt_host.specs.Calls.{module_names, module_world}
-use Rattle.sem_run.specs.run.Run.{Write}
+use Rattle.sem_run.specs.run.Run.{Write, write, to_log, to_out}
 use Rattle.pt_bare_runs.specs.Strides.{Outcome}
 use Rattle.pt_bare_runs.proofs.BareRuns.{bare_runs_once}
 use Rattle.pt_machine_state.specs.Writing.{kept}
-use Rattle.pt_sinks.specs.Writing.{outs}
+use Rattle.pt_sinks.specs.Writing.{logs, outs}
 use Rattle.pt_sinks.proofs.WritingLemmas.{outs_append}
 use Rattle.pt_run_script.specs.pt_run_code.law_loading.script_program.ScriptProgram.{program_of}
 use Rattle.pt_run_script.specs.law_compile.script_runs.Blocks.{the_module}
@@ -29,7 +29,9 @@ use Rattle.pt_prog.specs.Limits.{reads_code}
 use Rattle.pt_prog.specs.declared.end.End.{End}
 use Rattle.pt_prog.specs.declared.end.End.TheVariants as end
 use Rattle.pt_prog.specs.LogText.{Text, final, totals}
-use Rattle.pt_prog.specs.Answer.{IsAnswerFor, IsEndFor, IsUnbuilt, IsBuilt, end_of, is_run, last_writes, run_writes, script_read, tells_events, of_code, refused, unbuilt, ran, wrote_code}
+use Rattle.pt_cover.specs.Reports.{logged}
+use Rattle.pt_cover.specs.declared.kind.ReportKind.{ReportKind}
+use Rattle.pt_prog.specs.Answer.{IsAnswerFor, IsEndFor, IsUnbuilt, IsBuilt, all_writes, end_of, is_run, last_writes, report_kind, report_on, reported, script_read, script_writes, tells_events, of_code, refused, unbuilt, ran, wrote_code}
 
 one_ending : (ss : Stms) (n : ℕ) (o p : Outcome Value World) → RunsTo ss n o → RunsTo ss n p → o ≡ p
 one_ending ss n o p a b = bare_runs_once (tree_machine value.None ss) (heap_host (program_of ss)) n the_module (module_names (program_of ss)) (module_world (program_of ss)) o p a b
@@ -41,6 +43,23 @@ run_no_code command.Trace e = refl
 run_no_code command.Dis e = refl
 run_no_code command.Build e = refl
 run_no_code command.Exec e = absurd (true≢false (sym e))
+run_no_code command.Cover e = refl
+run_no_code command.Profile e = refl
+
+-- a report goes to the log
+outs_to_out : (ps : Pieces) → outs (map (write to_out) ps) ≡ ps
+outs_to_out [] = refl
+outs_to_out (p ∷ ps) = ap (λ qs. p ∷ qs) (outs_to_out ps)
+
+outs_to_log : (ps : Pieces) → outs (map (write to_log) ps) ≡ []
+outs_to_log [] = refl
+outs_to_log (p ∷ ps) = outs_to_log ps
+
+pub outs_reported : (k : ReportKind) (a : Asked) (ss : Stms) (ws : List Write) → outs (reported k a ss ws) ≡ outs ws
+outs_reported k a ss ws =
+    let told : Pieces = logged a.events a.stats (report_on k ss) (logs ws) in
+    outs_append (map (write to_out) (outs ws)) (map (write to_log) told)
+    ∙ (λ i. outs_to_out (outs ws) i ++ outs_to_log told i) ∙ append-nil (outs ws)
 
 module _ (a : Asked) (text : Text) where
   one_line : (k l : Line) → IsUnbuilt text k → IsUnbuilt text l → end.Unbuilt k ≡ end.Unbuilt l
@@ -49,7 +68,7 @@ module _ (a : Asked) (text : Text) where
       let first : Some k.0 ≡ Some l.0 = sym u.is_first ∙ ap unbuilt_of same ∙ v.is_first in
       let line : k.0 ≡ l.0 = cc in λ i. end.Unbuilt (record { 0 = line i })
 
-  not_both : (line : Line) (ss : Stms) → IsUnbuilt text line → IsBuilt text ss → ⊥
+  pub not_both : (line : Line) (ss : Stms) → IsUnbuilt text line → IsBuilt text ss → ⊥
   not_both line ss u b =
       let none : unbuilt_of u.script ≡ None = ap unbuilt_of (one_script text u.script ss u.is_script b.is_script) ∙ b.is_built in
       let bad : Some line.0 ≡ None = sym u.is_first ∙ none in absurd cc
@@ -97,24 +116,35 @@ module _ (a : Asked) (text : Text) where
   last_of : Stms → Outcome Value World → List Write
   last_of ss o = last_writes (script_read a text ss) a.steps o.ending
 
-  prints : Stms → Outcome Value World → Pieces
-  prints ss o = outs (kept (tells_events a) o.written) ++ outs (last_of ss o)
+  prints : (events : Bool) → Stms → Outcome Value World → Pieces
+  prints events ss o = outs (kept events o.written) ++ outs (last_of ss o)
 
-  are_prints : (ss : Stms) (o : Outcome Value World) (w : Work) → outs (run_writes (script_read a text ss) a o w) ≡ prints ss o
+  are_prints : (events stats : Bool) (ss : Stms) (o : Outcome Value World) (w : Work)
+      → outs (all_writes (script_read a text ss) a.steps events stats o w) ≡ prints events ss o
   unfolding prints last_of
-  are_prints ss o w =
-      let told : List Write = totals a.stats o.units (min w.instructions (2 ^ 64 - 1)) w.depth in
-      outs_append (kept (tells_events a) o.written) (told ++ last_of ss o)
-      ∙ ap (λ q. outs (kept (tells_events a) o.written) ++ q)
+  are_prints events stats ss o w =
+      let told : List Write = totals stats o.units (min w.instructions (2 ^ 64 - 1)) w.depth in
+      outs_append (kept events o.written) (told ++ last_of ss o)
+      ∙ ap (λ q. outs (kept events o.written) ++ q)
       (outs_append told (last_of ss o)
-      ∙ ap (λ q. q ++ outs (last_of ss o)) (no_prints a.stats o.units (min w.instructions (2 ^ 64 - 1)) w.depth))
+      ∙ ap (λ q. q ++ outs (last_of ss o)) (no_prints stats o.units (min w.instructions (2 ^ 64 - 1)) w.depth))
 
-  one_output : (ss zz : Stms) (o p : Outcome Value World) (w v : Work) → IsBuilt text ss → IsBuilt text zz → RunsTo ss a.steps o → RunsTo zz a.steps p
-      → outs (run_writes (script_read a text ss) a o w) ≡ outs (run_writes (script_read a text zz) a p v)
-  one_output ss zz o p w v b c r q =
+  -- with a report, all events are told
+  all_events : Option ReportKind → Bool
+  all_events None = tells_events a
+  all_events (Some k) = true
+
+  script_prints : (r : Option ReportKind) (ss : Stms) (o : Outcome Value World) (w : Work) → outs (script_writes r a text ss o w) ≡ prints (all_events r) ss o
+  unfolding all_events
+  script_prints None ss o w = are_prints (tells_events a) a.stats ss o w
+  script_prints (Some k) ss o w = outs_reported k a ss (all_writes (script_read a text ss) a.steps true true o w) ∙ are_prints true true ss o w
+
+  one_output : (k : Option ReportKind) (ss zz : Stms) (o p : Outcome Value World) (w v : Work) → IsBuilt text ss → IsBuilt text zz → RunsTo ss a.steps o
+      → RunsTo zz a.steps p → outs (script_writes k a text ss o w) ≡ outs (script_writes k a text zz p v)
+  one_output k ss zz o p w v b c r q =
       let same : ss ≡ zz = one_script text ss zz b.is_script c.is_script in
       let ending : o ≡ p = one_ending zz a.steps o p (subst (λ s. RunsTo s a.steps o) same r) q in
-      are_prints ss o w ∙ (λ i. prints (same i) (ending i)) ∙ sym (are_prints zz p v)
+      script_prints k ss o w ∙ (λ i. prints (all_events k) (same i) (ending i)) ∙ sym (script_prints k zz p v)
 
   same_final : (e f : End) (ws vs : List Write) → e ≡ f → ws ≡ final e → vs ≡ final f → outs ws ≡ outs vs
   same_final e f ws vs same u v = ap outs (u ∙ ap final same ∙ sym v)
@@ -130,6 +160,6 @@ module _ (a : Asked) (text : Text) where
   prints_once e f ws vs runs (unbuilt k b x i u) (ran ss o m c y r d j v) = absurd (not_both k ss x y)
   prints_once e f ws vs runs (ran ss o k b x r c i u) (refused q n y j v) = absurd (never_both text ss q x.is_script y)
   prints_once e f ws vs runs (ran ss o k b x r h i u) (unbuilt l c y j v) = absurd (not_both l ss y x)
-  prints_once e f ws vs runs (ran ss o k b x r h i u) (ran zz p m c y q d j v) = ap outs u ∙ one_output ss zz o p k m x y r q ∙ sym (ap outs v)
+  prints_once e f ws vs runs (ran ss o k b x r h i u) (ran zz p m c y q d j v) = ap outs u ∙ one_output (report_kind a.command) ss zz o p k m x y r q ∙ sym (ap outs v)
   prints_once e f ws vs runs (wrote_code ls b x i u) y = absurd (run_or_code runs b)
   prints_once e f ws vs runs x (wrote_code ms b y j v) = absurd (run_or_code runs b)

@@ -1,5 +1,6 @@
 pub mod EndLaws
 pub mod ListingLemmas
+pub mod ReportLemmas
 pub mod RunLemmas
 pub mod AnswerLemmas
 pub use Rattle.pt_run_script.proofs as pt_run_script

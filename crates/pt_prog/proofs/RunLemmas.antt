@@ -32,7 +32,7 @@ use Rattle.pt_prog.specs.declared.end.End.TheVariants as end
 use Rattle.pt_prog.specs.LogText.{Text, final, line_of, totals, traced}
 use Rattle.pt_prog.specs.RunEnds.{end_of_run, last_of_run}
 use Rattle.pt_prog.specs.Limits.{reads_code}
-use Rattle.pt_prog.specs.Answer.{BrokeOffFor, IsAnswerFor, IsBuilt, IsFileOf, IsRunnableFile, IsUnbuiltFile, WroteAllFor, WroteFrontFor, code_read, end_of, is_run, last_writes, of_answer, of_code, of_code_run, of_run, ran, ran_code, run_writes, script_read, tells_events}
+use Rattle.pt_prog.specs.Answer.{BrokeOffFor, IsAnswerFor, IsBuilt, IsFileOf, IsRunnableFile, IsUnbuiltFile, WroteAllFor, WroteFrontFor, code_read, end_of, is_run, last_writes, of_answer, of_code, of_code_run, of_run, ran, ran_code, report_kind, run_writes, script_read, script_writes, tells_events}
 
 -- the end of a run is that of its outcome
 pub same_end : (name : ℕ → List ℕ) (n : ℕ) (x : RunEnd) (e : Ending Value World) → IsEnding name x e → end_of_run n x ≡ end_of n e
@@ -130,13 +130,15 @@ pub record RunTaken (a : Asked) (p : Program) (x : Ended) (o : Outcome Value Wor
 abbrev pub Says : Asked → Text → Program → Outcome Value World → Work → Type 0
 Says a text p o w = (e : End) (ws : List Write) → e ≡ end_of a.steps o.ending → ws ≡ run_writes p a o w → IsAnswerFor a text e ws
 
-module _ (a : Asked) (text : Text) (ss : Stms) (is : IsBuilt text ss) (runs : is_run a.command ≡ true) (x : Ended) (out_old out_ran log_old log_ran : Pieces → Pieces → Type 0)
+module _ (a : Asked) (text : Text) (ss : Stms) (is : IsBuilt text ss) (runs : is_run a.command ≡ true) (plain : report_kind a.command ≡ None) (x : Ended)
+    (out_old out_ran log_old log_ran : Pieces → Pieces → Type 0)
     (f : ScriptFinished ss a.steps (tells_events a) out_old out_ran log_old log_ran x) where
   pub script_taken : RunTaken a (script_read a text ss) x f.outcome f.work out_old out_ran log_old log_ran
   script_taken = record { units = f.units; instructions = f.instructions; depth = f.depth; ends = f.ends; took = f.took }
 
   pub script_says : Says a text (script_read a text ss) f.outcome f.work
-  script_says e ws is_end are = ran ss f.outcome f.work runs is f.runs f.code_runs is_end are
+  script_says e ws is_end are =
+      ran ss f.outcome f.work runs is f.runs f.code_runs is_end (are ∙ sym (ap (λ k. script_writes k a text ss f.outcome f.work) plain))
 
 module _ (a : Asked) (text : Text) (c : Code) (is : IsRunnableFile text c) (reads : reads_code a.command ≡ true) (x : Ended)
     (out_old out_ran log_old log_ran : Pieces → Pieces → Type 0) (f : CodeFinished c a.steps (tells_events a) out_old out_ran log_old log_ran x) where
@@ -205,10 +207,11 @@ module _ (a : Asked) (text : Text) (p : Program) (x : Ended) (o : Outcome Value 
       err_behind (Err e) l = broke a text out_old out_new log_old log_new e (of_answer (end_of_run a.steps x.end) all_written answer (front_of_last e l))
 
 -- a run that was broken off
-module _ (a : Asked) (text : Text) (ss : Stms) (is : IsBuilt text ss) (runs : is_run a.command ≡ true) (out_old out_new log_old log_new : Pieces → Pieces → Type 0) where
+module _ (a : Asked) (text : Text) (ss : Stms) (is : IsBuilt text ss) (runs : is_run a.command ≡ true) (plain : report_kind a.command ≡ None)
+    (out_old out_new log_old log_new : Pieces → Pieces → Type 0) where
   pub front_of_run : (why : WriteErr) → ScriptBrokeOff ss a.steps (tells_events a) out_old out_new log_old log_new why
       → WroteFrontFor out_old out_new log_old log_new why a text
-  front_of_run why b = of_run ss b.written runs is b.first b.took
+  front_of_run why b = of_run ss b.written runs plain is b.first b.took
 
 module _ (a : Asked) (text : Text) (c : Code) (is : IsRunnableFile text c) (reads : reads_code a.command ≡ true) (out_old out_new log_old log_new : Pieces → Pieces → Type 0) where
   pub front_of_code_run : (why : WriteErr) → CodeBrokeOff c a.steps (tells_events a) out_old out_new log_old log_new why

@@ -6,9 +6,10 @@ use Rattle.pt_base.specs.declared.numbers.Line.{Line}
 use Rattle.pt_base.specs.Told.{Told, IsLacked, IsLonger, IsWhole}
 use Rattle.pt_base.specs.Told.Told.{Holds}
 use Rattle.pt_base.specs.Taken.{Pieces}
+use Rattle.pt_base.specs.Taken as one
 use Rattle.pt_tree.specs.Syntax.{Stms}
 use Rattle.sem_run.specs.run.Run.{Write, write, to_out, to_log}
-use Rattle.pt_sinks.specs.Writing.{Took, TookFront}
+use Rattle.pt_sinks.specs.Writing.{StoppedBy, Took, TookFront, first, logs, outs}
 use Rattle.pt_sinks.specs.declared.writing.WriteErr.{WriteErr}
 use Rattle.pt_sinks.specs.declared.writing.WriteErr.TheVariants as error
 use Rattle.pt_bare_runs.specs.Strides as bare
@@ -39,6 +40,12 @@ use Rattle.pt_run_script.specs.pt_run_code.law_loading.code_program.Laws.{IsRunn
 use Rattle.pt_run_script.specs.pt_run_code.CodeRun.{CodeRunsTo, CodeWritesFirst}
 use Rattle.law_files.specs.sem_compile.compile.ScriptCode.{code_of}
 use Rattle.pt_listing.specs.Listing.{IsListing}
+use Rattle.pt_cover.specs.declared.kind.ReportKind.{ReportKind}
+use Rattle.pt_cover.specs.declared.kind.ReportKind.TheVariants as kind
+use Rattle.pt_cover.specs.HasTaken.{counts_of}
+use Rattle.pt_cover.specs.Kept.{counted, report_of}
+use Rattle.pt_cover.specs.Reports.{logged}
+use Rattle.pt_reported.specs.Reported.{lines_of, names_of}
 use Rattle.pt_words.specs.Words.{Asked, command_line}
 use Rattle.pt_words.specs.declared.line.Command.{Command}
 use Rattle.pt_words.specs.declared.line.Command.TheVariants as command
@@ -70,6 +77,8 @@ is_run command.Trace = true
 is_run command.Dis = false
 is_run command.Build = false
 is_run command.Exec = false
+is_run command.Cover = true
+is_run command.Profile = true
 
 abbrev pub traces : Command → Bool
 traces command.Run = false
@@ -77,6 +86,18 @@ traces command.Trace = true
 traces command.Dis = false
 traces command.Build = false
 traces command.Exec = false
+traces command.Cover = false
+traces command.Profile = false
+
+-- what the log has a report on behind the events of a run, if anything
+abbrev pub report_kind : Command → Option ReportKind
+report_kind command.Run = None
+report_kind command.Trace = None
+report_kind command.Dis = None
+report_kind command.Build = None
+report_kind command.Exec = None
+report_kind command.Cover = Some kind.Lines
+report_kind command.Profile = Some kind.Names
 
 -- the log has a line for each event: `trace` is `run --events`
 abbrev pub tells_events : Asked → Bool
@@ -100,6 +121,8 @@ IsWrittenBy command.Trace code bytes = ⊥
 IsWrittenBy command.Dis code bytes = IsListing code bytes
 IsWrittenBy command.Build code bytes = HasFile code × (bytes ≡ file code)
 IsWrittenBy command.Exec code bytes = ⊥
+IsWrittenBy command.Cover code bytes = ⊥
+IsWrittenBy command.Profile code bytes = ⊥
 
 -- the text is a script, and so the command writes its code
 pub record IsCodeBy (command : Command) (text bytes : Text) : Type 0 where
@@ -130,9 +153,36 @@ last_writes p n e = final (end_of n e)
 
 -- all that a run of this program writes that comes to an outcome: what is printed and its events, the totals, and the last write. Of the totals of a
 -- script the acts are the script's, the others those of its code; the count of instructions stands still at the greatest u64
+abbrev pub all_writes : Program → (steps : ℕ) → (events stats : Bool) → Outcome Value World → Work → List Write
+all_writes p steps events stats o w =
+    kept events o.written ++ (totals stats o.units (min w.instructions (2 ^ 64 - 1)) w.depth ++ last_writes p steps o.ending)
+
 abbrev pub run_writes : Program → Asked → Outcome Value World → Work → List Write
-run_writes p a o w =
-    kept (tells_events a) o.written ++ (totals a.stats o.units (min w.instructions (2 ^ 64 - 1)) w.depth ++ last_writes p a.steps o.ending)
+run_writes p a o w = all_writes p a.steps (tells_events a) a.stats o w
+
+-- with a report, all events and totals of a plain run are counted
+abbrev pub all_told : Asked → Asked
+all_told a = record { command = command.Run; script = a.script; steps = a.steps; events = true; stats = true }
+
+-- the report of a script's events on its lines or names
+abbrev pub report_on : ReportKind → Stms → (events : Pieces) → Text
+report_on k ss events = report_of (counted (counts_of k (lines_of ss) (names_of ss)) events)
+
+-- of what a run writes with its events and totals, the prints, and what the log gets with a report before the totals: events and totals where they are
+-- asked for
+abbrev pub reported : ReportKind → Asked → Stms → List Write → List Write
+reported k a ss ws = map (write to_out) (outs ws) ++ map (write to_log) (logged a.events a.stats (report_on k ss) (logs ws))
+
+-- what the run of a script writes, without a report or with one
+abbrev pub script_writes : Option ReportKind → Asked → Text → Stms → Outcome Value World → Work → List Write
+script_writes None a text ss o w = run_writes (script_read a text ss) a o w
+script_writes (Some k) a text ss o w = reported k a ss (all_writes (script_read a text ss) a.steps true true o w)
+
+-- what the run of a script writes first with its events and totals, whether or not it comes to an outcome
+pub data WritesFirst (a : Asked) (text : Text) (ss : Stms) : List Write → Type 0 where
+  of_front : (ws : List Write) → ScriptWritesFirst ss a.steps ws → WritesFirst a text ss (kept true ws)
+  of_all : (o : Outcome Value World) (w : Work) → RunsTo ss a.steps o → CodeRunsBy ss a.steps o w
+      → WritesFirst a text ss (all_writes (script_read a text ss) a.steps true true o w)
 
 -- the bytes are no code file, for this reason
 pub record IsNoFile (bytes : Text) (error : CodeErr) : Type 0 where
@@ -189,7 +239,7 @@ pub data IsAnswerFor (a : Asked) (text : Text) (e : End) (ws : List Write) : Typ
   refused : (error : Refusal) → reads_code a.command ≡ false → IsRefused text error → e ≡ end.Refused error → ws ≡ final e → IsAnswerFor a text e ws
   unbuilt : (line : Line) → is_run a.command ≡ true → IsUnbuilt text line → e ≡ end.Unbuilt line → ws ≡ final e → IsAnswerFor a text e ws
   ran : (script : Stms) (o : Outcome Value World) (w : Work) → is_run a.command ≡ true → IsBuilt text script → RunsTo script a.steps o
-      → CodeRunsBy script a.steps o w → e ≡ end_of a.steps o.ending → ws ≡ run_writes (script_read a text script) a o w → IsAnswerFor a text e ws
+      → CodeRunsBy script a.steps o w → e ≡ end_of a.steps o.ending → ws ≡ script_writes (report_kind a.command) a text script o w → IsAnswerFor a text e ws
   wrote_code : (bytes : Text) → is_run a.command ≡ false → IsCodeBy a.command text bytes → e ≡ end.Done → ws ≡ write to_out bytes ∷ [] → IsAnswerFor a text e ws
 
 -- the end is the one that the text says
@@ -223,12 +273,24 @@ module _ (out_old out_new log_old log_new : Pieces → Pieces → Type 0) where
     pub is_answer : IsAnswer misread words told e writes
     pub took : Took out_old out_new log_old log_new writes
 
+  -- of what a run writes, a front was written with a report: out took it as it stands, and the log took a front of what it gets of it
+  pub record ReportedFront (why : WriteErr) (k : ReportKind) (a : Asked) (ss : Stms) (ws : List Write) : Type 0 where
+    pub done : List Write
+    pub rest : List Write
+    pub is_front : ws ≡ done ++ rest
+    pub stopped : StoppedBy why rest
+    pub out : (g h : Pieces) → out_old g h → one.TookFront (out_new g) (h ++ outs done) (outs (first rest))
+    pub log : (g h : Pieces) → log_old g h
+        → one.TookFront (λ ps. one.TookFront (log_new g) h (logged a.events a.stats (report_on k ss) ps)) (logs done) (logs (first rest))
+
   -- a front of what an answer writes was written, or of what a run writes, whether or not that comes to an end; where a write failed, the next one goes to
   -- its stream
   pub data WroteFrontFor (why : WriteErr) (a : Asked) (text : Text) : Type 0 where
     of_answer : (e : End) (ws : List Write) → IsAnswerFor a text e ws → TookFront out_old out_new log_old log_new why ws → WroteFrontFor why a text
-    of_run : (script : Stms) (ws : List Write) → is_run a.command ≡ true → IsBuilt text script → ScriptWritesFirst script a.steps ws
-        → TookFront out_old out_new log_old log_new why (kept (tells_events a) ws) → WroteFrontFor why a text
+    of_run : (script : Stms) (ws : List Write) → is_run a.command ≡ true → report_kind a.command ≡ None → IsBuilt text script
+        → ScriptWritesFirst script a.steps ws → TookFront out_old out_new log_old log_new why (kept (tells_events a) ws) → WroteFrontFor why a text
+    of_reported_run : (k : ReportKind) (script : Stms) (ws : List Write) → report_kind a.command ≡ Some k → IsBuilt text script
+        → WritesFirst a text script ws → ReportedFront why k a script ws → WroteFrontFor why a text
     of_code_run : (c : Code) (ws : List Write) → reads_code a.command ≡ true → IsRunnableFile text c → CodeWritesFirst c a.steps ws
         → TookFront out_old out_new log_old log_new why (kept (tells_events a) ws) → WroteFrontFor why a text
 

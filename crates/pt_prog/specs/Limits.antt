@@ -18,6 +18,8 @@ reads_code command.Trace = false
 reads_code command.Dis = false
 reads_code command.Build = false
 reads_code command.Exec = true
+reads_code command.Cover = false
+reads_code command.Profile = false
 
 -- the bytes that the command's file may have
 abbrev pub limit_of : Command → ℕ

@@ -10,6 +10,7 @@ mod exec;
 mod laws;
 mod log_text;
 mod program;
+mod reporting;
 mod running;
 
 pub use end::{CodeRefusal, End, File, status};

@@ -32,7 +32,12 @@ fn reads_code(command: Command) -> bool
 {
     match command {
         Command::Exec => true,
-        Command::Run | Command::Trace | Command::Dis | Command::Build => false,
+        Command::Run
+        | Command::Trace
+        | Command::Dis
+        | Command::Build
+        | Command::Cover
+        | Command::Profile => false,
     }
 }
 
@@ -79,7 +84,9 @@ fn answer_text<O: Sink, L: Sink>(
         Err(Failure::Memory) => return Err(WriteErr::Memory),
     };
     match line.command {
-        Command::Run | Command::Trace => run_built(alloc, line, text, &script, out, log),
+        Command::Run | Command::Trace | Command::Cover | Command::Profile => {
+            run_built(alloc, line, text, &script, out, log)
+        }
         Command::Dis => {
             let lines = listing_of(alloc, &script)?;
             put(Out::Out, lines.as_str().as_bytes(), out, log)?;
@@ -141,6 +148,7 @@ fn ended(answer: Result<End, WriteErr>) -> End
 /// The order of answers is Usage, ReadFault, TooLong, Refused or BadCode, for a run Unbuilt, and
 /// then those of the run. Behind what a run writes the log gets the totals, where they are asked
 /// for, and in one write the traceback of an exception that left the script or the text of the end.
+/// With `cover` and `profile` a report on lines or names stands before the totals.
 /// After a write that failed nothing more is written.
 pub fn top<F: Shelf, O: Sink, L: Sink>(
     alloc: Global,

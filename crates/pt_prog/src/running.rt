@@ -1,16 +1,20 @@
 //! The run of a script that a text is, with what the log gets behind it.
 
-ghost use Rattle.std.specs.Prelude.{◌≡◌, ◌≤◌, Err, IfErr, IfOk, true};
+ghost use Rattle.std.specs.Prelude.{◌≡◌, ◌≤◌, Err, IfErr, IfOk, None, true};
 ghost use Rattle.pt_base.specs.Faults.{Rose};
 ghost use Rattle.pt_front.specs.Text.{IsScript};
-ghost use Rattle.pt_prog.specs.Answer.{BrokeOffFor, WroteAllFor, is_run, tells_events, traces};
+ghost use Rattle.pt_prog.specs.Answer.{BrokeOffFor, WroteAllFor, is_run, report_kind};
+ghost use Rattle.pt_prog.specs.Answer.{tells_events, traces};
 ghost use Rattle.pt_sinks.specs.declared.writing.Out.TheVariants as stream;
+ghost use Rattle.pt_supported.specs.Built.{Built};
 ghost use Rattle.pt_tree.specs.StatementFold.{script_of};
 ghost use Rattle.pt_words.specs.Asked.{asked};
 
 use crate::end::End;
 use crate::ending::{write_final, write_last, write_totals};
+use crate::reporting::run_reported;
 use pt_base::Sink;
+use pt_cover::ReportKind;
 use pt_heap::Seed;
 use pt_run_script::run_script;
 use pt_sinks::WriteErr;
@@ -25,9 +29,65 @@ pub fn tells_events(line: &CommandLine) -> bool
 {
     let traces = match line.command {
         Command::Trace => true,
-        Command::Run | Command::Dis | Command::Build | Command::Exec => false,
+        Command::Run
+        | Command::Dis
+        | Command::Build
+        | Command::Exec
+        | Command::Cover
+        | Command::Profile => false,
     };
     traces || line.events
+}
+
+/// Runs a script that a text is, all of which is built, without a report, and writes what the log
+/// gets behind it.
+///
+/// # Errors
+///
+/// Failed where a sink's count of faults rose, and Memory.
+pub fn run_plainly<O: Sink, L: Sink>(
+    alloc: Global,
+    line: &CommandLine,
+    text: &[u8],
+    script: &Script,
+    out: &mut O,
+    log: &mut L,
+) -> Result<End, WriteErr>
+    requires is_script { IsScript text.now (script_of script.now) }
+    requires is_built { Built (script_of script.now) }
+    requires is_run { is_run line.now.command ≡ true }
+    requires reports_nothing { report_kind line.now.command ≡ None }
+    ensures ok { IfOk result
+        (WroteAllFor (O.taken out.old) (O.taken out.new) (L.taken log.old) (L.taken log.new)
+        (asked line.now) text.now) }
+    ensures err { IfErr result
+        (BrokeOffFor (O.taken out.old) (O.taken out.new) (L.taken log.old) (L.taken log.new)
+        (asked line.now) text.now) }
+    ensures out_failed { result ≡ Err (WriteErr.Failed stream.Out)
+        → Rose (O.faults out.old) (O.faults out.new) × (O.faults out.new ≤ O.most out.new) }
+    ensures log_failed { result ≡ Err (WriteErr.Failed stream.Log)
+        → Rose (L.faults log.old) (L.faults log.new) × (L.faults log.new ≤ L.most log.new) }
+    ensures most { (O.most out.new ≡ O.most out.old) × (L.most log.new ≡ L.most log.old) }
+    ensures later { (O.faults out.old ≤ O.faults out.new)
+        × (L.faults log.old ≤ L.faults log.new) }
+{
+    let seed = Seed::of(text);
+    let events = tells_events(line);
+    let ended = run_script(alloc, seed, script, line.steps, events, out, log)?;
+    write_totals(alloc, line.stats, &ended.totals, out, log)?;
+    let source = Some(text);
+    write_last(alloc, line.script, source, &ended.end, line.steps, out, log)
+}
+
+/// What the log has a report on behind the events of a run, if anything.
+fn report_kind(command: Command) -> Option<ReportKind>
+    ensures { result ≡ report_kind command }
+{
+    match command {
+        Command::Run | Command::Trace | Command::Dis | Command::Build | Command::Exec => None,
+        Command::Cover => Some(ReportKind::Lines),
+        Command::Profile => Some(ReportKind::Names),
+    }
 }
 
 /// Runs the script that a text is, if all of it is built, and writes what the log gets behind it.
@@ -62,10 +122,8 @@ pub fn run_built<O: Sink, L: Sink>(
     if let Some(first) = first_unbuilt(script) {
         return write_final(alloc, End::Unbuilt { line: first }, out, log);
     }
-    let seed = Seed::of(text);
-    let events = tells_events(line);
-    let ended = run_script(alloc, seed, script, line.steps, events, out, log)?;
-    write_totals(alloc, line.stats, &ended.totals, out, log)?;
-    let source = Some(text);
-    write_last(alloc, line.script, source, &ended.end, line.steps, out, log)
+    match report_kind(line.command) {
+        None => run_plainly(alloc, line, text, script, out, log),
+        Some(kind) => run_reported(alloc, line, kind, text, script, out, log),
+    }
 }

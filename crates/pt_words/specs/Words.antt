@@ -96,7 +96,9 @@ command_named word =
     else (if bytes_eq word (codes "trace") then Some command.Trace
     else (if bytes_eq word (codes "dis") then Some command.Dis
     else (if bytes_eq word (codes "build") then Some command.Build
-    else (if bytes_eq word (codes "exec") then Some command.Exec else None))))
+    else (if bytes_eq word (codes "exec") then Some command.Exec
+    else (if bytes_eq word (codes "cover") then Some command.Cover
+    else (if bytes_eq word (codes "profile") then Some command.Profile else None))))))
 
 abbrev pub asked_by : Sorted → Option Command → (script : Text) → Option ℕ → Option Asked
 asked_by s (Some c) script (Some n) =

@@ -11,6 +11,10 @@ pub enum Command {
     Build,
     /// A code file is run.
     Exec,
+    /// A script is run, and how often each of its lines was begun is told on the log.
+    Cover,
+    /// A script is run, and the calls and lines of each name are told on the log.
+    Profile,
 }
 
 /// What the words of a command line ask for.

@@ -20,6 +20,8 @@ fn command_named(word: &str) -> Option<Command>
         "dis" => Some(Command::Dis),
         "build" => Some(Command::Build),
         "exec" => Some(Command::Exec),
+        "cover" => Some(Command::Cover),
+        "profile" => Some(Command::Profile),
         _ => None,
     }
 }

@@ -29,7 +29,7 @@ use Rattle.pt_words.specs.Words.{Asked}
 use Rattle.pt_prog.specs.declared.end.End.{End}
 use Rattle.pt_prog.specs.LogText.{Text, totals}
 use Rattle.pt_prog.specs.Answer.{IsAnswerFor, IsCodeAnswer, IsFileOf, IsUnbuilt}
-use Rattle.pt_prog.specs.Answer.{bad_code, code_read, end_of, is_run, last_writes, of_code, ran, ran_code, refused, run_writes, script_read, tells_events, unbuilt, unbuilt_code, wrote_code}
+use Rattle.pt_prog.specs.Answer.{bad_code, code_read, end_of, is_run, last_writes, of_code, ran, ran_code, refused, run_writes, script_read, script_writes, tells_events, unbuilt, unbuilt_code, wrote_code}
 use Rattle.law_program.specs.exec_answers.Laws.{AskAlike, ExecAnswersAsRun, ExecHasOneAnswer, IsBuiltAs, RunAnswersAsExec, WriteAlike}
 use Rattle.law_program.proofs.exec_answers.CodeFiles.{built_or_unbuilt, code_file_has_one_answer, fits_or_bad, its_file, one_code}
 use Rattle.law_program.proofs.exec_answers.Ends.{both_ways, code_answer, no_code}
@@ -140,7 +140,7 @@ module _ (text : Text) (ss : Stms) (bytes : Text) (made : IsBuiltAs text ss byte
             work = w;
             runs = subst (λ n. CodeRunsTo c n o w) alike.steps run.1;
             ends = i ∙ same_end a b alike text (program_of ss) o w;
-            writes = u ∙ ap (λ s. run_writes (script_read a text s) a o w) same;
+            writes = u ∙ ap (λ k. script_writes k a text zz o w) alike.reports_nothing ∙ ap (λ s. run_writes (script_read a text s) a o w) same;
           },
         )
     run_ran e ws (wrote_code ls n x i u) = both_ways (is_run a.command) alike.runs n
@@ -181,7 +181,8 @@ module _ (text : Text) (ss : Stms) (bytes : Text) (made : IsBuiltAs text ss byte
           let ws : List Write = run_writes (script_read a text ss) a o w in (
             ws,
             (
-              ran ss o w alike.runs made.is_built run.0 run.1 (r.ends ∙ sym (same_end a b alike text (program_of ss) o w)) refl,
+              ran ss o w alike.runs made.is_built run.0 run.1 (r.ends ∙ sym (same_end a b alike text (program_of ss) o w))
+              (ap (λ k. script_writes k a text ss o w) (sym alike.reports_nothing)),
               alike_so o w e ws vs r.ends refl r.writes,
             ),
           )

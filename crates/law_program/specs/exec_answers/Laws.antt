@@ -12,7 +12,7 @@ use Rattle.pt_prog.specs.declared.end.End.{End}
 use Rattle.pt_prog.specs.declared.end.End.TheVariants as end
 use Rattle.pt_prog.specs.Limits.{reads_code}
 use Rattle.pt_prog.specs.LogText.{Text, traced}
-use Rattle.pt_prog.specs.Answer.{IsAnswerFor, IsBuilt, IsCodeAnswer, IsCodeBy, IsEndFor, is_run, tells_events}
+use Rattle.pt_prog.specs.Answer.{IsAnswerFor, IsBuilt, IsCodeAnswer, IsCodeBy, IsEndFor, is_run, report_kind, tells_events}
 
 -- for a command line a text says one end at most: that of a script, and the bytes of a code file
 abbrev pub TextSaysOneEnd : Type 0
@@ -26,6 +26,7 @@ CodeFileHasOneAnswer = (a : Asked) (bytes : Text) (e f : End) (ws vs : List Writ
 -- a run of a script and one of a code file, for as many acts and with the same lines of the log
 pub record AskAlike (a b : Asked) : Type 0 where
   pub runs : is_run a.command ≡ true
+  pub reports_nothing : report_kind a.command ≡ None
   pub executes : reads_code b.command ≡ true
   pub steps : a.steps ≡ b.steps
   pub stats : a.stats ≡ b.stats

@@ -1,11 +1,10 @@
-use Rattle.std.proofs.Common.{◌≡◌, refl, sym, subst}
+use Rattle.std.proofs.Common.{refl, sym}
 use Rattle.pt_tree.specs.StatementFold.{script_of}
-use Rattle.pt_run_script.specs.ScriptRun.{ScriptBrokeOff, ScriptFinished}
 use Rattle.pt_words.specs.Asked.{asked}
 use Rattle.pt_prog.specs.LogText.{final}
-use Rattle.pt_prog.specs.Answer.{script_read, unbuilt}
+use Rattle.pt_prog.specs.Answer.{unbuilt}
 use Rattle.pt_prog.specs.declared.end.End.TheVariants as end
-use Rattle.pt_prog.proofs.RunLemmas.{every_err, every_err_of, every_ok_of, front_of_run, front_of_totals, ok_behind, err_behind, script_says, script_taken}
+use Rattle.pt_prog.proofs.RunLemmas.{every_err_of, every_ok_of}
 use Rattle.pt_prog.proofs.running.run_built.Goals as goal
 
 pub returns-in-Some-clause-ok : goal.returns-in-Some-clause-ok
@@ -19,33 +18,3 @@ returns-in-Some-clause-err g c =
     every_err_of (asked c.args.line.now) c.args.text.now _ _ _ _ c.write_final.result (final (end.Unbuilt c.in-Some.first)) (end.Unbuilt c.in-Some.first)
     (unbuilt c.in-Some.first c.requires.is_run (record { script = script_of c.args.script.now; is_script = c.requires.is_script; is_first = sym c.in-Some.ensures }) refl refl)
     c.write_final.ensures.err
-
-pub returns-in_err-ended-clause-err : goal.returns-in_err-ended-clause-err
-returns-in_err-ended-clause-err g c =
-    let broke = subst (λ b. ScriptBrokeOff (script_of c.args.script.now) c.args.line.now.steps b (g.O.Sink.taken c.args.out.now) (g.O.Sink.taken c.run_script.new.out)
-    (g.L.Sink.taken c.args.log.now) (g.L.Sink.taken c.run_script.new.log) c.in_err-ended.field-0.0) c.tells_events-events.ensures c.in_err-ended.ensures.err in
-    every_err (asked c.args.line.now) c.args.text.now _ _ _ _ c.from_residual.result _ c.from_residual.ensures
-    (front_of_run (asked c.args.line.now) c.args.text.now (script_of c.args.script.now)
-    (record { is_script = c.requires.is_script; is_built = sym c.in_default.ensures }) c.requires.is_run _ _ _ _ _ broke)
-
-pub returns-in_err-write_totals-clause-err : goal.returns-in_err-write_totals-clause-err
-returns-in_err-write_totals-clause-err g c =
-    let done = subst (λ b. ScriptFinished (script_of c.args.script.now) c.args.line.now.steps b (g.O.Sink.taken c.args.out.now) (g.O.Sink.taken c.run_script.new.out)
-    (g.L.Sink.taken c.args.log.now) (g.L.Sink.taken c.run_script.new.log) c.in_ok-ended.ended) c.tells_events-events.ensures c.in_ok-ended.ensures.ok in
-    every_err (asked c.args.line.now) c.args.text.now _ _ _ _ c.from_residual-in_err-write_totals.result _ c.from_residual-in_err-write_totals.ensures
-    (front_of_totals (asked c.args.line.now) c.args.text.now (script_read (asked c.args.line.now) c.args.text.now (script_of c.args.script.now)) c.in_ok-ended.ended done.outcome done.work (script_says (asked c.args.line.now) c.args.text.now (script_of c.args.script.now) (record { is_script = c.requires.is_script; is_built = sym c.in_default.ensures }) c.requires.is_run c.in_ok-ended.ended _ _ _ _ done) _ _ _ _ (script_taken (asked c.args.line.now) c.args.text.now (script_of c.args.script.now) (record { is_script = c.requires.is_script; is_built = sym c.in_default.ensures }) c.requires.is_run c.in_ok-ended.ended _ _ _ _ done) _ _ _
-    c.in_err-write_totals.ensures.err)
-
-pub returns-clause-ok : goal.returns-clause-ok
-returns-clause-ok g c =
-    let done = subst (λ b. ScriptFinished (script_of c.args.script.now) c.args.line.now.steps b (g.O.Sink.taken c.args.out.now) (g.O.Sink.taken c.run_script.new.out)
-    (g.L.Sink.taken c.args.log.now) (g.L.Sink.taken c.run_script.new.log) c.in_ok-ended.ended) c.tells_events-events.ensures c.in_ok-ended.ensures.ok in
-    ok_behind (asked c.args.line.now) c.args.text.now (script_read (asked c.args.line.now) c.args.text.now (script_of c.args.script.now)) c.in_ok-ended.ended done.outcome done.work (script_says (asked c.args.line.now) c.args.text.now (script_of c.args.script.now) (record { is_script = c.requires.is_script; is_built = sym c.in_default.ensures }) c.requires.is_run c.in_ok-ended.ended _ _ _ _ done) _ _ _ _ (script_taken (asked c.args.line.now) c.args.text.now (script_of c.args.script.now) (record { is_script = c.requires.is_script; is_built = sym c.in_default.ensures }) c.requires.is_run c.in_ok-ended.ended _ _ _ _ done) _ _ _ _
-    c.in_ok-write_totals.ensures.ok c.write_last.result c.write_last.ensures.ok
-
-pub returns-clause-err : goal.returns-clause-err
-returns-clause-err g c =
-    let done = subst (λ b. ScriptFinished (script_of c.args.script.now) c.args.line.now.steps b (g.O.Sink.taken c.args.out.now) (g.O.Sink.taken c.run_script.new.out)
-    (g.L.Sink.taken c.args.log.now) (g.L.Sink.taken c.run_script.new.log) c.in_ok-ended.ended) c.tells_events-events.ensures c.in_ok-ended.ensures.ok in
-    err_behind (asked c.args.line.now) c.args.text.now (script_read (asked c.args.line.now) c.args.text.now (script_of c.args.script.now)) c.in_ok-ended.ended done.outcome done.work (script_says (asked c.args.line.now) c.args.text.now (script_of c.args.script.now) (record { is_script = c.requires.is_script; is_built = sym c.in_default.ensures }) c.requires.is_run c.in_ok-ended.ended _ _ _ _ done) _ _ _ _ (script_taken (asked c.args.line.now) c.args.text.now (script_of c.args.script.now) (record { is_script = c.requires.is_script; is_built = sym c.in_default.ensures }) c.requires.is_run c.in_ok-ended.ended _ _ _ _ done) _ _ _ _
-    c.in_ok-write_totals.ensures.ok c.write_last.result c.write_last.ensures.err

@@ -1,0 +1,11 @@
+pub mod FixedLemmas
+pub mod GivenLemmas
+pub mod KeptLemmas
+pub mod LineLemmas
+pub mod ListLemmas
+pub mod LoggedLemmas
+pub mod NameLemmas
+pub mod NumberLemmas
+pub mod PassedLemmas
+pub mod SinceLemmas
+pub mod TakenLemmas

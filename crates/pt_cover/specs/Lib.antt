@@ -1,0 +1,13 @@
+pub mod Calls
+pub mod Counts
+pub mod Fixed
+pub mod Given
+pub mod HasTaken
+pub mod Kept
+pub mod Numbers
+pub mod Passed
+pub mod Pieces
+pub mod Reports
+pub mod Room
+pub mod Since
+pub mod Tallies
