@@ -1,0 +1,1 @@
+pub use Rattle.pt_purposes.proofs as pt_purposes

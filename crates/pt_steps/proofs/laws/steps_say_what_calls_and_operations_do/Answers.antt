@@ -1,0 +1,8 @@
+use Rattle.pt_steps.proofs.Stepping.{calls_are_open_for_nothing_else, operations_are_steps}
+use Rattle.pt_steps.proofs.laws.steps_say_what_calls_and_operations_do.Goals as goal
+
+pub returns-clause-calls : goal.returns-clause-calls
+returns-clause-calls g c = calls_are_open_for_nothing_else
+
+pub returns-clause-operations : goal.returns-clause-operations
+returns-clause-operations g c = operations_are_steps

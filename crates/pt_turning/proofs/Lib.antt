@@ -1,0 +1,4 @@
+pub mod OnlyPlace
+pub mod OfCode
+pub mod Turns
+pub use Rattle.pt_telling.proofs as pt_telling
