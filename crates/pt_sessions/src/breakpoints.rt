@@ -4,8 +4,8 @@ ghost use Rattle.pt_sessions.specs.OnBreakpoints.{break_text, table_behind};
 
 use pt_base::Memory;
 use pt_bdb::{Breaks, LAST_NUMBER};
-use pt_breakpoints_text::push_breakpoints;
 use pt_break_commands::{clear, clear_all, condition, enable, ignore, set};
+use pt_breakpoints_text::push_breakpoints;
 use pt_commands::Command;
 use std::alloc::Global;
 

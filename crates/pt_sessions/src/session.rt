@@ -11,14 +11,10 @@ ghost use Rattle.pt_sessions.specs.Sessions.{told_text, until_text, with_line};
 use crate::breakpoints;
 use crate::going::go;
 use pt_base::{Line, Memory, Seq, Text};
-use pt_bdb::{
-    Breaks, Event, EventKind, Hit, Judge, LAST_NUMBER, Stops, until_line,
-};
-use pt_pdb::{
-    Answer, BreakAnswer, push_answer, push_break_answer, push_prompt, shown_line,
-};
+use pt_bdb::{Breaks, Event, EventKind, Hit, Judge, LAST_NUMBER, Stops, until_line};
 use pt_commands::Command;
 use pt_heap::ViewFrame;
+use pt_pdb::{Answer, BreakAnswer, push_answer, push_break_answer, push_prompt, shown_line};
 use std::alloc::Global;
 use std::marker::Model;
 

@@ -182,7 +182,7 @@ module _ (text : Text) (ss : Stms) (bytes : Text) (made : IsBuiltAs text ss byte
             ws,
             (
               ran ss o w alike.runs made.is_built run.0 run.1 (r.ends ∙ sym (same_end a b alike text (program_of ss) o w))
-              (ap (λ k. script_writes k a text ss o w) (sym alike.reports_nothing)),
+                  (ap (λ k. script_writes k a text ss o w) (sym alike.reports_nothing)),
               alike_so o w e ws vs r.ends refl r.writes,
             ),
           )
