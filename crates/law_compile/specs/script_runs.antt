@@ -1,2 +1,4 @@
 pub mod Blocks
+pub mod ProgramBlocks
 pub mod Laws
+pub mod ProgramLaws

@@ -27,6 +27,8 @@ use Rattle.pt_content.specs.Changes.{added, changed, has_kind, has_room, holding
 use Rattle.pt_content.specs.Classes.{class_name}
 use Rattle.pt_content.specs.Functions.{of_function}
 use Rattle.pt_content.specs.Operands.{operand_of}
+use Rattle.pt_content.specs.declared.answer.PrimAns.{PrimAns}
+use Rattle.pt_content.specs.declared.answer.PrimAns.TheVariants as prim
 use Rattle.pt_content.specs.declared.content.Change.{Change}
 use Rattle.pt_content.specs.declared.content.Content.{Content}
 use Rattle.pt_content.specs.declared.content.Content.TheVariants as content
@@ -45,19 +47,22 @@ use Rattle.sem_rows.specs.pt_host.pt_methods.declared.attribute.Attribute.{Attri
 use Rattle.sem_rows.specs.pt_host.pt_methods.declared.attribute.Attribute.TheVariants as attribute
 use Rattle.sem_rows.specs.pt_host.pt_methods.Attributes.{attribute_of}
 use Rattle.sem_rows.specs.pt_host.pt_methods.Names.{of_method_number}
-use Rattle.pt_prims.specs.Operations.{content_of, grown, prim_heap}
+use Rattle.pt_prims.specs.Operations.{content_of, grown, prim_answer, prim_heap}
+use Rattle.pt_helper_objects.specs.Objects.{helper_place}
+use Rattle.pt_helper_objects.specs.pt_prelude.Asked.{function_of}
+use Rattle.pt_helper_objects.specs.pt_prelude.declared.kinds.Helper.{Helper}
 use Rattle.sem_run.specs.run.Machine.{BlockId}
 use Rattle.sem_run.specs.run.Host.{Here, BlockResult, answer, raise, print, leave, request, opens, made, beyond}
 use Rattle.sem_rows.specs.pt_host.World.{Names, Stores, CodeFacts, Program, Allotted, with_objects, allot}
 use Rattle.sem_rows.specs.pt_host.Trees.{Tree, answer_with, raise_with}
 use Rattle.sem_rows.specs.pt_host.Builtins as B
-use Rattle.sem_rows.specs.pt_host.Builtins.{builtin}
+use Rattle.sem_rows.specs.pt_host.Builtins.{meaning}
 use Rattle.sem_rows.specs.pt_host.Errors.{error_saying, raise_saying, arise_while, context_in, cut, cut_at, cut_within, error, in_context, object_place, with_context}
 use Rattle.sem_rows.specs.pt_host.declared.places.TheConstants.{ATTRIBUTE_ERROR, IMPORT_ERROR, MODULE_NOT_FOUND_ERROR, SYS, TYPE_ERROR, ASSERTION_ERROR, RUNTIME_ERROR}
 use Rattle.sem_rows.specs.pt_host.Texts.{unbound_text, unbound_class, binding_text, missing_text, no_module_text, no_name_text, not_callable_text}
 use Rattle.sem_rows.specs.pt_host.Variables.{cell_number, with_cell, put, make_anew, raise_unbound, by_builtin, unless_bound, readable_value, variable_value, load_by, delete_by}
 use Rattle.sem_rows.specs.pt_host.Primitives.{Awaited, asked, one_value, done, a_truth, so_many, item_or_end, arguments_of}
-use Rattle.sem_rows.specs.pt_host.Calls.{not_callable, number_of, function_object, first_value, cells_from, cells_along, result_of, block_of, parameters_given, run_block, run_given, call_bound, call_function, Values, values_given, operands_of, method_operands, operate_on, call_builtin, call_method, call_builtin_object, class_function, call_other, call_object, call_value, call, are_arguments, arguments, unnamed_operands, exception_class, make_exception, call_class}
+use Rattle.sem_rows.specs.pt_host.Calls.{not_callable, number_of, function_object, first_value, cells_from, cells_along, result_of, block_of, parameters_given, run_block, run_given, call_bound, call_function, Values, values_given, operands_of, method_operands, helper_arguments, helper_of_class, call_hidden, call_at, ask, asked_in_place, by_prim_or_helper, operate_or_ask, operate_on, call_builtin, call_method, call_builtin_object, class_function, call_other_class, call_other, call_object, call_value, call, are_arguments, arguments, unnamed_operands, exception_class, make_exception, call_class}
 use Rattle.sem_rows.specs.pt_host.Attributes.{method_object, by_attribute}
 use Rattle.sem_rows.specs.pt_host.Imports.{import_module, by_imported}
 use Rattle.pt_content.specs.pt_attrs.Look.{object_of}
@@ -238,8 +243,8 @@ module _ (program : Program) (b : BlockId) where
   by-builtin-keeps B.no_builtin s x h st has = unbound-keeps Value s x h st has
 
   unless-bound-keeps : (s : Scope) (x : Name) (h : Here Value) (st : Stores) → Has st → K (unless_bound s x h st)
-  unless-bound-keeps T.global x h st has = by-builtin-keeps (builtin x) T.global x h st has
-  unless-bound-keeps T.of_class x h st has = by-builtin-keeps (builtin x) T.of_class x h st has
+  unless-bound-keeps T.global x h st has = by-builtin-keeps (meaning h.block.hidden x) T.global x h st has
+  unless-bound-keeps T.of_class x h st has = by-builtin-keeps (meaning h.block.hidden x) T.of_class x h st has
   unless-bound-keeps s x h st has = unbound-keeps Value s x h st has
 
   load-keeps : (o : Option Value) (s : Scope) (x : Name) (h : Here Value) (st : Stores) → Has st → K (load_by o s x h st)
@@ -313,7 +318,9 @@ module _ (program : Program) (b : BlockId) where
   bound-keeps f (Ok ls) h st s t =
       let params : Params = (program.facts (block_of f)).params in
       given-keeps f (values_given params ls st.world.heap) st s (values-take program params ls st.world.heap s.functions) t
-  bound-keeps f (Err e) h st s t = saying-keeps Value TYPE_ERROR (binding_text (program.facts (block_of f)).name e) h st s
+  bound-keeps f (Err e) h st s t =
+      let text : List ℕ = binding_text (program.facts (block_of f)).name e in
+      either-tree f.hidden (leave Feature) (raise_saying TYPE_ERROR text h st) tt (saying-keeps Value TYPE_ERROR text h st s)
 
   function-keeps : (f : Function) (args : Args) (h : Here Value) (st : Stores) → Has st → TakesCells program (object.Function f)
       → K (call_function (program.facts (block_of f)) f args h st)
@@ -330,11 +337,48 @@ module _ (program : Program) (b : BlockId) where
   builtin-keeps (Some f) args h st s = operate-on-keeps (op.Call f) (operands_of f args) h st s
   builtin-keeps None args h st s = tt
 
-  method-keeps : (o : Option MethodName) (v : Value) (args : Args) (h : Here Value) (st : Stores) → Has st → K (call_method o v args h st)
-  method-keeps (Some m) v args h st s = operate-on-keeps (op.CallMethod m) (option_map (λ vs. v ∷ vs) (method_operands m args)) h st s
+  -- a function that is written in Python is called as any other
+  hidden-keeps : (o : Option Object) (place : ℕ) (args : Args) (h : Here Value) (st : Stores) → slice_get st.world.heap place ≡ o → Has st
+      → K (call_hidden program o args h st)
+  hidden-keeps (Some (object.Function f)) place args h st e s = function-keeps f args h st s
+      (all-get (TakesCells program) st.world.heap place (object.Function f) s.functions e)
+  hidden-keeps o place args h st e s = tt
+
+  at-keeps : (o : Option ℕ) (args : Args) (h : Here Value) (st : Stores) → Has st → K (call_at program o args h st)
+  at-keeps (Some place) args h st s = hidden-keeps (slice_get st.world.heap place) place args h st refl s
+  at-keeps None args h st s = tt
+
+  ask-keeps : (f : Helper) (args : Args) (h : Here Value) (st : Stores) → Has st → K (ask program f args h st)
+  ask-keeps f args h st s = at-keeps (helper_place f) args h st s
+
+  in-place-keeps : (a : PrimAns) (h : Here Value) (st : Stores) → Has st → K (asked_in_place program a h st)
+  in-place-keeps (prim.Help a vs false) h st s = ask-keeps (function_of a) (helper_arguments a vs) h st s
+  in-place-keeps (prim.Help a vs true) h st s = tt
+  in-place-keeps (prim.Value v) h st s = s
+  in-place-keeps (prim.Values vs) h st s = tt
+  in-place-keeps prim.End h st s = tt
+  in-place-keeps (prim.Raise class v) h st s =
+      raised Value (allot (error class (arguments_of v) None h.active) st.world.heap) st s
+      (error-allotted program class (arguments_of v) None h.active st.world.heap s.functions)
+  in-place-keeps (prim.Print t) h st s = s
+  in-place-keeps (prim.Outside what) h st s = tt
+
+  by-either-keeps : (o : Op) (vs : List Value) (h : Here Value) (st : Stores) → Has st → K (by_prim_or_helper program o vs h st)
+  unfolding by_prim_or_helper
+  by-either-keeps o vs h st s =
+      let k : List Object = prim_heap o vs st.world.heap in
+      in-place-keeps (prim_answer o vs st.world.heap) h (with_objects k st)
+      (other-objects program b st k s (grown-takes (content_of o vs st.world.heap) st.world.heap s.functions))
+
+  operate-or-ask-keeps : (f : Op) (o : Option (List Value)) (h : Here Value) (st : Stores) → Has st → K (operate_or_ask program f o h st)
+  operate-or-ask-keeps f (Some vs) h st s = by-either-keeps f vs h st s
+  operate-or-ask-keeps f None h st s = tt
+
+  method-keeps : (o : Option MethodName) (v : Value) (args : Args) (h : Here Value) (st : Stores) → Has st → K (call_method program o v args h st)
+  method-keeps (Some m) v args h st s = operate-or-ask-keeps (op.CallMethod m) (option_map (λ vs. v ∷ vs) (method_operands m args)) h st s
   method-keeps None v args h st s = tt
 
-  builtin-object-keeps : (u : BuiltinObject) (o : Option Value) (args : Args) (h : Here Value) (st : Stores) → Has st → K (call_builtin_object u o args h st)
+  builtin-object-keeps : (u : BuiltinObject) (o : Option Value) (args : Args) (h : Here Value) (st : Stores) → Has st → K (call_builtin_object program u o args h st)
   builtin-object-keeps u None args h st s = builtin-keeps (of_function u.number) args h st s
   builtin-object-keeps u (Some v) args h st s = method-keeps (of_method_number u.number) v args h st s
 
@@ -362,9 +406,15 @@ module _ (program : Program) (b : BlockId) where
   made-keeps (Some id) None st s = tt
   made-keeps None vs st s = tt
 
-  class-keeps : (o : Option BuiltinFunction) (c : ClassObject) (v : Value) (args : Args) (h : Here Value) (st : Stores) → Has st → K (call_class o c v args h st)
+  other-class-keeps : (o : Option Helper) (c : ClassObject) (v : Value) (args : Args) (h : Here Value) (st : Stores) → Has st
+      → K (call_other_class program o c v args h st)
+  other-class-keeps (Some f) c v args h st s = ask-keeps f args h st s
+  other-class-keeps None c v args h st s = made-keeps (exception_class st.world.heap v c) (unnamed_operands args.named args.plain) st s
+
+  class-keeps : (o : Option BuiltinFunction) (c : ClassObject) (v : Value) (args : Args) (h : Here Value) (st : Stores) → Has st
+      → K (call_class program o c v args h st)
   class-keeps (Some f) c v args h st s = operate-on-keeps (op.Call f) (operands_of f args) h st s
-  class-keeps None c v args h st s = made-keeps (exception_class st.world.heap v c) (unnamed_operands args.named args.plain) st s
+  class-keeps None c v args h st s = other-class-keeps (helper_of_class v) c v args h st s
 
   -- a context or a cause makes no function
   context-keeps : (c : Option ObjId) (id : ObjId) (o : Option Object) (h : List Object) → AllTakeCells program h → AllTakeCells program (with_context c id o h)
@@ -516,7 +566,7 @@ module _ (program : Program) (b : BlockId) where
 
     seeks-keep : (a : Seek Value) → NamesInSeek program b a → K (seeks program a h st)
     seeks-keep (T.const k) i = s
-    seeks-keep (T.load x) i = load-keeps (readable_value x.scope x.name st) x.scope x.name h st s
+    seeks-keep (T.load x) i = load-keeps (readable_value h.block.hidden x.scope x.name st) x.scope x.name h st s
     seeks-keep (T.operate o vs) i = operate-keeps o vs i
     seeks-keep (T.cell_of x) i = s
     seeks-keep (T.yielding v) i = tt

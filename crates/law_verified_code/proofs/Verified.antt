@@ -1,4 +1,4 @@
--- A code whose blocks fit, in code objects that are told of their slots, is code that fits.
+-- Code whose blocks fit, in code objects that are told of their slots, is code that fits.
 use Rattle.std.proofs.Common.{◌≡◌, Bool, true, false, if◌then◌else◌, [], ◌∷◌, Option}
 use Rattle.pt_instr.specs.declared.kinds.Kind.TheVariants.{Iter}
 use Rattle.pt_code.specs.declared.CodeBlock.{CodeBlock}
@@ -20,19 +20,19 @@ use Rattle.law_code_jumps.proofs.told_code.Answered.{told_code_answers_jumps}
 use Rattle.law_code_jumps.proofs.told_code.NeverHalts.{fitting_code_never_halts}
 use Rattle.law_verified_code.specs.Laws.{IsInCode, VerifiedCodeNeverHalts}
 
-module _ {V : Type 0} (c : Code) (fit : AllFit c) (code : CodeBlocks V)
+module _ {V : Type 0} (c : BlockId → Code) (fit : (b : BlockId) → AllFit (c b)) (code : CodeBlocks V)
     (block : BlockId → Option CodeBlock) (known : BlockId → SlotsKnown)
-    (are : (b : BlockId) → IsInCode c code block known b) where
+    (are : (b : BlockId) → IsInCode (c b) code block known b) where
   abbrev told : CodeSource V
   told = told_code code block known
 
   abbrev blocks : BlockId → Block
-  blocks b = block_of c (are b).code_block (code.object b).at
+  blocks b = block_of (c b) (are b).code_block (code.object b).at
 
   fits : (b : BlockId) → Fits (blocks b)
   fits b =
       let is = are b in
-      fit is.number is.code_block is.there (code.object b).at is.is_object.view
+      fit b is.number is.code_block is.there (code.object b).at is.is_object.view
 
   starts_by : (b : BlockId) (i : Option V) (iterates : Bool)
       → kinds_at_start (blocks b).kind ≡ (if iterates then Iter ∷ [] else [])
@@ -44,11 +44,11 @@ module _ {V : Type 0} (c : Code) (fit : AllFit c) (code : CodeBlocks V)
 
   fitting : AreFitting told blocks
   fitting = record {
-    runs = λ b. object_runs V c (are b).code_block (code.object b) (are b).is_object (fits b);
+    runs = λ b. object_runs V (c b) (are b).code_block (code.object b) (are b).is_object (fits b);
     fits = fits;
     starts = λ b i. starts_by b i (code.iterates b) (are b).starts;
     answers = λ b.
-        told_code_answers_jumps code block known b c (are b).code_block (code.object b).at
+        told_code_answers_jumps code block known b (c b) (are b).code_block (code.object b).at
         (are b).told (are b).knows;
   }
 

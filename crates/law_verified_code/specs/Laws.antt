@@ -45,11 +45,11 @@ pub record IsInCode {V : Type 0} (c : Code) (code : CodeBlocks V)
   pub starts : kinds_at_start code_block.kind ≡ (if code.iterates b then Iter ∷ [] else [])
   pub knows : KnowsSlots (block_of c code_block (code.object b).at) (known b)
 
--- so the run of a code whose blocks fit never halts unfinished
+-- so the run of code whose blocks fit never halts unfinished, each block by the code that has it
 abbrev pub VerifiedCodeNeverHalts : (D N V W : Type 0) → Type 0
-VerifiedCodeNeverHalts D N V W = (c : Code) → AllFit c → (code : CodeBlocks V)
-    (block : BlockId → Option CodeBlock) (known : BlockId → SlotsKnown)
-    → ((b : BlockId) → IsInCode c code block known b) → (host : Host N V W) (ask : Debugger D N V W)
-    (n : ℕ) (b : BlockId) (names : N) (world : W) (d : D)
+VerifiedCodeNeverHalts D N V W = (c : BlockId → Code) → ((b : BlockId) → AllFit (c b))
+    → (code : CodeBlocks V) (block : BlockId → Option CodeBlock) (known : BlockId → SlotsKnown)
+    → ((b : BlockId) → IsInCode (c b) code block known b) → (host : Host N V W)
+    (ask : Debugger D N V W) (n : ℕ) (b : BlockId) (names : N) (world : W) (d : D)
     → NeverHalts (machine (told_code code block known)) host ask n
     (session (machine (told_code code block known)) b names world d)

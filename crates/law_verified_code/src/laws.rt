@@ -20,9 +20,10 @@ pub fn tables_of_code_tell_what_jumps_ask()
     tables_answer_jumps();
 }
 
-/// The run of a code from anyone whose blocks fit never halts unfinished, in code objects that
-/// are told of their slots as the tables of the code tell: over each host, with its hooks, tools and
-/// generators, and under each debugger, wherever that jumps.
+/// The run of code from anyone whose blocks fit never halts unfinished, in code objects that are
+/// told of their slots as the tables of the code tell: over each host, with its hooks, tools and
+/// generators, and under each debugger, wherever that jumps. A run may have blocks of more than one
+/// code, as a script's and its prelude's.
 pub fn verified_code_never_halts<D, N, V, W>()
     ensures { VerifiedCodeNeverHalts D N V W }
 {}

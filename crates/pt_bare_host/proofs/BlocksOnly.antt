@@ -23,12 +23,17 @@ use Rattle.pt_content.specs.Classes.{class_name}
 use Rattle.pt_content.specs.Functions.{of_function}
 use Rattle.pt_content.specs.Operands.{operand_of}
 use Rattle.pt_content.specs.declared.function.Function.{Function as BuiltinFunction}
+use Rattle.pt_content.specs.declared.answer.PrimAns.{PrimAns}
+use Rattle.pt_content.specs.declared.answer.PrimAns.TheVariants as prim
 use Rattle.pt_content.specs.declared.method_name.MethodName.{MethodName}
 use Rattle.pt_content.specs.declared.op.Op.{Op}
 use Rattle.pt_content.specs.declared.op.Op.TheVariants as op
 use Rattle.pt_content.specs.declared.operand.Operand.{Operand}
 use Rattle.pt_content.specs.declared.operand.Operand.TheVariants as operand
-use Rattle.pt_prims.specs.Operations.{prim_heap}
+use Rattle.pt_prims.specs.Operations.{prim_answer, prim_heap}
+use Rattle.pt_host.specs.pt_helper_objects.Objects.{helper_place}
+use Rattle.pt_host.specs.pt_helper_objects.pt_prelude.declared.kinds.Helper.{Helper}
+use Rattle.pt_host.specs.pt_helper_objects.pt_prelude.Asked.{function_of}
 use Rattle.pt_host.specs.pt_methods.declared.attribute.Attribute.{Attribute}
 use Rattle.pt_host.specs.pt_methods.declared.attribute.Attribute.TheVariants as attribute
 use Rattle.pt_host.specs.pt_methods.Attributes.{attribute_of}
@@ -38,13 +43,13 @@ use Rattle.pt_bare_runs.specs.Laws.{RunsOnlyBlocks, OpensOnly}
 use Rattle.pt_host.specs.World.{Stores, CodeFacts, Program, Allotted, with_objects, allot}
 use Rattle.pt_host.specs.Trees.{Tree, answer_with, raise_with}
 use Rattle.pt_host.specs.Builtins as B
-use Rattle.pt_host.specs.Builtins.{builtin}
+use Rattle.pt_host.specs.Builtins.{meaning}
 use Rattle.pt_host.specs.Errors.{error_saying, raise_saying, error}
 use Rattle.pt_host.specs.declared.places.TheConstants.{ATTRIBUTE_ERROR, IMPORT_ERROR, MODULE_NOT_FOUND_ERROR, SYS, TYPE_ERROR, ASSERTION_ERROR, RUNTIME_ERROR}
 use Rattle.pt_host.specs.Texts.{unbound_text, unbound_class, binding_text, missing_text, no_module_text, no_name_text, not_callable_text}
 use Rattle.pt_host.specs.Variables.{raise_unbound, by_builtin, unless_bound, readable_value, variable_value, load_by, delete_by}
-use Rattle.pt_host.specs.Primitives.{Awaited, asked, one_value, done, a_truth, so_many, item_or_end, arguments_of}
-use Rattle.pt_host.specs.Calls.{not_callable, function_object, result_of, block_of, run_given, call_bound, call_function, Values, values_given, operands_of, method_operands, operate_on, call_builtin, call_method, call_builtin_object, class_function, call_other, call_object, call_value, call, are_arguments, arguments, unnamed_operands, exception_class, make_exception, call_class}
+use Rattle.pt_host.specs.Primitives.{Awaited, of_prim, asked, one_value, done, a_truth, so_many, item_or_end, arguments_of}
+use Rattle.pt_host.specs.Calls.{not_callable, function_object, result_of, block_of, run_given, call_bound, call_function, Values, values_given, operands_of, method_operands, operate_on, call_builtin, call_method, call_builtin_object, class_function, call_other, call_object, call_value, call, are_arguments, arguments, unnamed_operands, exception_class, make_exception, call_class, call_other_class, helper_of_class, call_hidden, call_at, asked_in_place, by_prim_or_helper, operate_or_ask, helper_arguments}
 use Rattle.pt_host.specs.Attributes.{method_object, by_attribute}
 use Rattle.pt_host.specs.Imports.{import_module, by_imported}
 use Rattle.pt_content.specs.pt_attrs.Look.{object_of}
@@ -52,7 +57,7 @@ use Rattle.pt_host.specs.Leaving.{error_at}
 use Rattle.pt_host.specs.Raising.{Standing, raisable, standing, raise_neither, raise_from, raise_with_cause, raise_standing, raise_active, throws, handler_classes, is_exception_class, is_of_class, is_taken, matches}
 use Rattle.pt_host.specs.Answers.{change_of, by_change, unpacking, deeds, operation_of, by_operation, operate, seeks}
 use Rattle.pt_host.specs.HeapHost.{heap_host}
-use Rattle.pt_host.proofs.AskedEnds.{Ends, AllotsIn, asked-ends}
+use Rattle.pt_host.proofs.AskedEnds.{Ends, AllotsIn, answered-ends, asked-ends}
 
 -- what requests nothing has no block run
 ends-only : {A : Type 0} (S : Stores → Type 0) (t : Tree A) → Ends S t → RunsOnlyBlocks t
@@ -100,8 +105,8 @@ by-builtin-only B.unavailable s x h st = tt
 by-builtin-only B.no_builtin s x h st = unbound-only Value s x h st
 
 unless-bound-only : (s : Scope) (x : Name) (h : Here Value) (st : Stores) → RunsOnlyBlocks (unless_bound s x h st)
-unless-bound-only T.global x h st = by-builtin-only (builtin x) T.global x h st
-unless-bound-only T.of_class x h st = by-builtin-only (builtin x) T.of_class x h st
+unless-bound-only T.global x h st = by-builtin-only (meaning h.block.hidden x) T.global x h st
+unless-bound-only T.of_class x h st = by-builtin-only (meaning h.block.hidden x) T.of_class x h st
 unless-bound-only s x h st = unbound-only Value s x h st
 
 load-only : (o : Option Value) (s : Scope) (x : Name) (h : Here Value) (st : Stores) → RunsOnlyBlocks (load_by o s x h st)
@@ -122,7 +127,8 @@ given-only facts f (beyond what) st = tt
 
 bound-only : (facts : CodeFacts) (f : Function) (r : Result Locals BindErr) (h : Here Value) (st : Stores) → RunsOnlyBlocks (call_bound facts f r h st)
 bound-only facts f (Ok ls) h st = given-only facts f (values_given facts.params ls st.world.heap) st
-bound-only facts f (Err e) h st = saying-only Value TYPE_ERROR (binding_text facts.name e) h st
+bound-only facts f (Err e) h st =
+    either-tree f.hidden (leave Feature) (raise_saying TYPE_ERROR (binding_text facts.name e) h st) tt (saying-only Value TYPE_ERROR (binding_text facts.name e) h st)
 
 function-only : (facts : CodeFacts) (f : Function) (args : Args) (h : Here Value) (st : Stores) → RunsOnlyBlocks (call_function facts f args h st)
 function-only facts f args h st =
@@ -137,13 +143,36 @@ builtin-only : (o : Option BuiltinFunction) (args : Args) (h : Here Value) (st :
 builtin-only (Some f) args h st = operate-on-only (op.Call f) (operands_of f args) h st
 builtin-only None args h st = tt
 
-method-only : (o : Option MethodName) (v : Value) (args : Args) (h : Here Value) (st : Stores) → RunsOnlyBlocks (call_method o v args h st)
-method-only (Some m) v args h st = operate-on-only (op.CallMethod m) (option_map (λ vs. v ∷ vs) (method_operands m args)) h st
-method-only None v args h st = tt
+-- functions that are written in Python
+module _ (program : Program) where
+  hidden-only : (o : Option Object) (args : Args) (h : Here Value) (st : Stores) → RunsOnlyBlocks (call_hidden program o args h st)
+  hidden-only (Some (object.Function f)) args h st = function-only (program.facts (block_of f)) f args h st
+  hidden-only o args h st = tt
 
-builtin-object-only : (b : BuiltinObject) (o : Option Value) (args : Args) (h : Here Value) (st : Stores) → RunsOnlyBlocks (call_builtin_object b o args h st)
-builtin-object-only b None args h st = builtin-only (of_function b.number) args h st
-builtin-object-only b (Some v) args h st = method-only (of_method_number b.number) v args h st
+  at-only : (o : Option ℕ) (args : Args) (h : Here Value) (st : Stores) → RunsOnlyBlocks (call_at program o args h st)
+  at-only (Some place) args h st = hidden-only (slice_get st.world.heap place) args h st
+  at-only None args h st = tt
+
+  in-place-only : (a : PrimAns) (h : Here Value) (st : Stores) → RunsOnlyBlocks (asked_in_place program a h st)
+  in-place-only (prim.Help a vs false) h st = at-only (helper_place (function_of a)) (helper_arguments a vs) h st
+  in-place-only (prim.Help a vs true) h st = tt
+  in-place-only a h st = ends-only any-stores (of_prim one_value a h st) (answered-ends any-stores one_value h a st tt (λ c args. allots-any _ st))
+
+  prim-or-helper-only : (o : Op) (vs : List Value) (h : Here Value) (st : Stores) → RunsOnlyBlocks (by_prim_or_helper program o vs h st)
+  unfolding by_prim_or_helper
+  prim-or-helper-only o vs h st = in-place-only (prim_answer o vs st.world.heap) h (with_objects (prim_heap o vs st.world.heap) st)
+
+  operate-or-ask-only : (f : Op) (o : Option (List Value)) (h : Here Value) (st : Stores) → RunsOnlyBlocks (operate_or_ask program f o h st)
+  operate-or-ask-only f (Some vs) h st = prim-or-helper-only f vs h st
+  operate-or-ask-only f None h st = tt
+
+  method-only : (o : Option MethodName) (v : Value) (args : Args) (h : Here Value) (st : Stores) → RunsOnlyBlocks (call_method program o v args h st)
+  method-only (Some m) v args h st = operate-or-ask-only (op.CallMethod m) (option_map (λ vs. v ∷ vs) (method_operands m args)) h st
+  method-only None v args h st = tt
+
+  builtin-object-only : (b : BuiltinObject) (o : Option Value) (args : Args) (h : Here Value) (st : Stores) → RunsOnlyBlocks (call_builtin_object program b o args h st)
+  builtin-object-only b None args h st = builtin-only (of_function b.number) args h st
+  builtin-object-only b (Some v) args h st = method-only (of_method_number b.number) v args h st
 
 attribute-only : (x : Name) (v : Value) (a : Attribute) (h : Here Value) (st : Stores) → RunsOnlyBlocks (by_attribute x v a h st)
 attribute-only x v (attribute.Method m) h st = answered (allot (method_object m v) st.world.heap) st
@@ -166,9 +195,14 @@ made-only (Some id) (Some vs) st = answered (allot (error id vs None None) st.wo
 made-only (Some id) None st = tt
 made-only None vs st = tt
 
-class-only : (o : Option BuiltinFunction) (c : ClassObject) (v : Value) (args : Args) (h : Here Value) (st : Stores) → RunsOnlyBlocks (call_class o c v args h st)
-class-only (Some f) c v args h st = operate-on-only (op.Call f) (operands_of f args) h st
-class-only None c v args h st = made-only (exception_class st.world.heap v c) (unnamed_operands args.named args.plain) st
+module _ (program : Program) where
+  other-class-only : (o : Option Helper) (c : ClassObject) (v : Value) (args : Args) (h : Here Value) (st : Stores) → RunsOnlyBlocks (call_other_class program o c v args h st)
+  other-class-only (Some f) c v args h st = at-only program (helper_place f) args h st
+  other-class-only None c v args h st = made-only (exception_class st.world.heap v c) (unnamed_operands args.named args.plain) st
+
+  class-only : (o : Option BuiltinFunction) (c : ClassObject) (v : Value) (args : Args) (h : Here Value) (st : Stores) → RunsOnlyBlocks (call_class program o c v args h st)
+  class-only (Some f) c v args h st = operate-on-only (op.Call f) (operands_of f args) h st
+  class-only None c v args h st = other-class-only (helper_of_class v) c v args h st
 
 -- what is raised, and what handlers find
 module _ (A : Type 0) (h : Here Value) (st : Stores) where
@@ -223,8 +257,8 @@ other-only k v h st = not-callable-only v h st
 module _ (program : Program) where
   object-only : (o : Option Object) (v : Value) (args : Args) (h : Here Value) (st : Stores) → RunsOnlyBlocks (call_object program o v args h st)
   object-only (Some (object.Function f)) v args h st = function-only (program.facts (block_of f)) f args h st
-  object-only (Some (object.Builtin b)) v args h st = builtin-object-only b b.receiver args h st
-  object-only (Some (object.Class c)) v args h st = class-only (class_function v) c v args h st
+  object-only (Some (object.Builtin b)) v args h st = builtin-object-only program b b.receiver args h st
+  object-only (Some (object.Class c)) v args h st = class-only program (class_function v) c v args h st
   object-only (Some (object.Method m)) v args h st = tt
   object-only o v args h st = other-only (operand_of st.world.heap v) v h st
 
@@ -257,7 +291,7 @@ module _ (program : Program) where
 
   seeks-only : (a : Seek Value) (h : Here Value) (st : Stores) → RunsOnlyBlocks (seeks program a h st)
   seeks-only (T.const k) h st = tt
-  seeks-only (T.load x) h st = load-only (readable_value x.scope x.name st) x.scope x.name h st
+  seeks-only (T.load x) h st = load-only (readable_value h.block.hidden x.scope x.name st) x.scope x.name h st
   seeks-only (T.operate o vs) h st = operate-only o vs h st
   seeks-only (T.cell_of x) h st = tt
   seeks-only (T.yielding v) h st = tt

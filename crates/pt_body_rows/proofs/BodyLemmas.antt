@@ -18,9 +18,9 @@ use Rattle.sem_code.specs.slots.Pops.{one}
 use Rattle.sem_run.specs.run.Host.{Here}
 use Rattle.pt_name_rows.specs.pt_builtins.pt_host.World.{World, Stores}
 use Rattle.pt_name_rows.specs.pt_builtins.pt_host.Trees.{Tree}
-use Rattle.pt_name_rows.specs.pt_builtins.pt_host.Variables.{load_by, by_builtin, put}
+use Rattle.pt_name_rows.specs.pt_builtins.pt_host.Variables.{load_by, by_builtin, global_value, put}
 use Rattle.pt_name_rows.specs.pt_builtins.pt_host.Builtins as builtins
-use Rattle.pt_name_rows.specs.pt_builtins.pt_host.Builtins.{Builtin, builtin}
+use Rattle.pt_name_rows.specs.pt_builtins.pt_host.Builtins.{Builtin, meaning}
 use Rattle.pt_name_rows.specs.pt_moves.sem_rows.declared.heap_rows.progress.Progress.{Progress}
 use Rattle.pt_name_rows.specs.pt_moves.sem_rows.declared.heap_rows.progress.Progress.TheVariants as progress
 use Rattle.pt_name_rows.specs.pt_moves.sem_rows.heap_rows.Laws.{reached}
@@ -38,14 +38,14 @@ use Rattle.pt_name_rows.proofs.pt_moves.TakeLemmas.{one_on}
 use Rattle.pt_name_rows.proofs.pt_moves.MoveLemmas.{lacks_one, stuck_row}
 use Rattle.pt_name_rows.specs.Names.{RowsGlobal, RowsLoadGlobal, global_unbound}
 use Rattle.pt_name_rows.proofs.AskLemmas.{goes_to, loads, stores, deletes, deletes_none}
-use Rattle.pt_body_rows.specs.Bodies.{place_in, own_value, body_value, locals_with, names_with, RowsName, RowsLoadName, with_globals}
+use Rattle.pt_body_rows.specs.Bodies.{place_in, own_value, body_value, locals_with, names_with, RowsName, RowsRead, RowsLoadName, with_globals}
 use Rattle.pt_body_rows.proofs.OwnLemmas.{own_reads, own_writes}
 
 -- a name that a class body doesn't bind is one of the module
 
 load_alike : (o : Option Value) (n : Name) (h : Here Value) (st : Stores) → ◌≡◌ {A = Tree Value} (load_by o T.global n h st) (load_by o T.of_class n h st)
 load_alike (Some v) n h st = refl
-load_alike None n h st = by (builtin n)
+load_alike None n h st = by (meaning h.block.hidden n)
   where
     by : (b : Builtin) → ◌≡◌ {A = Tree Value} (by_builtin b T.global n h st) (by_builtin b T.of_class n h st)
     by (builtins.is v) = refl
@@ -74,35 +74,35 @@ module _ (x : Name) (facts : BlockFacts) (t : TextNo) (locals : List (Option Val
 
   module _ (old : List Slot) where
     -- as the module does
-    module _ (b : BuiltinLookup) (means : builtin_view b ≡ builtin x) (p : Progress) (new : List Slot)
-        (row : RowsLoadGlobal x b (instr.Global t) t.0 old globals p new) where
-      of_module : RowsName x false facts (instr.Name t) t.0 old locals own globals p new locals own globals
-      unfolding RowsLoadGlobal RowsName RowsIn
+    module _ (hidden : Bool) (b : BuiltinLookup) (means : builtin_view b ≡ meaning hidden x) (p : Progress) (new : List Slot)
+        (row : RowsLoadGlobal hidden x b (instr.Global t) t.0 old globals p new) where
+      of_module : RowsRead hidden x false facts (instr.Name t) t.0 old locals own globals p new
+      unfolding RowsLoadGlobal RowsRead RowsIn
       of_module cells w s pc i truths knows =
-          row (st cells w) means s pc i truths knows.text
+          row (st cells w) means s pc i truths (record { is_text = knows.name.text; is_hidden = knows.is_hidden })
           ∙ ap (λ k. reached s.program s.code i s.here (st cells w) (gives s.code i (T.load (named k (s.code.pool.text t.0))) (slots_view old)))
-          (sym knows.scope)
+          (sym knows.name.scope)
 
-      of_body : own_value facts.locals x locals own ≡ None → RowsName x true facts (instr.Name t) t.0 old locals own globals p new locals own globals
-      unfolding RowsLoadGlobal RowsName RowsIn
+      of_body : own_value facts.locals x locals own ≡ None → RowsRead hidden x true facts (instr.Name t) t.0 old locals own globals p new
+      unfolding RowsLoadGlobal RowsRead RowsIn
       of_body none cells w s pc i truths knows =
-          row (st cells w) means s pc i truths knows.text
+          row (st cells w) means s pc i truths (record { is_text = knows.name.text; is_hidden = knows.is_hidden })
           ∙ (loads_lead s.program s.code i s.here (st cells w) (global (s.code.pool.text t.0)) (slots_view old)
           ∙ (ap (λ d. by_tree s.code i (giving s.code i (slots_view old)) (slots_view old) d)
-          (load_alike (name_value (s.code.pool.text t.0) globals) (s.code.pool.text t.0) s.here (st cells w)
-          ∙ ap (λ o. load_by (option_or o (name_value (s.code.pool.text t.0) globals)) T.of_class (s.code.pool.text t.0) s.here (st cells w))
-          (sym (reads cells w _ knows.text ∙ none)))
+          (load_alike (global_value s.here.block.hidden (s.code.pool.text t.0) (st cells w)) (s.code.pool.text t.0) s.here (st cells w)
+          ∙ ap (λ o. load_by (option_or o (global_value s.here.block.hidden (s.code.pool.text t.0) (st cells w))) T.of_class (s.code.pool.text t.0) s.here (st cells w))
+          (sym (reads cells w _ knows.name.text ∙ none)))
           ∙ (sym (loads_lead s.program s.code i s.here (st cells w) (named T.of_class (s.code.pool.text t.0)) (slots_view old))
           ∙ ap (λ k. reached s.program s.code i s.here (st cells w) (gives s.code i (T.load (named k (s.code.pool.text t.0))) (slots_view old)))
-          (sym knows.scope))))
+          (sym knows.name.scope))))
 
-    found_of : (v : Value) → own_value facts.locals x locals own ≡ Some v
-        → RowsName x true facts (instr.Name t) t.0 old locals own globals progress.Next (slot.Value v ∷ old) locals own globals
-    unfolding RowsName RowsIn
-    found_of v e cells w s pc i truths knows =
+    found_of : (hidden : Bool) (v : Value) → own_value facts.locals x locals own ≡ Some v
+        → RowsRead hidden x true facts (instr.Name t) t.0 old locals own globals progress.Next (slot.Value v ∷ old)
+    unfolding RowsRead RowsIn
+    found_of hidden v e cells w s pc i truths knows =
         loads s.program s.code i s.here (st cells w) (slots_view old) (named T.of_class (s.code.pool.text t.0)) v
-        (ap (λ o. option_or o (name_value (s.code.pool.text t.0) globals)) (reads cells w _ knows.text ∙ e))
-        ∙ ap (λ k. reached s.program s.code i s.here (st cells w) (gives s.code i (T.load (named k (s.code.pool.text t.0))) (slots_view old))) (sym knows.scope)
+        (ap (λ o. option_or o (global_value s.here.block.hidden (s.code.pool.text t.0) (st cells w))) (reads cells w _ knows.name.text ∙ e))
+        ∙ ap (λ k. reached s.program s.code i s.here (st cells w) (gives s.code i (T.load (named k (s.code.pool.text t.0))) (slots_view old))) (sym knows.name.scope)
 
     stored_of : (v : Value) → RowsName x true facts (instr.SetName t) t.0 (slot.Value v ∷ old) locals own globals progress.Next old
         (locals_with (place_in x facts.locals locals) (Some v) locals) (names_with (place_in x facts.locals locals) x (Some v) own) globals
@@ -134,25 +134,25 @@ module _ (x : Name) (facts : BlockFacts) (t : TextNo) (locals : List (Option Val
 
 -- the same by what code found, took and wrote
 module _ (x : Name) (c : Bool) (facts : BlockFacts) (t : TextNo) (old : List Slot) (locals : List (Option Value)) (own globals : Named) where
-  pub found : (b : BuiltinLookup) (new : List Slot) (v : Value) → body_value c facts.locals x locals own ≡ Some v → new ≡ slot.Value v ∷ old
-      → RowsLoadName x b c facts (instr.Name t) t.0 old locals own globals progress.Next new
+  pub found : (hidden : Bool) (b : BuiltinLookup) (new : List Slot) (v : Value) → body_value c facts.locals x locals own ≡ Some v → new ≡ slot.Value v ∷ old
+      → RowsLoadName hidden x b c facts (instr.Name t) t.0 old locals own globals progress.Next new
   unfolding RowsLoadName
-  found b new v e f means = subst (λ n. RowsName x c facts (instr.Name t) t.0 old locals own globals progress.Next n locals own globals) (sym f) (by c e)
+  found hidden b new v e f means = subst (λ n. RowsRead hidden x c facts (instr.Name t) t.0 old locals own globals progress.Next n) (sym f) (by c e)
     where
       by : (d : Bool) → body_value d facts.locals x locals own ≡ Some v
-          → RowsName x d facts (instr.Name t) t.0 old locals own globals progress.Next (slot.Value v ∷ old) locals own globals
-      by true g = found_of x facts t locals own globals old v g
+          → RowsRead hidden x d facts (instr.Name t) t.0 old locals own globals progress.Next (slot.Value v ∷ old)
+      by true g = found_of x facts t locals own globals old hidden v g
       by false g = absurd (cc)
 
-  pub otherwise : (b : BuiltinLookup) (p : Progress) (new : List Slot) → body_value c facts.locals x locals own ≡ None
-      → RowsLoadGlobal x b (instr.Global t) t.0 old globals p new
-      → RowsLoadName x b c facts (instr.Name t) t.0 old locals own globals p new
+  pub otherwise : (hidden : Bool) (b : BuiltinLookup) (p : Progress) (new : List Slot) → body_value c facts.locals x locals own ≡ None
+      → RowsLoadGlobal hidden x b (instr.Global t) t.0 old globals p new
+      → RowsLoadName hidden x b c facts (instr.Name t) t.0 old locals own globals p new
   unfolding RowsLoadName
-  otherwise b p new e row means = by c e
+  otherwise hidden b p new e row means = by c e
     where
-      by : (d : Bool) → body_value d facts.locals x locals own ≡ None → RowsName x d facts (instr.Name t) t.0 old locals own globals p new locals own globals
-      by true g = of_body x facts t locals own globals old b means p new row g
-      by false g = of_module x facts t locals own globals old b means p new row
+      by : (d : Bool) → body_value d facts.locals x locals own ≡ None → RowsRead hidden x d facts (instr.Name t) t.0 old locals own globals p new
+      by true g = of_body x facts t locals own globals old hidden b means p new row g
+      by false g = of_module x facts t locals own globals old hidden b means p new row
 
   pub stored_global : (p : Progress) (new : List Slot) (changed : Named) → c ≡ false → RowsGlobal x (instr.SetGlobal t) t.0 old globals p new changed
       → RowsName x c facts (instr.SetName t) t.0 old locals own globals p new locals own changed

@@ -10,7 +10,7 @@ use Rattle.pt_heap.specs.declared.value.Value.{Value}
 use Rattle.pt_names.specs.Names.{Named, name_value}
 use Rattle.pt_frames.specs.declared.slot.Slot.{Slot}
 use Rattle.pt_name_rows.specs.pt_builtins.pt_host.World.{World}
-use Rattle.pt_name_rows.specs.pt_builtins.pt_host.Builtins.{builtin}
+use Rattle.pt_name_rows.specs.pt_builtins.pt_host.Builtins.{meaning}
 use Rattle.pt_name_rows.specs.pt_moves.sem_rows.declared.heap_rows.progress.Progress.{Progress}
 use Rattle.pt_name_rows.specs.pt_moves.sem_rows.heap_rows.RowsIn.{Standpoint, RowsIn}
 use Rattle.pt_name_rows.specs.pt_moves.sem_rows.heap_rows.Views.{stores_in}
@@ -60,9 +60,19 @@ RowsName x in_class facts j t old locals own globals p new changed changed_own c
     (cells : List ℕ) (w : World) → RowsIn (λ s. IsNameOf x in_class t s) j old (stores_in (facts_view facts) locals cells own (with_globals globals w))
     p new (stores_in (facts_view facts) changed cells changed_own (with_globals changed_globals w))
 
--- a name is loaded, of which is known what it means by itself
-unfoldable pub RowsLoadName : Name → BuiltinLookup → (in_class : Bool) → BlockFacts → Instr → (text : ℕ)
+-- a name is loaded, of which is known what it means by itself, in a hidden block or in another
+pub record ReadsName (hidden : Bool) (x : Name) (in_class : Bool) (t : ℕ) (s : Standpoint) : Type 0 where
+  pub name : IsNameOf x in_class t s
+  pub is_hidden : s.here.block.hidden ≡ hidden
+
+unfoldable pub RowsRead : (hidden : Bool) → Name → (in_class : Bool) → BlockFacts → Instr → (text : ℕ)
+    → (old : List Slot) (locals : List (Option Value)) (own globals : Named) → Progress → (new : List Slot) → Type 0
+RowsRead hidden x in_class facts j t old locals own globals p new =
+    (cells : List ℕ) (w : World) → RowsIn (ReadsName hidden x in_class t) j old (stores_in (facts_view facts) locals cells own (with_globals globals w))
+    p new (stores_in (facts_view facts) locals cells own (with_globals globals w))
+
+unfoldable pub RowsLoadName : (hidden : Bool) → Name → BuiltinLookup → (in_class : Bool) → BlockFacts → Instr → (text : ℕ)
     → (old : List Slot) (locals : List (Option Value)) (own globals : Named)
     → Progress → (new : List Slot) → Type 0
-RowsLoadName x b in_class facts j t old locals own globals p new =
-    builtin_view b ≡ builtin x → RowsName x in_class facts j t old locals own globals p new locals own globals
+RowsLoadName hidden x b in_class facts j t old locals own globals p new =
+    builtin_view b ≡ meaning hidden x → RowsRead hidden x in_class facts j t old locals own globals p new

@@ -21,6 +21,7 @@ use std::alloc::Global;
 #[tactic(auto, using(crate::proofs::BodyLemmas::found, crate::proofs::BodyLemmas::otherwise, pt_moves::proofs::TakeLemmas::quiet_over))]
 pub fn name(
     alloc: Global,
+    hidden: bool,
     in_class: bool,
     text: TextNo,
     name: &str,
@@ -32,8 +33,8 @@ pub fn name(
     slots: &mut Slots,
 ) -> Result<Progress, Memory>
     ensures row { IfOk result
-        (λ p. RowsLoadName name.now lookup in_class facts.now (instr.Name text) text.0 slots.old
-        locals.now own.now globals.now p slots.new) }
+        (λ p. RowsLoadName hidden name.now lookup in_class facts.now (instr.Name text) text.0
+        slots.old locals.now own.now globals.now p slots.new) }
     ensures active { OnOk result (active_in slots.new ≡ active_in slots.old) }
 {
     match body_value(in_class, facts, locals, own, name) {
@@ -41,7 +42,7 @@ pub fn name(
             slots.push(Slot::Value(value))?;
             Ok(Progress::Next)
         }
-        None => global(alloc, text, name, lookup, globals, slots),
+        None => global(alloc, hidden, text, name, lookup, globals, slots),
     }
 }
 

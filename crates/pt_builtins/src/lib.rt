@@ -2,15 +2,16 @@
 //! Functions", "Built-in Constants", "Built-in Exceptions").
 #![tactic(auto)]
 
-ghost use Rattle.std.specs.Prelude.{◌≡◌, ◌<◌, length, map, position, IfSome};
+ghost use Rattle.std.specs.Prelude.{◌≡◌, ◌<◌, length, map, option_map, position, IfSome};
 ghost use Rattle.std.specs.Str.{bytes_eq};
 ghost use Rattle.pt_bind.specs.NameSets.{is_among};
-ghost use Rattle.pt_builtins.specs.Lookups.{builtin_view, is_builtin_name, is_unbuilt_name};
-ghost use Rattle.pt_host.specs.Builtins.{builtin, listed_builtin, start_object};
+ghost use Rattle.pt_builtins.specs.Lookups.{IsWrittenAs, builtin_view, is_builtin_name, is_unbuilt_name};
+ghost use Rattle.pt_host.specs.Builtins.{at_place, builtin, listed_builtin, meaning, start_object};
 
 use pt_base::ObjId;
 use pt_builtin_objects::{Kind, START};
 use pt_heap::Value;
+use pt_helper_objects::hidden_place;
 use pt_tables::builtins;
 
 /// What a name means by itself.
@@ -100,6 +101,31 @@ fn start_object(name: &str) -> BuiltinLookup
     }
 }
 
+/// The object at a place, if there is one.
+fn at_place(place: Option<ObjId>) -> BuiltinLookup
+    ensures { builtin_view result ≡ at_place (option_map (λ id. id.0) place) }
+{
+    match place {
+        Some(place) => BuiltinLookup::Found(Value::Obj(place)),
+        None => BuiltinLookup::Unavailable,
+    }
+}
+
+/// The function that a builtin is which is written in Python.
+fn written_function(name: &str) -> Option<&'static str>
+    ensures { IsWrittenAs name.now (option_map (λ x. x.now) result) }
+{
+    match name {
+        "sum" => Some("sum_of"),
+        "min" => Some("min_of"),
+        "max" => Some("max_of"),
+        "any" => Some("any_of"),
+        "all" => Some("all_of"),
+        "sorted" => Some("sorted_of"),
+        _ => None,
+    }
+}
+
 fn listed_builtin(name: &str) -> BuiltinLookup
     ensures { builtin_view result ≡ listed_builtin name.now }
 {
@@ -112,7 +138,10 @@ fn listed_builtin(name: &str) -> BuiltinLookup
     if is_unbuilt_name(name) {
         return BuiltinLookup::Unavailable;
     }
-    start_object(name)
+    match written_function(name) {
+        Some(function) => at_place(hidden_place(function)),
+        None => start_object(name),
+    }
 }
 
 fn is_builtin_name(name: &str) -> bool
@@ -137,6 +166,21 @@ pub fn builtin(name: &str) -> BuiltinLookup
         start_object("__main__")
     } else {
         BuiltinLookup::Unbound
+    }
+}
+
+/// What a name means by itself in a hidden block, or in another: in a function that is written in
+/// Python one of these, else what they alone ask, else a builtin.
+pub fn meaning(hidden: bool, name: &str) -> BuiltinLookup
+    ensures { builtin_view result ≡ meaning hidden name.now }
+{
+    if hidden {
+        match hidden_place(name) {
+            Some(place) => at_place(Some(place)),
+            None => builtin(name),
+        }
+    } else {
+        builtin(name)
     }
 }
 

@@ -1,6 +1,6 @@
 -- What calls come to.
 use Rattle.std.proofs.Common.{◌≡◌, ◌∙◌, ◌++◌, Bool, true, false, List, [], ◌∷◌, length, Option, Some, None, Result, Ok, Err, refl, sym, ap, subst}
-use Rattle.std.specs.Prelude.{option_map, slice_get, IfOk, IfErr, if◌then◌else◌}
+use Rattle.std.specs.Prelude.{slice_get, IfOk, IfErr, if◌then◌else◌}
 use Rattle.pt_base.specs.declared.what.What.{What}
 use Rattle.pt_base.specs.declared.what.What.TheVariants.{Feature}
 use Rattle.pt_heap.specs.declared.value.Value.{Value}
@@ -9,6 +9,7 @@ use Rattle.pt_heap.specs.declared.view.Binding.{Binding}
 use Rattle.pt_heap.specs.declared.object.Object.{Object}
 use Rattle.pt_heap.specs.declared.object.Object.TheVariants as object
 use Rattle.pt_heap.specs.declared.object.Function.{Function}
+use Rattle.pt_prelude.specs.declared.kinds.Helper.{Helper}
 use Rattle.pt_content.specs.pt_attrs.Store.{is_scripted}
 use Rattle.pt_content.specs.pt_attrs.pt_dicts.Chain.{class_in}
 use Rattle.pt_bind.specs.declared.arguments.Args.{Args}
@@ -32,7 +33,10 @@ use Rattle.sem_run.specs.run.Host.{Here, BlockResult, leave, opens, made, beyond
 use Rattle.pt_operators.specs.pt_moves.sem_rows.pt_host.Starred.{given}
 use Rattle.pt_operators.specs.pt_moves.sem_rows.pt_host.World.{Names, Stores, Program, CodeFacts}
 use Rattle.pt_operators.specs.pt_moves.sem_rows.pt_host.Trees.{Tree}
-use Rattle.pt_operators.specs.pt_moves.sem_rows.pt_host.Calls.{block_of, run_given, call_bound, call_block, call_function, Values, values_given, call_builtin, call_builtin_object, call_method, operate_on, method_operands, call_value, call_object, call_other, class_function, are_print_names, operands_of, print_operands, unnamed_operands, not_callable as host_not_callable, names_from, parameters_given, result_of, call_class, make_exception}
+use Rattle.pt_operators.specs.pt_moves.sem_rows.pt_host.Errors.{raise_saying}
+use Rattle.pt_operators.specs.pt_moves.sem_rows.pt_host.Texts.{binding_text}
+use Rattle.pt_operators.specs.pt_moves.sem_rows.pt_host.declared.places.TheConstants.{TYPE_ERROR}
+use Rattle.pt_operators.specs.pt_moves.sem_rows.pt_host.Calls.{ask, block_of, run_given, call_bound, call_block, call_function, Values, values_given, call_builtin, call_builtin_object, call_method, operate_on, call_value, call_object, call_other, class_function, are_print_names, operands_of, print_operands, unnamed_operands, not_callable as host_not_callable, names_from, parameters_given, result_of, call_class, call_other_class, make_exception}
 use Rattle.sem_run.specs.transitions.Successors.{behind_request}
 use Rattle.pt_operators.specs.pt_moves.sem_rows.declared.heap_rows.progress.Progress.{Progress}
 use Rattle.pt_operators.specs.pt_moves.sem_rows.declared.heap_rows.progress.Progress.TheVariants as progress
@@ -45,7 +49,7 @@ use Rattle.pt_function_rows.specs.pt_code_facts.declared.facts.Blocks.{Blocks}
 use Rattle.pt_function_rows.specs.pt_code_facts.Facts.{facts_view, facts_at}
 use Rattle.pt_operators.specs.Operates.{Asks, Operates}
 use Rattle.pt_function_rows.specs.Openings.{first_values_of, numbers_from, given_cells}
-use Rattle.pt_call_rows.specs.CallRows.{Calls, CallsBlock, CallsBound, IsBinding, without_defaults, CallsBuiltin, CallsMethod, CallsValue, with_parts, function_by, function_in, function_of, builtin_in, builtin_of, method_by, method_in, method_of, is_print, is_unsupported_in, is_unsupported, not_callable, misfit, is_memory, exception_in, exception_of, MakesException}
+use Rattle.pt_call_rows.specs.CallRows.{Calls, CallsBlock, CallsBound, CallsFunction, IsBinding, without_defaults, CallsBuiltin, CallsMethod, CallsValue, AsksHelper, helper_in, helper_of, with_parts, function_by, function_in, function_of, builtin_in, builtin_of, method_by, method_in, method_of, is_print, is_unsupported_in, is_unsupported, not_callable, misfit, is_memory, exception_in, exception_of, MakesException}
 use Rattle.pt_function_rows.proofs.OpeningLemmas.{names_begin}
 use Rattle.pt_call_rows.proofs.OperandLemmas.{print_is, unnamed_of}
 
@@ -116,12 +120,21 @@ module _ (facts : BlockFacts) (f : Function) (cells : List (Option Value)) (slot
     told_of a (refusal.Double x) m t = t
     told_of a refusal.Memory m t = absurd (cc)
 
-    pub misfits : (e : BindErr) (p : Progress) → facts.yields ≡ false → bound ≡ Err e → is_memory e ≡ false → p ≡ misfit facts e
+    -- in a hidden function or in another
+    misfit_told : (program : Program) (code : CodeObject Value) (i : Ins) (h : Here Value) (st : Stores) (e : BindErr) (hidden : Bool)
+        → told program code i h (misfit facts hidden e) (slots_view slots) st
+        ≡ by_tree code i (giving code i (slots_view slots)) (slots_view slots)
+        (if hidden then leave Feature else raise_saying TYPE_ERROR (binding_text facts.name e) h st)
+    misfit_told program code i h st e true = refl
+    misfit_told program code i h st e false = refl
+
+    pub misfits : (e : BindErr) (p : Progress) → facts.yields ≡ false → bound ≡ Err e → is_memory e ≡ false → p ≡ misfit facts f.hidden e
         → CallsBound facts f bound slots cells heap p cells heap
     unfolding CallsBound CallsBlock Calls
     misfits e p simple is_bound m q r is program code i h st knows =
         ap (λ x. told program code i h x (slots_view slots) (with_parts cells heap st)) q
-        ∙ sym (leads_bound program code i h (with_parts cells heap st) r (Err e) knows simple (told_of r e m (subst (λ b. IsBinding r b) is_bound is)))
+        ∙ (misfit_told program code i h (with_parts cells heap st) e f.hidden
+        ∙ sym (leads_bound program code i h (with_parts cells heap st) r (Err e) knows simple (told_of r e m (subst (λ b. IsBinding r b) is_bound is))))
 
 -- defaults have done their part once the arguments are bound
 module _ (facts : CodeFacts) (f : Function) (h : Here Value) (st : Stores) where
@@ -184,30 +197,6 @@ module _ (args : Args) (slots : List Slot) (heap : List Object) where
       by [] e = absurd (e refl)
       by (b ∷ bs) e = refl
 
--- of a method
-module _ (r : Value) (args : Args) (old : List Slot) (heap : List Object) where
-  pub method_operated : (o : Option MethodName) (m : MethodName) (p : Progress) (new : List Slot) (grown : List Object) (operands : Option (List Value)) (vs : List Value)
-      → o ≡ Some m → operands ≡ option_map (λ us. r ∷ us) (method_operands m args) → operands ≡ Some vs → Operates (op.CallMethod m) vs old heap p new grown
-      → CallsMethod o r args old heap p new grown
-  unfolding CallsMethod Calls Operates Asks
-  method_operated o m p new grown operands vs is has e done cells program code i h st u =
-      done program code i h (with_parts cells heap st)
-      ∙ (ap (λ q. by_tree code i (giving code i (slots_view old)) (slots_view old) (operate_on (op.CallMethod m) q h (with_parts cells heap st))) (sym e ∙ has)
-      ∙ ap (λ q. by_tree code i (giving code i (slots_view old)) (slots_view old) (call_method q r args h (with_parts cells heap st))) (sym is))
-
-  pub method_misnamed : (o : Option MethodName) (m : MethodName) (operands : Option (List Value))
-      → o ≡ Some m → operands ≡ option_map (λ us. r ∷ us) (method_operands m args) → operands ≡ None
-      → CallsMethod o r args old heap (progress.Outside Feature) old heap
-  unfolding CallsMethod Calls
-  method_misnamed o m operands is has e cells program code i h st u =
-      ap (λ q. by_tree code i (giving code i (slots_view old)) (slots_view old) (operate_on (op.CallMethod m) q h (with_parts cells heap st))) (sym e ∙ has)
-      ∙ ap (λ q. by_tree code i (giving code i (slots_view old)) (slots_view old) (call_method q r args h (with_parts cells heap st))) (sym is)
-
-  pub no_method : (o : Option MethodName) → o ≡ None → CallsMethod o r args old heap (progress.Outside Feature) old heap
-  unfolding CallsMethod Calls
-  no_method o is cells program code i h st u =
-      ap (λ q. by_tree code i (giving code i (slots_view old)) (slots_view old) (call_method q r args h (with_parts cells heap st))) (sym is)
-
 -- of a value
 module _ (program : Program) (v : Value) (args : Args) (h : Here Value) (st : Stores) where
   object_function : (o : Option Object) (f : Function) → function_in o ≡ Some f
@@ -250,10 +239,10 @@ module _ (program : Program) (v : Value) (args : Args) (h : Here Value) (st : St
   object_builtin (Some (object.Method m)) f e = absurd (cc)
   object_builtin (Some (object.Builtin b)) f e = by b.receiver e
     where
-      by : (r : Option Value) → function_by b.number r ≡ Some (Some f) → ◌≡◌ {A = Tree Value} (call_builtin_object b r args h st) (call_builtin (Some f) args h st)
+      by : (r : Option Value) → function_by b.number r ≡ Some (Some f) → ◌≡◌ {A = Tree Value} (call_builtin_object program b r args h st) (call_builtin (Some f) args h st)
       by None e = let q : of_function b.number ≡ Some f = cc in ap (λ x. call_builtin x args h st) q
       by (Some u) e = absurd (cc)
-  object_builtin (Some (object.Class c)) f e = let q : class_function v ≡ Some f = cc in ap (λ x. call_class x c v args h st) q
+  object_builtin (Some (object.Class c)) f e = let q : class_function v ≡ Some f = cc in ap (λ x. call_class program x c v args h st) q
   object_builtin (Some (object.Instance x)) f e = absurd (cc)
   object_builtin (Some (object.Error x)) f e = absurd (cc)
   object_builtin (Some (object.Generator m)) f e = absurd (cc)
@@ -263,7 +252,7 @@ module _ (program : Program) (v : Value) (args : Args) (h : Here Value) (st : St
   object_builtin (Some (object.Super x)) f e = absurd (cc)
 
   object_method : (o : Option Object) (m : Option MethodName) (u : Value) → method_in o ≡ Some (m, u)
-      → ◌≡◌ {A = Tree Value} (call_object program o v args h st) (call_method m u args h st)
+      → ◌≡◌ {A = Tree Value} (call_object program o v args h st) (call_method program m u args h st)
   object_method None m u e = absurd (cc)
   object_method (Some (object.Str s)) m u e = absurd (cc)
   object_method (Some (object.List l)) m u e = absurd (cc)
@@ -278,10 +267,10 @@ module _ (program : Program) (v : Value) (args : Args) (h : Here Value) (st : St
   object_method (Some (object.Method k)) m u e = absurd (cc)
   object_method (Some (object.Builtin b)) m u e = by b.receiver e
     where
-      by : (r : Option Value) → method_by b.number r ≡ Some (m, u) → ◌≡◌ {A = Tree Value} (call_builtin_object b r args h st) (call_method m u args h st)
+      by : (r : Option Value) → method_by b.number r ≡ Some (m, u) → ◌≡◌ {A = Tree Value} (call_builtin_object program b r args h st) (call_method program m u args h st)
       by None e = absurd (cc)
       by (Some w) e = let q : ◌≡◌ {A = Option MethodName × Value} (of_method_number b.number, w) (m, u) = cc in
-          ap (λ (x : Option MethodName × Value). call_method x.0 x.1 args h st) q
+          ap (λ (x : Option MethodName × Value). call_method program x.0 x.1 args h st) q
   object_method (Some (object.Class c)) m u e = absurd (cc)
   object_method (Some (object.Instance x)) m u e = absurd (cc)
   object_method (Some (object.Error x)) m u e = absurd (cc)
@@ -291,34 +280,60 @@ module _ (program : Program) (v : Value) (args : Args) (h : Here Value) (st : St
   object_method (Some (object.Module k)) m u e = absurd (cc)
   object_method (Some (object.Super x)) m u e = absurd (cc)
 
-  object_none : (o : Option Object) → builtin_in v o ≡ Some None
+  object_none : (o : Option Object) → builtin_in v o ≡ Some None → helper_in v o ≡ None
       → ◌≡◌ {A = Tree Value} (call_object program o v args h st) (make_exception (exception_in st.world.heap v o) (unnamed_operands args.named args.plain) st)
-  object_none None e = absurd (cc)
-  object_none (Some (object.Str s)) e = absurd (cc)
-  object_none (Some (object.List l)) e = absurd (cc)
-  object_none (Some (object.Tuple l)) e = absurd (cc)
-  object_none (Some (object.Dict d)) e = absurd (cc)
-  object_none (Some (object.Set d)) e = absurd (cc)
-  object_none (Some (object.Range r)) e = absurd (cc)
-  object_none (Some (object.Slice r)) e = absurd (cc)
-  object_none (Some (object.Cursor r)) e = absurd (cc)
-  object_none (Some (object.View r)) e = absurd (cc)
-  object_none (Some (object.Function g)) e = absurd (cc)
-  object_none (Some (object.Method m)) e = absurd (cc)
-  object_none (Some (object.Builtin b)) e = by b.receiver e
+  object_none None e n = absurd (cc)
+  object_none (Some (object.Str s)) e n = absurd (cc)
+  object_none (Some (object.List l)) e n = absurd (cc)
+  object_none (Some (object.Tuple l)) e n = absurd (cc)
+  object_none (Some (object.Dict d)) e n = absurd (cc)
+  object_none (Some (object.Set d)) e n = absurd (cc)
+  object_none (Some (object.Range r)) e n = absurd (cc)
+  object_none (Some (object.Slice r)) e n = absurd (cc)
+  object_none (Some (object.Cursor r)) e n = absurd (cc)
+  object_none (Some (object.View r)) e n = absurd (cc)
+  object_none (Some (object.Function g)) e n = absurd (cc)
+  object_none (Some (object.Method m)) e n = absurd (cc)
+  object_none (Some (object.Builtin b)) e n = by b.receiver e
     where
       by : (r : Option Value) → function_by b.number r ≡ Some None
-          → ◌≡◌ {A = Tree Value} (call_builtin_object b r args h st) (make_exception None (unnamed_operands args.named args.plain) st)
+          → ◌≡◌ {A = Tree Value} (call_builtin_object program b r args h st) (make_exception None (unnamed_operands args.named args.plain) st)
       by None e = let q : of_function b.number ≡ None = cc in ap (λ x. call_builtin x args h st) q
       by (Some u) e = absurd (cc)
-  object_none (Some (object.Class c)) e = let q : class_function v ≡ None = cc in ap (λ x. call_class x c v args h st) q
-  object_none (Some (object.Instance x)) e = absurd (cc)
-  object_none (Some (object.Error x)) e = absurd (cc)
-  object_none (Some (object.Generator m)) e = absurd (cc)
-  object_none (Some (object.Frame m)) e = absurd (cc)
-  object_none (Some (object.CodeRef b hid)) e = absurd (cc)
-  object_none (Some (object.Module m)) e = absurd (cc)
-  object_none (Some (object.Super x)) e = absurd (cc)
+  object_none (Some (object.Class c)) e n = let q : class_function v ≡ None = cc in
+      ap (λ x. call_class program x c v args h st) q ∙ ap (λ x. call_other_class program x c v args h st) n
+  object_none (Some (object.Instance x)) e n = absurd (cc)
+  object_none (Some (object.Error x)) e n = absurd (cc)
+  object_none (Some (object.Generator m)) e n = absurd (cc)
+  object_none (Some (object.Frame m)) e n = absurd (cc)
+  object_none (Some (object.CodeRef b hid)) e n = absurd (cc)
+  object_none (Some (object.Module m)) e n = absurd (cc)
+  object_none (Some (object.Super x)) e n = absurd (cc)
+
+  object_helper : (o : Option Object) (x : Helper) → builtin_in v o ≡ Some None → helper_in v o ≡ Some x
+      → ◌≡◌ {A = Tree Value} (call_object program o v args h st) (ask program x args h st)
+  object_helper None x e is = absurd (cc)
+  object_helper (Some (object.Str s)) x e is = absurd (cc)
+  object_helper (Some (object.List l)) x e is = absurd (cc)
+  object_helper (Some (object.Tuple l)) x e is = absurd (cc)
+  object_helper (Some (object.Dict d)) x e is = absurd (cc)
+  object_helper (Some (object.Set d)) x e is = absurd (cc)
+  object_helper (Some (object.Range r)) x e is = absurd (cc)
+  object_helper (Some (object.Slice r)) x e is = absurd (cc)
+  object_helper (Some (object.Cursor r)) x e is = absurd (cc)
+  object_helper (Some (object.View r)) x e is = absurd (cc)
+  object_helper (Some (object.Function g)) x e is = absurd (cc)
+  object_helper (Some (object.Method m)) x e is = absurd (cc)
+  object_helper (Some (object.Builtin b)) x e is = absurd (cc)
+  object_helper (Some (object.Class c)) x e is = let q : class_function v ≡ None = cc in
+      ap (λ k. call_class program k c v args h st) q ∙ ap (λ k. call_other_class program k c v args h st) is
+  object_helper (Some (object.Instance y)) x e is = absurd (cc)
+  object_helper (Some (object.Error y)) x e is = absurd (cc)
+  object_helper (Some (object.Generator m)) x e is = absurd (cc)
+  object_helper (Some (object.Frame m)) x e is = absurd (cc)
+  object_helper (Some (object.CodeRef b hid)) x e is = absurd (cc)
+  object_helper (Some (object.Module m)) x e is = absurd (cc)
+  object_helper (Some (object.Super y)) x e is = absurd (cc)
 
   -- an instance of a script's class is one for operators too
   instance_leaves : (b : Bool) (k : Operand) → b ≡ true → ◌≡◌ {A = Tree Value} (call_other (if b then operand.Instance else k) v h st) (leave Feature)
@@ -375,7 +390,7 @@ module _ (program : Program) (v : Value) (args : Args) (h : Here Value) (st : St
   object_other (Some (object.Builtin b1)) k f b m1 e = by b1.receiver b m1
     where
       by : (r : Option Value) → function_by b1.number r ≡ None → method_by b1.number r ≡ None
-          → ◌≡◌ {A = Tree Value} (call_builtin_object b1 r args h st) (host_not_callable v h st)
+          → ◌≡◌ {A = Tree Value} (call_builtin_object program b1 r args h st) (host_not_callable v h st)
       by None b m1 = absurd (cc)
       by (Some u) b m1 = absurd (cc)
   object_other (Some (object.Class c)) k f b m1 e = absurd (cc)
@@ -409,7 +424,7 @@ module _ (program : Program) (args : Args) (h : Here Value) (st : Stores) where
   value_builtin (value.Obj id) f e = object_builtin program (value.Obj id) args h st (slice_get st.world.heap id.0) f e
 
   value_method : (v : Value) (m : Option MethodName) (u : Value) → method_of st.world.heap v ≡ Some (m, u)
-      → ◌≡◌ {A = Tree Value} (call_value program v args h st) (call_method m u args h st)
+      → ◌≡◌ {A = Tree Value} (call_value program v args h st) (call_method program m u args h st)
   value_method value.None m u e = absurd (cc)
   value_method (value.Bool b) m u e = absurd (cc)
   value_method (value.Int z) m u e = absurd (cc)
@@ -417,14 +432,23 @@ module _ (program : Program) (args : Args) (h : Here Value) (st : Stores) where
   value_method value.NotImplemented m u e = absurd (cc)
   value_method (value.Obj id) m u e = object_method program (value.Obj id) args h st (slice_get st.world.heap id.0) m u e
 
-  value_none : (v : Value) → builtin_of st.world.heap v ≡ Some None
+  value_none : (v : Value) → builtin_of st.world.heap v ≡ Some None → helper_of st.world.heap v ≡ None
       → ◌≡◌ {A = Tree Value} (call_value program v args h st) (make_exception (exception_of st.world.heap v) (unnamed_operands args.named args.plain) st)
-  value_none value.None e = absurd (cc)
-  value_none (value.Bool b) e = absurd (cc)
-  value_none (value.Int z) e = absurd (cc)
-  value_none value.Ellipsis e = absurd (cc)
-  value_none value.NotImplemented e = absurd (cc)
-  value_none (value.Obj id) e = object_none program (value.Obj id) args h st (slice_get st.world.heap id.0) e
+  value_none value.None e n = absurd (cc)
+  value_none (value.Bool b) e n = absurd (cc)
+  value_none (value.Int z) e n = absurd (cc)
+  value_none value.Ellipsis e n = absurd (cc)
+  value_none value.NotImplemented e n = absurd (cc)
+  value_none (value.Obj id) e n = object_none program (value.Obj id) args h st (slice_get st.world.heap id.0) e n
+
+  value_helper : (v : Value) (x : Helper) → builtin_of st.world.heap v ≡ Some None → helper_of st.world.heap v ≡ Some x
+      → ◌≡◌ {A = Tree Value} (call_value program v args h st) (ask program x args h st)
+  value_helper value.None x e is = absurd (cc)
+  value_helper (value.Bool b) x e is = absurd (cc)
+  value_helper (value.Int z) x e is = absurd (cc)
+  value_helper value.Ellipsis x e is = absurd (cc)
+  value_helper value.NotImplemented x e is = absurd (cc)
+  value_helper (value.Obj id) x e is = object_helper program (value.Obj id) args h st (slice_get st.world.heap id.0) x e is
 
   value_unsupported : (v : Value) → is_unsupported st.world.heap v ≡ true → ◌≡◌ {A = Tree Value} (call_value program v args h st) (leave Feature)
   value_unsupported value.None e = absurd (cc)
@@ -443,33 +467,39 @@ module _ (program : Program) (args : Args) (h : Here Value) (st : Stores) where
   value_other value.NotImplemented f b1 m1 e = refl
   value_other (value.Obj id) f b1 m1 e = object_other program (value.Obj id) args h st (slice_get st.world.heap id.0) refl f b1 m1 e
 
-module _ (blocks : Blocks) (v : Value) (args : Args) (slots : List Slot) (cells : List (Option Value)) (heap : List Object) where
+-- a function whose arguments were bound with its defaults
+module _ (blocks : Blocks) (args : Args) (slots : List Slot) (cells : List (Option Value)) (heap : List Object) where
   is_binding : (b r : Result Locals BindErr) → IfOk b (λ ls. r ≡ Ok ls) → IfErr b (IsTold r) → IsBinding r b
   is_binding (Ok ls) r ok err = ok
   is_binding (Err e) r ok err = err
 
   bare_called : (f : Function) (facts : BlockFacts) (bound : Result Locals BindErr) (p : Progress) (changed : List (Option Value)) (grown : List Object)
-      → function_of heap v ≡ Some f → facts ≡ facts_at blocks (block_of f)
+      → facts ≡ facts_at blocks (block_of f)
       → IfOk bound (λ ls. binding_with facts.params f.defaults args ≡ Ok ls) → IfErr bound (IsTold (binding_with facts.params f.defaults args))
-      → CallsBound facts (without_defaults f) bound slots cells heap p changed grown
-      → CallsValue blocks v args slots cells heap p slots changed grown
-  unfolding CallsBound CallsBlock CallsValue Calls
-  bare_called f facts bound p changed grown e at ok err done program code i h st knows =
+      → CallsBound facts (without_defaults f) bound slots cells heap p changed grown → CallsFunction blocks f args slots cells heap p changed grown
+  unfolding CallsBound CallsBlock CallsFunction Calls
+  bare_called f facts bound p changed grown at ok err done program code i h st knows =
       let known : program.facts (block_of f) ≡ facts_view facts = knows (block_of f) ∙ sym (ap facts_view at) in
       let leads : Tree Value → HeapSuccessor = λ t. by_tree code i (giving code i (slots_view slots)) (slots_view slots) t in
       done (binding_with facts.params f.defaults args) (is_binding bound (binding_with facts.params f.defaults args) ok err) program code i h st known
       ∙ (ap leads (block_alike (program.facts (block_of f)) f h (with_parts cells heap st) (binding_with facts.params f.defaults args))
-      ∙ (ap (λ (fs : CodeFacts). leads (call_block (program.facts (block_of f)) f (binding_with fs.params f.defaults args) h (with_parts cells heap st))) (sym known)
-      ∙ ap leads (sym (value_function program args h (with_parts cells heap st) v f e))))
+      ∙ ap (λ (fs : CodeFacts). leads (call_block (program.facts (block_of f)) f (binding_with fs.params f.defaults args) h (with_parts cells heap st))) (sym known))
 
-  pub function_called : (f g : Function) (facts : BlockFacts) (bound : Result Locals BindErr) (p : Progress) (changed : List (Option Value)) (grown : List Object)
-      → function_of heap v ≡ Some f → g ≡ without_defaults f → facts ≡ facts_at blocks (block_id g.block f.hidden)
+  pub bound_called : (f g : Function) (facts : BlockFacts) (bound : Result Locals BindErr) (p : Progress) (changed : List (Option Value)) (grown : List Object)
+      → g ≡ without_defaults f → facts ≡ facts_at blocks (block_id g.block g.hidden)
       → IfOk bound (λ ls. binding_with facts.params f.defaults args ≡ Ok ls) → IfErr bound (IsTold (binding_with facts.params f.defaults args))
-      → CallsBound facts g bound slots cells heap p changed grown
-      → CallsValue blocks v args slots cells heap p slots changed grown
-  function_called f g facts bound p changed grown e bare at ok err done =
-      bare_called f facts bound p changed grown e (at ∙ ap (λ k. facts_at blocks (block_id k.block f.hidden)) bare) ok err
+      → CallsBound facts g bound slots cells heap p changed grown → CallsFunction blocks f args slots cells heap p changed grown
+  bound_called f g facts bound p changed grown bare at ok err done =
+      bare_called f facts bound p changed grown (at ∙ ap (λ k. facts_at blocks (block_id k.block k.hidden)) bare) ok err
       (subst (λ k. CallsBound facts k bound slots cells heap p changed grown) bare done)
+
+module _ (blocks : Blocks) (v : Value) (args : Args) (slots : List Slot) (cells : List (Option Value)) (heap : List Object) where
+  pub function_called : (f : Function) (p : Progress) (changed : List (Option Value)) (grown : List Object)
+      → function_of heap v ≡ Some f → CallsFunction blocks f args slots cells heap p changed grown → CallsValue blocks v args slots cells heap p slots changed grown
+  unfolding CallsFunction CallsValue Calls
+  function_called f p changed grown e done program code i h st knows =
+      done program code i h st knows
+      ∙ ap (λ t. by_tree code i (giving code i (slots_view slots)) (slots_view slots) t) (sym (value_function program args h (with_parts cells heap st) v f e))
 
   pub builtin_called : (f : Builtin) (p : Progress) (new : List Slot) (grown : List Object) → builtin_of heap v ≡ Some (Some f) → CallsBuiltin (Some f) args slots heap p new grown
       → CallsValue blocks v args slots cells heap p new cells grown
@@ -478,19 +508,28 @@ module _ (blocks : Blocks) (v : Value) (args : Args) (slots : List Slot) (cells 
       done cells program code i h st tt
       ∙ ap (λ t. by_tree code i (giving code i (slots_view slots)) (slots_view slots) t) (sym (value_builtin program args h (with_parts cells heap st) v f e))
 
-  pub method_called : (q : Option MethodName × Value) (p : Progress) (new : List Slot) (grown : List Object) → method_of heap v ≡ Some q → CallsMethod q.0 q.1 args slots heap p new grown
-      → CallsValue blocks v args slots cells heap p new cells grown
+  pub method_called : (q : Option MethodName × Value) (p : Progress) (new : List Slot) (changed : List (Option Value)) (grown : List Object)
+      → method_of heap v ≡ Some q → CallsMethod blocks q.0 q.1 args slots cells heap p new changed grown
+      → CallsValue blocks v args slots cells heap p new changed grown
   unfolding CallsMethod CallsValue Calls
-  method_called q p new grown e done program code i h st knows =
-      done cells program code i h st tt
+  method_called q p new changed grown e done program code i h st knows =
+      done program code i h st knows
       ∙ ap (λ t. by_tree code i (giving code i (slots_view slots)) (slots_view slots) t) (sym (value_method program args h (with_parts cells heap st) v q.0 q.1 e))
 
-  pub exception_made : (p : Progress) (new : List Slot) (grown : List Object) → builtin_of heap v ≡ Some None → MakesException (exception_of heap v) args slots heap p new grown
-      → CallsValue blocks v args slots cells heap p new cells grown
+  pub helper_called : (x : Helper) (p : Progress) (changed : List (Option Value)) (grown : List Object)
+      → builtin_of heap v ≡ Some None → helper_of heap v ≡ Some x → AsksHelper x blocks args slots cells heap p changed grown
+      → CallsValue blocks v args slots cells heap p slots changed grown
+  unfolding AsksHelper CallsValue Calls
+  helper_called x p changed grown e is done program code i h st knows =
+      done program code i h st knows
+      ∙ ap (λ t. by_tree code i (giving code i (slots_view slots)) (slots_view slots) t) (sym (value_helper program args h (with_parts cells heap st) v x e is))
+
+  pub exception_made : (p : Progress) (new : List Slot) (grown : List Object) → builtin_of heap v ≡ Some None → helper_of heap v ≡ None
+      → MakesException (exception_of heap v) args slots heap p new grown → CallsValue blocks v args slots cells heap p new cells grown
   unfolding MakesException CallsValue Calls
-  exception_made p new grown e done program code i h st knows =
+  exception_made p new grown e n done program code i h st knows =
       done cells program code i h st tt
-      ∙ ap (λ t. by_tree code i (giving code i (slots_view slots)) (slots_view slots) t) (sym (value_none program args h (with_parts cells heap st) v e))
+      ∙ ap (λ t. by_tree code i (giving code i (slots_view slots)) (slots_view slots) t) (sym (value_none program args h (with_parts cells heap st) v e n))
 
   pub unsupported_called : is_unsupported heap v ≡ true → CallsValue blocks v args slots cells heap (progress.Outside Feature) slots cells heap
   unfolding CallsValue Calls

@@ -1,3 +1,4 @@
+mod AskLemmas
 mod CallLemmas
 mod RowLemmas
 mod RoleLemmas

@@ -65,6 +65,12 @@ unnamed_of function.Bool args e = refl
 unnamed_of function.Str args e = refl
 unnamed_of function.Range args e = refl
 unnamed_of function.Super args e = refl
+unnamed_of function.MakeTuple args e = refl
+unnamed_of function.MakeSet args e = refl
+unnamed_of function.IsOf args e = refl
+unnamed_of function.JoinItems args e = refl
+unnamed_of function.SortItems args e = refl
+unnamed_of function.Refill args e = refl
 
 pub print_is : (f : Function) → is_print f ≡ true → f ≡ function.Print
 print_is function.Print e = refl
@@ -90,6 +96,12 @@ print_is function.Bool e = absurd (cc)
 print_is function.Str e = absurd (cc)
 print_is function.Range e = absurd (cc)
 print_is function.Super e = absurd (cc)
+print_is function.MakeTuple e = absurd (cc)
+print_is function.MakeSet e = absurd (cc)
+print_is function.IsOf e = absurd (cc)
+print_is function.JoinItems e = absurd (cc)
+print_is function.SortItems e = absurd (cc)
+print_is function.Refill e = absurd (cc)
 
 -- all methods but `sort` do
 

@@ -1,5 +1,5 @@
 -- When code does with calls what rows say (Language Reference 6.3.4).
-use Rattle.std.specs.Prelude.{◌≡◌, ℕ, List, [], Bool, true, false, Option, Some, None, Result, Ok, Err, slice_get}
+use Rattle.std.specs.Prelude.{◌≡◌, ℕ, List, [], Bool, true, false, Option, Some, None, Result, Ok, Err, slice_get, option_map, if◌then◌else◌}
 use Rattle.pt_base.specs.declared.numbers.ObjId.{ObjId}
 use Rattle.pt_tree.specs.Syntax.{Name}
 use Rattle.pt_instr.specs.declared.Instr.{Instr}
@@ -8,6 +8,8 @@ use Rattle.pt_heap.specs.declared.value.Value.TheVariants as value
 use Rattle.pt_heap.specs.declared.object.Object.{Object}
 use Rattle.pt_heap.specs.declared.object.Object.TheVariants as object
 use Rattle.pt_heap.specs.declared.object.Function.{Function}
+use Rattle.pt_prelude.specs.declared.kinds.Helper.{Helper}
+use Rattle.pt_helper_objects.specs.Objects.{helper_place}
 use Rattle.pt_content.specs.pt_attrs.Store.{is_scripted}
 use Rattle.pt_content.specs.pt_attrs.pt_dicts.Chain.{class_in}
 use Rattle.pt_bind.specs.Binding.{IsTold}
@@ -18,6 +20,7 @@ use Rattle.pt_bind.specs.declared.arguments.Locals.{Locals}
 use Rattle.pt_frames.specs.declared.slot.Slot.{Slot}
 use Rattle.pt_content.specs.Classes.{class_name}
 use Rattle.pt_content.specs.Functions.{of_function}
+use Rattle.pt_content.specs.declared.answer.PrimAns.{PrimAns}
 use Rattle.pt_content.specs.declared.method_name.MethodName.{MethodName}
 use Rattle.pt_content.specs.declared.method_name.MethodName.TheVariants as method
 use Rattle.pt_operators.specs.pt_moves.sem_rows.pt_host.pt_methods.Names.{of_method_number}
@@ -30,7 +33,8 @@ use Rattle.pt_operators.specs.pt_moves.sem_rows.pt_host.declared.places.TheConst
 use Rattle.pt_operators.specs.pt_moves.sem_rows.pt_host.World.{Stores, Program, with_objects, in_world}
 use Rattle.pt_operators.specs.pt_moves.sem_rows.pt_host.Texts.{binding_text, not_callable_text}
 use Rattle.pt_operators.specs.pt_moves.sem_rows.pt_host.Trees.{Tree}
-use Rattle.pt_operators.specs.pt_moves.sem_rows.pt_host.Calls.{block_of, call_block, call_builtin, call_method, call_value, class_function, exception_class, make_exception, unnamed_operands}
+use Rattle.pt_operators.specs.pt_moves.sem_rows.pt_host.Calls.{ask, asked_in_place, helper_of_class, block_of, call_block, call_builtin, call_function, call_method, call_value, class_function, exception_class, make_exception, unnamed_operands}
+use Rattle.pt_base.specs.declared.what.What.TheVariants.{Feature}
 use Rattle.pt_operators.specs.pt_moves.sem_rows.declared.heap_rows.progress.Progress.{Progress}
 use Rattle.pt_operators.specs.pt_moves.sem_rows.declared.heap_rows.progress.Progress.TheVariants as progress
 use Rattle.pt_operators.specs.pt_moves.sem_rows.heap_rows.Leads.{by_tree, giving}
@@ -87,6 +91,19 @@ abbrev pub exception_of : List Object → Value → Option ObjId
 exception_of heap (value.Obj id) = exception_in heap (value.Obj id) (slice_get heap id.0)
 exception_of heap v = None
 
+-- the function written in Python that a call of a builtin class asks
+abbrev pub helper_in : Value → Option Object → Option Helper
+helper_in v (Some (object.Class c)) = helper_of_class v
+helper_in v o = None
+
+abbrev pub helper_of : List Object → Value → Option Helper
+helper_of heap (value.Obj id) = helper_in (value.Obj id) (slice_get heap id.0)
+helper_of heap v = None
+
+-- values as arguments without names
+abbrev pub without_names : List Value → Args
+without_names vs = record { plain = vs; named = [] }
+
 -- `print` and `sort`, which take arguments by names
 abbrev pub is_print : Builtin → Bool
 is_print builtin.Print = true
@@ -112,8 +129,8 @@ is_unsupported heap v = false
 abbrev pub not_callable : List Object → Value → Progress
 not_callable heap v = progress.FailsSaying TYPE_ERROR (not_callable_text (class_name heap v))
 
-abbrev pub misfit : BlockFacts → BindErr → Progress
-misfit facts e = progress.FailsSaying TYPE_ERROR (binding_text facts.name e)
+abbrev pub misfit : BlockFacts → (hidden : Bool) → BindErr → Progress
+misfit facts hidden e = if hidden then progress.Outside Feature else progress.FailsSaying TYPE_ERROR (binding_text facts.name e)
 
 abbrev pub is_memory : BindErr → Bool
 is_memory refusal.Memory = true
@@ -154,14 +171,37 @@ unfoldable pub CallsBound : BlockFacts → Function → (bound : Result Locals B
 CallsBound facts f bound slots cells heap p changed grown =
     (r : Result Locals BindErr) → IsBinding r bound → CallsBlock facts f r slots cells heap p changed grown
 
+-- of a function
+unfoldable pub CallsFunction : Blocks → Function → Args → (slots : List Slot) (cells : List (Option Value)) (heap : List Object)
+    → Progress → (changed : List (Option Value)) (grown : List Object) → Type 0
+CallsFunction blocks f args slots cells heap p changed grown =
+    Calls (λ program. KnowsBlocks program blocks) (λ program h st. call_function (program.facts (block_of f)) f args h st) slots cells heap p slots changed grown
+
 -- of a builtin, of a method, of a value
 unfoldable pub CallsBuiltin : Option Builtin → Args → (old : List Slot) (heap : List Object) → Progress → (new : List Slot) (grown : List Object) → Type 0
 CallsBuiltin f args old heap p new grown =
     (cells : List (Option Value)) → Calls (λ program. Unit {0}) (λ program h st. call_builtin f args h st) old cells heap p new cells grown
 
-unfoldable pub CallsMethod : Option MethodName → (receiver : Value) → Args → (old : List Slot) (heap : List Object) → Progress → (new : List Slot) (grown : List Object) → Type 0
-CallsMethod m r args old heap p new grown =
-    (cells : List (Option Value)) → Calls (λ program. Unit {0}) (λ program h st. call_method m r args h st) old cells heap p new cells grown
+unfoldable pub CallsMethod : Blocks → Option MethodName → (receiver : Value) → Args → (old : List Slot) (cells : List (Option Value)) (heap : List Object)
+    → Progress → (new : List Slot) (changed : List (Option Value)) (grown : List Object) → Type 0
+CallsMethod blocks m r args old cells heap p new changed grown =
+    Calls (λ program. KnowsBlocks program blocks) (λ program h st. call_method program m r args h st) old cells heap p new changed grown
+
+-- of a function that is written in Python
+unfoldable pub AsksHelper : Helper → Blocks → Args → (slots : List Slot) (cells : List (Option Value)) (heap : List Object)
+    → Progress → (changed : List (Option Value)) (grown : List Object) → Type 0
+AsksHelper f blocks args slots cells heap p changed grown =
+    Calls (λ program. KnowsBlocks program blocks) (λ program h st. ask program f args h st) slots cells heap p slots changed grown
+
+-- the place that code finds for such a function
+unfoldable pub IsPlaceOf : Helper → Option ObjId → Type 0
+IsPlaceOf f place = option_map (λ (id : ObjId). id.0) place ≡ helper_place f
+
+-- of what an operation answered, which may ask such a function in its place
+unfoldable pub CallsAnswered : Blocks → PrimAns → (old : List Slot) (cells : List (Option Value)) (heap : List Object)
+    → Progress → (new : List Slot) (changed : List (Option Value)) (grown : List Object) → Type 0
+CallsAnswered blocks a old cells heap p new changed grown =
+    Calls (λ program. KnowsBlocks program blocks) (λ program h st. asked_in_place program a h st) old cells heap p new changed grown
 
 unfoldable pub MakesException : Option ObjId → Args → (old : List Slot) (heap : List Object) → Progress → (new : List Slot) (grown : List Object) → Type 0
 MakesException class args old heap p new grown =

@@ -1,35 +1,39 @@
 //! Calls (Language Reference 6.3.4).
-ghost use Rattle.std.specs.Prelude.{◌≡◌, false, slice_get, List, Option, Some, Ok, IfOk, IfErr, OnOk};
+ghost use Rattle.std.specs.Prelude.{◌≡◌, false, slice_get, List, None, Some, Ok};
+ghost use Rattle.std.specs.Prelude.{IfOk, IfErr, OnOk};
 ghost use Rattle.std.specs.Option.{option_copied};
 ghost use Rattle.pt_bind.specs.Binding.{binding_with, IsTold};
 ghost use Rattle.pt_content.specs.pt_attrs.Store.{is_scripted};
+ghost use Rattle.pt_call_rows.specs.CallRows.{AsksHelper, CallsAnswered, IsPlaceOf};
 ghost use Rattle.pt_call_rows.specs.CallRows.{CallsBound, CallsBuiltin, CallsMethod, CallsValue, without_defaults};
 ghost use Rattle.pt_frames.specs.declared.slot.Slot.{Slot};
 ghost use Rattle.pt_call_rows.specs.CallRows.{RowsCall, RowsNamedCall, builtin_of, function_by, function_of};
 ghost use Rattle.pt_call_rows.specs.CallRows.{is_memory, is_print, is_unsupported, method_by, method_of};
 ghost use Rattle.pt_call_rows.specs.CallRows.{exception_of, misfit, not_callable, MakesException};
-ghost use Rattle.pt_function_rows.specs.pt_code_facts.declared.facts.Blocks.{Blocks};
-ghost use Rattle.pt_heap.specs.declared.value.Value.{Value};
 ghost use Rattle.pt_content.specs.declared.function.Function.TheVariants as builtin;
 ghost use Rattle.pt_content.specs.pt_attrs.pt_dicts.Chain.{class_in};
 ghost use Rattle.pt_frames.specs.Slots.{active_in};
 ghost use Rattle.pt_instr.specs.declared.Instr.TheVariants as instr;
 
+use crate::helpers::{helper_arguments, helper_of};
 use crate::operands::{are_print_names, method_operands, print_operands};
 use crate::roles::{are_arguments, arguments};
 use pt_base::{Dup, Memory, ObjId, Seq, Text, What};
 use pt_bind::{Args, BindErr, Locals, bind_with};
 use pt_content::{
-    Function as Builtin, MethodName, Op, class_at, class_name, object_at, of_class, of_function,
+    Function as Builtin, MethodName, Op, PrimAns, class_at, class_name, object_at, of_class,
+    of_function,
 };
 use pt_frames::{Slot, Slots};
 use pt_function_rows::{BlockFacts, Blocks, named_last, open, take_values};
 use pt_heap::{Function, Heap, Object, Value};
+use pt_helper_objects::helper_place;
 use pt_instr::ListNo;
 use pt_operators::{
-    BASE_EXCEPTION, Progress, TYPE_ERROR, allot, binding_text, derives, error, not_callable_text,
-    of_method_number, operation, take_one, values_given,
+    BASE_EXCEPTION, Progress, TYPE_ERROR, allot, answered, binding_text, derives, error,
+    not_callable_text, of_method_number, operation, prim, take_one, values_given,
 };
+use pt_prelude::{Helper, function_of as function_asked};
 use std::alloc::Global;
 
 /// It is no function.
@@ -139,12 +143,23 @@ fn is_memory(error: &BindErr) -> bool
     }
 }
 
-/// The arguments don't fit the parameters.
-fn refused(alloc: Global, facts: &BlockFacts, error: BindErr) -> Result<Progress, Memory>
-    ensures { IfOk result (λ p. (is_memory error ≡ false) × (p ≡ misfit facts.now error)) }
+/// The arguments don't fit the parameters. Those that a function written in Python doesn't take leave
+/// the profile.
+fn refused(
+    alloc: Global,
+    facts: &BlockFacts,
+    hidden: bool,
+    error: BindErr,
+) -> Result<Progress, Memory>
+    ensures { IfOk result (λ p. (is_memory error ≡ false) × (p ≡ misfit facts.now hidden error)) }
 {
     if is_memory(&error) {
         return Err(Memory);
+    }
+    if hidden {
+        return Ok(Progress::Outside {
+            what: What::Feature,
+        });
     }
     let text = binding_text(alloc, facts.name.as_str(), &error)?;
     Ok(Progress::FailsSaying {
@@ -184,7 +199,7 @@ fn call_block(
             }
             Err(what) => Ok(Progress::Outside { what }),
         },
-        Err(error) => refused(alloc, facts, error),
+        Err(error) => refused(alloc, facts, function.hidden, error),
     }
 }
 
@@ -272,18 +287,103 @@ fn call_builtin(
     )
 }
 
+/// Gives each parameter of a function its argument (Language Reference 6.3.4).
+fn bind(
+    alloc: Global,
+    facts: &BlockFacts,
+    function: &Function,
+    args: &Args,
+) -> Result<Locals, BindErr>
+    ensures ok { IfOk result
+        (λ locals. binding_with facts.now.params function.now.defaults args.now ≡ Ok locals) }
+    ensures err { IfErr result
+        (IsTold (binding_with facts.now.params function.now.defaults args.now)) }
+{
+    bind_with(alloc, &facts.params, function.defaults.as_slice(), args)
+}
+
+/// The place of a function of the prelude, if the text has it.
+#[tactic(auto, unfolding(crate::specs::CallRows::IsPlaceOf))]
+fn place_of(helper: Helper) -> Option<ObjId>
+    ensures { IsPlaceOf helper result }
+{
+    helper_place(helper)
+}
+
+/// Calls a function of the prelude, if a run has it.
+#[tactic(auto, using(crate::proofs::AskLemmas::nowhere_asked, crate::proofs::AskLemmas::none_asked))]
+fn ask(
+    alloc: Global,
+    helper: Helper,
+    args: &Args,
+    blocks: &Blocks,
+    cells: &mut Seq<Option<Value>>,
+    heap: &mut Heap,
+) -> Result<Progress, Memory>
+    ensures { IfOk result (λ p. (slots : List Slot)
+        → AsksHelper helper blocks.now args.now slots cells.old heap.old p cells.new heap.new) }
+{
+    let Some(place) = place_of(helper) else {
+        return Ok(Progress::Outside { what: What::Helper });
+    };
+    match function_of(heap, Value::Obj(place)) {
+        Some(function) => {
+            let bare = without_defaults(alloc, function)?;
+            let facts = blocks.get(bare.block, bare.hidden);
+            let bound = bind(alloc, facts, function, args);
+            call_block(alloc, facts, &bare, bound, cells, heap)
+        }
+        None => Ok(Progress::Outside { what: What::Helper }),
+    }
+}
+
+/// What the answer of an operation comes to where a value is awaited: a function of the prelude that
+/// it asks in place of the operation is called.
+#[tactic(auto, using(crate::proofs::AskLemmas::inverted_answered, crate::proofs::AskLemmas::value_answered))]
+fn answer_or_ask(
+    alloc: Global,
+    answer: PrimAns,
+    blocks: &Blocks,
+    cells: &mut Seq<Option<Value>>,
+    slots: &mut Slots,
+    heap: &mut Heap,
+) -> Result<Progress, Memory>
+    ensures row { IfOk result
+        (λ p. CallsAnswered blocks.now answer slots.old cells.old heap.old p slots.new cells.new
+        heap.new) }
+    ensures active { OnOk result (active_in slots.new ≡ active_in slots.old) }
+{
+    match answer {
+        PrimAns::Help {
+            helper,
+            operands,
+            inverted,
+        } => {
+            if inverted {
+                return Ok(Progress::Outside { what: What::Helper });
+            }
+            let args = helper_arguments(alloc, helper, operands.as_slice())?;
+            ask(alloc, function_asked(helper), &args, blocks, cells, heap)
+        }
+        answer => answered(answer, slots),
+    }
+}
+
 /// Calls a method of a builtin value, which but for `sort` takes arguments without names.
-#[tactic(auto, using(crate::proofs::CallLemmas::method_operated, crate::proofs::CallLemmas::method_misnamed, crate::proofs::CallLemmas::no_method))]
+#[tactic(auto, using(crate::proofs::AskLemmas::method_answered, crate::proofs::AskLemmas::method_misnamed, crate::proofs::AskLemmas::no_method))]
 fn call_method(
     alloc: Global,
     method: Option<MethodName>,
     receiver: Value,
     args: &Args,
+    blocks: &Blocks,
+    cells: &mut Seq<Option<Value>>,
     slots: &mut Slots,
     heap: &mut Heap,
 ) -> Result<Progress, Memory>
     ensures row { IfOk result
-        (λ p. CallsMethod method receiver args.now slots.old heap.old p slots.new heap.new) }
+        (λ p. CallsMethod blocks.now method receiver args.now slots.old cells.old heap.old p slots.new
+        cells.new heap.new) }
     ensures active { OnOk result (active_in slots.new ≡ active_in slots.old) }
 {
     let Some(method) = method else {
@@ -291,15 +391,14 @@ fn call_method(
             what: What::Feature,
         });
     };
-    match method_operands(alloc, method, receiver, args)? {
-        Some(operands) => {
-            let op = Op::CallMethod(method);
-            operation(alloc, op, operands.as_slice(), slots, heap)
-        }
-        None => Ok(Progress::Outside {
+    let Some(operands) = method_operands(alloc, method, receiver, args)? else {
+        return Ok(Progress::Outside {
             what: What::Feature,
-        }),
-    }
+        });
+    };
+    let op = Op::CallMethod(method);
+    let answer = prim(alloc, op, operands.as_slice(), heap)?;
+    answer_or_ask(alloc, answer, blocks, cells, slots, heap)
 }
 
 /// The class of exceptions that a value is, if it is a builtin one.
@@ -350,45 +449,66 @@ fn make_exception(
     }
 }
 
-/// Calls a builtin function or a class: one that is no operation on values may be a class of
-/// exceptions.
+/// Calls a builtin function or a class: one that is no operation on values may ask a function of the
+/// prelude, or be a class of exceptions.
 #[tactic(auto, using(crate::proofs::CallLemmas::builtin_called, crate::proofs::CallLemmas::exception_made))]
 fn call_builtin_value(
     alloc: Global,
     callee: Value,
     function: Option<Builtin>,
     args: &Args,
+    blocks: &Blocks,
+    cells: &mut Seq<Option<Value>>,
     slots: &mut Slots,
     heap: &mut Heap,
 ) -> Result<Progress, Memory>
     requires { builtin_of heap.old callee ≡ Some function }
-    ensures row { IfOk result (λ p. (blocks : Blocks) (cells : List (Option Value))
-        → CallsValue blocks callee args.now slots.old cells heap.old p slots.new cells heap.new) }
+    ensures row { IfOk result
+        (λ p. CallsValue blocks.now callee args.now slots.old cells.old heap.old p slots.new
+        cells.new heap.new) }
     ensures active { OnOk result (active_in slots.new ≡ active_in slots.old) }
 {
     match function {
         Some(_) => call_builtin(alloc, function, args, slots, heap),
-        None => make_exception(alloc, exception_of(heap, callee), args, slots, heap),
+        None => match helper_of(heap, callee) {
+            Some(helper) => ask(alloc, helper, args, blocks, cells, heap),
+            None => make_exception(alloc, exception_of(heap, callee), args, slots, heap),
+        },
     }
 }
 
-/// Gives each parameter of a function its argument (Language Reference 6.3.4).
-fn bind(
+/// Calls a value that is no function of a script or of the prelude.
+#[tactic(auto, using(crate::proofs::CallLemmas::method_called, crate::proofs::CallLemmas::unsupported_called, crate::proofs::CallLemmas::other_called))]
+fn call_other(
     alloc: Global,
-    facts: &BlockFacts,
-    function: &Function,
+    callee: Value,
     args: &Args,
-) -> Result<Locals, BindErr>
-    ensures ok { IfOk result
-        (λ locals. binding_with facts.now.params function.now.defaults args.now ≡ Ok locals) }
-    ensures err { IfErr result
-        (IsTold (binding_with facts.now.params function.now.defaults args.now)) }
+    blocks: &Blocks,
+    cells: &mut Seq<Option<Value>>,
+    slots: &mut Slots,
+    heap: &mut Heap,
+) -> Result<Progress, Memory>
+    requires { function_of heap.old callee ≡ None }
+    ensures row { IfOk result
+        (λ p. CallsValue blocks.now callee args.now slots.old cells.old heap.old p slots.new
+        cells.new heap.new) }
+    ensures active { OnOk result (active_in slots.new ≡ active_in slots.old) }
 {
-    bind_with(alloc, &facts.params, function.defaults.as_slice(), args)
+    if let Some(builtin) = builtin_of(heap, callee) {
+        return call_builtin_value(alloc, callee, builtin, args, blocks, cells, slots, heap);
+    }
+    if let Some((method, receiver)) = method_of(heap, callee) {
+        return call_method(alloc, method, receiver, args, blocks, cells, slots, heap);
+    }
+    if is_unsupported(heap, callee) {
+        return Ok(Progress::Outside {
+            what: What::Feature,
+        });
+    }
+    not_callable(alloc, heap, callee)
 }
 
 /// Calls a value.
-#[tactic(auto, using(crate::proofs::CallLemmas::method_called, crate::proofs::CallLemmas::unsupported_called, crate::proofs::CallLemmas::other_called))]
 fn call_value(
     alloc: Global,
     callee: Value,
@@ -405,22 +525,11 @@ fn call_value(
 {
     if let Some(function) = function_of(heap, callee) {
         let bare = without_defaults(alloc, function)?;
-        let facts = blocks.get(bare.block);
+        let facts = blocks.get(bare.block, bare.hidden);
         let bound = bind(alloc, facts, function, args);
         return call_block(alloc, facts, &bare, bound, cells, heap);
     }
-    if let Some(builtin) = builtin_of(heap, callee) {
-        return call_builtin_value(alloc, callee, builtin, args, slots, heap);
-    }
-    if let Some((method, receiver)) = method_of(heap, callee) {
-        return call_method(alloc, method, receiver, args, slots, heap);
-    }
-    if is_unsupported(heap, callee) {
-        return Ok(Progress::Outside {
-            what: What::Feature,
-        });
-    }
-    not_callable(alloc, heap, callee)
+    call_other(alloc, callee, args, blocks, cells, slots, heap)
 }
 
 /// Calls what lies below so many arguments, up to the run of its block.

@@ -2,6 +2,7 @@
 #![tactic(auto)]
 
 mod calls;
+mod helpers;
 mod operands;
 mod roles;
 

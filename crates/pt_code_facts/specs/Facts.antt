@@ -1,5 +1,5 @@
 -- What a code tells of its blocks beside what they run (Library Reference, "inspect": code objects; Language Reference 3.2.13.1).
-use Rattle.std.specs.Prelude.{◌≡◌, List, [], Bool, true, false, map, take, drop}
+use Rattle.std.specs.Prelude.{◌≡◌, ℕ, List, [], Bool, true, false, map, take, drop, if◌then◌else◌}
 use Rattle.pt_tree.specs.Syntax.{Name}
 use Rattle.pt_heap.specs.declared.value.Value.{Value}
 use Rattle.pt_bind.specs.declared.arguments.Params.{Params}
@@ -15,6 +15,7 @@ use Rattle.sem_rows.specs.pt_host.World.{CodeFacts, Program}
 use Rattle.sem_rows.specs.variables.Numbers.{KnowsNames}
 use Rattle.pt_code_facts.specs.declared.facts.BlockFacts.{BlockFacts}
 use Rattle.pt_code_facts.specs.declared.facts.Blocks.{Blocks}
+use Rattle.pt_code_facts.specs.declared.facts.SideFacts.{SideFacts}
 use Rattle.pt_code_facts.specs.Numbered.{by_number}
 
 -- as a host has them
@@ -60,8 +61,15 @@ facts_of texts b = record {
 abbrev pub blocks_of : (texts : List Name) → List CodeBlock → List BlockFacts
 blocks_of texts bs = map (facts_of texts) bs
 
+-- those of a code by their numbers; hidden ones are the prelude's
+abbrev pub facts_in : SideFacts → (number : ℕ) → BlockFacts
+facts_in s n = by_number s.of_module s.others n
+
+abbrev pub side_facts : Blocks → (hidden : Bool) → SideFacts
+side_facts bs hidden = if hidden then bs.prelude else bs.script
+
 abbrev pub facts_at : Blocks → M.BlockId → BlockFacts
-facts_at bs b = by_number bs.of_module bs.others b.number
+facts_at bs b = facts_in (side_facts bs b.hidden) b.number
 
 -- the blocks of a program
 abbrev pub KnowsBlocks : Program → Blocks → Type 0

@@ -1,7 +1,8 @@
-ghost use Rattle.std.specs.Prelude.{◌≡◌, Bool, IfOk};
+ghost use Rattle.std.specs.Prelude.{◌≡◌, IfOk};
 ghost use Rattle.sem_code.specs.slots.BlockObject.{text_in};
 ghost use Rattle.pt_code_facts.specs.Facts.{blocks_of, facts_at, facts_of, is_generator};
 ghost use Rattle.pt_code_facts.specs.Facts.{named_texts, params_of};
+ghost use Rattle.pt_code_facts.specs.Numbered.{by_number};
 ghost use Rattle.sem_rows.specs.heap_rows.Told.{block_id};
 
 use pt_base::{BlockId, Dup, Line, Memory, Seq, Text};
@@ -113,20 +114,20 @@ pub fn blocks_of(
     Ok(facts)
 }
 
-/// What is known of the blocks of a script by their numbers. The module has number 0, and stands
-/// for a number that the script doesn't have.
+/// What is known of the blocks of a code by their numbers. The module has number 0, and stands for a
+/// number that the code doesn't have.
 #[derive(Debug, Drop)]
-pub struct Blocks {
+pub struct SideFacts {
     pub of_module: BlockFacts,
     /// The blocks from number 1 on.
     pub others: Seq<BlockFacts>,
 }
 
-impl Blocks {
+impl SideFacts {
     /// What is known of the block of a number, in constant time.
     #[tactic(auto, using(crate::proofs::NumberedLemmas::first, crate::proofs::NumberedLemmas::later, crate::proofs::NumberedLemmas::missing))]
-    pub fn get(&self, block: BlockId) -> &BlockFacts
-        ensures { (hidden : Bool) → result.now ≡ facts_at self.now (block_id block hidden) }
+    fn at(&self, block: BlockId) -> &BlockFacts
+        ensures { result.now ≡ by_number self.now.of_module self.now.others block.0 }
     {
         if block.0 == 0 {
             return &self.of_module;
@@ -134,6 +135,26 @@ impl Blocks {
         match self.others.get(block.0 as usize - 1) {
             Some(block) => block,
             None => &self.of_module,
+        }
+    }
+}
+
+/// What is known of the blocks of a program: of the script's, and of the prelude's, which are hidden.
+#[derive(Debug, Drop)]
+pub struct Blocks {
+    pub script: SideFacts,
+    pub prelude: SideFacts,
+}
+
+impl Blocks {
+    /// What is known of a block, in constant time.
+    pub fn get(&self, block: BlockId, hidden: bool) -> &BlockFacts
+        ensures { result.now ≡ facts_at self.now (block_id block hidden) }
+    {
+        if hidden {
+            self.prelude.at(block)
+        } else {
+            self.script.at(block)
         }
     }
 }

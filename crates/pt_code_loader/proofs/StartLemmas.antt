@@ -1,19 +1,28 @@
 -- Where a run begins.
-use Rattle.std.proofs.Common.{◌≡◌, ◌+◌, ◌<◌, ◌≤◌, ℕ, zero, suc, [], ◌∷◌, ◌++◌, List, length, drop, map, Bool, true, false, if◌then◌else◌, Option, None, refl, sym, ap, ◌∙◌, append_assoc, add-one, arith}
+use Rattle.std.proofs.Common.{◌≡◌, ◌+◌, ◌<◌, ◌≤◌, ℕ, zero, suc, [], ◌∷◌, ◌++◌, List, length, drop, map, Bool, true, false, if◌then◌else◌, Option, None, Some, nat_eq, refl, sym, ap, ◌∙◌, append_assoc, add-one, arith}
 use Rattle.std.proofs.Math.Seq.{drop-cons}
 use Rattle.std.specs.Option.{option_map}
 use Rattle.pt_tree.specs.Syntax.{Name}
 use Rattle.pt_heap.specs.declared.value.Value.{Value}
 use Rattle.pt_heap.specs.declared.value.Value.TheVariants as value
+use Rattle.pt_heap.specs.declared.object.Object.{Object}
 use Rattle.pt_heap.specs.declared.object.Object.TheVariants.{Str}
+use Rattle.pt_base.specs.declared.numbers.BlockId.{BlockId as BlockNumber}
 use Rattle.pt_builtin_objects.specs.Start.{start_objects}
+use Rattle.pt_helper_objects.specs.Objects.{helper_objects, object_of}
+use Rattle.pt_helper_objects.specs.declared.HelperKind.{HelperKind}
+use Rattle.pt_helper_objects.specs.declared.HelperKind.TheVariants as kind
+use Rattle.pt_helper_objects.specs.pt_prelude.Helpers.{block_of}
 use Rattle.sem_code.specs.slots.Slots.{on}
+use Rattle.sem_run.specs.run.Machine.{BlockId}
 use Rattle.sem_code.specs.slots.Machine as slots
 use Rattle.pt_names.specs.Names.{name_value}
 use Rattle.pt_bind.specs.NameSets.{is_among}
 use Rattle.pt_code_facts.specs.declared.facts.BlockFacts.{BlockFacts}
-use Rattle.pt_code_facts.specs.Facts.{facts_view}
-use Rattle.pt_code_tables.specs.pt_builtins.pt_host.World.{CodeFacts, Program, start_world}
+use Rattle.pt_code_facts.specs.declared.facts.Blocks.{Blocks}
+use Rattle.pt_code_facts.specs.Facts.{facts_at, facts_view, KnowsBlocks}
+use Rattle.pt_code_tables.specs.pt_builtins.pt_host.World.{CodeFacts, Program, first_objects, start_world}
+use Rattle.pt_code_tables.specs.pt_builtins.pt_host.World as W
 use Rattle.pt_code_tables.specs.pt_builtins.pt_host.Calls.{cells_along, cells_from, first_value, module_block, module_names, module_world, names_along}
 use Rattle.pt_code_tables.specs.pt_builtins.pt_host.HeapHost.{heap_host}
 use Rattle.pt_bare_runs.specs.Strides as bare
@@ -26,7 +35,7 @@ use Rattle.pt_code_tables.specs.pt_machine_state.declared.machine.Machine.{Machi
 use Rattle.pt_code_tables.specs.pt_machine_state.declared.machine.Standing.TheVariants as standing
 use Rattle.pt_code_tables.specs.pt_machine_state.Changes.{slots_at_start}
 use Rattle.pt_code_tables.specs.pt_machine_state.Views.{run_of, state_of}
-use Rattle.pt_code_loader.specs.Starting.{at_start, cell_numbers}
+use Rattle.pt_code_loader.specs.Starting.{at_start, cell_numbers, stands_as, stands_at, stands_in}
 
 -- the numbers of cells, one after the other
 nothing_more : {A : Type 0} (xs : List A) → xs ++ [] ≡ xs
@@ -96,21 +105,40 @@ begins_so true = refl
 begins_so false = refl
 
 state_at : (program : Program) (code : CodeBlocks Value) (tables : CodeTables) → AreTablesOf program code tables → (a : Activation)
-    → IsFirst tables.blocks.of_module.iterates tables.facts.of_module a → state_of standing.AtPlace a ≡ start_of code module_block None
+    → IsFirst tables.blocks.script.of_module.iterates tables.facts.script.of_module a → state_of standing.AtPlace a ≡ start_of code module_block None
 state_at program code tables are a h =
     let b = are.blocks module_block in
-    ap (λ n. on n (slots_view a.slots)) h.pc ∙ (ap (λ ss. on 0 (slots_view ss)) h.slots ∙ (begins_so tables.blocks.of_module.iterates
+    ap (λ n. on n (slots_view a.slots)) h.pc ∙ (ap (λ ss. on 0 (slots_view ss)) h.slots ∙ (begins_so tables.blocks.script.of_module.iterates
     ∙ (ap (λ t. if t then slots.start_generator value.None else slots.start) (sym b.iterates)
     ∙ ap (λ v. if code.iterates module_block then slots.start_generator v else slots.start) (sym b.truths.null))))
 
+-- functions of the prelude stand where the program has them
+object_by : (facts : Blocks) (k : HelperKind) → object_of (λ h. stands_as facts k) k ≡ object_of (stands_in facts) k
+object_by facts (kind.Function h) = refl
+object_by facts kind.EmptyTuple = refl
+object_by facts (kind.Primitive n) = refl
+
+pub object_stands : (facts : Blocks) (k : HelperKind) (b : Bool) (o : Object) → b ≡ stands_as facts k → o ≡ object_of (λ h. b) k
+    → o ≡ object_of (stands_in facts) k
+object_stands facts k b o e is = is ∙ (ap (λ s. object_of (λ h. s) k) e ∙ object_by facts k)
+
+stand_there : (program : Program) (facts : Blocks) → KnowsBlocks program facts → (o : Option BlockNumber) → stands_at facts o ≡ W.stands_at program o
+stand_there program facts known None = refl
+stand_there program facts known (Some b) =
+    let at : BlockId = record { hidden = true; number = b.0 } in
+    ap (λ (f : CodeFacts). nat_eq (length f.frees) 0) (sym (known at))
+
+first_stand : (program : Program) (facts : Blocks) → KnowsBlocks program facts → start_objects ++ helper_objects (stands_in facts) ≡ first_objects program
+first_stand program facts known = λ i. start_objects ++ helper_objects (λ h. stand_there program facts known (block_of h) i)
+
 -- the machine where a run begins
 pub record IsBegun (tables : CodeTables) (texts : List Name) (m : Machine) : Type 0 where
-  pub here : IsFirst tables.blocks.of_module.iterates tables.facts.of_module m.here
+  pub here : IsFirst tables.blocks.script.of_module.iterates tables.facts.script.of_module m.here
   pub standing : m.standing ≡ standing.AtPlace
   pub globals : m.frames.globals ≡ []
-  pub cells : m.frames.cells ≡ map (λ x. None) tables.facts.of_module.cells
+  pub cells : m.frames.cells ≡ map (λ x. None) tables.facts.script.of_module.cells
   pub frames : m.frames.frame_count ≡ 1
-  pub heap : m.heap ≡ start_objects ++ map Str texts
+  pub heap : m.heap ≡ (start_objects ++ helper_objects (stands_in tables.facts)) ++ map Str texts
   pub units : m.units ≡ 0
 
 pub begun : (program : Program) (code : CodeBlocks Value) (tables : CodeTables) (texts : List Name) (m : Machine) → AreTablesOf program code tables
@@ -118,16 +146,17 @@ pub begun : (program : Program) (code : CodeBlocks Value) (tables : CodeTables) 
     → run_of program m at_start ≡ bare.start (machine code) (heap_host program) module_block (module_names program) (module_world program)
 begun program code tables texts m are same h =
     let a = m.here in
-    let facts = tables.facts.of_module in
+    let facts = tables.facts.script.of_module in
     let known : program.facts module_block ≡ facts_view facts = are.facts module_block in
     let of_block : program.facts (record { hidden = a.hidden; number = a.block.0 }) ≡ facts_view facts =
     (λ i. program.facts (record { hidden = h.here.hidden i; number = h.here.block i })) ∙ known in
     let names : names_in (program.facts (record { hidden = a.hidden; number = a.block.0 })) a.locals a.cells a.names ≡ module_names program =
-    ap (λ f. names_in f a.locals a.cells a.names) of_block ∙ (names_first program facts tables.blocks.of_module.iterates a h.here
+    ap (λ f. names_in f a.locals a.cells a.names) of_block ∙ (names_first program facts tables.blocks.script.of_module.iterates a h.here
     ∙ ap (λ f. names_along f [] [] (start_world program)) (sym known)) in
     let cells : m.frames.cells ≡ (module_world program).cells = h.cells ∙ ap (λ (f : CodeFacts). map (λ x. None) f.cells) (sym known) in
     let state : state_of m.standing a ≡ start_of code module_block None = ap (λ s. state_of s a) h.standing ∙ state_at program code tables are a h.here in
-    let heap : m.heap ≡ start_objects ++ map Str program.texts = h.heap ∙ ap (λ ts. start_objects ++ map Str ts) (sym same) in
+    let heap : m.heap ≡ first_objects program ++ map Str program.texts =
+    h.heap ∙ (ap (λ os. os ++ map Str texts) (first_stand program tables.facts are.facts) ∙ ap (λ ts. first_objects program ++ map Str ts) (sym same)) in
     λ i. record {
       here = record {
         frame = record {

@@ -4,7 +4,7 @@ use Rattle.std.specs.Prelude.{position, nat_lt, cond}
 use Rattle.std.specs.List.{flat_map, position_or_len}
 use Rattle.std.specs.Map.{keys_of}
 use Rattle.std.proofs.lemmas.Bool.Decides.{nat_tests}
-use Rattle.std.proofs.lemmas.List.{map-append, take_more, take_all}
+use Rattle.std.proofs.lemmas.List.{length-map, map-append, take_more, take_all}
 use Rattle.std.proofs.lemmas.List.Recursion.{is_position_or_len}
 use Rattle.std.proofs.lemmas.Slice.Eq.{bytes_eq-Decides}
 use Rattle.pt_base.specs.declared.numbers.ObjId.{ObjId}
@@ -15,13 +15,15 @@ use Rattle.pt_tree.specs.declared.expression.Constant.TheVariants as constant
 use Rattle.pt_code.specs.declared.Const.{Const}
 use Rattle.pt_builtin_objects.specs.declared.TheConstants.{START}
 use Rattle.pt_builtin_objects.specs.Start.{start_rows}
+use Rattle.pt_helper_objects.specs.Objects.{helper_rows}
+use Rattle.pt_helper_objects.specs.declared.TheConstants.{HELPERS}
 use Rattle.pt_names.specs.Names.{Named, place_of, unless_placed, with_place}
 use Rattle.pt_assembler.specs.Tables.{kept, number_in}
 use Rattle.pt_assembler.proofs.TableLemmas.{kept_within}
 use Rattle.pt_code_tables.specs.pt_builtins.pt_host.World.{Program}
 use Rattle.pt_code_tables.specs.pt_builtins.pt_host.Answers.{constant_value, text_object}
 use Rattle.sem_code.specs.slots.BlockObject.{constant_of}
-use Rattle.pt_code_loader.specs.Texts.{text_of, kept_texts, texts_among, values_in}
+use Rattle.pt_code_loader.specs.Texts.{text_of, kept_texts, values_in, AreValues}
 
 number_len : {A : Type 0} (is : A → Bool) (xs : List A) → number_in is xs ≡ position_or_len is xs
 number_len {A} is xs = is_position_or_len (number_in is) is refl step xs
@@ -116,11 +118,15 @@ pub kept_there : (x : Name) (ts : List Name) (old new : Named) (p : ℕ) → ts 
 kept_there x ts old new p e f g l =
     sym (kept_same (bytes_eq x) x ts (number_within (bytes_eq x) ts (λ s. l (place_is x ts old new p e f g ∙ s))))
 
-pub id_at : (id : ObjId) (p : ℕ) → id.0 ≡ length start_rows + p → value.Obj id ≡ value.Obj (record { 0 = length start_rows + p })
+pub id_at : (id : ObjId) (p : ℕ) → id.0 ≡ length start_rows + length helper_rows + p
+    → value.Obj id ≡ value.Obj (record { 0 = length start_rows + length helper_rows + p })
 id_at id p e = λ i. value.Obj (record { 0 = e i })
 
 pub as_many_rows : length start_rows ≡ length START
 as_many_rows = refl
+
+pub as_many_helpers : length helper_rows ≡ length HELPERS
+as_many_helpers = refl
 
 -- the object of a kept text
 
@@ -139,7 +145,7 @@ front_less (x ∷ xs) ys zero h = omega arith
 front_less (x ∷ xs) ys (suc n) h = let l = front_less xs ys n (omega (arith, h)) in omega (arith, l)
 
 pub text_value : (program : Program) (x : Name) (old new more : List Name) (p : ℕ) → new ≡ kept (bytes_eq x) x old → program.texts ≡ new ++ more
-    → p ≡ number_in (bytes_eq x) old → constant_value program (constant.Str x) ≡ value.Obj (record { 0 = length start_rows + p })
+    → p ≡ number_in (bytes_eq x) old → constant_value program (constant.Str x) ≡ value.Obj (record { 0 = length start_rows + length helper_rows + p })
 text_value program x old new more p e f g =
     let is = bytes_eq x in
     let ks = kept is x old in
@@ -148,7 +154,7 @@ text_value program x old new more p e f g =
     let front = number_front is ks more within in
     let there = position_there is (ks ++ more) (subst (λ n. n < length (ks ++ more)) (sym front) (front_less ks more (number_in is ks) within)) in
     ap (λ ts. text_object program (position is ts)) (f ∙ ap (λ l. l ++ more) e)
-    ∙ (ap (text_object program) there ∙ ap (λ n. value.Obj (record { 0 = length start_rows + n })) (front ∙ (same ∙ sym g)))
+    ∙ (ap (text_object program) there ∙ ap (λ n. value.Obj (record { 0 = length start_rows + length helper_rows + n })) (front ∙ (same ∙ sym g)))
 
 -- constant by constant
 
@@ -168,11 +174,11 @@ flat_more : (texts : List Name) (ks : List Const) (k : Const) → flat_map (text
 flat_more texts [] k = append_none (text_of texts k)
 flat_more texts (j ∷ ks) k = ap (λ l. text_of texts j ++ l) (flat_more texts ks k) ∙ sym (append_assoc (text_of texts j) (flat_map (text_of texts) ks) (text_of texts k))
 
-pub one_more_text : (texts : List Name) (ks : List Const) (k : Const) (old new : List Name) → old ≡ texts_among texts ks → new ≡ kept_texts old (text_of texts k)
-    → new ≡ texts_among texts (ks ++ k ∷ [])
-one_more_text texts ks k old new e f =
-    f ∙ (ap (λ l. kept_texts l (text_of texts k)) e ∙ (sym (kept_more [] (flat_map (text_of texts) ks) (text_of texts k))
-    ∙ ap (kept_texts []) (sym (flat_more texts ks k))))
+pub one_more_text : (first texts : List Name) (ks : List Const) (k : Const) (old new : List Name) → old ≡ kept_texts first (flat_map (text_of texts) ks)
+    → new ≡ kept_texts old (text_of texts k) → new ≡ kept_texts first (flat_map (text_of texts) (ks ++ k ∷ []))
+one_more_text first texts ks k old new e f =
+    f ∙ (ap (λ l. kept_texts l (text_of texts k)) e ∙ (sym (kept_more first (flat_map (text_of texts) ks) (text_of texts k))
+    ∙ ap (kept_texts first) (sym (flat_more texts ks k))))
 
 kept_begins : (ts xs : List Name) → (more : List Name) × (kept_texts ts xs ≡ ts ++ more)
 kept_begins ts [] = ([], sym (append_none ts))
@@ -206,7 +212,13 @@ pub one_taken : {A : Type 0} (xs : List A) (i : ℕ) (x : A) → i < length xs �
 one_taken xs i x h e = take_more xs i x h ∙ ap (λ y. take i xs ++ y ∷ []) (sym e)
 
 pub all_values : (texts : List Name) (ks : List Const) (i : ℕ) (known : List Name) (vs : List Value) → length ks ≤ i
-    → ValuesSoFar texts (take i ks) known vs → (program : Program) → program.texts ≡ known → vs ≡ values_in texts ks program
-all_values texts ks i known vs h f program e =
-    f program [] (e ∙ sym (append_none known))
-    ∙ ap (λ l. values_in texts l program) (take_all i ks h)
+    → ValuesSoFar texts (take i ks) known vs → ValuesSoFar texts ks known vs
+all_values texts ks i known vs h f program more e = f program more e ∙ ap (λ l. values_in texts l program) (take_all i ks h)
+
+-- of a code before others, and of the last one
+pub values_before : (texts : List Name) (ks : List Const) (known xs last : List Name) (vs : List Value) → last ≡ kept_texts known xs
+    → ValuesSoFar texts ks known vs → AreValues texts ks last vs
+values_before texts ks known xs last vs is f program e = let (more, b) = kept_begins known xs in f program more (e ∙ (is ∙ b))
+
+pub values_last : (texts : List Name) (ks : List Const) (known : List Name) (vs : List Value) → ValuesSoFar texts ks known vs → AreValues texts ks known vs
+values_last texts ks known vs f program e = f program [] (e ∙ sym (append_none known))

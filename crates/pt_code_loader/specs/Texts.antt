@@ -27,6 +27,10 @@ texts_among texts ks = kept_texts [] (flat_map (text_of texts) ks)
 abbrev pub constant_texts : Code → List Name
 constant_texts c = texts_among c.texts c.constants
 
+-- those of the prelude, and then those of a code that aren't among them
+abbrev pub program_texts : (prelude code : Code) → List Name
+program_texts p c = kept_texts (constant_texts p) (flat_map (text_of c.texts) c.constants)
+
 abbrev pub values_in : (texts : List Name) → List Const → Program → List Value
 values_in texts ks program = map (λ k. constant_value program (constant_of texts k)) ks
 

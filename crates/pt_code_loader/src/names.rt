@@ -1,12 +1,12 @@
 //! What the numbers of texts and of lists of texts name.
 ghost use Rattle.std.specs.Prelude.{◌≡◌, IfOk, map};
-ghost use Rattle.pt_code_tables.specs.pt_builtins.pt_host.Builtins.{builtin};
+ghost use Rattle.pt_code_tables.specs.pt_builtins.pt_host.Builtins.{meaning};
 ghost use Rattle.sem_code.specs.slots.BlockObject.{text_in};
 ghost use Rattle.pt_code_tables.specs.pt_builtins.Lookups.{builtin_view};
 ghost use Rattle.pt_code_loader.specs.Loaded.{listed_texts};
 
 use pt_base::{Memory, Seq, Text};
-use pt_code_tables::{BuiltinLookup, builtin};
+use pt_code_tables::{BuiltinLookup, meaning};
 use std::alloc::Global;
 
 /// The text of a number; the empty one where there is none.
@@ -54,13 +54,17 @@ pub fn lists_of(
     Ok(named)
 }
 
-/// What each text means by itself, as a name.
-pub fn builtins_of(alloc: Global, texts: &[Text]) -> Result<Seq<BuiltinLookup>, Memory>
-    ensures { IfOk result (λ found. map builtin_view found ≡ map builtin texts.now) }
+/// What each text means by itself, as a name in hidden blocks, or in others.
+pub fn builtins_of(
+    alloc: Global,
+    hidden: bool,
+    texts: &[Text],
+) -> Result<Seq<BuiltinLookup>, Memory>
+    ensures { IfOk result (λ found. map builtin_view found ≡ map (meaning hidden) texts.now) }
 {
     let mut found = Seq::new(alloc);
     for text in texts {
-        let lookup = builtin(text.as_str());
+        let lookup = meaning(hidden, text.as_str());
         found.push(lookup)?;
     }
     Ok(found)

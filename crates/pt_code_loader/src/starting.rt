@@ -2,27 +2,37 @@ ghost use Rattle.std.specs.Prelude.{◌≡◌, ◌++◌, ◌∷◌, [], None, If
 ghost use Rattle.pt_frames.specs.Activations.{new_activation};
 ghost use Rattle.pt_heap.specs.declared.object.Object.TheVariants.{Str};
 ghost use Rattle.pt_builtin_objects.specs.Start.{start_objects};
-ghost use Rattle.pt_code_loader.specs.Starting.{Begins, cell_numbers};
+ghost use Rattle.pt_helper_objects.specs.Objects.{helper_objects, object_of};
+ghost use Rattle.pt_code_loader.specs.Starting.{Begins, cell_numbers, objects_by, stands_as, stands_in};
 ghost use Rattle.pt_code_tables.specs.pt_machine_state.Changes.{slots_at_start};
 
 use crate::Loaded;
 use pt_base::{BlockId, Dup, Memory, Seq, Text};
 use pt_bind::Locals;
-use pt_code_facts::BlockFacts;
+use pt_code_facts::{BlockFacts, Blocks as Facts};
 use pt_code_tables::{Machine, Standing};
 use pt_frames::{Frames, Slot, Slots};
 use pt_heap::{Heap, Object, Seed, Str as HeapStr, Value};
+use pt_helper_objects::{HELPERS, HelperKind, object_of};
+use pt_prelude::block;
 use std::alloc::Global;
+
+/// Puts an object behind the others of a heap.
+fn add_object(heap: &mut Heap, object: Object) -> Result<(), Memory>
+    ensures { OnOk result (heap.new ≡ heap.old ++ object ∷ []) }
+{
+    match heap.add(object) {
+        Ok(_) => Ok(()),
+        Err(_) => Err(Memory),
+    }
+}
 
 /// Puts an object for a text behind the others of a heap.
 fn add_text(alloc: Global, heap: &mut Heap, text: &Text) -> Result<(), Memory>
     ensures { OnOk result (heap.new ≡ heap.old ++ Str text.now ∷ []) }
 {
     let text = text.dup(alloc)?;
-    match heap.add(Object::Str(HeapStr::new(text))) {
-        Ok(_) => Ok(()),
-        Err(_) => Err(Memory),
-    }
+    add_object(heap, Object::Str(HeapStr::new(text)))
 }
 
 fn start_objects(alloc: Global, seed: Seed) -> Result<Heap, Memory>
@@ -31,12 +41,66 @@ fn start_objects(alloc: Global, seed: Seed) -> Result<Heap, Memory>
     pt_builtin_objects::start(alloc, seed).map_err(|_| Memory)
 }
 
-/// The objects that each run of a code starts with: the builtin ones, and one for each text of a
-/// constant.
-fn heap_of(alloc: Global, seed: Seed, texts: &[Text]) -> Result<Heap, Memory>
-    ensures { IfOk result (λ heap. heap ≡ start_objects ++ map Str texts.now) }
+/// Whether a function of the prelude stands: its block takes no cells along.
+fn stands(facts: &Facts, kind: HelperKind) -> bool
+    ensures { result ≡ stands_as facts.now kind }
+{
+    match kind {
+        HelperKind::Function(helper) => match block(helper) {
+            Some(block) => facts.get(block, true).frees.len() == 0,
+            None => false,
+        },
+        HelperKind::EmptyTuple | HelperKind::Primitive(_) => false,
+    }
+}
+
+/// The object of a row behind the builtin objects.
+#[tactic(auto, using(crate::proofs::StartLemmas::object_stands))]
+fn helper_object(
+    alloc: Global,
+    seed: Seed,
+    facts: &Facts,
+    kind: HelperKind,
+) -> Result<Object, Memory>
+    ensures { IfOk result (λ object. object ≡ object_of (stands_in facts.now) kind) }
+{
+    object_of(alloc, seed, stands(facts, kind), kind)
+}
+
+/// Puts the objects of rows behind those of a heap.
+fn add_helpers(
+    alloc: Global,
+    seed: Seed,
+    facts: &Facts,
+    rows: &[(&str, HelperKind)],
+    heap: &mut Heap,
+) -> Result<(), Memory>
+    ensures { OnOk result
+        (heap.new ≡ heap.old ++ objects_by facts.now (map (λ r. (r.0.now, r.1)) rows.now)) }
+{
+    for row in rows {
+        let object = helper_object(alloc, seed, facts, row.1)?;
+        add_object(heap, object)?;
+    }
+    Ok(())
+}
+
+/// The builtin objects, and behind them those of functions that are written in Python.
+fn first_objects(alloc: Global, seed: Seed, facts: &Facts) -> Result<Heap, Memory>
+    ensures { IfOk result (λ heap. heap ≡ start_objects ++ helper_objects (stands_in facts.now)) }
 {
     let mut heap = start_objects(alloc, seed)?;
+    add_helpers(alloc, seed, facts, &HELPERS, &mut heap)?;
+    Ok(heap)
+}
+
+/// The objects that each run of a code starts with: the builtin ones, those of functions that are
+/// written in Python, and one for each text of a constant.
+fn heap_of(alloc: Global, seed: Seed, facts: &Facts, texts: &[Text]) -> Result<Heap, Memory>
+    ensures { IfOk result (λ heap.
+        heap ≡ (start_objects ++ helper_objects (stands_in facts.now)) ++ map Str texts.now) }
+{
+    let mut heap = first_objects(alloc, seed, facts)?;
     for text in texts {
         add_text(alloc, &mut heap, text)?;
     }
@@ -121,12 +185,12 @@ pub fn start(alloc: Global, seed: Seed, loaded: &Loaded) -> Result<Machine, Memo
     ensures alone { IfOk result (λ machine. machine.frames.activations ≡ []) }
     ensures names { IfOk result (λ machine. machine.here.names ≡ []) }
 {
-    let heap = heap_of(alloc, seed, loaded.texts.as_slice())?;
-    let facts = &loaded.tables.facts.of_module;
+    let heap = heap_of(alloc, seed, &loaded.tables.facts, loaded.texts.as_slice())?;
+    let facts = &loaded.tables.facts.script.of_module;
     let names = names_at_start(alloc, facts)?;
     let mut frames = frames_at_start(alloc, seed, facts)?;
     let mut here = frames.fresh(BlockId(0), false, names)?;
-    here.slots = slots_at_start(alloc, loaded.tables.blocks.of_module.iterates)?;
+    here.slots = slots_at_start(alloc, loaded.tables.blocks.script.of_module.iterates)?;
     Ok(Machine {
         alloc,
         here,

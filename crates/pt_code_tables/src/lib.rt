@@ -3,9 +3,9 @@
 
 mod tables;
 
-pub use pt_builtins::{BuiltinLookup, builtin};
+pub use pt_builtins::{BuiltinLookup, meaning};
 pub use pt_machine_state::{
-    BlockCode, Blocks, Machine, MachineEnd, Progress, Standing, Stride, Writes, blocks_of,
-    facts_of, not_supported,
+    BlockCode, Blocks, Machine, MachineEnd, Progress, SideBlocks, Standing, Stride, Writes,
+    blocks_of, facts_of, not_supported,
 };
-pub use tables::CodeTables;
+pub use tables::{CodeTables, PoolTables};

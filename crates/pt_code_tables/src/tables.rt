@@ -1,6 +1,6 @@
 ghost use Rattle.pt_builtins.specs.declared.BuiltinLookup.TheVariants as lookup;
 ghost use Rattle.pt_code_tables.specs.Tables.{builtin_in, capture_in, constant_in};
-ghost use Rattle.pt_code_tables.specs.Tables.{is_class_in, list_in, text_in};
+ghost use Rattle.pt_code_tables.specs.Tables.{is_class_in, list_in, pool_in, text_in};
 ghost use Rattle.std.specs.Prelude.{◌≡◌};
 
 use pt_base::{BlockId, Seq, Text};
@@ -10,11 +10,10 @@ use pt_heap::Value;
 use pt_instr::{ConstNo, ListNo, TextNo};
 use pt_machine_state::Blocks;
 
-/// What a run reads of its code, made once (Library Reference, "inspect": code objects).
+/// What the numbers in operands of a code name, made once (Library Reference, "inspect": code
+/// objects).
 #[derive(Drop)]
-pub struct CodeTables {
-    pub blocks: Blocks,
-    pub facts: Facts,
+pub struct PoolTables {
     /// The values of constants. Those of texts are objects that each run starts with.
     pub constants: Seq<Value>,
     pub texts: Seq<Text>,
@@ -27,7 +26,7 @@ pub struct CodeTables {
     pub classes: Seq<bool>,
 }
 
-impl CodeTables {
+impl PoolTables {
     /// The value of a constant, None where there is none.
     #[tactic(auto, using(pt_code_facts::proofs::NumberedLemmas::none_in))]
     pub fn constant(&self, number: ConstNo) -> Value
@@ -92,5 +91,24 @@ impl CodeTables {
             Some(is_class) => *is_class,
             None => false,
         }
+    }
+}
+
+/// What a run reads of its code: of the blocks of the script and of the prelude, and what the numbers
+/// in operands of each of the two name.
+#[derive(Drop)]
+pub struct CodeTables {
+    pub blocks: Blocks,
+    pub facts: Facts,
+    pub script: PoolTables,
+    pub prelude: PoolTables,
+}
+
+impl CodeTables {
+    /// What numbers name in hidden blocks, or in the script's.
+    pub fn pool(&self, hidden: bool) -> &PoolTables
+        ensures { result.now ≡ pool_in self.now hidden }
+    {
+        if hidden { &self.prelude } else { &self.script }
     }
 }

@@ -11,7 +11,7 @@ mod view;
 
 pub use comparison::comparison_content;
 pub use equality::Equality;
-pub use order::Difference;
+pub use order::{Difference, is_before};
 pub use pt_reprs::{need_help, new_text, print_content, repr_content, str_content};
 pub use pt_views::{
     add_content, asked_or, combined_content, combined_in_place, delete_item_content, dict_content,

@@ -42,7 +42,7 @@ pub(crate) fn number_order(op: CompareOp, a: i128, b: i128) -> bool
 }
 
 /// Whether a text stands before another, by the numbers of characters.
-fn is_before(a: &str, b: &str) -> bool
+pub fn is_before(a: &str, b: &str) -> bool
     ensures { result ≡ is_before (chars a.now) (chars b.now) }
 {
     let mut left = Scan::new(a);

@@ -1,6 +1,6 @@
 -- The names of the classes of values (Library Reference, "Built-in Types", `types`), and the places of the exceptions that
 -- operations raise.
-use Rattle.std.specs.Prelude.{ℕ, List, [], Option, Some, None, codes, slice_get}
+use Rattle.std.specs.Prelude.{ℕ, Bool, true, false, List, [], Option, Some, None, codes, slice_get}
 use Rattle.pt_base.specs.declared.numbers.ObjId.{ObjId}
 use Rattle.pt_heap.specs.declared.value.Value.{Value}
 use Rattle.pt_heap.specs.declared.value.Value.TheVariants as value
@@ -24,6 +24,11 @@ view_name Keys = codes "dict_keys"
 view_name Values = codes "dict_values"
 view_name Items = codes "dict_items"
 
+-- a function that is written in Python is a builtin one
+abbrev pub function_class : (hidden : Bool) → List ℕ
+function_class true = codes "builtin_function_or_method"
+function_class false = codes "function"
+
 abbrev pub object_class : List Object → Option Object → List ℕ
 object_class h (Some (object.Str t)) = codes "str"
 object_class h (Some (object.List vs)) = codes "list"
@@ -34,7 +39,7 @@ object_class h (Some (object.Range r)) = codes "range"
 object_class h (Some (object.Slice s)) = codes "slice"
 object_class h (Some (object.Cursor c)) = codes "iterator"
 object_class h (Some (object.View v)) = view_name v.part
-object_class h (Some (object.Function f)) = codes "function"
+object_class h (Some (object.Function f)) = function_class f.hidden
 object_class h (Some (object.Method m)) = codes "method"
 object_class h (Some (object.Builtin b)) = codes "builtin_function_or_method"
 object_class h (Some (object.Class c)) = codes "type"

@@ -1,14 +1,17 @@
 -- Which builtin functions and classes are called by operations on values (Library Reference, "Built-in Functions"); numbers and
 -- places are those of the objects that a run starts with.
-use Rattle.std.specs.Prelude.{ℕ, List, [], ◌∷◌, Option, Some, None, nat_eq, slice_get, if◌then◌else◌}
+use Rattle.std.specs.Prelude.{ℕ, List, [], ◌∷◌, Option, Some, None, nat_eq, nat_le, ◌-◌, slice_get, if◌then◌else◌}
 use Rattle.pt_base.specs.declared.numbers.ObjId.{ObjId}
 use Rattle.pt_content.specs.declared.function.Function.{Function}
 use Rattle.pt_content.specs.declared.function.Function.TheVariants as function
-use Rattle.pt_content.specs.declared.function.TheConstants.{EXIT, FUNCTIONS}
+use Rattle.pt_content.specs.declared.function.TheConstants.{EXIT, FIRST_HIDDEN, FUNCTIONS, HIDDEN_FUNCTIONS}
 
--- the function of a number; of those of `sys` only `exit` is an operation on values
+-- the function of a number; of those of `sys` only `exit` is an operation on values, and behind these stand those that functions written in Python ask
 abbrev pub of_function : (number : ℕ) → Option Function
-of_function n = if nat_eq n EXIT then Some function.Exit else slice_get FUNCTIONS n
+of_function n =
+    if nat_eq n EXIT then Some function.Exit
+    else if nat_le FIRST_HIDDEN n then slice_get HIDDEN_FUNCTIONS (n - FIRST_HIDDEN)
+    else slice_get FUNCTIONS n
 
 -- the first of a list that stands behind a place
 abbrev pub at_place : List (ℕ × Function) → ℕ → Option Function

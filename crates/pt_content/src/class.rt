@@ -1,5 +1,5 @@
 ghost use Rattle.std.specs.Prelude.{◌≡◌, slice_get};
-ghost use Rattle.pt_content.specs.Classes.{class_name, name_at, object_class, view_name};
+ghost use Rattle.pt_content.specs.Classes.{class_name, function_class, name_at, object_class, view_name};
 
 use pt_attrs::{class_at, object_at};
 use pt_base::ObjId;
@@ -36,6 +36,17 @@ fn view_name(part: Part) -> &'static str
     }
 }
 
+/// The name of the class of a function. One that is written in Python is a builtin one.
+fn function_class(hidden: bool) -> &'static str
+    ensures { result.now ≡ function_class hidden }
+{
+    if hidden {
+        "builtin_function_or_method"
+    } else {
+        "function"
+    }
+}
+
 pub fn object_class(heap: &Heap, id: ObjId) -> &str
     ensures { result.now ≡ object_class heap.now (slice_get heap.now id.0) }
 {
@@ -49,7 +60,7 @@ pub fn object_class(heap: &Heap, id: ObjId) -> &str
         Some(Object::Slice(_)) => "slice",
         Some(Object::Cursor(_)) => "iterator",
         Some(Object::View(view)) => view_name(view.part),
-        Some(Object::Function(_)) => "function",
+        Some(Object::Function(function)) => function_class(function.hidden),
         Some(Object::Method(_)) => "method",
         Some(Object::Builtin(_)) => "builtin_function_or_method",
         Some(Object::Class(_)) => "type",

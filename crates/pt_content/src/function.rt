@@ -32,6 +32,19 @@ pub enum Function {
     Str,
     Range,
     Super,
+    /// A tuple of the items of a list. This and those that follow are for functions written in
+    /// Python that builtins ask.
+    MakeTuple,
+    /// A new set.
+    MakeSet,
+    /// Whether a value is of the builtin class of a name.
+    IsOf,
+    /// The texts of a list with a text between them.
+    JoinItems,
+    /// The items of a list in the order of their keys, or turned round.
+    SortItems,
+    /// A list gets the items of another.
+    Refill,
 }
 
 /// The functions of values, by their numbers.
@@ -53,6 +66,19 @@ pub const FUNCTIONS: [Function; 15] = [
     Function::Callable,
 ];
 
+/// The functions that those written in Python ask, by their numbers behind the first of them.
+pub const HIDDEN_FUNCTIONS: [Function; 6] = [
+    Function::MakeTuple,
+    Function::MakeSet,
+    Function::IsOf,
+    Function::JoinItems,
+    Function::SortItems,
+    Function::Refill,
+];
+
+/// The number of the first of these, which stand behind those of `sys`.
+pub const FIRST_HIDDEN: u32 = 28;
+
 /// The number of `sys.exit`, which stands behind those of functions of values.
 pub const EXIT: u32 = 17;
 
@@ -62,6 +88,11 @@ pub fn of_function(number: u32) -> Option<Function>
 {
     if number == EXIT {
         return Some(Function::Exit);
+    }
+    if number >= FIRST_HIDDEN {
+        return HIDDEN_FUNCTIONS
+            .get((number - FIRST_HIDDEN) as usize)
+            .copied();
     }
     FUNCTIONS.get(number as usize).copied()
 }

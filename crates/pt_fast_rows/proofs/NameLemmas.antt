@@ -1,5 +1,5 @@
 -- Rows of names that are bound.
-use Rattle.std.proofs.Common.{◌≡◌, ◌∙◌, ℕ, List, ◌∷◌, Option, Some, None, refl, sym, ap}
+use Rattle.std.proofs.Common.{◌≡◌, ◌∙◌, ℕ, false, List, ◌∷◌, Option, Some, None, refl, sym, ap}
 use Rattle.std.specs.Prelude.{slice_get, slice_set}
 use Rattle.std.specs.Option.{option_flatten}
 use Rattle.std.specs.Str.{bytes_eq}
@@ -61,7 +61,7 @@ module _ (x : SlotNo) (next : Pc) (own : List ℕ) (old : List Slot) (values : L
 module _ (t : TextNo) (x : Name) (next : Pc) (old : List Slot) (names : Named) where
   pub global_given : (v : Value) (new : List Slot) → name_value x names ≡ Some v → new ≡ slot.Value v ∷ old
       → Led next next (λ p. FastLoad x (instr.Global t) t.0 p old names new)
-  global_given v new e f = at_next next (λ b. globals.found x t old names b new v e f, ap active_in f)
+  global_given v new e f = at_next next (λ b. globals.found x t old names false b new v e f, ap active_in f)
 
   pub global_stored : (o : Option Value) (v : Value) (new : List Slot) (changed : Named) → Taken o old new → o ≡ Some v
       → changed ≡ insert_entry bytes_eq names x (Some v)

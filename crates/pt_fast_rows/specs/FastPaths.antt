@@ -1,5 +1,5 @@
 -- When a fast path of an instruction's row is taken, and where it leads.
-use Rattle.std.specs.Prelude.{◌≡◌, ℕ, ℤ, not, Bool, List, Option, Some, None}
+use Rattle.std.specs.Prelude.{◌≡◌, ℕ, ℤ, not, Bool, false, List, Option, Some, None}
 use Rattle.pt_base.specs.declared.numbers.Pc.{Pc}
 use Rattle.pt_base.specs.declared.operators.CompareOp.{CompareOp}
 use Rattle.pt_base.specs.declared.operators.CompareOp.TheVariants.{Less, LessEqual, Greater, GreaterEqual, Equal, NotEqual}
@@ -61,7 +61,7 @@ abbrev pub FastCell : (own : List ℕ) → Instr → (number : ℕ) → Progress
 FastCell own j n p old cells new changed = ((facts : BlockFacts) → RowsCell facts own n j old cells p new changed) × (active_in new ≡ active_in old)
 
 abbrev pub FastLoad : Name → Instr → (text : ℕ) → Progress → (old : List Slot) (globals : Named) → (new : List Slot) → Type 0
-FastLoad x j t p old globals new = ((b : BuiltinLookup) → RowsLoadGlobal x b j t old globals p new) × (active_in new ≡ active_in old)
+FastLoad x j t p old globals new = ((b : BuiltinLookup) → RowsLoadGlobal false x b j t old globals p new) × (active_in new ≡ active_in old)
 
 abbrev pub FastGlobal : Name → Instr → (text : ℕ) → Progress → (old : List Slot) (globals : Named) → (new : List Slot) (changed : Named) → Type 0
 FastGlobal x j t p old globals new changed = RowsGlobal x j t old globals p new changed × (active_in new ≡ active_in old)

@@ -5,4 +5,6 @@
 mod field;
 
 pub use field::{format_content, join_content};
-pub use pt_text_operations::{slice_content, subscript_content, text_method_content};
+pub use pt_text_operations::{
+    joined_content, slice_content, subscript_content, text_method_content,
+};

@@ -38,7 +38,7 @@ module _ {A : Type 0} (S : Stores → Type 0) (w : Awaited A) (h : Here Value) w
   thrown-ends (made v k) st s = s
   thrown-ends (beyond what) st s = tt
 
-  answered-ends : (a : PrimAns) (st : Stores) → S st → RaisesIn S h st → Ends S (of_prim w a h st)
+  pub answered-ends : (a : PrimAns) (st : Stores) → S st → RaisesIn S h st → Ends S (of_prim w a h st)
   answered-ends (prim.Value v) st s x = given-ends (w.value v) st s
   answered-ends (prim.Values vs) st s x = given-ends (w.values vs) st s
   answered-ends prim.End st s x = given-ends w.end st s

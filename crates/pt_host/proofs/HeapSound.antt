@@ -2,7 +2,6 @@
 use Rattle.std.proofs.Common.{◌≡◌, ◌<◌, ℕ, List, [], ◌∷◌, length, Option, None, Some, refl, arith}
 use Rattle.std.specs.Prelude.{position}
 use Rattle.std.specs.Str.{bytes_eq}
-use Rattle.std.proofs.lemmas.List.{length-map}
 use Rattle.std.proofs.lemmas.List.Quantifiers.{position-Some}
 use Rattle.pt_tree.specs.declared.expression.Constant.{Constant}
 use Rattle.pt_tree.specs.declared.expression.Constant.TheVariants as constant
@@ -11,7 +10,6 @@ use Rattle.sem_control.specs.control.Turn.{Ask, Seek, Deed, Operation}
 use Rattle.pt_heap.specs.declared.value.Value.{Value}
 use Rattle.pt_heap.specs.declared.object.Object.{Object}
 use Rattle.pt_heap.specs.Sound.{IsWithin}
-use Rattle.pt_builtin_objects.specs.Start.{object_of, start_rows, start_objects}
 use Rattle.pt_content.specs.declared.op.Op.{Op}
 use Rattle.pt_content.specs.declared.op.Op.TheVariants as op
 use Rattle.sem_run.specs.run.Host.{Here}
@@ -35,9 +33,6 @@ module _ (program : Program) (st : Stores) (r : Here Value) (s : IsSoundFrom (st
   here : IsSoundFrom n st
   here = from-here (start_count program) st s
 
-  as-many : length start_objects ≡ length start_rows
-  as-many = length-map start_rows (λ r. object_of r.0 r.1)
-
   text-within : (t : List ℕ) → IsWithin heap (constant_value program (constant.Str t))
   text-within t = by (position (bytes_eq t) program.texts) refl
     where
@@ -45,7 +40,7 @@ module _ (program : Program) (st : Stores) (r : Here Value) (s : IsSoundFrom (st
       by None e = tt
       by (Some i) e =
           let p : i < length program.texts = (position-Some (bytes_eq t) program.texts i [] e).0 in
-          omega (arith, p, s.objects, as-many)
+          omega (arith, p, s.objects)
 
   constant-within : (k : Constant) → IsWithin heap (constant_value program k)
   constant-within constant.None = tt
@@ -80,8 +75,7 @@ module _ (program : Program) (st : Stores) (r : Here Value) (s : IsSoundFrom (st
 
   seeks-sound : (a : Seek Value) → SeekWithin heap a → KeepsSound IsWithin n (seeks program a r st)
   seeks-sound (T.const k) w = (here, constant-within k)
-  seeks-sound (T.load x) w =
-      load-sound n st here r active (omega (arith, s.objects, as-many)) x
+  seeks-sound (T.load x) w = load-sound n st here r active (omega (arith, s.objects)) x
   seeks-sound (T.operate o vs) w = operate-sound o vs w
   seeks-sound (T.cell_of x) w = cell-of-sound n st here x
   seeks-sound (T.yielding v) w = tt

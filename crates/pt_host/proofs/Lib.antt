@@ -5,6 +5,7 @@ pub mod VariablesSound
 pub mod StarredLemmas
 pub mod ArgumentsSound
 pub mod StarredSound
+pub mod FunctionsSound
 pub mod CallsSound
 pub mod HeapSound
 pub mod EntriesSound

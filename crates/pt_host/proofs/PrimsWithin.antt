@@ -42,6 +42,23 @@ no-fewer h k stay = by h k (λ i o e. ((stay i o e).0, (stay i o e).1))
     by (x ∷ h) [] f = absurd (none-there (f 0 x refl).0 (f 0 x refl).1)
     by (x ∷ h) (y ∷ k) f = let l : length h ≤ length k = by h k (λ i o e. f (suc i) o e) in omega (arith, l)
 
+-- what an operation leaves behind: a sound store, and what it answers lies in its heap
+pub record Operated (n : ℕ) (o : Op) (vs : List Value) (r : Here Value) (st : Stores) : Type 0 where
+  pub store : IsSoundFrom n (with_objects (prim_heap o vs st.world.heap) st)
+  pub answer : AnswerIsWithin (prim_heap o vs st.world.heap) (prim_answer o vs st.world.heap)
+  pub active : IsWithinIf (prim_heap o vs st.world.heap) r.active
+
+pub operated : (n : ℕ) (o : Op) (vs : List Value) (r : Here Value) (st : Stores) → AllWithin st.world.heap vs → IsSoundFrom n st → IsWithinIf st.world.heap r.active → Operated n o vs r st
+operated n o vs r st all s active =
+    let h : List Object = st.world.heap in
+    let k : List Object = prim_heap o vs h in
+    let l : length h ≤ length k = no-fewer h k (objects-stay o vs h) in
+    record {
+      store = heap-grows n n st k s (heap-sound o vs h s.heap all) l (omega (arith, s.objects, l));
+      answer = answer-within o vs h s.heap all;
+      active = if-grows h k r.active l active;
+    }
+
 abbrev pub IfGiven : {A : Type 0} → Option A → (A → Type 0) → Type 0
 IfGiven None P = Unit {0}
 IfGiven (Some a) P = P a
@@ -90,7 +107,7 @@ module _ {A : Type 0} (P : List Object → A → Type 0) (n : ℕ) (w : Awaited 
   given-if None st s f = tt
   given-if (Some a) st s f = (s, f)
 
-  answered : (a : PrimAns) (r : Here Value) (st : Stores) → IsSoundFrom n st → AnswerIsWithin st.world.heap a → IsWithinIf st.world.heap r.active → KeepsSound P n (of_prim w a r st)
+  pub answered : (a : PrimAns) (r : Here Value) (st : Stores) → IsSoundFrom n st → AnswerIsWithin st.world.heap a → IsWithinIf st.world.heap r.active → KeepsSound P n (of_prim w a r st)
   answered (prim.Value v) r st s i active = given-if (w.value v) st s (fits.value st.world.heap v i)
   answered (prim.Values vs) r st s i active = given-if (w.values vs) st s (fits.values st.world.heap vs i)
   answered prim.End r st s i active = given-if w.end st s (fits.end st.world.heap)
@@ -104,8 +121,5 @@ module _ {A : Type 0} (P : List Object → A → Type 0) (n : ℕ) (w : Awaited 
   unfolding asked
   asked-sound o vs r st all s active =
       let h : List Object = st.world.heap in
-      let k : List Object = prim_heap o vs h in
-      let l : length h ≤ length k = no-fewer h k (objects-stay o vs h) in
-      answered (prim_answer o vs h) r (with_objects k st)
-      (heap-grows n n st k s (heap-sound o vs h s.heap all) l (omega (arith, s.objects, l)))
-      (answer-within o vs h s.heap all) (if-grows h k r.active l active)
+      let x : Operated n o vs r st = operated n o vs r st all s active in
+      answered (prim_answer o vs h) r (with_objects (prim_heap o vs h) st) x.store x.answer x.active

@@ -1,6 +1,6 @@
 -- Names and cells that are read, bound and unbound keep a store sound.
-use Rattle.std.proofs.Common.{◌≡◌, ◌<◌, ◌≤◌, ℕ, zero, suc, Bool, true, false, cond, List, [], ◌∷◌, ◌++◌, length, map, set, Option, None, Some, slice_get, if◌then◌else◌, refl, arith}
-use Rattle.std.specs.Prelude.{position, codes}
+use Rattle.std.proofs.Common.{◌≡◌, ◌<◌, ◌≤◌, ℕ, zero, suc, Bool, true, false, cond, List, [], ◌∷◌, ◌++◌, length, map, set, Option, None, Some, slice_get, if◌then◌else◌, refl, arith, ◌+◌}
+use Rattle.std.specs.Prelude.{position, codes, option_map}
 use Rattle.std.specs.Map.{lookup}
 use Rattle.std.specs.Option.{option_flatten, option_or}
 use Rattle.std.specs.Str.{bytes_eq}
@@ -18,11 +18,12 @@ use Rattle.pt_heap.specs.Sound.{IsClassAt, IsWithin}
 use Rattle.pt_builtin_objects.specs.Start.{start_rows, start_objects}
 use Rattle.pt_names.specs.Names.{Named, name_value}
 use Rattle.pt_bind.specs.NameSets.{is_among}
+use Rattle.pt_helper_objects.specs.Objects.{hidden_place, helper_rows}
 use Rattle.sem_run.specs.run.Host.{Here}
 use Rattle.pt_host.specs.World.{Stores}
 use Rattle.pt_host.specs.Texts.{unbound_text, unbound_class}
-use Rattle.pt_host.specs.Builtins.{Builtin, is, unavailable, no_builtin, at_place, start_object, builtin}
-use Rattle.pt_host.specs.Variables.{cell_number, cell_value, variable_value, readable_value, raise_unbound, by_builtin, unless_bound, load_by, load, with_cell, put, store, delete_by, delete, make_anew, number_value, cell_of}
+use Rattle.pt_host.specs.Builtins.{Builtin, is, unavailable, no_builtin, at_place, start_object, written_names, written_function, builtin, hidden_builtin, meaning}
+use Rattle.pt_host.specs.Variables.{cell_number, cell_value, variable_value, global_value, readable_value, raise_unbound, by_builtin, unless_bound, load_by, load, with_cell, put, store, delete_by, delete, make_anew, number_value, cell_of}
 use Rattle.pt_host.specs.Sound.{IsWithinIf, CellsWithin, NamesWithin, IsSoundFrom, KeepsSound}
 use Rattle.pt_host.proofs.Within.{Anything, raise-text-sound}
 
@@ -61,9 +62,12 @@ or-within : (h : List Object) (o p : Option Value) → IsWithinIf h o → IsWith
 or-within h None p w u = u
 or-within h (Some v) p w u = w
 
--- builtins are objects of the start
+-- builtins are objects that a run begins with
+abbrev first_count : ℕ
+first_count = length start_rows + length helper_rows
+
 abbrev BuiltinBelow : Builtin → Type 0
-BuiltinBelow (is (value.Obj id)) = id.0 < length start_rows
+BuiltinBelow (is (value.Obj id)) = id.0 < first_count
 BuiltinBelow b = Unit {0}
 
 place-below : (x : Name) → BuiltinBelow (start_object x)
@@ -75,19 +79,44 @@ place-below x = by (position (bytes_eq x) (map (λ r. r.0) start_rows)) refl
         let p : i < length (map (λ r. r.0) start_rows) = (position-Some (bytes_eq x) (map (λ r. r.0) start_rows) i [] e).0 in
         omega (arith, p, length-map start_rows (λ r. r.0))
 
-builtin-below : (x : Name) → BuiltinBelow (builtin x)
-builtin-below x = by (is_among builtin_names x) (bytes_eq x (codes "NotImplemented")) (bytes_eq x (codes "Ellipsis")) (is_among unbuilt_names x) (bytes_eq x (codes "__name__"))
+hidden-below : (x : Name) → BuiltinBelow (at_place (hidden_place x))
+hidden-below x = by (position (bytes_eq x) (map (λ r. r.0) helper_rows)) refl
   where
-    by : (a b c d e : Bool)
-        → BuiltinBelow (if a then (if b then is value.NotImplemented else if c then is value.Ellipsis else if d then unavailable else start_object x) else if e then start_object (codes "__main__") else no_builtin)
-    by true true c d e = tt
-    by true false true d e = tt
-    by true false false true e = tt
-    by true false false false e = place-below x
-    by false b c d true = place-below (codes "__main__")
-    by false b c d false = tt
+    by : (o : Option ℕ) → position (bytes_eq x) (map (λ r. r.0) helper_rows) ≡ o → BuiltinBelow (at_place (option_map (λ p. length start_rows + p) o))
+    by None e = tt
+    by (Some i) e =
+        let p : i < length (map (λ r. r.0) helper_rows) = (position-Some (bytes_eq x) (map (λ r. r.0) helper_rows) i [] e).0 in
+        omega (arith, p, length-map helper_rows (λ r. r.0))
 
-builtin-within : (h : List Object) (v : Value) → length start_rows ≤ length h → BuiltinBelow (is v) → IsWithin h v
+builtin-below : (x : Name) → BuiltinBelow (builtin x)
+builtin-below x =
+    by (is_among builtin_names x) (bytes_eq x (codes "NotImplemented")) (bytes_eq x (codes "Ellipsis")) (is_among unbuilt_names x) (is_among written_names x)
+    (bytes_eq x (codes "__name__"))
+  where
+    listed : (c d e : Bool) → BuiltinBelow (if c then is value.Ellipsis else if d then unavailable else if e then written_function x else start_object x)
+    listed true d e = tt
+    listed false true e = tt
+    listed false false true = hidden-below (x ++ codes "_of")
+    listed false false false = place-below x
+
+    by : (a b c d e f : Bool)
+        → BuiltinBelow
+        (if a then (if b then is value.NotImplemented else if c then is value.Ellipsis else if d then unavailable else if e then written_function x else start_object x)
+        else if f then start_object (codes "__main__") else no_builtin)
+    by true true c d e f = tt
+    by true false c d e f = listed c d e
+    by false b c d e true = place-below (codes "__main__")
+    by false b c d e false = tt
+
+meaning-below : (hidden : Bool) (x : Name) → BuiltinBelow (meaning hidden x)
+meaning-below false x = builtin-below x
+meaning-below true x = by (hidden_place x) (hidden-below x)
+  where
+    by : (o : Option ℕ) → BuiltinBelow (at_place o) → BuiltinBelow (hidden_builtin o x)
+    by None w = builtin-below x
+    by (Some p) w = w
+
+builtin-within : (h : List Object) (v : Value) → first_count ≤ length h → BuiltinBelow (is v) → IsWithin h v
 builtin-within h value.None l b = tt
 builtin-within h (value.Bool x) l b = tt
 builtin-within h (value.Int z) l b = tt
@@ -117,12 +146,17 @@ module _ (n : ℕ) (st : Stores) (s : IsSoundFrom n st) where
   bound-within T.global x = named-within heap x st.world.globals s.globals
   bound-within T.of_class x = named-within heap x st.names.values s.names
 
-  readable-within : (c : Scope) (x : Name) → IsWithinIf heap (readable_value c x st)
-  readable-within T.local x = bound-within T.local x
-  readable-within T.cell x = bound-within T.cell x
-  readable-within T.free x = bound-within T.free x
-  readable-within T.global x = bound-within T.global x
-  readable-within T.of_class x = or-within heap (variable_value T.of_class x st) (variable_value T.global x st) (bound-within T.of_class x) (bound-within T.global x)
+  global-within : (hidden : Bool) (x : Name) → IsWithinIf heap (global_value hidden x st)
+  global-within true x = tt
+  global-within false x = bound-within T.global x
+
+  readable-within : (hidden : Bool) (c : Scope) (x : Name) → IsWithinIf heap (readable_value hidden c x st)
+  readable-within hidden T.local x = bound-within T.local x
+  readable-within hidden T.cell x = bound-within T.cell x
+  readable-within hidden T.free x = bound-within T.free x
+  readable-within hidden T.global x = global-within hidden x
+  readable-within hidden T.of_class x =
+      or-within heap (variable_value T.of_class x st) (global_value hidden x st) (bound-within T.of_class x) (global-within hidden x)
 
   cell-put : (o : Option ℕ) (v : Option Value) → IsWithinIf heap v → IsSoundFrom n (with_cell o v st)
   cell-put None v w = s
@@ -166,15 +200,15 @@ module _ (n : ℕ) (st : Stores) (s : IsSoundFrom n st) where
     pub delete-sound : (x : Variable) → KeepsSound Anything n (delete x r st)
     delete-sound x = delete-by-sound (variable_value x.scope x.name st) x.scope x.name
 
-    module _ (enough : length start_rows ≤ length heap) where
+    module _ (enough : first_count ≤ length heap) where
       builtin-sound : (b : Builtin) (c : Scope) (x : Name) → BuiltinBelow b → KeepsSound IsWithin n (by_builtin b c x r st)
       builtin-sound (is v) c x l = (s, builtin-within heap v enough l)
       builtin-sound unavailable c x l = tt
       builtin-sound no_builtin c x l = unbound-sound IsWithin c x
 
       unless-sound : (c : Scope) (x : Name) → KeepsSound IsWithin n (unless_bound c x r st)
-      unless-sound T.global x = builtin-sound (builtin x) T.global x (builtin-below x)
-      unless-sound T.of_class x = builtin-sound (builtin x) T.of_class x (builtin-below x)
+      unless-sound T.global x = builtin-sound (meaning r.block.hidden x) T.global x (meaning-below r.block.hidden x)
+      unless-sound T.of_class x = builtin-sound (meaning r.block.hidden x) T.of_class x (meaning-below r.block.hidden x)
       unless-sound T.local x = unbound-sound IsWithin T.local x
       unless-sound T.cell x = unbound-sound IsWithin T.cell x
       unless-sound T.free x = unbound-sound IsWithin T.free x
@@ -184,4 +218,4 @@ module _ (n : ℕ) (st : Stores) (s : IsSoundFrom n st) where
       load-by-sound None c x w = unless-sound c x
 
       pub load-sound : (x : Variable) → KeepsSound IsWithin n (load x r st)
-      load-sound x = load-by-sound (readable_value x.scope x.name st) x.scope x.name (readable-within x.scope x.name)
+      load-sound x = load-by-sound (readable_value r.block.hidden x.scope x.name st) x.scope x.name (readable-within r.block.hidden x.scope x.name)

@@ -10,6 +10,7 @@ use Rattle.sem_control.specs.control.Turn.{Ask, Seek, Deed, Operation, Row}
 use Rattle.pt_heap.specs.declared.value.Value.{Value}
 use Rattle.pt_heap.specs.declared.value.Value.TheVariants as value
 use Rattle.pt_builtin_objects.specs.Start.{start_rows}
+use Rattle.pt_helper_objects.specs.Objects.{helper_rows}
 use Rattle.pt_content.specs.declared.op.Op.{Op}
 use Rattle.pt_content.specs.declared.op.Op.TheVariants as op
 use Rattle.sem_run.specs.run.Host.{Here, Finding, Item, answer, leave}
@@ -87,7 +88,7 @@ by_operation None vs h st = leave Feature
 module _ (program : Program) where
   -- the object of a constant's text
   abbrev pub text_object : Option ℕ → Value
-  text_object (Some i) = value.Obj (record { 0 = length start_rows + i })
+  text_object (Some i) = value.Obj (record { 0 = length start_rows + length helper_rows + i })
   text_object None = value.None
 
   abbrev pub constant_value : Constant → Value

@@ -1,10 +1,11 @@
 -- How functions are made and called (Language Reference 6.3.4, 6.14, 8.7).
 use Rattle.std.specs.Prelude.{ℕ, ◌+◌, pos, Bool, true, false, not, ◌&&◌, ◌||◌, List, [], ◌∷◌, ◌++◌, map, drop}
-use Rattle.std.specs.Prelude.{length, codes, Option, Some, None, option_map, Result, Ok, Err, slice_get}
+use Rattle.std.specs.Prelude.{nat_eq, length, codes, Option, Some, None, option_map, Result, Ok, Err, slice_get}
 use Rattle.std.specs.Prelude.{if◌then◌else◌}
 use Rattle.std.specs.Str.{bytes_eq}
 use Rattle.pt_base.specs.declared.numbers.ObjId.{ObjId}
 use Rattle.pt_base.specs.declared.what.What.TheVariants.{Feature}
+use Rattle.pt_base.specs.declared.what.What.TheVariants as what
 use Rattle.pt_tree.specs.Syntax.{Name}
 use Rattle.sem_control.specs.control.Turn as T
 use Rattle.sem_control.specs.control.Turn.{Role, End, gave, left_by}
@@ -29,6 +30,10 @@ use Rattle.pt_content.specs.declared.function.Function.{Function as Builtin}
 use Rattle.pt_content.specs.declared.function.Function.TheVariants as builtin
 use Rattle.pt_content.specs.declared.method_name.MethodName.{MethodName}
 use Rattle.pt_content.specs.declared.method_name.MethodName.TheVariants as method
+use Rattle.pt_content.specs.declared.answer.Helper.{Helper as Asked}
+use Rattle.pt_content.specs.declared.answer.Helper.TheVariants as asked
+use Rattle.pt_content.specs.declared.answer.PrimAns.{PrimAns}
+use Rattle.pt_content.specs.declared.answer.PrimAns.TheVariants as prim
 use Rattle.pt_content.specs.declared.op.Op.{Op}
 use Rattle.pt_content.specs.declared.op.Op.TheVariants as op
 use Rattle.pt_content.specs.declared.operand.Operand.{Operand}
@@ -42,9 +47,14 @@ use Rattle.pt_host.specs.Trees.{Tree, answer_with}
 use Rattle.pt_host.specs.Texts.{binding_text, not_callable_text}
 use Rattle.pt_host.specs.Errors.{error, raise_saying}
 use Rattle.pt_prims.specs.Classes.{derives}
+use Rattle.pt_prims.specs.Operations.{prim_answer, prim_heap}
+use Rattle.pt_helper_objects.specs.Objects.{helper_place}
+use Rattle.pt_helper_objects.specs.pt_prelude.declared.kinds.Helper.{Helper}
+use Rattle.pt_helper_objects.specs.pt_prelude.declared.kinds.Helper.TheVariants as helper
+use Rattle.pt_helper_objects.specs.pt_prelude.Asked.{function_of}
 pub use Rattle.pt_host.specs.Arguments.{are_arguments, arguments}
 pub use Rattle.pt_host.specs.Starred.{Values, values_given}
-pub use Rattle.pt_host.specs.Primitives.{by_prim, arguments_of}
+pub use Rattle.pt_host.specs.Primitives.{by_prim, of_prim, one_value, arguments_of}
 
 -- a function of a block, with the values of defaults and then the numbers of cells
 abbrev pub defaults_of : List Name → List Value → List Binding
@@ -137,10 +147,14 @@ run_given facts f (made vs h) st =
     run_block facts f (parameters_given facts.locals vs) (with_objects h st)
 run_given facts f (beyond what) st = leave what
 
+-- arguments that a builtin doesn't take leave the profile, also of one that is written in Python
+abbrev pub misfit : CodeFacts → Function → BindErr → Here Value → Stores → Tree Value
+misfit facts f e h st = if f.hidden then leave Feature else raise_saying TYPE_ERROR (binding_text facts.name e) h st
+
 abbrev pub call_bound : CodeFacts → Function → Result Locals BindErr → Here Value → Stores →
     Tree Value
 call_bound facts f (Ok ls) h st = run_given facts f (values_given facts.params ls st.world.heap) st
-call_bound facts f (Err e) h st = raise_saying TYPE_ERROR (binding_text facts.name e) h st
+call_bound facts f (Err e) h st = misfit facts f e h st
 
 -- generators aren't there yet
 abbrev pub call_block : CodeFacts → Function → Result Locals BindErr → Here Value → Stores →
@@ -201,6 +215,55 @@ abbrev pub method_operands : MethodName → Args → Option (List Value)
 method_operands method.Sort args = sort_operands args.named args.plain
 method_operands m args = unnamed_operands args.named args.plain
 
+-- the arguments of a function that is written in Python, by the operands of the operation that asks it
+abbrev pub named_argument : List ℕ → Value → Binding
+named_argument x v = record { name = x; value = v }
+
+abbrev pub helper_arguments : Asked → List Value → Args
+helper_arguments asked.SortOf (l ∷ key ∷ turned ∷ []) =
+    record { plain = l ∷ []; named = named_argument (codes "key") key ∷ named_argument (codes "reverse") turned ∷ [] }
+helper_arguments (asked.TakeOf n) vs = record { plain = vs ++ value.Int (pos n) ∷ []; named = [] }
+helper_arguments a vs = record { plain = vs; named = [] }
+
+-- the functions that calls of builtin classes ask, by the places of these
+abbrev pub class_helpers : List (ℕ × Helper)
+class_helpers = (5, helper.ListOf) ∷ (6, helper.TupleOf) ∷ (7, helper.SetOf) ∷ (8, helper.DictOf) ∷ []
+
+abbrev pub value_at : List (ℕ × Helper) → (place : ℕ) → Option Helper
+value_at [] place = None
+value_at ((p, f) ∷ rows) place = if nat_eq place p then Some f else value_at rows place
+
+abbrev pub helper_of_class : Value → Option Helper
+helper_of_class (value.Obj id) = value_at class_helpers id.0
+helper_of_class v = None
+
+module _ (program : Program) where
+  -- such a function is called, if a run has it
+  abbrev pub call_hidden : Option Object → Args → Here Value → Stores → Tree Value
+  call_hidden (Some (object.Function f)) args h st = call_function (program.facts (block_of f)) f args h st
+  call_hidden o args h st = leave what.Helper
+
+  abbrev pub call_at : Option ℕ → Args → Here Value → Stores → Tree Value
+  call_at (Some place) args h st = call_hidden (slice_get st.world.heap place) args h st
+  call_at None args h st = leave what.Helper
+
+  abbrev pub ask : Helper → Args → Here Value → Stores → Tree Value
+  ask f args h st = call_at (helper_place f) args h st
+
+  -- an operation on values, or the function that it asks in its place
+  abbrev pub asked_in_place : PrimAns → Here Value → Stores → Tree Value
+  asked_in_place (prim.Help a vs false) h st = ask (function_of a) (helper_arguments a vs) h st
+  asked_in_place p h st = of_prim one_value p h st
+
+  unfoldable pub by_prim_or_helper : Op → List Value → Here Value → Stores → Tree Value
+  by_prim_or_helper op vs h st =
+      asked_in_place (prim_answer op vs st.world.heap) h
+      (with_objects (prim_heap op vs st.world.heap) st)
+
+  abbrev pub operate_or_ask : Op → Option (List Value) → Here Value → Stores → Tree Value
+  operate_or_ask o (Some vs) h st = by_prim_or_helper o vs h st
+  operate_or_ask o None h st = leave Feature
+
 -- an operation on operands, if there are any
 abbrev pub operate_on : Op → Option (List Value) → Here Value → Stores → Tree Value
 operate_on o (Some vs) h st = by_prim o vs h st
@@ -212,14 +275,14 @@ call_builtin (Some f) args h st = operate_on (op.Call f) (operands_of f args) h 
 call_builtin None args h st = leave Feature
 
 -- a method of a builtin value, of its object
-abbrev pub call_method : Option MethodName → (receiver : Value) → Args → Here Value → Stores → Tree Value
-call_method (Some m) r args h st =
-    operate_on (op.CallMethod m) (option_map (λ vs. r ∷ vs) (method_operands m args)) h st
-call_method None r args h st = leave Feature
+abbrev pub call_method : Program → Option MethodName → (receiver : Value) → Args → Here Value → Stores → Tree Value
+call_method p (Some m) r args h st =
+    operate_or_ask p (op.CallMethod m) (option_map (λ vs. r ∷ vs) (method_operands m args)) h st
+call_method p None r args h st = leave Feature
 
-abbrev pub call_builtin_object : BuiltinObject → (receiver : Option Value) → Args → Here Value → Stores → Tree Value
-call_builtin_object b None args h st = call_builtin (of_function b.number) args h st
-call_builtin_object b (Some r) args h st = call_method (of_method_number b.number) r args h st
+abbrev pub call_builtin_object : Program → BuiltinObject → (receiver : Option Value) → Args → Here Value → Stores → Tree Value
+call_builtin_object p b None args h st = call_builtin (of_function b.number) args h st
+call_builtin_object p b (Some r) args h st = call_method p (of_method_number b.number) r args h st
 
 -- the builtin class that a value is
 abbrev pub class_function : Value → Option Builtin
@@ -238,12 +301,17 @@ make_exception (Some id) (Some vs) st =
     answer_with (allot (error id vs None None) st.world.heap) st
 make_exception o vs st = leave Feature
 
--- calls of lists, tuples, sets and dictionaries, and of classes of a script, aren't there yet
-abbrev pub call_class : Option Builtin → ClassObject → (class : Value) → Args → Here Value →
-    Stores → Tree Value
-call_class (Some f) c v args h st = operate_on (op.Call f) (operands_of f args) h st
-call_class None c v args h st =
+-- a list, a tuple, a set and a dictionary are made by functions that are written in Python; calls of classes of a script aren't there yet
+abbrev pub call_other_class : Program → Option Helper → ClassObject → (class : Value) → Args →
+    Here Value → Stores → Tree Value
+call_other_class p (Some f) c v args h st = ask p f args h st
+call_other_class p None c v args h st =
     make_exception (exception_class st.world.heap v c) (unnamed_operands args.named args.plain) st
+
+abbrev pub call_class : Program → Option Builtin → ClassObject → (class : Value) → Args →
+    Here Value → Stores → Tree Value
+call_class p (Some f) c v args h st = operate_on (op.Call f) (operands_of f args) h st
+call_class p None c v args h st = call_other_class p (helper_of_class v) c v args h st
 
 abbrev pub not_callable : Value → Here Value → Stores → Tree Value
 not_callable v h st = raise_saying TYPE_ERROR (not_callable_text (class_name st.world.heap v)) h st
@@ -257,8 +325,8 @@ module _ (program : Program) where
   abbrev pub call_object : Option Object → Value → Args → Here Value → Stores → Tree Value
   call_object (Some (object.Function f)) v args h st =
       call_function (program.facts (block_of f)) f args h st
-  call_object (Some (object.Builtin b)) v args h st = call_builtin_object b b.receiver args h st
-  call_object (Some (object.Class c)) v args h st = call_class (class_function v) c v args h st
+  call_object (Some (object.Builtin b)) v args h st = call_builtin_object program b b.receiver args h st
+  call_object (Some (object.Class c)) v args h st = call_class program (class_function v) c v args h st
   call_object (Some (object.Method m)) v args h st = leave Feature
   call_object o v args h st = call_other (operand_of st.world.heap v) v h st
 

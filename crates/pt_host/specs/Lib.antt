@@ -19,3 +19,4 @@ pub mod HeapHost
 pub mod Sound
 pub mod Laws
 pub use Rattle.pt_prims.specs.pt_methods as pt_methods
+pub use Rattle.pt_helper_objects.specs as pt_helper_objects

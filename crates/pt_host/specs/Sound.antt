@@ -6,7 +6,8 @@ use Rattle.sem_control.specs.control.Turn.{Ask, Seek, Deed, Throw, Row, End, gav
 use Rattle.pt_heap.specs.declared.value.Value.{Value}
 use Rattle.pt_heap.specs.declared.object.Object.{Object}
 use Rattle.pt_heap.specs.Sound.{IsSound, IsWithin}
-use Rattle.pt_builtin_objects.specs.Start.{start_objects}
+use Rattle.pt_builtin_objects.specs.Start.{start_rows, start_objects}
+use Rattle.pt_helper_objects.specs.Objects.{helper_rows}
 use Rattle.pt_content.specs.declared.op.Op.{Op}
 pub use Rattle.pt_prims.specs.Laws.{AllWithin, IsWithinIf}
 use Rattle.pt_names.specs.Names.{Named}
@@ -109,7 +110,7 @@ FindingWithin a h x = Unit {0}
 
 -- the objects as a run begins
 abbrev pub start_count : Program → ℕ
-start_count program = length start_objects + length program.texts
+start_count program = length start_rows + length helper_rows + length program.texts
 
 abbrev pub FailureWithin : List Object → Failure Value → Type 0
 FailureWithin h (stop_iteration v) = IsWithin h v

@@ -1,6 +1,6 @@
 -- How a variable is read, bound and unbound (Language Reference 4.2.2, 7.2, 7.5).
 use Rattle.std.specs.Prelude.{ℕ, pos, [], ◌∷◌, ◌++◌, Option, Some, None, length, slice_get}
-use Rattle.std.specs.Prelude.{slice_set}
+use Rattle.std.specs.Prelude.{slice_set, Bool, if◌then◌else◌}
 use Rattle.std.specs.Map.{lookup}
 use Rattle.std.specs.Option.{option_flatten, option_or}
 use Rattle.std.specs.Str.{bytes_eq}
@@ -17,7 +17,7 @@ use Rattle.pt_host.specs.World.{Names, World, Stores, in_world}
 use Rattle.pt_host.specs.Trees.{Tree}
 use Rattle.pt_host.specs.Texts.{unbound_text, unbound_class}
 use Rattle.pt_host.specs.Errors.{raise_saying}
-use Rattle.pt_host.specs.Builtins.{Builtin, is, unavailable, no_builtin, builtin}
+use Rattle.pt_host.specs.Builtins.{Builtin, is, unavailable, no_builtin, meaning}
 
 abbrev pub cell_number : Name → Names → Option ℕ
 cell_number x ns = lookup (bytes_eq x) ns.cells
@@ -34,11 +34,16 @@ variable_value T.free x st = cell_value (cell_number x st.names) st.world
 variable_value T.global x st = name_value x st.world.globals
 variable_value T.of_class x st = name_value x st.names.values
 
+-- a hidden block sees no name of the module that runs, whatever that binds
+abbrev pub global_value : (hidden : Bool) → Name → Stores → Option Value
+global_value hidden x st = if hidden then None else variable_value T.global x st
+
 -- the body of a class reads a name of the module that it doesn't bind
-abbrev pub readable_value : Scope → Name → Stores → Option Value
-readable_value T.of_class x st =
-    option_or (variable_value T.of_class x st) (variable_value T.global x st)
-readable_value s x st = variable_value s x st
+abbrev pub readable_value : (hidden : Bool) → Scope → Name → Stores → Option Value
+readable_value hidden T.of_class x st =
+    option_or (variable_value T.of_class x st) (global_value hidden x st)
+readable_value hidden T.global x st = global_value hidden x st
+readable_value hidden s x st = variable_value s x st
 
 abbrev pub raise_unbound : {A : Type 0} → Scope → Name → Here Value → Stores → Tree A
 raise_unbound s x h st = raise_saying (unbound_class s) (unbound_text s x) h st
@@ -48,10 +53,10 @@ by_builtin (is v) s x h st = answer v st
 by_builtin unavailable s x h st = leave Feature
 by_builtin no_builtin s x h st = raise_unbound s x h st
 
--- a name that the module doesn't bind may be a builtin's
+-- a name that the module doesn't bind may be a builtin's, and in a hidden block a function's that is written in Python
 abbrev pub unless_bound : Scope → Name → Here Value → Stores → Tree Value
-unless_bound T.global x h st = by_builtin (builtin x) T.global x h st
-unless_bound T.of_class x h st = by_builtin (builtin x) T.of_class x h st
+unless_bound T.global x h st = by_builtin (meaning h.block.hidden x) T.global x h st
+unless_bound T.of_class x h st = by_builtin (meaning h.block.hidden x) T.of_class x h st
 unless_bound s x h st = raise_unbound s x h st
 
 abbrev pub load_by : Option Value → Scope → Name → Here Value → Stores → Tree Value
@@ -59,7 +64,7 @@ load_by (Some v) s x h st = answer v st
 load_by None s x h st = unless_bound s x h st
 
 abbrev pub load : Variable → Here Value → Stores → Tree Value
-load x h st = load_by (readable_value x.scope x.name st) x.scope x.name h st
+load x h st = load_by (readable_value h.block.hidden x.scope x.name st) x.scope x.name h st
 
 -- the names with a value for one of them, or none
 abbrev pub with_own : Name → Option Value → Stores → Stores

@@ -1,6 +1,6 @@
 -- What the asks of a run read and change: the names of an activation, and the objects, cells and
 -- global names of the run (Language Reference 3.1, 4.2).
-use Rattle.std.specs.Prelude.{◌≡◌, ℕ, List, [], ◌∷◌, ◌++◌, Bool, Option, Some, None, length, map}
+use Rattle.std.specs.Prelude.{◌≡◌, ℕ, List, [], ◌∷◌, ◌++◌, Bool, true, false, Option, Some, None, length, map}
 use Rattle.std.specs.Prelude.{nat_eq, slice_get, if◌then◌else◌}
 use Rattle.std.specs.Option.{option_flatten}
 use Rattle.std.specs.Str.{bytes_eq}
@@ -10,7 +10,11 @@ use Rattle.pt_tree.specs.Syntax.{Name}
 use Rattle.pt_heap.specs.declared.value.Value.{Value}
 use Rattle.pt_heap.specs.declared.object.Object.{Object}
 use Rattle.pt_heap.specs.declared.object.Object.TheVariants.{Str}
+use Rattle.pt_base.specs.declared.numbers.BlockId.{BlockId as BlockNumber}
 use Rattle.pt_builtin_objects.specs.Start.{start_objects}
+use Rattle.pt_helper_objects.specs.Objects.{helper_objects}
+use Rattle.pt_helper_objects.specs.pt_prelude.declared.kinds.Helper.{Helper}
+use Rattle.pt_helper_objects.specs.pt_prelude.Helpers.{block_of}
 use Rattle.pt_names.specs.Names.{Named}
 use Rattle.pt_bind.specs.declared.arguments.Params.{Params}
 use Rattle.pt_heap.specs.Limits.{object_limit}
@@ -82,9 +86,20 @@ abbrev pub IsAllotted : Allotted → Option Value → (heap : List Object) → T
 IsAllotted (made v h) o heap = (o ≡ Some v) × (heap ≡ h)
 IsAllotted (beyond what) o heap = o ≡ None
 
--- before a run begins: the builtin objects, an object for each text of a constant, and no names
+-- the block of a function that is written in Python is one of the program that takes no cells along
+abbrev pub stands_at : Program → Option BlockNumber → Bool
+stands_at p (Some b) = nat_eq (length (p.facts (record { hidden = true; number = b.0 })).frees) 0
+stands_at p None = false
+
+abbrev pub stands : Program → Helper → Bool
+stands p f = stands_at p (block_of f)
+
+-- before a run begins: the builtin objects, those of functions that are written in Python, an object for each text of a constant, and no names
+abbrev pub first_objects : Program → List Object
+first_objects p = start_objects ++ helper_objects (stands p)
+
 abbrev pub start_world : Program → World
-start_world p = record { heap = start_objects ++ map Str p.texts; globals = []; cells = [] }
+start_world p = record { heap = first_objects p ++ map Str p.texts; globals = []; cells = [] }
 
 -- as an activation is left its names keep what stands in their cells then
 abbrev pub with_cell_values : List (Name × ℕ) → World → Named → Named

@@ -1,7 +1,9 @@
 //! Laws of the host, each the contract of a function that does nothing.
 
 ghost use Rattle.std.specs.Prelude.{◌≡◌, Some, codes};
-ghost use Rattle.pt_content.specs.declared.function.Function.TheVariants.{Exit};
+ghost use Rattle.pt_content.specs.declared.function.Function.TheVariants.{Exit, IsOf, JoinItems};
+ghost use Rattle.pt_content.specs.declared.function.Function.TheVariants.{MakeSet, MakeTuple};
+ghost use Rattle.pt_content.specs.declared.function.Function.TheVariants.{Refill, SortItems};
 ghost use Rattle.pt_host.specs.Sound.{ArisesSoundly, KeepsTheHeapSound, MakesSoundFailures};
 ghost use Rattle.pt_host.specs.Sound.{TakesEntries};
 ghost use Rattle.pt_host.specs.World.{Program};
@@ -10,7 +12,9 @@ ghost use Rattle.pt_host.specs.declared.places.TheConstants.{NAME_ERROR, RECURSI
 ghost use Rattle.pt_host.specs.declared.places.TheConstants.{RUNTIME_ERROR, STOP_ITERATION};
 ghost use Rattle.pt_host.specs.declared.places.TheConstants.{SYSTEM_EXIT, TYPE_ERROR};
 ghost use Rattle.pt_host.specs.declared.places.TheConstants.{UNBOUND_LOCAL_ERROR, VALUE_ERROR};
-ghost use Rattle.pt_host.specs.Laws.{start_function, start_name};
+ghost use Rattle.pt_host.specs.Laws.{functions_asked, functions_by_name, hidden_function};
+ghost use Rattle.pt_host.specs.Laws.{names_in_prelude, names_with_suffix, start_function};
+ghost use Rattle.pt_host.specs.Laws.{start_name};
 ghost use Rattle.pt_host.specs.declared.places.TheConstants.{IMPORT_ERROR};
 ghost use Rattle.pt_host.specs.declared.places.TheConstants.{MODULE_NOT_FOUND_ERROR, SYS};
 ghost use Rattle.pt_host.specs.pt_methods.declared.attribute.TheConstants.{EXIT};
@@ -36,6 +40,19 @@ pub fn objects_stand_at_their_places()
     ensures sys { start_name SYS ≡ codes "sys" }
     ensures exits { start_name EXIT ≡ codes "exit" }
     ensures exit_function { start_function EXIT ≡ Some Exit }
+{}
+
+/// The builtins that are functions written in Python are those of the prelude by their names; and
+/// what only these ask are the operations on values of these names.
+pub fn written_builtins_are_of_the_prelude()
+    ensures classes { functions_by_name ≡ functions_asked }
+    ensures functions { names_in_prelude ≡ names_with_suffix }
+    ensures tuples { hidden_function (codes "_tuple") ≡ Some MakeTuple }
+    ensures sets { hidden_function (codes "_set") ≡ Some MakeSet }
+    ensures kinds { hidden_function (codes "_is") ≡ Some IsOf }
+    ensures joins { hidden_function (codes "_join") ≡ Some JoinItems }
+    ensures sorts { hidden_function (codes "_sort") ≡ Some SortItems }
+    ensures refills { hidden_function (codes "_refill") ≡ Some Refill }
 {}
 
 /// Where the heap is sound and all that is held and asked names objects of it, each answer leaves

@@ -12,7 +12,10 @@ mod texts;
 
 pub use contexts::arise_while;
 pub use errors::{allot, error, error_saying};
-pub use laws::{objects_stand_at_their_places, the_host_keeps_the_heap_sound};
+pub use laws::{
+    objects_stand_at_their_places, the_host_keeps_the_heap_sound,
+    written_builtins_are_of_the_prelude,
+};
 pub use places::{
     ASSERTION_ERROR, ATTRIBUTE_ERROR, BASE_EXCEPTION, DISABLE, GENERATOR_EXIT, IMPORT_ERROR,
     MISSING, MODULE_NOT_FOUND_ERROR, NAME_ERROR, RECURSION_ERROR, RUNTIME_ERROR, STOP_ITERATION,

@@ -24,7 +24,7 @@ use Rattle.pt_call_rows.specs.pt_function_rows.FunctionRows.{RowsFunction}
 use Rattle.pt_code_tables.specs.pt_machine_state.declared.machine.Machine.{Machine}
 use Rattle.pt_code_tables.specs.pt_machine_state.Views.{block_of, stores_of}
 use Rattle.pt_code_tables.specs.declared.tables.CodeTables.{CodeTables}
-use Rattle.pt_code_tables.specs.Tables.{AreTablesOf, list_in, capture_in}
+use Rattle.pt_code_tables.specs.Tables.{AreTablesOf, list_in, capture_in, pool_in}
 use Rattle.pt_machine.specs.Performing.{Performs}
 use Rattle.pt_machine.proofs.RowLemmas.{IsTold, keeps, told_row}
 use Rattle.pt_machine.proofs.NameRows.{stands}
@@ -41,12 +41,12 @@ module _ (tables : CodeTables) (j : Instr) (p : Progress) (m : Machine) where
     pub called : RowsCall tables.facts j m.here.slots m.frames.cells m.heap p slots cells heap → active_in slots ≡ active_in m.here.slots → Performs tables j p m (with_cells slots cells heap)
     called row same = record { rest = refl; active = keeps p same; row = told_row tables j p m (with_cells slots cells heap) (call-told row); names = λ no. refl }
 
-    named-told : (l : ℕ) → RowsNamedCall (list_in tables l) l tables.facts j m.here.slots m.frames.cells m.heap p slots cells heap → IsTold tables j p m (with_cells slots cells heap)
+    named-told : (l : ℕ) → RowsNamedCall (list_in (pool_in tables m.here.hidden) l) l tables.facts j m.here.slots m.frames.cells m.heap p slots cells heap → IsTold tables j p m (with_cells slots cells heap)
     unfolding RowsNamedCall RowsIn
     named-told l row program code known can i h is =
         row (stores_of program m) (stands tables j p m program code h) m.here.pc.0 i (known.blocks (block_of m.here)).truths (known.facts, (known.pools (block_of m.here)).lists l)
 
-    pub called_with_names : (l : ℕ) → RowsNamedCall (list_in tables l) l tables.facts j m.here.slots m.frames.cells m.heap p slots cells heap
+    pub called_with_names : (l : ℕ) → RowsNamedCall (list_in (pool_in tables m.here.hidden) l) l tables.facts j m.here.slots m.frames.cells m.heap p slots cells heap
         → active_in slots ≡ active_in m.here.slots → Performs tables j p m (with_cells slots cells heap)
     called_with_names l row same = record { rest = refl; active = keeps p same; row = told_row tables j p m (with_cells slots cells heap) (named-told l row); names = λ no. refl }
 
@@ -56,7 +56,7 @@ module _ (tables : CodeTables) (p : Progress) (m : Machine) (b : BlockId) (l : L
   with_heap = record m { here = record m.here { slots = slots }; heap = heap }
 
   abbrev Made : ℕ → Type 0
-  Made n = RowsFunction (list_in tables l.0) l.0 (capture_in tables b.0) m.here.hidden b.0 (instr.MakeFunction b n l) m.here.slots m.heap p slots heap
+  Made n = RowsFunction (list_in (pool_in tables m.here.hidden) l.0) l.0 (capture_in (pool_in tables m.here.hidden) b.0) m.here.hidden b.0 (instr.MakeFunction b n l) m.here.slots m.heap p slots heap
 
   told-by : (n : ℕ) → Made n → (program : Program) (code : CodeBlocks Value) → AreTablesOf program code tables → (i : Ins) (h : Here Value) → h.block ≡ block_of m.here
       → told program (code.object (block_of m.here)) i h p (slots_view slots) (stores_of program with_heap)
@@ -66,16 +66,16 @@ module _ (tables : CodeTables) (p : Progress) (m : Machine) (b : BlockId) (l : L
       row (stores_of program m) (stands tables (instr.MakeFunction b n l) p m program code h) m.here.pc.0 i (known.blocks (block_of m.here)).truths
       (record { names = (known.pools (block_of m.here)).lists l.0; captured = (known.pools (block_of m.here)).captures b.0; is_hidden = ap (λ k. k.hidden) is })
 
-  function-told : (n : ℕ) → Made (length (list_in tables l.0)) → IsTold tables (instr.MakeFunction b n l) p m with_heap
+  function-told : (n : ℕ) → Made (length (list_in (pool_in tables m.here.hidden) l.0)) → IsTold tables (instr.MakeFunction b n l) p m with_heap
   function-told n row program code known can i h is =
-      let count : n ≡ length (list_in tables l.0) = can.operands ∙ ap (λ xs. length xs) ((known.pools (block_of m.here)).lists l.0) in
+      let count : n ≡ length (list_in (pool_in tables m.here.hidden) l.0) = can.operands ∙ ap (λ xs. length xs) ((known.pools (block_of m.here)).lists l.0) in
       told-by n (subst (λ k. Made k) (sym count) row) program code known i h is
 
-  pub made_by : (n : ℕ) (xs : List Name) (k : ℕ) → xs ≡ list_in tables l.0 → k ≡ capture_in tables b.0
+  pub made_by : (n : ℕ) (xs : List Name) (k : ℕ) → xs ≡ list_in (pool_in tables m.here.hidden) l.0 → k ≡ capture_in (pool_in tables m.here.hidden) b.0
       → RowsFunction xs l.0 k m.here.hidden b.0 (instr.MakeFunction b (length xs) l) m.here.slots m.heap p slots heap → active_in slots ≡ active_in m.here.slots
       → Performs tables (instr.MakeFunction b n l) p m with_heap
   made_by n xs k names captured row same =
-      let made : Made (length (list_in tables l.0)) =
-      subst (λ ys. RowsFunction ys l.0 (capture_in tables b.0) m.here.hidden b.0 (instr.MakeFunction b (length ys) l) m.here.slots m.heap p slots heap) names
+      let made : Made (length (list_in (pool_in tables m.here.hidden) l.0)) =
+      subst (λ ys. RowsFunction ys l.0 (capture_in (pool_in tables m.here.hidden) b.0) m.here.hidden b.0 (instr.MakeFunction b (length ys) l) m.here.slots m.heap p slots heap) names
       (subst (λ i. RowsFunction xs l.0 i m.here.hidden b.0 (instr.MakeFunction b (length xs) l) m.here.slots m.heap p slots heap) captured row) in
       record { rest = refl; active = keeps p same; row = told_row tables (instr.MakeFunction b n l) p m with_heap (function-told n made); names = λ no. refl }

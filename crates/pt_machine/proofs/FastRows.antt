@@ -1,5 +1,5 @@
 -- What was done by a fast path is what the machine did.
-use Rattle.std.proofs.Common.{◌≡◌, ◌∙◌, ℕ, List, Option, Some, None, false, refl, ap, subst}
+use Rattle.std.proofs.Common.{◌≡◌, ◌∙◌, ℕ, List, Option, Some, None, false, refl, sym, ap, subst}
 use Rattle.pt_base.specs.declared.numbers.Pc.{Pc}
 use Rattle.pt_tree.specs.Syntax.{Name}
 use Rattle.pt_instr.specs.declared.Instr.{Instr}
@@ -19,7 +19,7 @@ use Rattle.pt_body_rows.specs.pt_name_rows.Names.{RowsGlobal, RowsLoadGlobal}
 use Rattle.pt_fast_rows.specs.FastPaths.{FastRow, FastConstant, FastLocal, FastCell, FastLoad, FastGlobal, Leads, Led}
 use Rattle.pt_code_tables.specs.pt_machine_state.declared.machine.Machine.{Machine}
 use Rattle.pt_code_tables.specs.declared.tables.CodeTables.{CodeTables}
-use Rattle.pt_code_tables.specs.Tables.{constant_in, text_in, builtin_in}
+use Rattle.pt_code_tables.specs.Tables.{constant_in, text_in, builtin_in, pool_in}
 use Rattle.pt_machine.specs.Performing.{Performs}
 use Rattle.pt_machine.proofs.RowLemmas.{still_row, heap_row, constant_row, of_instr}
 use Rattle.pt_machine.proofs.NameRows.{NamesLocal, NamesCell, local_row, cell_row, global_row, load_row}
@@ -46,7 +46,7 @@ module _ (tables : CodeTables) (next : Pc) (m : Machine) where
 
   module _ (k : Instr) (number : ConstNo) (is : k ≡ instr.Const number) where
     pub fast_constant : (v : Value) (o : Option Pc) (slots : List Slot) → Leads next o (λ p. FastConstant v p m.here.slots slots) (slots ≡ m.here.slots)
-        → v ≡ constant_in tables number.0 → Fast k o (with_slots slots)
+        → v ≡ constant_in (pool_in tables m.here.hidden) number.0 → Fast k o (with_slots slots)
     fast_constant v (Some pc) slots led same =
         record {
           progress = led.progress;
@@ -65,18 +65,20 @@ module _ (tables : CodeTables) (next : Pc) (m : Machine) where
   }
 
   module _ (k : Instr) (t : TextNo) where
-    pub fast_load : k ≡ instr.Global t → (x : Name) (o : Option Pc) (slots : List Slot)
+    -- of the module, in a block that isn't hidden
+    pub fast_load : m.here.hidden ≡ false → k ≡ instr.Global t → (x : Name) (o : Option Pc) (slots : List Slot)
         → Leads next o (λ p. FastLoad x (instr.Global t) t.0 p m.here.slots m.frames.globals slots) (slots ≡ m.here.slots)
-        → x ≡ text_in tables t.0 → Fast k o (with_slots slots)
-    fast_load is x (Some pc) slots led same =
+        → x ≡ text_in (pool_in tables m.here.hidden) t.0 → Fast k o (with_slots slots)
+    fast_load seen is x (Some pc) slots led same =
         record {
           progress = led.progress;
           to = led.to;
           row = of_instr is (load_row tables (instr.Global t) led.progress m t.0 slots
-              (subst (λ y. RowsLoadGlobal y (builtin_in tables t.0) (instr.Global t) t.0 m.here.slots m.frames.globals led.progress slots) same
-              (led.row.0 (builtin_in tables t.0))) led.row.1);
+              (subst (λ y. RowsLoadGlobal m.here.hidden y (builtin_in (pool_in tables m.here.hidden) t.0) (instr.Global t) t.0 m.here.slots m.frames.globals led.progress slots) same
+              (subst (λ b. RowsLoadGlobal b x (builtin_in (pool_in tables m.here.hidden) t.0) (instr.Global t) t.0 m.here.slots m.frames.globals led.progress slots) (sym seen)
+              (led.row.0 (builtin_in (pool_in tables m.here.hidden) t.0)))) led.row.1);
         }
-    fast_load is x None slots left same = ap with_slots left
+    fast_load seen is x None slots left same = ap with_slots left
 
     abbrev with_globals : List Slot → Named → Machine
     with_globals slots globals = record m { here = record m.here { slots = slots }; frames = record m.frames { globals = globals } }
@@ -84,7 +86,7 @@ module _ (tables : CodeTables) (next : Pc) (m : Machine) where
     pub fast_store : k ≡ instr.SetGlobal t → (x : Name) (o : Option Pc) (slots : List Slot) (globals : Named)
         → Leads next o (λ p. FastGlobal x (instr.SetGlobal t) t.0 p m.here.slots m.frames.globals slots globals)
         ((slots ≡ m.here.slots) × (globals ≡ m.frames.globals))
-        → x ≡ text_in tables t.0 → Fast k o (with_globals slots globals)
+        → x ≡ text_in (pool_in tables m.here.hidden) t.0 → Fast k o (with_globals slots globals)
     fast_store is x (Some pc) slots globals led same =
         record {
           progress = led.progress;
@@ -99,7 +101,7 @@ module _ (tables : CodeTables) (next : Pc) (m : Machine) where
 
   -- whether the block is hidden or not
   abbrev facts_here : BlockFacts
-  facts_here = facts_at tables.facts (block_id m.here.block false)
+  facts_here = facts_at tables.facts (block_id m.here.block m.here.hidden)
 
   module _ (k j : Instr) (is : k ≡ j) (n : ℕ) (named : NamesLocal j n) where
     pub fast_local : (o : Option Pc) (slots : List Slot)
@@ -110,7 +112,7 @@ module _ (tables : CodeTables) (next : Pc) (m : Machine) where
           progress = led.progress;
           to = led.to;
           row =
-              of_instr is (local_row tables j led.progress m facts_here (λ hidden. refl) n slots m.here.locals named (led.row.0 facts_here) led.row.1);
+              of_instr is (local_row tables j led.progress m facts_here refl n slots m.here.locals named (led.row.0 facts_here) led.row.1);
         }
     fast_local None slots left = ap with_slots left
 
@@ -122,7 +124,7 @@ module _ (tables : CodeTables) (next : Pc) (m : Machine) where
           progress = led.progress;
           to = led.to;
           row =
-              of_instr is (local_row tables j led.progress m facts_here (λ hidden. refl) n slots locals named (led.row.0 facts_here) led.row.1);
+              of_instr is (local_row tables j led.progress m facts_here refl n slots locals named (led.row.0 facts_here) led.row.1);
         }
     fast_set_local None slots locals left = ap (λ s. with_locals s locals) left.0 ∙ ap (λ ls. with_locals m.here.slots ls) left.1
 
@@ -138,7 +140,7 @@ module _ (tables : CodeTables) (next : Pc) (m : Machine) where
           progress = led.progress;
           to = led.to;
           row =
-              of_instr is (cell_row tables j led.progress m facts_here (λ hidden. refl) n named slots m.frames.cells (led.row.0 facts_here) led.row.1);
+              of_instr is (cell_row tables j led.progress m facts_here refl n named slots m.frames.cells (led.row.0 facts_here) led.row.1);
         }
     fast_cell None slots left = ap with_slots left
 
@@ -150,6 +152,6 @@ module _ (tables : CodeTables) (next : Pc) (m : Machine) where
           progress = led.progress;
           to = led.to;
           row =
-              of_instr is (cell_row tables j led.progress m facts_here (λ hidden. refl) n named slots cells (led.row.0 facts_here) led.row.1);
+              of_instr is (cell_row tables j led.progress m facts_here refl n named slots cells (led.row.0 facts_here) led.row.1);
         }
     fast_set_cell None slots cells left = ap (λ s. with_cells s cells) left.0 ∙ ap (λ cs. with_cells m.here.slots cs) left.1

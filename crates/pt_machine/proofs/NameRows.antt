@@ -28,7 +28,7 @@ use Rattle.pt_body_rows.specs.pt_name_rows.Names.{RowsLocal, RowsCell, RowsOwnCe
 use Rattle.pt_code_tables.specs.pt_machine_state.declared.machine.Machine.{Machine}
 use Rattle.pt_code_tables.specs.pt_machine_state.Views.{block_of, stores_of}
 use Rattle.pt_code_tables.specs.declared.tables.CodeTables.{CodeTables}
-use Rattle.pt_code_tables.specs.Tables.{AreTablesOf, HasDifferentNames, text_in, builtin_in}
+use Rattle.pt_code_tables.specs.Tables.{AreTablesOf, HasDifferentNames, text_in, builtin_in, pool_in}
 use Rattle.law_frames.specs.Operands.{OperandsNameIn}
 use Rattle.pt_machine.specs.Performing.{Performs}
 use Rattle.pt_machine.proofs.RowLemmas.{IsTold, keeps, told_row}
@@ -40,14 +40,14 @@ NamesLocal j n = (locals cells : ℕ) (defaults : ℕ → ℕ) → OperandsNameI
 abbrev pub NamesCell : Instr → ℕ → Type 0
 NamesCell j n = (locals cells : ℕ) (defaults : ℕ → ℕ) → OperandsNameIn locals cells defaults j → n < cells
 
--- facts of the block, whether it is hidden or not
+-- facts of the block
 abbrev pub AreFacts : CodeTables → Machine → BlockFacts → Type 0
-AreFacts tables m f = (hidden : Bool) → f ≡ facts_at tables.facts (block_id m.here.block hidden)
+AreFacts tables m f = f ≡ facts_at tables.facts (block_id m.here.block m.here.hidden)
 
 module _ (tables : CodeTables) (j : Instr) (p : Progress) (m : Machine) (f : BlockFacts) (are : AreFacts tables m f) where
   module _ (program : Program) (code : CodeBlocks Value) (known : AreTablesOf program code tables) where
     pub facts-are : program.facts (block_of m.here) ≡ facts_view f
-    facts-are = known.facts (block_of m.here) ∙ ap (λ g. facts_view g) (sym (are m.here.hidden))
+    facts-are = known.facts (block_of m.here) ∙ ap (λ g. facts_view g) (sym are)
 
     knows : KnowsNames (code.object (block_of m.here)) (facts_view f)
     knows = subst (λ g. KnowsNames (code.object (block_of m.here)) g) facts-are (known.names (block_of m.here))
@@ -166,29 +166,30 @@ module _ (tables : CodeTables) (j : Instr) (p : Progress) (m : Machine) where
   stands program code h = record { program = program; code = code.object (block_of m.here); here = h }
 
   module _ (t : ℕ) where
-    global-told : (slots : List Slot) (globals : Named) → RowsGlobal (text_in tables t) j t m.here.slots m.frames.globals p slots globals → IsTold tables j p m (with_globals slots globals)
+    global-told : (slots : List Slot) (globals : Named) → RowsGlobal (text_in (pool_in tables m.here.hidden) t) j t m.here.slots m.frames.globals p slots globals → IsTold tables j p m (with_globals slots globals)
     unfolding RowsGlobal RowsIn
     global-told slots globals row program code known can i h is =
         row (stores_of program m) (stands program code h) m.here.pc.0 i (known.blocks (block_of m.here)).truths ((known.pools (block_of m.here)).texts t)
 
-    pub global_row : (slots : List Slot) (globals : Named) → RowsGlobal (text_in tables t) j t m.here.slots m.frames.globals p slots globals
+    pub global_row : (slots : List Slot) (globals : Named) → RowsGlobal (text_in (pool_in tables m.here.hidden) t) j t m.here.slots m.frames.globals p slots globals
         → active_in slots ≡ active_in m.here.slots → Performs tables j p m (with_globals slots globals)
     global_row slots globals row same = record { rest = refl; active = keeps p same; row = told_row tables j p m (with_globals slots globals) (global-told slots globals row); names = λ no. refl }
 
-    deleted_global : (globals : Named) → ((slots : List Slot) → RowsGlobal (text_in tables t) j t slots m.frames.globals p slots globals)
+    deleted_global : (globals : Named) → ((slots : List Slot) → RowsGlobal (text_in (pool_in tables m.here.hidden) t) j t slots m.frames.globals p slots globals)
         → Performs tables j p m (record m { frames = record m.frames { globals = globals } })
     deleted_global globals row = global_row m.here.slots globals (row m.here.slots) refl
 
-    pub deleted_by : (x : Name) → x ≡ text_in tables t → (globals : Named) → ((slots : List Slot) → RowsGlobal x j t slots m.frames.globals p slots globals)
+    pub deleted_by : (x : Name) → x ≡ text_in (pool_in tables m.here.hidden) t → (globals : Named) → ((slots : List Slot) → RowsGlobal x j t slots m.frames.globals p slots globals)
         → Performs tables j p m (record m { frames = record m.frames { globals = globals } })
     deleted_by x is globals row = deleted_global globals (λ slots. subst (λ y. RowsGlobal y j t slots m.frames.globals p slots globals) is (row slots))
 
-    load-told : (slots : List Slot) → RowsLoadGlobal (text_in tables t) (builtin_in tables t) j t m.here.slots m.frames.globals p slots → IsTold tables j p m (with_globals slots m.frames.globals)
+    load-told : (slots : List Slot) → RowsLoadGlobal m.here.hidden (text_in (pool_in tables m.here.hidden) t) (builtin_in (pool_in tables m.here.hidden) t) j t m.here.slots m.frames.globals p slots → IsTold tables j p m (with_globals slots m.frames.globals)
     unfolding RowsLoadGlobal RowsIn
     load-told slots row program code known can i h is =
-        row (stores_of program m) (known.builtins t) (stands program code h) m.here.pc.0 i (known.blocks (block_of m.here)).truths ((known.pools (block_of m.here)).texts t)
+        row (stores_of program m) (known.builtins m.here.hidden t) (stands program code h) m.here.pc.0 i (known.blocks (block_of m.here)).truths
+        (record { is_text = (known.pools (block_of m.here)).texts t; is_hidden = ap (λ k. k.hidden) is })
 
-    pub load_row : (slots : List Slot) → RowsLoadGlobal (text_in tables t) (builtin_in tables t) j t m.here.slots m.frames.globals p slots
+    pub load_row : (slots : List Slot) → RowsLoadGlobal m.here.hidden (text_in (pool_in tables m.here.hidden) t) (builtin_in (pool_in tables m.here.hidden) t) j t m.here.slots m.frames.globals p slots
         → active_in slots ≡ active_in m.here.slots → Performs tables j p m (record m { here = record m.here { slots = slots } })
     load_row slots row same = record { rest = refl; active = keeps p same; row = told_row tables j p m (with_globals slots m.frames.globals) (load-told slots row); names = λ no. refl }
 
@@ -198,12 +199,12 @@ module _ (tables : CodeTables) (t : TextNo) (p : Progress) (m : Machine) (slots 
   abbrev with_heap : Machine
   with_heap = record m { here = record m.here { slots = slots }; heap = heap }
 
-  attribute-told : RowsAttribute (text_in tables t.0) t m.here.slots m.heap p slots heap → IsTold tables (Attr t) p m with_heap
+  attribute-told : RowsAttribute (text_in (pool_in tables m.here.hidden) t.0) t m.here.slots m.heap p slots heap → IsTold tables (Attr t) p m with_heap
   unfolding RowsAttribute RowsIn
   attribute-told row program code known can i h is =
       row (stores_of program m) (stands tables (Attr t) p m program code h) m.here.pc.0 i (known.blocks (block_of m.here)).truths ((known.pools (block_of m.here)).texts t.0)
 
-  pub attribute_row : RowsAttribute (text_in tables t.0) t m.here.slots m.heap p slots heap → active_in slots ≡ active_in m.here.slots
+  pub attribute_row : RowsAttribute (text_in (pool_in tables m.here.hidden) t.0) t m.here.slots m.heap p slots heap → active_in slots ≡ active_in m.here.slots
       → Performs tables (Attr t) p m with_heap
   attribute_row row same = record { rest = refl; active = keeps p same; row = told_row tables (Attr t) p m with_heap (attribute-told row); names = λ no. refl }
 
@@ -213,21 +214,21 @@ module _ (tables : CodeTables) (t : TextNo) (p : Progress) (m : Machine) (slots 
   abbrev with_slots : Machine
   with_slots = record m { here = record m.here { slots = slots } }
 
-  import-told : RowsImport (text_in tables t.0) t m.here.slots p slots → IsTold tables (Import t) p m with_slots
+  import-told : RowsImport (text_in (pool_in tables m.here.hidden) t.0) t m.here.slots p slots → IsTold tables (Import t) p m with_slots
   unfolding RowsImport RowsIn
   import-told row program code known can i h is =
       row (stores_of program m) (stands tables (Import t) p m program code h) m.here.pc.0 i (known.blocks (block_of m.here)).truths ((known.pools (block_of m.here)).texts t.0)
 
-  pub import_row : RowsImport (text_in tables t.0) t m.here.slots p slots → active_in slots ≡ active_in m.here.slots → Performs tables (Import t) p m with_slots
+  pub import_row : RowsImport (text_in (pool_in tables m.here.hidden) t.0) t m.here.slots p slots → active_in slots ≡ active_in m.here.slots → Performs tables (Import t) p m with_slots
   import_row row same = record { rest = refl; active = keeps p same; row = told_row tables (Import t) p m with_slots (import-told row); names = λ no. refl }
 
   module _ (heap : List Object) where
-    import-name-told : RowsImportName (text_in tables t.0) t m.here.slots m.heap p slots heap → IsTold tables (ImportName t) p m (record with_slots { heap = heap })
+    import-name-told : RowsImportName (text_in (pool_in tables m.here.hidden) t.0) t m.here.slots m.heap p slots heap → IsTold tables (ImportName t) p m (record with_slots { heap = heap })
     unfolding RowsImportName RowsIn
     import-name-told row program code known can i h is =
         row (stores_of program m) (stands tables (ImportName t) p m program code h) m.here.pc.0 i (known.blocks (block_of m.here)).truths ((known.pools (block_of m.here)).texts t.0)
 
-    pub import_name_row : RowsImportName (text_in tables t.0) t m.here.slots m.heap p slots heap → active_in slots ≡ active_in m.here.slots
+    pub import_name_row : RowsImportName (text_in (pool_in tables m.here.hidden) t.0) t m.here.slots m.heap p slots heap → active_in slots ≡ active_in m.here.slots
         → Performs tables (ImportName t) p m (record m { here = record m.here { slots = slots }; heap = heap })
     import_name_row row same =
         record { rest = refl; active = keeps p same; row = told_row tables (ImportName t) p m (record with_slots { heap = heap }) (import-name-told row); names = λ no. refl }

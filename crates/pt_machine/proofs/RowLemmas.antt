@@ -25,7 +25,7 @@ use Rattle.pt_code_tables.specs.pt_machine_state.declared.machine.Machine.{Machi
 use Rattle.pt_code_tables.specs.pt_machine_state.Views.{block_of, stores_of}
 use Rattle.pt_code_tables.specs.pt_machine_state.Laws.{behind_row}
 use Rattle.pt_code_tables.specs.declared.tables.CodeTables.{CodeTables}
-use Rattle.pt_code_tables.specs.Tables.{AreTablesOf, constant_in}
+use Rattle.pt_code_tables.specs.Tables.{AreTablesOf, constant_in, pool_in}
 use Rattle.pt_machine.specs.Performing.{NamesPlaces, Performs, IsRowIn, row_done}
 
 pub keeps : {A : Type 0} (p : Progress) → A → IfActive p A
@@ -103,7 +103,7 @@ module _ (tables : CodeTables) (j : Instr) (p : Progress) (m : Machine) where
     names = λ no. refl;
   }
 
-pub constant_row : (tables : CodeTables) (k : ConstNo) (p : Progress) (m : Machine) (slots : List Slot) → RowsConstant (constant_in tables k.0) m.here.slots p slots
+pub constant_row : (tables : CodeTables) (k : ConstNo) (p : Progress) (m : Machine) (slots : List Slot) → RowsConstant (constant_in (pool_in tables m.here.hidden) k.0) m.here.slots p slots
     → active_in slots ≡ active_in m.here.slots → Performs tables (instr.Const k) p m (record m { here = record m.here { slots = slots } })
 unfolding RowsConstant
 constant_row tables k p m slots row same =

@@ -46,7 +46,7 @@ use Rattle.pt_code_tables.proofs.pt_machine_state.TurnLemmas.{spent}
 use Rattle.pt_code_tables.proofs.pt_machine_state.StrideLemmas.{unmarked_done, marked_done}
 use Rattle.pt_code_tables.proofs.pt_machine_state.AgainLemmas.{unmarked_again, marked_again}
 use Rattle.pt_code_tables.specs.declared.tables.CodeTables.{CodeTables}
-use Rattle.pt_code_tables.specs.Tables.{AreTablesOf, is_class_in, scope_by}
+use Rattle.pt_code_tables.specs.Tables.{AreTablesOf, is_class_in, scope_by, pool_in}
 use Rattle.pt_machine.specs.Strides.{MachineHasNames, Strides}
 use Rattle.pt_machine.specs.Performing.{Does, NamesPlaces, Performs, GoesOn, IsRowIn, row_done}
 
@@ -108,9 +108,9 @@ module _ (program : Program) (code : CodeBlocks Value) (m : Machine) (names : Ma
   }
 
   -- and its block is no class
-  no-class : (tables : CodeTables) → AreTablesOf program code tables → is_class_in tables m.here.block.0 ≡ false
+  no-class : (tables : CodeTables) → AreTablesOf program code tables → is_class_in (pool_in tables m.here.hidden) m.here.block.0 ≡ false
   no-class tables known =
-      scope-is (is_class_in tables m.here.block.0) (sym (known.scopes (block_of m.here)) ∙ names.names_blocks.scopes (block_of m.here))
+      scope-is (is_class_in (pool_in tables m.here.hidden) m.here.block.0) (sym (known.scopes (block_of m.here)) ∙ names.names_blocks.scopes (block_of m.here))
 
 named-act : (program : Program) (code : CodeBlocks Value) (m : Machine) (k : ActMark) → MachineHasNames program code m → MachineHasNames program code (at_act k m)
 named-act program code m k names = record { names_blocks = names.names_blocks; here = names.here; no_names = names.no_names }

@@ -17,7 +17,7 @@ use Rattle.pt_code_tables.specs.pt_machine_state.Views.{active_of, block_of}
 use Rattle.pt_places.specs.declared.places.Place.{Place}
 use Rattle.pt_code_tables.specs.pt_machine_state.Laws.{RowDone, again_of, behind_row, IsRow}
 use Rattle.pt_code_tables.specs.declared.tables.CodeTables.{CodeTables}
-use Rattle.pt_code_tables.specs.Tables.{AreTablesOf, is_class_in}
+use Rattle.pt_code_tables.specs.Tables.{AreTablesOf, is_class_in, pool_in}
 use Rattle.law_frames.specs.Operands.{OperandsName}
 
 -- what an instruction came to, with what is left of the machine
@@ -50,7 +50,7 @@ pub record Performs (tables : CodeTables) (j : Instr) (p : Progress) (old new : 
   pub rest : new ≡ behind_row (row_done p new) old
   pub active : KeepsActive p old.here.slots new.here.slots
   pub row : IsRowIn tables j p old new
-  pub names : is_class_in tables old.here.block.0 ≡ false → new.here.names ≡ old.here.names
+  pub names : is_class_in (pool_in tables old.here.hidden) old.here.block.0 ≡ false → new.here.names ≡ old.here.names
 
 -- what stands at a place was done: `raise` alone comes to the exception that is active, and changes nothing
 abbrev pub Does : CodeTables → Instr → Progress → (old new : Machine) → Type 0

@@ -18,11 +18,12 @@ pub fn perform_attribute(
     requires { gets_attribute instr ≡ true }
     ensures { IfOk result (λ p. Performs tables.now instr p machine.old machine.new) }
 {
+    let pool = tables.pool(machine.here.hidden);
     let alloc = machine.alloc;
     let slots = &mut machine.here.slots;
     let heap = &mut machine.heap;
     match instr {
-        Instr::Attr(text) => attribute(alloc, text, tables.text(text), slots, heap),
+        Instr::Attr(text) => attribute(alloc, text, pool.text(text), slots, heap),
         _ => unreachable!(),
     }
 }

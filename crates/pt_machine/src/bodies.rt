@@ -20,26 +20,28 @@ pub fn perform_body(
 {
     let alloc = machine.alloc;
     let block = machine.here.block;
-    let facts = tables.facts.get(block);
-    let in_class = tables.is_class(block);
+    let hidden = machine.here.hidden;
+    let facts = tables.facts.get(block, hidden);
+    let pool = tables.pool(hidden);
+    let in_class = pool.is_class(block);
     let locals = &mut machine.here.locals;
     let own = &mut machine.here.names;
     let globals = &mut machine.frames.globals;
     let slots = &mut machine.here.slots;
     match instr {
         Instr::Name(text) => {
-            let x = tables.text(text);
-            let lookup = tables.builtin(text);
+            let x = pool.text(text);
+            let lookup = pool.builtin(text);
             name(
-                alloc, in_class, text, x, lookup, facts, locals, own, globals, slots,
+                alloc, hidden, in_class, text, x, lookup, facts, locals, own, globals, slots,
             )
         }
         Instr::SetName(text) => {
-            let x = tables.text(text);
+            let x = pool.text(text);
             set_name(alloc, in_class, text, x, facts, locals, own, globals, slots)
         }
         Instr::DelName(text) => {
-            let x = tables.text(text);
+            let x = pool.text(text);
             delete_name(alloc, in_class, text, x, facts, locals, own, globals)
         }
         _ => unreachable!(),

@@ -20,6 +20,7 @@ pub fn perform_call(
 {
     let alloc = machine.alloc;
     let hidden = machine.here.hidden;
+    let pool = tables.pool(hidden);
     let cells = &mut machine.frames.cells;
     let slots = &mut machine.here.slots;
     let heap = &mut machine.heap;
@@ -27,16 +28,16 @@ pub fn perform_call(
     match instr {
         Instr::Call(count) => call(alloc, count, facts, cells, slots, heap),
         Instr::CallKw(count, list) => {
-            let names = tables.list(list);
+            let names = pool.list(list);
             call_with_names(alloc, count, list, names, facts, cells, slots, heap)
         }
         Instr::CallSpread(count, list) => {
-            let names = tables.list(list);
+            let names = pool.list(list);
             call_with_roles(alloc, count, list, names, facts, cells, slots, heap)
         }
         Instr::MakeFunction(block, _count, list) => {
-            let names = tables.list(list);
-            let captures = tables.captures(block);
+            let names = pool.list(list);
+            let captures = pool.captures(block);
             make_function(alloc, block, list, names, captures, hidden, slots, heap)
         }
         _ => unreachable!(),

@@ -23,13 +23,15 @@ pub fn perform_fast(
         (λ p. Performs tables.now instr p machine.old machine.new) (machine.new ≡ machine.old)) }
 {
     let alloc = machine.alloc;
+    let hidden = machine.here.hidden;
+    let pool = tables.pool(hidden);
     let globals = &mut machine.frames.globals;
     let cells = &mut machine.frames.cells;
     let locals = &mut machine.here.locals;
     let own = &machine.here.cells;
     let slots = &mut machine.here.slots;
     match instr {
-        Instr::Const(number) => fast_constant(tables.constant(number), next, slots),
+        Instr::Const(number) => fast_constant(pool.constant(number), next, slots),
         Instr::Pop => Ok(fast_pop(next, slots)),
         Instr::Jump(to) => Ok(Some(to)),
         Instr::JumpIf(to) => Ok(fast_jump_if(to, next, slots)),
@@ -37,9 +39,11 @@ pub fn perform_fast(
         Instr::Compare(op) => fast_compare(op, next, slots),
         Instr::Binary(op) => fast_binary(op, next, slots),
         Instr::InPlace(op) => fast_in_place(op, next, slots),
-        Instr::Global(text) => fast_global(text, tables.text(text), next, globals, slots),
+        Instr::Global(text) if !hidden => {
+            fast_global(text, pool.text(text), next, globals, slots)
+        }
         Instr::SetGlobal(text) => {
-            fast_set_global(alloc, text, tables.text(text), next, globals, slots)
+            fast_set_global(alloc, text, pool.text(text), next, globals, slots)
         }
         Instr::Local(slot) => fast_local(slot, next, locals, slots),
         Instr::SetLocal(slot) => Ok(fast_set_local(slot, next, locals, slots)),

@@ -19,19 +19,22 @@ pub fn perform_global(
     ensures { IfOk result (λ p. Performs tables.now instr p machine.old machine.new) }
 {
     let alloc = machine.alloc;
+    let hidden = machine.here.hidden;
+    let pool = tables.pool(hidden);
     let globals = &mut machine.frames.globals;
     let slots = &mut machine.here.slots;
     match instr {
         Instr::Global(text) => global(
             alloc,
+            hidden,
             text,
-            tables.text(text),
-            tables.builtin(text),
+            pool.text(text),
+            pool.builtin(text),
             globals,
             slots,
         ),
-        Instr::SetGlobal(text) => set_global(alloc, text, tables.text(text), globals, slots),
-        Instr::DelGlobal(text) => delete_global(alloc, text, tables.text(text), globals),
+        Instr::SetGlobal(text) => set_global(alloc, text, pool.text(text), globals, slots),
+        Instr::DelGlobal(text) => delete_global(alloc, text, pool.text(text), globals),
         _ => unreachable!(),
     }
 }

@@ -18,12 +18,13 @@ pub fn perform_import(
     requires { imports instr ≡ true }
     ensures { IfOk result (λ p. Performs tables.now instr p machine.old machine.new) }
 {
+    let pool = tables.pool(machine.here.hidden);
     let alloc = machine.alloc;
     let slots = &mut machine.here.slots;
     let heap = &mut machine.heap;
     match instr {
-        Instr::Import(text) => import(alloc, text, tables.text(text), slots),
-        Instr::ImportName(text) => import_name(alloc, text, tables.text(text), slots, heap),
+        Instr::Import(text) => import(alloc, text, pool.text(text), slots),
+        Instr::ImportName(text) => import_name(alloc, text, pool.text(text), slots, heap),
         _ => unreachable!(),
     }
 }

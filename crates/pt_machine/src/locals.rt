@@ -19,7 +19,7 @@ pub fn perform_local(
     ensures { IfOk result (λ p. Performs tables.now instr p machine.old machine.new) }
 {
     let alloc = machine.alloc;
-    let facts = tables.facts.get(machine.here.block);
+    let facts = tables.facts.get(machine.here.block, machine.here.hidden);
     let locals = &mut machine.here.locals;
     let slots = &mut machine.here.slots;
     match instr {

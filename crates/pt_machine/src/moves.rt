@@ -21,10 +21,11 @@ pub fn perform_move(
     requires { moves_slots instr ≡ true }
     ensures { IfOk result (λ p. Performs tables.now instr p machine.old machine.new) }
 {
+    let pool = tables.pool(machine.here.hidden);
     let slots = &mut machine.here.slots;
     match instr {
         Instr::Nop => Ok(nop()),
-        Instr::Const(number) => constant(tables.constant(number), slots),
+        Instr::Const(number) => constant(pool.constant(number), slots),
         Instr::Pop => Ok(pop(slots)),
         Instr::Copy => copy(slots),
         Instr::Copy2 => copy_two(slots),

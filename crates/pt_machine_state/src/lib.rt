@@ -7,7 +7,7 @@ mod laws;
 mod machine;
 mod writes;
 
-pub use blocks::{BlockCode, Blocks};
+pub use blocks::{BlockCode, Blocks, SideBlocks};
 pub use laws::{
     blocks_end_as_in_a_run, blocks_open_as_in_a_run, exceptions_arise_as_in_a_run,
     instructions_are_strides, the_machine_goes_where_instructions_lead,

@@ -18,7 +18,10 @@ pub use pt_comparisons::{
     repeated_list, repeated_tuple, repr_content, set_content, set_item_content, starred_content,
     str_content, truth_content, truth_value, tuple_content, unpack_content,
 };
-pub use pt_fields::{format_content, join_content, slice_content, subscript_content};
+pub use pt_fields::{
+    format_content, join_content, joined_content, slice_content, subscript_content,
+};
 pub use pt_list_changes::{
-    delete_item_content as delete_list_item, list_add_content, set_item_content as set_list_item,
+    delete_item_content as delete_list_item, list_add_content, list_changed,
+    set_item_content as set_list_item,
 };

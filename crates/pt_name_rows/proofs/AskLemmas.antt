@@ -31,10 +31,10 @@ module _ (program : Program) (code : CodeObject Value) (i : Ins) (h : Here Value
   raised_alike (made v k) = refl
   raised_alike (beyond what) = refl
 
-  pub loads : (x : Variable) (v : Value) → readable_value x.scope x.name st ≡ Some v → goes_to (on i.next (S.value v ∷ ss)) st ≡ reached program code i h st (gives code i (T.load x) ss)
+  pub loads : (x : Variable) (v : Value) → readable_value h.block.hidden x.scope x.name st ≡ Some v → goes_to (on i.next (S.value v ∷ ss)) st ≡ reached program code i h st (gives code i (T.load x) ss)
   loads x v e = sym (loads_lead program code i h st x ss ∙ ap (λ o. by_tree code i (giving code i ss) ss (load_by o x.scope x.name h st)) e)
 
-  pub loads_none : (x : Variable) → readable_value x.scope x.name st ≡ None
+  pub loads_none : (x : Variable) → readable_value h.block.hidden x.scope x.name st ≡ None
       → by_tree code i (giving code i ss) ss (unless_bound x.scope x.name h st) ≡ reached program code i h st (gives code i (T.load x) ss)
   loads_none x e = sym (loads_lead program code i h st x ss ∙ ap (λ o. by_tree code i (giving code i ss) ss (load_by o x.scope x.name h st)) e)
 

@@ -42,9 +42,9 @@ read_alike : (b : Bool) (n : Name) (st : Stores) → variable_value (scope b) n 
 read_alike true n st = refl
 read_alike false n st = refl
 
-readable_alike : (b : Bool) (n : Name) (st : Stores) → readable_value (scope b) n st ≡ cell_value (cell_number n st.names) st.world
-readable_alike true n st = refl
-readable_alike false n st = refl
+readable_alike : (hidden b : Bool) (n : Name) (st : Stores) → readable_value hidden (scope b) n st ≡ cell_value (cell_number n st.names) st.world
+readable_alike hidden true n st = refl
+readable_alike hidden false n st = refl
 
 put_alike : (b : Bool) (n : Name) (v : Option Value) (st : Stores) → put (scope b) n v st ≡ with_cell (cell_number n st.names) v st
 put_alike true n v st = refl
@@ -83,8 +83,8 @@ module _ (facts : BlockFacts) (own : List ℕ) (x : SlotNo) (cells : List (Optio
     reads : (y : Variable) → y ≡ variable_x → variable_value y.scope y.name st ≡ value_through own cells x.0
     reads y e = ap (λ (z : Variable). variable_value z.scope z.name st) e ∙ (read_alike is_cell (cell_name (facts_view facts) x.0) st ∙ through)
 
-    readable : (y : Variable) → y ≡ variable_x → readable_value y.scope y.name st ≡ value_through own cells x.0
-    readable y e = ap (λ (z : Variable). readable_value z.scope z.name st) e ∙ (readable_alike is_cell (cell_name (facts_view facts) x.0) st ∙ through)
+    readable : (hidden : Bool) (y : Variable) → y ≡ variable_x → readable_value hidden y.scope y.name st ≡ value_through own cells x.0
+    readable hidden y e = ap (λ (z : Variable). readable_value hidden z.scope z.name st) e ∙ (readable_alike hidden is_cell (cell_name (facts_view facts) x.0) st ∙ through)
 
     written : (c : Option ℕ) (v : Option Value) → with_cell c v st ≡ stores_in (facts_view facts) locals own of_class (with_cells (with_value c v cells) w)
     written (Some c) v = refl
@@ -99,14 +99,14 @@ module _ (facts : BlockFacts) (own : List ℕ) (x : SlotNo) (cells : List (Optio
     found_of : (v : Value) → value_through own cells x.0 ≡ Some v → RowsCell facts own x.0 (instr.Cell x) old cells progress.Next (slot.Value v ∷ old) cells
     unfolding RowsCell RowsIn
     found_of v e locals of_class w has within s pc i truths knows =
-        loads s.program s.code i s.here (st locals of_class w has within) (slots_view old) (s.code.pool.cell x.0) v (readable locals of_class w has within _ (knows.cell x.0) ∙ e)
+        loads s.program s.code i s.here (st locals of_class w has within) (slots_view old) (s.code.pool.cell x.0) v (readable locals of_class w has within _ _ (knows.cell x.0) ∙ e)
 
     missing_of : value_through own cells x.0 ≡ None → RowsCell facts own x.0 (instr.Cell x) old cells (cell_unbound (facts_view facts) x.0) old cells
     unfolding RowsCell RowsIn
     missing_of e locals of_class w has within s pc i truths knows =
         ap (λ t. by_tree s.code i (giving s.code i (slots_view old)) (slots_view old) t) (unbound_alike is_cell (cell_name (facts_view facts) x.0) s.here (st locals of_class w has within))
         ∙ (ap (λ (y : Variable). by_tree s.code i (giving s.code i (slots_view old)) (slots_view old) (unless_bound y.scope y.name s.here (st locals of_class w has within))) (sym (knows.cell x.0))
-        ∙ loads_none s.program s.code i s.here (st locals of_class w has within) (slots_view old) (s.code.pool.cell x.0) (readable locals of_class w has within _ (knows.cell x.0) ∙ e))
+        ∙ loads_none s.program s.code i s.here (st locals of_class w has within) (slots_view old) (s.code.pool.cell x.0) (readable locals of_class w has within _ _ (knows.cell x.0) ∙ e))
 
     stored_of : (v : Value) → RowsCell facts own x.0 (instr.SetCell x) (slot.Value v ∷ old) cells progress.Next old (with_value (slice_get own x.0) (Some v) cells)
     unfolding RowsCell RowsIn

@@ -1,5 +1,5 @@
 -- Rows of names of the module.
-use Rattle.std.proofs.Common.{◌≡◌, ◌∙◌, List, ◌∷◌, Option, Some, None, refl, sym, ap, subst}
+use Rattle.std.proofs.Common.{◌≡◌, ◌∙◌, Bool, List, ◌∷◌, Option, Some, None, refl, sym, ap, subst}
 use Rattle.std.specs.Prelude.{drop}
 use Rattle.std.specs.Str.{bytes_eq}
 use Rattle.indexmap.specs.IndexMap.{insert_entry}
@@ -15,8 +15,8 @@ use Rattle.pt_frames.specs.declared.slot.Slot.TheVariants as slot
 use Rattle.sem_code.specs.slots.Slots.{on}
 use Rattle.sem_code.specs.slots.CodeObject.{global}
 use Rattle.pt_builtins.specs.pt_host.World.{Stores}
-use Rattle.pt_builtins.specs.pt_host.Variables.{by_builtin}
-use Rattle.pt_builtins.specs.pt_host.Builtins.{builtin}
+use Rattle.pt_builtins.specs.pt_host.Variables.{by_builtin, readable_value}
+use Rattle.pt_builtins.specs.pt_host.Builtins.{meaning}
 use Rattle.pt_moves.specs.sem_rows.declared.heap_rows.progress.Progress.{Progress}
 use Rattle.pt_moves.specs.sem_rows.declared.heap_rows.progress.Progress.TheVariants as progress
 use Rattle.pt_moves.specs.sem_rows.heap_rows.Leads.{by_tree, giving}
@@ -30,19 +30,24 @@ use Rattle.pt_builtins.specs.Lookups.{builtin_view}
 use Rattle.pt_moves.specs.Operands.{one_value}
 use Rattle.pt_moves.proofs.TakeLemmas.{one_on}
 use Rattle.pt_moves.proofs.MoveLemmas.{lacks_one, stuck_row}
-use Rattle.pt_name_rows.specs.Names.{RowsGlobal, RowsLoadGlobal, global_unbound, with_globals}
+use Rattle.pt_name_rows.specs.Names.{RowsGlobal, RowsLoadGlobal, seen_value, global_unbound, with_globals}
 use Rattle.pt_name_rows.proofs.AskLemmas.{goes_to, loads, loads_none, stores, deletes, deletes_none}
 
 module _ (x : Name) (t : TextNo) (old : List Slot) (globals : Named) where
+  -- what a block sees, hidden or not
+  seen : (b hidden : Bool) (n : Name) → b ≡ hidden → n ≡ x → (st : Stores) → readable_value b T.global n (with_globals globals st) ≡ seen_value hidden x globals
+  seen b hidden n e f st = ap (λ c. readable_value c T.global n (with_globals globals st)) e ∙ ap (λ y. seen_value hidden y globals) f
+
   reads : (n : Name) → n ≡ x → name_value n globals ≡ name_value x globals
   reads n e = ap (λ y. name_value y globals) e
 
   writes : (n : Name) (v : Option Value) (st : Stores) → n ≡ x → with_globals (insert_entry bytes_eq globals n v) st ≡ with_globals (insert_entry bytes_eq globals x v) st
   writes n v st e = ap (λ y. with_globals (insert_entry bytes_eq globals y v) st) e
 
-  found_of : (b : BuiltinLookup) (v : Value) → name_value x globals ≡ Some v → RowsLoadGlobal x b (instr.Global t) t.0 old globals progress.Next (slot.Value v ∷ old)
+  found_of : (hidden : Bool) (b : BuiltinLookup) (v : Value) → seen_value hidden x globals ≡ Some v → RowsLoadGlobal hidden x b (instr.Global t) t.0 old globals progress.Next (slot.Value v ∷ old)
   unfolding RowsLoadGlobal RowsIn
-  found_of b v e st means s pc i truths knows = loads s.program s.code i s.here (with_globals globals st) (slots_view old) (global (s.code.pool.text t.0)) v (reads _ knows ∙ e)
+  found_of hidden b v e st means s pc i truths knows =
+      loads s.program s.code i s.here (with_globals globals st) (slots_view old) (global (s.code.pool.text t.0)) v (seen _ hidden _ knows.is_hidden knows.is_text st ∙ e)
 
   -- what a name means by itself, where the module doesn't bind it
   abbrev otherwise : BuiltinLookup → Progress
@@ -61,13 +66,14 @@ module _ (x : Name) (t : TextNo) (old : List Slot) (globals : Named) where
   leads_otherwise lookup.Unavailable s i st = refl
   leads_otherwise lookup.Unbound s i st = refl
 
-  otherwise_of : (b : BuiltinLookup) → name_value x globals ≡ None → RowsLoadGlobal x b (instr.Global t) t.0 old globals (otherwise b) (slots_otherwise b)
+  otherwise_of : (hidden : Bool) (b : BuiltinLookup) → seen_value hidden x globals ≡ None → RowsLoadGlobal hidden x b (instr.Global t) t.0 old globals (otherwise b) (slots_otherwise b)
   unfolding RowsLoadGlobal RowsIn
-  otherwise_of b e st means s pc i truths knows =
+  otherwise_of hidden b e st means s pc i truths knows =
       leads_otherwise b s i (with_globals globals st)
       ∙ (ap (λ m. by_tree s.code i (giving s.code i (slots_view old)) (slots_view old) (by_builtin m T.global x s.here (with_globals globals st))) means
-      ∙ (ap (λ y. by_tree s.code i (giving s.code i (slots_view old)) (slots_view old) (by_builtin (builtin y) T.global y s.here (with_globals globals st))) (sym knows)
-      ∙ loads_none s.program s.code i s.here (with_globals globals st) (slots_view old) (global (s.code.pool.text t.0)) (reads _ knows ∙ e)))
+      ∙ (ap (λ c. by_tree s.code i (giving s.code i (slots_view old)) (slots_view old) (by_builtin (meaning c x) T.global x s.here (with_globals globals st))) (sym knows.is_hidden)
+      ∙ (ap (λ y. by_tree s.code i (giving s.code i (slots_view old)) (slots_view old) (by_builtin (meaning s.here.block.hidden y) T.global y s.here (with_globals globals st))) (sym knows.is_text)
+      ∙ loads_none s.program s.code i s.here (with_globals globals st) (slots_view old) (global (s.code.pool.text t.0)) (seen _ hidden _ knows.is_hidden knows.is_text st ∙ e))))
 
   stored_of : (v : Value) → RowsGlobal x (instr.SetGlobal t) t.0 (slot.Value v ∷ old) globals progress.Next old (insert_entry bytes_eq globals x (Some v))
   unfolding RowsGlobal RowsIn
@@ -86,17 +92,17 @@ module _ (x : Name) (t : TextNo) (old : List Slot) (globals : Named) where
 
 -- the same by what code found, took and wrote
 module _ (x : Name) (t : TextNo) (old : List Slot) (globals : Named) where
-  pub found : (b : BuiltinLookup) (new : List Slot) (v : Value) → name_value x globals ≡ Some v → new ≡ slot.Value v ∷ old → RowsLoadGlobal x b (instr.Global t) t.0 old globals progress.Next new
-  found b new v e f = subst (λ n. RowsLoadGlobal x b (instr.Global t) t.0 old globals progress.Next n) (sym f) (found_of x t old globals b v e)
+  pub found : (hidden : Bool) (b : BuiltinLookup) (new : List Slot) (v : Value) → seen_value hidden x globals ≡ Some v → new ≡ slot.Value v ∷ old → RowsLoadGlobal hidden x b (instr.Global t) t.0 old globals progress.Next new
+  found hidden b new v e f = subst (λ n. RowsLoadGlobal hidden x b (instr.Global t) t.0 old globals progress.Next n) (sym f) (found_of x t old globals hidden b v e)
 
-  pub builtin_found : (new : List Slot) (v : Value) → name_value x globals ≡ None → new ≡ slot.Value v ∷ old → RowsLoadGlobal x (lookup.Found v) (instr.Global t) t.0 old globals progress.Next new
-  builtin_found new v e f = subst (λ n. RowsLoadGlobal x (lookup.Found v) (instr.Global t) t.0 old globals progress.Next n) (sym f) (otherwise_of x t old globals (lookup.Found v) e)
+  pub builtin_found : (hidden : Bool) (new : List Slot) (v : Value) → seen_value hidden x globals ≡ None → new ≡ slot.Value v ∷ old → RowsLoadGlobal hidden x (lookup.Found v) (instr.Global t) t.0 old globals progress.Next new
+  builtin_found hidden new v e f = subst (λ n. RowsLoadGlobal hidden x (lookup.Found v) (instr.Global t) t.0 old globals progress.Next n) (sym f) (otherwise_of x t old globals hidden (lookup.Found v) e)
 
-  pub builtin_unavailable : name_value x globals ≡ None → RowsLoadGlobal x lookup.Unavailable (instr.Global t) t.0 old globals (progress.Outside Feature) old
-  builtin_unavailable e = otherwise_of x t old globals lookup.Unavailable e
+  pub builtin_unavailable : (hidden : Bool) → seen_value hidden x globals ≡ None → RowsLoadGlobal hidden x lookup.Unavailable (instr.Global t) t.0 old globals (progress.Outside Feature) old
+  builtin_unavailable hidden e = otherwise_of x t old globals hidden lookup.Unavailable e
 
-  pub missing : (p : Progress) → name_value x globals ≡ None → p ≡ global_unbound x → RowsLoadGlobal x lookup.Unbound (instr.Global t) t.0 old globals p old
-  missing p e f = subst (λ q. RowsLoadGlobal x lookup.Unbound (instr.Global t) t.0 old globals q old) (sym f) (otherwise_of x t old globals lookup.Unbound e)
+  pub missing : (hidden : Bool) (p : Progress) → seen_value hidden x globals ≡ None → p ≡ global_unbound x → RowsLoadGlobal hidden x lookup.Unbound (instr.Global t) t.0 old globals p old
+  missing hidden p e f = subst (λ q. RowsLoadGlobal hidden x lookup.Unbound (instr.Global t) t.0 old globals q old) (sym f) (otherwise_of x t old globals hidden lookup.Unbound e)
 
   pub stored : (new : List Slot) (changed : Named) (v : Value) → one_value old ≡ Some v → new ≡ drop 1 old → changed ≡ insert_entry bytes_eq globals x (Some v)
       → RowsGlobal x (instr.SetGlobal t) t.0 old globals progress.Next new changed

@@ -1,19 +1,19 @@
 -- What is raised of names without a value, and when code does with names what rows say (Language Reference 4.2.2, 7.2, 7.5).
-use Rattle.std.specs.Prelude.{◌≡◌, ℕ, ◌==◌, ◌<◌, ◌++◌, List, [], ◌∷◌, if◌then◌else◌, length, Option, Some, None, slice_get, slice_set}
+use Rattle.std.specs.Prelude.{◌≡◌, ℕ, Bool, ◌==◌, ◌<◌, ◌++◌, List, [], ◌∷◌, if◌then◌else◌, length, Option, Some, None, slice_get, slice_set}
 use Rattle.std.specs.Option.{option_flatten}
 use Rattle.pt_tree.specs.Syntax.{Name}
 use Rattle.sem_control.specs.control.Turn as T
 use Rattle.sem_control.specs.control.Turn.{Scope, Variable}
 use Rattle.pt_instr.specs.declared.Instr.{Instr}
 use Rattle.pt_heap.specs.declared.value.Value.{Value}
-use Rattle.pt_names.specs.Names.{Named}
+use Rattle.pt_names.specs.Names.{Named, name_value}
 use Rattle.pt_frames.specs.declared.slot.Slot.{Slot}
 use Rattle.pt_builtins.specs.pt_host.World.{CodeFacts, World, Stores, in_world}
 use Rattle.pt_builtins.specs.pt_host.Texts.{unbound_text, unbound_class}
-use Rattle.pt_builtins.specs.pt_host.Builtins.{builtin}
+use Rattle.pt_builtins.specs.pt_host.Builtins.{meaning}
 use Rattle.pt_moves.specs.sem_rows.declared.heap_rows.progress.Progress.{Progress}
 use Rattle.pt_moves.specs.sem_rows.declared.heap_rows.progress.Progress.TheVariants as progress
-use Rattle.pt_moves.specs.sem_rows.heap_rows.RowsIn.{RowsIn}
+use Rattle.pt_moves.specs.sem_rows.heap_rows.RowsIn.{RowsIn, Standpoint}
 use Rattle.pt_moves.specs.sem_rows.heap_rows.Views.{stores_in}
 use Rattle.pt_moves.specs.sem_rows.variables.Numbers.{cell_variable, KnowsNames, HasLocals, HasCells}
 use Rattle.pt_code_facts.specs.declared.facts.BlockFacts.{BlockFacts}
@@ -86,7 +86,16 @@ unfoldable pub RowsGlobal : Name → Instr → (text : ℕ) → (old : List Slot
 RowsGlobal x j t old globals p new changed =
     (st : Stores) → RowsIn (λ s. s.code.pool.text t ≡ x) j old (with_globals globals st) p new (with_globals changed st)
 
+-- a hidden block sees no name of the module
+abbrev pub seen_value : (hidden : Bool) → Name → (globals : Named) → Option Value
+seen_value hidden x globals = if hidden then None else name_value x globals
+
+-- the operand names this text, in a hidden block or in another
+pub record NamesText (hidden : Bool) (x : Name) (text : ℕ) (s : Standpoint) : Type 0 where
+  pub is_text : s.code.pool.text text ≡ x
+  pub is_hidden : s.here.block.hidden ≡ hidden
+
 -- a name is loaded, of which is known what it means by itself
-unfoldable pub RowsLoadGlobal : Name → BuiltinLookup → Instr → (text : ℕ) → (old : List Slot) (globals : Named) → Progress → (new : List Slot) → Type 0
-RowsLoadGlobal x b j t old globals p new =
-    (st : Stores) → builtin_view b ≡ builtin x → RowsIn (λ s. s.code.pool.text t ≡ x) j old (with_globals globals st) p new (with_globals globals st)
+unfoldable pub RowsLoadGlobal : (hidden : Bool) → Name → BuiltinLookup → Instr → (text : ℕ) → (old : List Slot) (globals : Named) → Progress → (new : List Slot) → Type 0
+RowsLoadGlobal hidden x b j t old globals p new =
+    (st : Stores) → builtin_view b ≡ meaning hidden x → RowsIn (NamesText hidden x t) j old (with_globals globals st) p new (with_globals globals st)

@@ -2,21 +2,33 @@
 ghost use Rattle.std.specs.Prelude.{◌≡◌, IfOk, OnOk};
 ghost use Rattle.pt_frames.specs.Slots.{active_in};
 ghost use Rattle.pt_instr.specs.declared.Instr.TheVariants as instr;
-ghost use Rattle.pt_name_rows.specs.Names.{RowsGlobal, RowsLoadGlobal};
+ghost use Rattle.pt_name_rows.specs.Names.{RowsGlobal, RowsLoadGlobal, seen_value};
 
 use crate::unbound::unbound_global;
 use pt_base::{Memory, What};
 use pt_builtins::BuiltinLookup;
 use pt_frames::{Slot, Slots};
+use pt_heap::Value;
 use pt_instr::TextNo;
 use pt_moves::{Progress, take_one};
 use pt_names::Names;
 use std::alloc::Global;
 
+/// The value of a name of the module, of which a hidden block sees none.
+fn global_value(hidden: bool, text: TextNo, name: &str, globals: &Names) -> Option<Value>
+    ensures { result ≡ seen_value hidden name.now globals.now }
+{
+    if hidden {
+        return None;
+    }
+    globals.get_numbered(text.0 as usize, name)
+}
+
 /// Gives the value of a name of the module, or what the name means by itself.
 #[tactic(auto, using(crate::proofs::GlobalLemmas::found, crate::proofs::GlobalLemmas::builtin_found, crate::proofs::GlobalLemmas::builtin_unavailable, crate::proofs::GlobalLemmas::missing, pt_moves::proofs::TakeLemmas::quiet_over))]
 pub fn global(
     alloc: Global,
+    hidden: bool,
     text: TextNo,
     name: &str,
     lookup: BuiltinLookup,
@@ -24,11 +36,11 @@ pub fn global(
     slots: &mut Slots,
 ) -> Result<Progress, Memory>
     ensures row { IfOk result
-        (λ p. RowsLoadGlobal name.now lookup (instr.Global text) text.0 slots.old globals.now p
-        slots.new) }
+        (λ p. RowsLoadGlobal hidden name.now lookup (instr.Global text) text.0 slots.old globals.now
+        p slots.new) }
     ensures active { OnOk result (active_in slots.new ≡ active_in slots.old) }
 {
-    match globals.get_numbered(text.0 as usize, name) {
+    match global_value(hidden, text, name, globals) {
         Some(value) => {
             slots.push(Slot::Value(value))?;
             Ok(Progress::Next)

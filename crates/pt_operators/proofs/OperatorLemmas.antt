@@ -51,7 +51,7 @@ module _ {A : Type 0} (w : Awaited A) (next : Continuation A) (as_progress : Pri
       (subst (λ x. Asks w next o args old heap (as_progress (prim_answer o args heap)) x grown) (sym stands)
       (subst (λ x. Asks w next o args old heap (as_progress (prim_answer o args heap)) (over (prim_answer o args heap) old) x) (sym grows) (asks_of o args old heap tells)))
 
-answer_told : (a : PrimAns) → Tells one_value (λ code i ss. giving code i ss) progress_of (λ b slots. over_value (value_given b) slots) a
+pub answer_told : (a : PrimAns) → Tells one_value (λ code i ss. giving code i ss) progress_of (λ b slots. over_value (value_given b) slots) a
 answer_told (prim.Value v) program code i h st slots = refl
 answer_told (prim.Values vs) program code i h st slots = refl
 answer_told prim.End program code i h st slots = refl

@@ -85,6 +85,17 @@ fn give(value: Option<Value>, slots: &mut Slots) -> Result<(), Memory>
     }
 }
 
+/// What an answer comes to where a value is awaited, which is put on the slots.
+pub fn answered(answer: PrimAns, slots: &mut Slots) -> Result<Progress, Memory>
+    ensures progress { IfOk result (λ p. p ≡ progress_of answer) }
+    ensures slots { OnOk result (slots.new ≡ over_value (value_given answer) slots.old) }
+    ensures active { OnOk result (active_in slots.new ≡ active_in slots.old) }
+{
+    let outcome = outcome_of(answer);
+    give(outcome.value, slots)?;
+    Ok(outcome.progress)
+}
+
 /// An operation on values that were taken off the slots.
 #[tactic(auto, using(crate::proofs::OperatorLemmas::operates))]
 pub fn operation(

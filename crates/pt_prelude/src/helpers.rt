@@ -107,16 +107,16 @@ pub fn block(helper: Helper) -> Option<BlockId>
         Helper::SumOf => 17,
         Helper::AnyOf => 18,
         Helper::AllOf => 19,
-        Helper::SortedOf => 20,
-        Helper::SortOf => 21,
-        Helper::ReprOf => 22,
-        Helper::ReprIn => 23,
-        Helper::StrOf => 24,
-        Helper::PrintOf => 25,
+        Helper::BestOf => 20,
+        Helper::MinOf => 21,
+        Helper::MaxOf => 22,
+        Helper::SortedOf => 23,
+        Helper::SortOf => 24,
+        Helper::ReprOf => 25,
+        Helper::ReprIn => 26,
+        Helper::StrOf => 27,
+        Helper::PrintOf => 28,
         Helper::NextOrOf
-        | Helper::BestOf
-        | Helper::MinOf
-        | Helper::MaxOf
         | Helper::MapGo
         | Helper::MapOf
         | Helper::FilterGo

@@ -3,7 +3,7 @@ ghost use Rattle.pt_prelude.specs.Functions.{function_names};
 ghost use Rattle.pt_prelude.specs.Helpers.{helpers, name_of};
 
 /// The prelude in parts, for a macro that makes a text of them. What stands behind `later` holds
-/// `raise`, `try` or `yield`, or calls a function that does.
+/// `try` or `yield`, or calls a function that does.
 macro_rules! prelude {
     ($text:ident) => {
         $text! {
@@ -91,8 +91,7 @@ def all_of(x):
     for v in x:
         if not v: return False
     return True
-"#
-            later r#"def best_of(least, x, xs, key=None, **kw):
+def best_of(least, x, xs, key=None, **kw):
     found = False
     for v in (x,) + xs if xs else x:
         k = v if key is None else key(v)
@@ -103,8 +102,7 @@ def all_of(x):
     raise ValueError("empty iterable")
 def min_of(x, *xs, **kw): return best_of(True, x, xs, **kw)
 def max_of(x, *xs, **kw): return best_of(False, x, xs, **kw)
-"#
-            now r#"def sorted_of(x, *, key=None, reverse=False):
+def sorted_of(x, *, key=None, reverse=False):
     l = list_of(x)
     return _sort(l, l if key is None else [key(v) for v in l], bool(reverse))
 def sort_of(l, **kw): _refill(l, sorted_of(l, **kw))
@@ -155,14 +153,14 @@ def print_of(xs, sep, end): _write(sep.join([str(v) for v in xs]) + end)
 }
 
 macro_rules! whole {
-    (now $a:literal later $b:literal now $c:literal later $d:literal now $e:literal later $f:literal now $g:literal) => {
-        concat!($a, $b, $c, $d, $e, $f, $g)
+    (now $a:literal later $b:literal now $c:literal later $d:literal now $e:literal) => {
+        concat!($a, $b, $c, $d, $e)
     };
 }
 
 macro_rules! without_later {
-    (now $a:literal later $b:literal now $c:literal later $d:literal now $e:literal later $f:literal now $g:literal) => {
-        concat!($a, $c, $e, $g)
+    (now $a:literal later $b:literal now $c:literal later $d:literal now $e:literal) => {
+        concat!($a, $c, $e)
     };
 }
 
@@ -171,7 +169,7 @@ macro_rules! without_later {
 /// before it is a primitive.
 pub const WHOLE_PRELUDE: &str = prelude!(whole);
 
-/// The prelude without the functions that hold `raise`, `try` or `yield` and those that call them.
+/// The prelude without the functions that hold `try` or `yield` and those that call them.
 pub const PRELUDE: &str = prelude!(without_later);
 
 /// The text of the prelude, as scripts run over it.

@@ -6,6 +6,7 @@ pub mod Places
 pub mod ValueLists
 pub mod StayLemmas
 pub mod SoundLemmas
+pub mod SortLemmas
 pub mod EntryLemmas
 pub mod ContainerLemmas
 pub mod StarLemmas

@@ -68,6 +68,7 @@ use Rattle.pt_methods.specs.declared.attribute.Attribute.TheVariants as attribut
 use Rattle.pt_methods.specs.Attributes.{attribute_of}
 use Rattle.pt_prims.specs.Calls as calls
 use Rattle.pt_prims.specs.Classes as classes
+use Rattle.pt_prims.specs.Hidden as hidden
 use Rattle.pt_prims.specs.declared.classes.Kinship.{Kinship}
 use Rattle.pt_prims.specs.declared.classes.Kinship.TheVariants as kinship
 use Rattle.pt_prims.specs.IntegerTexts as texts_as_integers
@@ -86,6 +87,8 @@ use Rattle.pt_prims.specs.Operations.{content_of, content_of_few, content_of_one
 use Rattle.pt_prims.specs.Sequences as sequences
 use Rattle.pt_prims.specs.Spreads as spreads
 use Rattle.pt_prims.specs.Subscripts as subscripts
+use Rattle.pt_sorting.specs.Keys.{common_kind}
+use Rattle.pt_sorting.specs.Sorting.{first_fault, keyed as pairs_of, sorted, sorted_content, unless_wrong}
 use Rattle.pt_tree.specs.declared.expression.Conversion.{Conversion}
 use Rattle.pt_tree.specs.declared.expression.Conversion.TheVariants as conversion
 use Rattle.pt_heap.specs.declared.object.Slice.{Slice}
@@ -118,6 +121,7 @@ use Rattle.pt_prims.proofs.ContainerLemmas.{add-within, combined-content-within,
 use Rattle.pt_methods.specs.pt_comparisons.Truths.{truth_by, turned}
 use Rattle.pt_prims.proofs.Places.{all-append, all-grow, all-repeated, below-values, both-below, class-within, none-below, object-below, one-below, one-within, start-class, value-below, values-below, within-grows, Below}
 use Rattle.pt_prims.proofs.MethodLemmas.{answered-within, joined-within, method-within}
+use Rattle.pt_prims.proofs.SortLemmas.{fault-within, sorted-within, FaultIsWithin}
 use Rattle.pt_prims.proofs.SoundLemmas.{IsWithinHeap, NewAreWithin}
 use Rattle.pt_prims.proofs.StarLemmas.{starred-items-within}
 
@@ -930,6 +934,10 @@ module _ (h : List Object) (s : IsSound start_objects h) where
   view-within part.Values = builtin 23 (_, refl)
   view-within part.Items = builtin 24 (_, refl)
 
+  function-class-within : (hidden : Bool) → IsWithin h (calls.function_class hidden)
+  function-class-within true = builtin 16 (_, refl)
+  function-class-within false = builtin 14 (_, refl)
+
   class-of-object-within : (id : ObjId) (o : Option Object) → slice_get h id.0 ≡ o → IsWithin h (calls.class_of_object o)
   class-of-object-within id (Some (object.Str t)) e = builtin 4 (_, refl)
   class-of-object-within id (Some (object.List vs)) e = builtin 5 (_, refl)
@@ -938,7 +946,7 @@ module _ (h : List Object) (s : IsSound start_objects h) where
   class-of-object-within id (Some (object.Dict es)) e = builtin 8 (_, refl)
   class-of-object-within id (Some (object.Range r)) e = builtin 9 (_, refl)
   class-of-object-within id (Some (object.Slice x)) e = builtin 10 (_, refl)
-  class-of-object-within id (Some (object.Function f)) e = builtin 14 (_, refl)
+  class-of-object-within id (Some (object.Function f)) e = function-class-within f.hidden
   class-of-object-within id (Some (object.Method m)) e = builtin 15 (_, refl)
   class-of-object-within id (Some (object.Builtin b)) e = builtin 16 (_, refl)
   class-of-object-within id (Some (object.Generator n)) e = builtin 17 (_, refl)
@@ -998,6 +1006,58 @@ module _ (h : List Object) (s : IsSound start_objects h) where
   call-exit-within (a ∷ []) w = exits-within (calls.status_in a) (status-within a w.0)
   call-exit-within (a ∷ b ∷ vs) w = tt
 
+  -- what functions that are written in Python ask
+  tuple-by-within : (a : Value) (o : Option Object) → object_of h a ≡ o → IsWithinHeap h (hidden.tuple_by o)
+  tuple-by-within a (Some (object.List vs)) e = tuple-within h vs (list-items a vs e)
+  tuple-by-within a o e = tt
+
+  make-tuple-within : (vs : List Value) → IsWithinHeap h (hidden.make_tuple vs h)
+  make-tuple-within (a ∷ []) = tuple-by-within a (object_of h a) refl
+  make-tuple-within vs = tt
+
+  make-set-within : (vs : List Value) → IsWithinHeap h (hidden.make_set vs)
+  make-set-within [] = none-below (length h)
+  make-set-within (a ∷ vs) = tt
+
+  is-of-by-within : (a : Value) (o : Option (List ℕ)) → IsWithinHeap h (hidden.is_of_by h a o)
+  is-of-by-within a (Some name) = tt
+  is-of-by-within a None = tt
+
+  is-of-within : (vs : List Value) → IsWithinHeap h (hidden.is_of vs h)
+  is-of-within (a ∷ n ∷ []) = is-of-by-within a (text_of h n)
+  is-of-within vs = tt
+
+  join-by-within : (t : Option (List ℕ)) (o : Option Object) → IsWithinHeap h (hidden.join_by h t o)
+  join-by-within (Some sep) (Some (object.List vs)) = joined-within h sep (answers.texts_of h vs)
+  join-by-within t o = tt
+
+  join-items-within : (vs : List Value) → IsWithinHeap h (hidden.join_items vs h)
+  join-items-within (x ∷ l ∷ []) = join-by-within (text_of h x) (object_of h l)
+  join-items-within vs = tt
+
+  sorted-content-within : (falling : Bool) (vs ks : List Value) → AllWithin h vs → IsWithinHeap h (sorted_content h falling vs ks)
+  sorted-content-within falling vs ks w = by (first_fault h ks) (fault-within h ks)
+    where
+      by : (o : Option Content) → FaultIsWithin h o → IsWithinHeap h (unless_wrong o (sorted h (common_kind h ks) falling (pairs_of ks vs)))
+      by (Some c) i = i
+      by None i = list-within h (sorted h (common_kind h ks) falling (pairs_of ks vs)) (sorted-within h (common_kind h ks) falling ks vs w)
+
+  sort-by-within : (a : Value) (o p : Option Object) (v : Value) → object_of h a ≡ o → IsWithinHeap h (hidden.sort_by h o p v)
+  sort-by-within a (Some (object.List vs)) (Some (object.List ks)) (value.Bool b) e = sorted-content-within b vs ks (list-items a vs e)
+  sort-by-within a o p v e = tt
+
+  sort-items-within : (vs : List Value) → IsWithinHeap h (hidden.sort_items vs h)
+  sort-items-within (l ∷ k ∷ v ∷ []) = sort-by-within l (object_of h l) (object_of h k) v refl
+  sort-items-within vs = tt
+
+  refill-by-within : (l a : Value) (o : Option Object) → object_of h a ≡ o → IsWithinHeap h (hidden.refill_by l o)
+  refill-by-within l a (Some (object.List vs)) e = list-changed-within l vs value.None (list-items a vs e) tt
+  refill-by-within l a o e = tt
+
+  refill-within : (vs : List Value) → IsWithinHeap h (hidden.refill vs h)
+  refill-within (l ∷ a ∷ []) = refill-by-within l a (object_of h a) refl
+  refill-within vs = tt
+
   call-within : (f : Function) (vs : List Value) → AllWithin h vs → IsWithinHeap h (calls.call_content f vs h)
   call-within function.Print (x ∷ y ∷ vs) w = print-within (texts.text_or (codes " ") h x) (texts.text_or (10 ∷ []) h y) vs
   call-within function.Len (a ∷ []) w = length-within a (length_of h a)
@@ -1019,6 +1079,12 @@ module _ (h : List Object) (s : IsSound start_objects h) where
   call-within function.Bool vs w = call-bool-within vs
   call-within function.Str vs w = call-str-within vs w
   call-within function.Range vs w = range-within vs
+  call-within function.MakeTuple vs w = make-tuple-within vs
+  call-within function.MakeSet vs w = make-set-within vs
+  call-within function.IsOf vs w = is-of-within vs
+  call-within function.JoinItems vs w = join-items-within vs
+  call-within function.SortItems vs w = sort-items-within vs
+  call-within function.Refill vs w = refill-within vs
   call-within f vs w = tt
 
   -- fields of f-strings

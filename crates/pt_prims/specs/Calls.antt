@@ -1,5 +1,5 @@
 -- What calls of builtin functions and classes give (Library Reference, "Built-in Functions"; "Built-in Types").
-use Rattle.std.specs.Prelude.{ℕ, ℤ, pos, negsuc, ◌&&◌, true, false, List, [], ◌∷◌, Option, Some, None, nat_lt, nat_le, slice_get, if◌then◌else◌}
+use Rattle.std.specs.Prelude.{ℕ, ℤ, pos, negsuc, ◌&&◌, Bool, true, false, List, [], ◌∷◌, Option, Some, None, nat_lt, nat_le, slice_get, if◌then◌else◌}
 use Rattle.std.specs.Char.{encode_utf8}
 use Rattle.std.specs.Str.{chars}
 use Rattle.pt_base.specs.declared.operators.BinOp.TheVariants.{FloorDiv, Mod}
@@ -36,6 +36,7 @@ use Rattle.pt_prims.specs.declared.calls.TheConstants.{STOP_ITERATION, SYSTEM_EX
 use Rattle.pt_prims.specs.Arithmetic.{integer_content}
 use Rattle.pt_prims.specs.AttributeCalls.{call_getattr, has_attribute}
 use Rattle.pt_prims.specs.Classes.{is_of_classes, subclass_by}
+use Rattle.pt_prims.specs.Hidden.{is_of, join_items, make_set, make_tuple, refill, sort_items}
 use Rattle.pt_prims.specs.IntegerTexts.{text_integer}
 use Rattle.pt_methods.specs.pt_comparisons.Truths.{truth_content, truth_value}
 
@@ -102,6 +103,11 @@ view_class Keys = builtin_class 22
 view_class Values = builtin_class 23
 view_class Items = builtin_class 24
 
+-- a function that is written in Python is a builtin one
+abbrev pub function_class : (hidden : Bool) → Value
+function_class true = builtin_class 16
+function_class false = builtin_class 14
+
 abbrev pub class_of_object : Option Object → Value
 class_of_object (Some (object.Str t)) = builtin_class 4
 class_of_object (Some (object.List vs)) = builtin_class 5
@@ -110,7 +116,7 @@ class_of_object (Some (object.Set es)) = builtin_class 7
 class_of_object (Some (object.Dict es)) = builtin_class 8
 class_of_object (Some (object.Range r)) = builtin_class 9
 class_of_object (Some (object.Slice s)) = builtin_class 10
-class_of_object (Some (object.Function f)) = builtin_class 14
+class_of_object (Some (object.Function f)) = function_class f.hidden
 class_of_object (Some (object.Method m)) = builtin_class 15
 class_of_object (Some (object.Builtin b)) = builtin_class 16
 class_of_object (Some (object.Generator n)) = builtin_class 17
@@ -200,4 +206,10 @@ call_content function.Int vs h = call_int vs h
 call_content function.Bool vs h = call_bool vs h
 call_content function.Str vs h = call_str vs h
 call_content function.Range vs h = range_content h vs
+call_content function.MakeTuple vs h = make_tuple vs h
+call_content function.MakeSet vs h = make_set vs
+call_content function.IsOf vs h = is_of vs h
+call_content function.JoinItems vs h = join_items vs h
+call_content function.SortItems vs h = sort_items vs h
+call_content function.Refill vs h = refill vs h
 call_content f vs h = content.Outside Feature

@@ -4,6 +4,7 @@ pub mod InPlace
 pub mod Classes
 pub mod AttributeCalls
 pub mod IntegerTexts
+pub mod Hidden
 pub mod Calls
 pub mod Subscripts
 pub mod Spreads

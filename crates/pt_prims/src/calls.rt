@@ -9,12 +9,14 @@ ghost use Rattle.pt_content.specs.Operands.{operand_of};
 ghost use Rattle.pt_prims.specs.Calls.{builtin_class, call_bool, call_content, call_int, call_next};
 ghost use Rattle.pt_prims.specs.Calls.{call_exit, call_str, callable_by, char_by, char_of};
 ghost use Rattle.pt_prims.specs.Calls.{class_of, class_of_object, code_by, code_of, division_by};
-ghost use Rattle.pt_prims.specs.Calls.{integer_by, magnitude, magnitude_by, or_default, or_raise};
+ghost use Rattle.pt_prims.specs.Calls.{function_class, integer_by, magnitude, magnitude_by};
+ghost use Rattle.pt_prims.specs.Calls.{or_default, or_raise};
 ghost use Rattle.pt_prims.specs.Calls.{exits_with, quotient_and_remainder, status_in, view_class};
 
 use crate::arithmetic::integer_content;
 use crate::attribute_calls::{call_getattr, has_attribute};
 use crate::classes::{is_of_classes, subclass_by};
+use crate::hidden::{is_of, join_items, make_set, make_tuple, refill, sort_items};
 use crate::integer_texts::text_integer;
 use pt_base::{BinOp, Memory, ObjId, Seq, Text, UnOp, What};
 use pt_content::{
@@ -198,6 +200,17 @@ fn view_class(part: Part) -> Value
     }
 }
 
+/// The class of a function. One that is written in Python is a builtin one.
+fn function_class(hidden: bool) -> Value
+    ensures { result ≡ function_class hidden }
+{
+    if hidden {
+        builtin_class(16)
+    } else {
+        builtin_class(14)
+    }
+}
+
 fn class_of_object(heap: &Heap, id: ObjId) -> Value
     ensures { result ≡ class_of_object (slice_get heap.now id.0) }
 {
@@ -209,7 +222,7 @@ fn class_of_object(heap: &Heap, id: ObjId) -> Value
         Some(Object::Dict(_)) => builtin_class(8),
         Some(Object::Range(_)) => builtin_class(9),
         Some(Object::Slice(_)) => builtin_class(10),
-        Some(Object::Function(_)) => builtin_class(14),
+        Some(Object::Function(function)) => function_class(function.hidden),
         Some(Object::Method(_)) => builtin_class(15),
         Some(Object::Builtin(_)) => builtin_class(16),
         Some(Object::Generator(_)) => builtin_class(17),
@@ -401,6 +414,12 @@ pub fn call_content(
         (Function::Bool, args) => Ok(call_bool(args, heap)),
         (Function::Str, args) => call_str(alloc, args, heap),
         (Function::Range, values) => range_content(alloc, heap, values),
+        (Function::MakeTuple, args) => make_tuple(alloc, args, heap),
+        (Function::MakeSet, args) => make_set(alloc, args, heap),
+        (Function::IsOf, args) => Ok(is_of(args, heap)),
+        (Function::JoinItems, args) => join_items(alloc, args, heap),
+        (Function::SortItems, args) => sort_items(alloc, args, heap),
+        (Function::Refill, args) => refill(alloc, args, heap),
         _ => Ok(Content::Outside(What::Feature)),
     }
 }

@@ -7,6 +7,7 @@ mod arithmetic;
 mod attribute_calls;
 mod calls;
 mod classes;
+mod hidden;
 mod in_place;
 mod integer_texts;
 mod laws;

@@ -1,4 +1,4 @@
--- From the answer for a text to the answer to words.
+-- From the answer for a text over the prelude to that for a text, and to the answer to words.
 use Rattle.std.proofs.Common.{◌≡◌, ◌∙◌, ◌⊎◌, ◌≤◌, ℕ, [], List, Option, Some, None, Result, Ok, Err, IfOk, IfErr, inl, inr, refl, sym, ap, subst, length}
 use Rattle.std.specs.declared.string.String.{String}
 use Rattle.std.specs.declared.alloc.Global.{Global}
@@ -15,12 +15,14 @@ use Rattle.pt_sinks.specs.declared.writing.Out.{Out}
 use Rattle.pt_sinks.specs.declared.writing.Out.TheVariants as out
 use Rattle.pt_sinks.specs.declared.writing.WriteErr.{WriteErr}
 use Rattle.pt_sinks.specs.declared.writing.WriteErr.TheVariants as error
+use Rattle.pt_tree.specs.Syntax.{Stms}
+use Rattle.pt_prelude.specs.declared.source.TheConstants.{PRELUDE}
 use Rattle.pt_words.specs.Words.{Asked}
 use Rattle.pt_prog.specs.declared.end.End.{End}
 use Rattle.pt_prog.specs.declared.end.End.TheVariants as end
-use Rattle.pt_prog.specs.LogText.{Text}
+use Rattle.pt_prog.specs.LogText.{Text, final}
 use Rattle.pt_prog.specs.RunEnds.{ended}
-use Rattle.pt_prog.specs.Answer.{BrokeOffFor, IsAnswer, IsAnswerFor, IsCodeAnswer, IsEndFor, IsTextOf, WroteAll, WroteAllFor, WroteFront, WroteFrontFor, Wrote, asked_for, end_of, of_no_text, of_its_text, of_text, bad_code, unbuilt_code, ran_code, of_code, refused, unbuilt, ran, wrote_code, usage, read_fault, too_long}
+use Rattle.pt_prog.specs.Answer.{BrokeOffFor, BrokeOffOver, IsAnswer, IsAnswerFor, IsAnswerOver, IsBuilt, IsCodeAnswer, IsEndFor, IsNoPrelude, IsTextOf, WroteAll, WroteAllFor, WroteAllOver, WroteFront, WroteFrontFor, Wrote, asked_for, end_of, of_no_prelude, of_no_text, of_its_text, of_prelude, of_text, bad_code, unbuilt_code, ran_code, of_code, refused, unbuilt, ran, wrote_code, no_prelude, over, refused_prelude, unbuilt_prelude, usage, read_fault, too_long}
 
 -- an answer is neither a fault of a write nor want of memory
 abbrev IsOrdinary : End → Type 0
@@ -35,17 +37,26 @@ ordinary_end n (bare.raised v w) = tt
 ordinary_end n bare.spent = tt
 ordinary_end n (bare.outside_at what line) = tt
 
-ordinary_code : (a : Asked) (bytes : Text) (e : End) (ws : List Write) → IsCodeAnswer a bytes e ws → IsOrdinary e
-ordinary_code a bytes e ws (bad_code error r is w) = subst IsOrdinary (sym is) tt
-ordinary_code a bytes e ws (unbuilt_code line r is w) = subst IsOrdinary (sym is) tt
-ordinary_code a bytes e ws (ran_code c o k r runs is w) = subst IsOrdinary (sym is) (ordinary_end a.steps o.ending)
+module _ (prelude : Stms) where
+  ordinary_code : (a : Asked) (bytes : Text) (e : End) (ws : List Write) → IsCodeAnswer prelude a bytes e ws → IsOrdinary e
+  ordinary_code a bytes e ws (bad_code error r is w) = subst IsOrdinary (sym is) tt
+  ordinary_code a bytes e ws (unbuilt_code line r is w) = subst IsOrdinary (sym is) tt
+  ordinary_code a bytes e ws (ran_code c o k ready r runs is w) = subst IsOrdinary (sym is) (ordinary_end a.steps o.ending)
+
+  ordinary_over : (a : Asked) (text : Text) (e : End) (ws : List Write) → IsAnswerOver prelude a text e ws → IsOrdinary e
+  ordinary_over a text e ws (of_code r x) = ordinary_code a text e ws x
+  ordinary_over a text e ws (refused error n r is w) = subst IsOrdinary (sym is) tt
+  ordinary_over a text e ws (unbuilt line r u is w) = subst IsOrdinary (sym is) tt
+  ordinary_over a text e ws (ran ss o k r b runs code is w) = subst IsOrdinary (sym is) (ordinary_end a.steps o.ending)
+  ordinary_over a text e ws (wrote_code lines r l is w) = subst IsOrdinary (sym is) tt
+
+ordinary_none : (e : End) → IsNoPrelude e → IsOrdinary e
+ordinary_none e (refused_prelude error r is) = subst IsOrdinary (sym is) tt
+ordinary_none e (unbuilt_prelude line u is) = subst IsOrdinary (sym is) tt
 
 ordinary_for : (a : Asked) (text : Text) (e : End) (ws : List Write) → IsAnswerFor a text e ws → IsOrdinary e
-ordinary_for a text e ws (of_code r x) = ordinary_code a text e ws x
-ordinary_for a text e ws (refused error n r is w) = subst IsOrdinary (sym is) tt
-ordinary_for a text e ws (unbuilt line r u is w) = subst IsOrdinary (sym is) tt
-ordinary_for a text e ws (ran ss o k r b runs code is w) = subst IsOrdinary (sym is) (ordinary_end a.steps o.ending)
-ordinary_for a text e ws (wrote_code lines r l is w) = subst IsOrdinary (sym is) tt
+ordinary_for a text e ws (no_prelude n w) = ordinary_none e n
+ordinary_for a text e ws (over prelude is x) = ordinary_over prelude a text e ws x
 
 ordinary : (misread : Type 0) (words : List (String Global)) (told : Text → Told) (e : End) (ws : List Write) → IsAnswer misread words told e ws → IsOrdinary e
 ordinary misread words told e ws (usage n is w) = subst IsOrdinary (sym is) tt
@@ -87,6 +98,33 @@ module _ (misread : Type 0) (words : List (String Global)) (told : Text → Told
     its_text (Err (error.Failed which)) t f = of_its_text a text is f
     its_text (Err error.Memory) t (inl f) = inl f
     its_text (Err error.Memory) t (inr f) = inr (of_its_text a text is f)
+
+-- the prelude is taken first
+module _ (a : Asked) (text : Text) (out_old out_new log_old log_new : Pieces → Pieces → Type 0) where
+  module _ (prelude : Stms) (is : IsBuilt PRELUDE.now prelude) where
+    pub all_for : (r : Result End WriteErr) → IfOk r (WroteAllOver out_old out_new log_old log_new prelude a text)
+        → IfOk r (WroteAllFor out_old out_new log_old log_new a text)
+    all_for (Ok e) t = record { writes = t.writes; is_answer = over prelude is t.is_answer; took = t.took }
+    all_for (Err e) t = tt
+
+    pub broke_off_for : (r : Result End WriteErr) → IfErr r (BrokeOffOver out_old out_new log_old log_new prelude a text)
+        → IfErr r (BrokeOffFor out_old out_new log_old log_new a text)
+    broke_off_for (Ok e) f = tt
+    broke_off_for (Err (error.Failed which)) f = of_prelude prelude is f
+    broke_off_for (Err error.Memory) (inl f) = inl f
+    broke_off_for (Err error.Memory) (inr f) = inr (of_prelude prelude is f)
+
+  module _ (e : End) (none : IsNoPrelude e) where
+    pub none_for : (r : Result End WriteErr) → IfOk r (λ x. (x ≡ e) × Took out_old out_new log_old log_new (final e))
+        → IfOk r (WroteAllFor out_old out_new log_old log_new a text)
+    none_for (Ok x) t = record { writes = final e; is_answer = subst (λ y. IsAnswerFor a text y (final e)) (sym t.0) (no_prelude none refl); took = t.1 }
+    none_for (Err x) t = tt
+
+    pub none_broke_off_for : (r : Result End WriteErr) → IfErr r (λ why. TookFront out_old out_new log_old log_new why (final e))
+        → IfErr r (BrokeOffFor out_old out_new log_old log_new a text)
+    none_broke_off_for (Ok x) f = tt
+    none_broke_off_for (Err (error.Failed which)) f = of_no_prelude e none f
+    none_broke_off_for (Err error.Memory) f = inr (of_no_prelude e none f)
 
 -- where no write failed, the end is the one that the text says
 module _ (a : Asked) (text : Text) (out_old out_new log_old log_new : Pieces → Pieces → Type 0) where

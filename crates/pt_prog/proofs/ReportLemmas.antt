@@ -32,61 +32,61 @@ use Rattle.pt_words.specs.declared.line.Command.TheVariants as command
 use Rattle.pt_prog.specs.declared.end.End.{End}
 use Rattle.pt_prog.specs.LogText.{Text}
 use Rattle.pt_prog.specs.RunEnds.{unless_failed}
-use Rattle.pt_prog.specs.Answer.{BrokeOffFor, IsAnswerFor, IsBuilt, ReportedFront, WritesFirst, WroteAllFor, WroteFrontFor, all_told, all_writes, end_of, is_run, of_all, of_answer, of_code, of_code_run, of_front, of_reported_run, of_run, ran, refused, report_kind, report_on, reported, script_read, script_writes, unbuilt, wrote_code}
+use Rattle.pt_prog.specs.Answer.{BrokeOffOver, IsAnswerOver, IsBuilt, ReportedFront, WritesFirst, WroteAllOver, WroteFrontOver, all_told, all_writes, end_of, is_run, of_all, of_answer, of_code, of_code_run, of_front, of_reported_run, of_run, ran, refused, report_kind, report_on, reported, script_read, script_writes, unbuilt, wrote_code}
 use Rattle.pt_prog.proofs.EndLaws.{not_both, outs_reported}
 use Rattle.pt_sinks.proofs.WritingLemmas.{front_of_all, logs_append}
 
 -- what a plain run of a script with its events and totals came to
-record PlainRun (a : Asked) (text : Text) (ss : Stms) (e : End) (ws : List Write) : Type 0 where
+record PlainRun (a : Asked) (text : Text) (prelude ss : Stms) (e : End) (ws : List Write) : Type 0 where
   outcome : Outcome Value World
   work : Work
-  runs : RunsTo ss a.steps outcome
-  code_runs : CodeRunsBy ss a.steps outcome work
+  runs : RunsTo prelude ss a.steps outcome
+  code_runs : CodeRunsBy prelude ss a.steps outcome work
   ends : e ≡ end_of a.steps outcome.ending
-  writes : ws ≡ all_writes (script_read a text ss) a.steps true true outcome work
+  writes : ws ≡ all_writes (script_read a text prelude ss) a.steps true true outcome work
 
 no_run : {A : Type 0} → false ≡ true → A
 no_run e = absurd (true≢false (sym e))
 
-module _ (a : Asked) (text : Text) (ss : Stms) (is : IsBuilt text ss) where
-  plain_run : (e : End) (ws : List Write) → IsAnswerFor (all_told a) text e ws → PlainRun a text ss e ws
+module _ (prelude : Stms) (a : Asked) (text : Text) (ss : Stms) (is : IsBuilt text ss) where
+  plain_run : (e : End) (ws : List Write) → IsAnswerOver prelude (all_told a) text e ws → PlainRun a text prelude ss e ws
   plain_run e ws (of_code r x) = no_run r
   plain_run e ws (refused q n x i u) = absurd (never_both text ss q is.is_script x)
-  plain_run e ws (unbuilt l r x i u) = absurd (not_both (all_told a) text l ss x is)
+  plain_run e ws (unbuilt l r x i u) = absurd (not_both text l ss x is)
   plain_run e ws (ran zz o w r x to by i u) =
       let same : zz ≡ ss = one_script text zz ss x.is_script is.is_script in
       record {
         outcome = o;
         work = w;
-        runs = subst (λ s. RunsTo s a.steps o) same to;
-        code_runs = subst (λ s. CodeRunsBy s a.steps o w) same by;
+        runs = subst (λ s. RunsTo prelude s a.steps o) same to;
+        code_runs = subst (λ s. CodeRunsBy prelude s a.steps o w) same by;
         ends = i;
-        writes = u ∙ ap (λ s. all_writes (script_read a text s) a.steps true true o w) same;
+        writes = u ∙ ap (λ s. all_writes (script_read a text prelude s) a.steps true true o w) same;
       }
   plain_run e ws (wrote_code bs n x i u) = no_run (sym n)
 
   -- what it wrote first
   record PlainFront (out_old out_new log_old log_new : Pieces → Pieces → Type 0) (why : WriteErr) : Type 0 where
     writes : List Write
-    first_written : WritesFirst a text ss writes
+    first_written : WritesFirst a text prelude ss writes
     took : TookFront out_old out_new log_old log_new why writes
 
   plain_front : (out_old out_new log_old log_new : Pieces → Pieces → Type 0) (why : WriteErr)
-      → WroteFrontFor out_old out_new log_old log_new why (all_told a) text → PlainFront out_old out_new log_old log_new why
+      → WroteFrontOver out_old out_new log_old log_new prelude why (all_told a) text → PlainFront out_old out_new log_old log_new why
   plain_front out_old out_new log_old log_new why (of_answer e ws x t) =
       let r = plain_run e ws x in record {
-        writes = all_writes (script_read a text ss) a.steps true true r.outcome r.work;
+        writes = all_writes (script_read a text prelude ss) a.steps true true r.outcome r.work;
         first_written = of_all r.outcome r.work r.runs r.code_runs;
         took = subst (TookFront out_old out_new log_old log_new why) r.writes t;
       }
   plain_front out_old out_new log_old log_new why (of_run zz ws r n x f t) =
       let same : zz ≡ ss = one_script text zz ss x.is_script is.is_script in record {
         writes = kept true ws;
-        first_written = of_front ws (subst (λ s. ScriptWritesFirst s a.steps ws) same f);
+        first_written = of_front ws (subst (λ s. ScriptWritesFirst prelude s a.steps ws) same f);
         took = t;
       }
   plain_front out_old out_new log_old log_new why (of_reported_run k zz ws r x f t) = absurd (let no : None ≡ Some k = r in cc)
-  plain_front out_old out_new log_old log_new why (of_code_run c ws r x f t) = no_run r
+  plain_front out_old out_new log_old log_new why (of_code_run c ws r ready x f t) = no_run r
 
   -- the log counts over another one
   module _ (k : ReportKind) (reports : report_kind a.command ≡ Some k) (c : Counts) (o e t : Bool) (f : Option SinkErr)
@@ -128,15 +128,15 @@ module _ (a : Asked) (text : Text) (ss : Stms) (is : IsBuilt text ss) where
             (took.log (start fresh a.events a.stats log_old log_old g h) [] (begun g h had)) none);
       }
 
-      pub answered : (x : End) → f' ≡ None → WroteAllFor out_old out_new (Taken c o e t f below) Counting (all_told a) text x
-          → is_run a.command ≡ true → WroteAllFor out_old out_new log_old log_new a text x
+      pub answered : (x : End) → f' ≡ None → WroteAllOver out_old out_new (Taken c o e t f below) Counting prelude (all_told a) text x
+          → is_run a.command ≡ true → WroteAllOver out_old out_new log_old log_new prelude a text x
       answered x none w is_one =
           let r = plain_run x w.writes w.is_answer in
-          let told : List Write = all_writes (script_read a text ss) a.steps true true r.outcome r.work in
+          let told : List Write = all_writes (script_read a text prelude ss) a.steps true true r.outcome r.work in
           record {
             writes = reported k a ss told;
             is_answer = ran ss r.outcome r.work is_one is r.runs r.code_runs r.ends
-                (ap (λ q. script_writes q a text ss r.outcome r.work) (sym reports));
+                (ap (λ q. script_writes q a text prelude ss r.outcome r.work) (sym reports));
             took = all_reported told none (subst (Took out_old out_new (Taken c o e t f below) Counting) r.writes w.took);
           }
 
@@ -155,8 +155,8 @@ module _ (a : Asked) (text : Text) (ss : Stms) (is : IsBuilt text ss) where
             (took.log (start fresh a.events a.stats log_old log_old g h) [] (begun g h had));
       }
 
-      pub front : (why : WriteErr) → WroteFrontFor out_old out_new (Taken c o e t f below) Counting why (all_told a) text
-          → WroteFrontFor out_old out_new log_old log_new why a text
+      pub front : (why : WriteErr) → WroteFrontOver out_old out_new (Taken c o e t f below) Counting prelude why (all_told a) text
+          → WroteFrontOver out_old out_new log_old log_new prelude why a text
       front why w =
           let p = plain_front out_old out_new (Taken c o e t f below) Counting why w in
           of_reported_run k ss p.writes reports is p.first_written (front_reported why p.writes p.took)
@@ -170,35 +170,35 @@ module _ (a : Asked) (text : Text) (ss : Stms) (is : IsBuilt text ss) where
             (none.log (start fresh a.events a.stats log_old log_old g h) [] (begun g h had))));
       }
 
-      pub broke_off : (why : WriteErr) → BrokeOffFor out_old out_new (Taken c o e t f below) Counting (all_told a) text why
-          → BrokeOffFor out_old out_new log_old log_new a text why
+      pub broke_off : (why : WriteErr) → BrokeOffOver out_old out_new (Taken c o e t f below) Counting prelude (all_told a) text why
+          → BrokeOffOver out_old out_new log_old log_new prelude a text why
       broke_off (error.Failed which) w = front (error.Failed which) w
       broke_off error.Memory w = elim w [ inl none ↦ inl (nothing_taken none) | inr w ↦ inr (front error.Memory w) ]
 
       -- all that was counted was written, and some of it wasn't passed on
-      pub broke_later : (x : End) → WroteAllFor out_old out_new (Taken c o e t f below) Counting (all_told a) text x
-          → BrokeOffFor out_old out_new log_old log_new a text error.Memory
+      pub broke_later : (x : End) → WroteAllOver out_old out_new (Taken c o e t f below) Counting prelude (all_told a) text x
+          → BrokeOffOver out_old out_new log_old log_new prelude a text error.Memory
       broke_later x w = inr (front error.Memory (of_answer x w.writes w.is_answer
           (front_of_all out_old out_new (Taken c o e t f below) Counting w.writes w.took)))
 
       -- whether or not all was passed on
       pub all_of_it : (r : Result End WriteErr) → is_run a.command ≡ true
-          → IfOk r (WroteAllFor out_old out_new (Taken c o e t f below) Counting (all_told a) text)
-          → IfOk (unless_failed f' r) (WroteAllFor out_old out_new log_old log_new a text)
+          → IfOk r (WroteAllOver out_old out_new (Taken c o e t f below) Counting prelude (all_told a) text)
+          → IfOk (unless_failed f' r) (WroteAllOver out_old out_new log_old log_new prelude a text)
       all_of_it (Ok x) is_one w = go f' refl
         where
-          go : (q : Option SinkErr) → f' ≡ q → IfOk (unless_failed q (Ok x)) (WroteAllFor out_old out_new log_old log_new a text)
+          go : (q : Option SinkErr) → f' ≡ q → IfOk (unless_failed q (Ok x)) (WroteAllOver out_old out_new log_old log_new prelude a text)
           go None none = answered x none w is_one
           go (Some why) some = tt
       all_of_it (Err why) is_one w = tt
 
       pub some_of_it : (r : Result End WriteErr)
-          → IfOk r (WroteAllFor out_old out_new (Taken c o e t f below) Counting (all_told a) text)
-          → IfErr r (BrokeOffFor out_old out_new (Taken c o e t f below) Counting (all_told a) text)
-          → IfErr (unless_failed f' r) (BrokeOffFor out_old out_new log_old log_new a text)
+          → IfOk r (WroteAllOver out_old out_new (Taken c o e t f below) Counting prelude (all_told a) text)
+          → IfErr r (BrokeOffOver out_old out_new (Taken c o e t f below) Counting prelude (all_told a) text)
+          → IfErr (unless_failed f' r) (BrokeOffOver out_old out_new log_old log_new prelude a text)
       some_of_it (Ok x) w b = go f'
         where
-          go : (q : Option SinkErr) → IfErr (unless_failed q (Ok x)) (BrokeOffFor out_old out_new log_old log_new a text)
+          go : (q : Option SinkErr) → IfErr (unless_failed q (Ok x)) (BrokeOffOver out_old out_new log_old log_new prelude a text)
           go None = tt
           go (Some why) = broke_later x w
       some_of_it (Err why) w b = broke_off why b

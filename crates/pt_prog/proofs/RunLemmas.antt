@@ -1,4 +1,4 @@
--- From what was written of a run, and behind it, to the answer for a text.
+-- From what was written of a run, and behind it, to the answer for a text over a prelude.
 use Rattle.std.proofs.Common.{◌≡◌, ◌∙◌, ◌++◌, ◌-◌, ◌^◌, ℕ, min, Bool, true, List, Option, Some, None, Result, Ok, Err, IfOk, IfErr, inl, inr, refl, sym, ap, subst}
 use Rattle.std.specs.Prelude.{IsErr, IsErrAnd, MatchOption}
 use Rattle.pt_base.specs.Taken.{Pieces}
@@ -20,6 +20,8 @@ use Rattle.pt_code.specs.declared.Code.{Code}
 use Rattle.pt_run_script.specs.pt_run_code.pt_runner.Work.{Work}
 use Rattle.pt_base.specs.declared.numbers.Line.{Line}
 use Rattle.pt_supported_code.specs.Built.{BuiltCode, IsUnbuiltCode}
+use Rattle.law_files.specs.sem_compile.compile.ScriptCode.{code_of}
+use Rattle.pt_run_script.specs.pt_run_code.law_loading.code_program.Laws.{IsRunnable}
 use Rattle.pt_run_script.specs.pt_run_code.CodeRun.{CodeBrokeOff, CodeFinished}
 use Rattle.pt_run_script.specs.ScriptRun.{ScriptBrokeOff, ScriptFinished}
 use Rattle.pt_sinks.specs.Writing.{Took, TookFront}
@@ -32,7 +34,7 @@ use Rattle.pt_prog.specs.declared.end.End.TheVariants as end
 use Rattle.pt_prog.specs.LogText.{Text, final, line_of, totals, traced}
 use Rattle.pt_prog.specs.RunEnds.{end_of_run, last_of_run}
 use Rattle.pt_prog.specs.Limits.{reads_code}
-use Rattle.pt_prog.specs.Answer.{BrokeOffFor, IsAnswerFor, IsBuilt, IsFileOf, IsRunnableFile, IsUnbuiltFile, WroteAllFor, WroteFrontFor, code_read, end_of, is_run, last_writes, of_answer, of_code, of_code_run, of_run, ran, ran_code, report_kind, run_writes, script_read, script_writes, tells_events}
+use Rattle.pt_prog.specs.Answer.{BrokeOffOver, IsAnswerOver, IsBuilt, IsFileOf, IsRunnableFile, IsUnbuiltFile, WroteAllOver, WroteFrontOver, code_read, end_of, is_run, last_writes, of_answer, of_code, of_code_run, of_run, ran, ran_code, report_kind, run_writes, script_read, script_writes, tells_events}
 
 -- the end of a run is that of its outcome
 pub same_end : (name : ℕ → List ℕ) (n : ℕ) (x : RunEnd) (e : Ending Value World) → IsEnding name x e → end_of_run n x ≡ end_of n e
@@ -91,15 +93,15 @@ module _ (p : Program) where
   same_last n (run.Outside what line) bare.spent i = absurd i
   same_last n (run.Outside what line) (bare.outside_at w l) i = λ k. final (end.Outside (sym i.0 k) (record { 0 = sym i.1 k }))
 
-module _ (a : Asked) (text : Text) (out_old out_new log_old log_new : Pieces → Pieces → Type 0) where
+module _ (prelude : Stms) (a : Asked) (text : Text) (out_old out_new log_old log_new : Pieces → Pieces → Type 0) where
   abbrev Front : WriteErr → Type 0
-  Front why = WroteFrontFor out_old out_new log_old log_new why a text
+  Front why = WroteFrontOver out_old out_new log_old log_new prelude why a text
 
   abbrev All : End → Type 0
-  All e = WroteAllFor out_old out_new log_old log_new a text e
+  All e = WroteAllOver out_old out_new log_old log_new prelude a text e
 
   abbrev Broke : WriteErr → Type 0
-  Broke e = BrokeOffFor out_old out_new log_old log_new a text e
+  Broke e = BrokeOffOver out_old out_new log_old log_new prelude a text e
 
   pub broke : (e : WriteErr) → Front e → Broke e
   broke (error.Failed which) f = f
@@ -108,14 +110,14 @@ module _ (a : Asked) (text : Text) (out_old out_new log_old log_new : Pieces →
   pub every_err : (r : Result End WriteErr) (e : WriteErr) → IsErr r × IsErrAnd r (λ f. f ≡ e) → Front e → IfErr r Broke
   every_err r e from f = if_err Broke r e from (broke e f)
 
-  pub every_err_of : (r : Result End WriteErr) (ws : List Write) (e : End) → IsAnswerFor a text e ws
+  pub every_err_of : (r : Result End WriteErr) (ws : List Write) (e : End) → IsAnswerOver prelude a text e ws
       → IfErr r (λ why. TookFront out_old out_new log_old log_new why ws) → IfErr r Broke
   every_err_of (Ok x) ws e i f = tt
   every_err_of (Err x) ws e i f = broke x (of_answer e ws i f)
 
-  pub every_ok_of : (r : Result End WriteErr) (ws : List Write) (e : End) → IsAnswerFor a text e ws
+  pub every_ok_of : (r : Result End WriteErr) (ws : List Write) (e : End) → IsAnswerOver prelude a text e ws
       → IfOk r (λ x. (x ≡ e) × Took out_old out_new log_old log_new ws) → IfOk r All
-  every_ok_of (Ok x) ws e i f = record { writes = ws; is_answer = subst (λ y. IsAnswerFor a text y ws) (sym f.0) i; took = f.1 }
+  every_ok_of (Ok x) ws e i f = record { writes = ws; is_answer = subst (λ y. IsAnswerOver prelude a text y ws) (sym f.0) i; took = f.1 }
   every_ok_of (Err x) ws e i f = tt
 
 -- what a run took that came to an outcome by this work
@@ -127,29 +129,29 @@ pub record RunTaken (a : Asked) (p : Program) (x : Ended) (o : Outcome Value Wor
   took : Took out_old out_ran log_old log_ran (kept (tells_events a) o.written)
 
 -- the answer of a run, for a text of a script or for the bytes of code
-abbrev pub Says : Asked → Text → Program → Outcome Value World → Work → Type 0
-Says a text p o w = (e : End) (ws : List Write) → e ≡ end_of a.steps o.ending → ws ≡ run_writes p a o w → IsAnswerFor a text e ws
+abbrev pub Says : (prelude : Stms) → Asked → Text → Program → Outcome Value World → Work → Type 0
+Says prelude a text p o w = (e : End) (ws : List Write) → e ≡ end_of a.steps o.ending → ws ≡ run_writes p a o w → IsAnswerOver prelude a text e ws
 
-module _ (a : Asked) (text : Text) (ss : Stms) (is : IsBuilt text ss) (runs : is_run a.command ≡ true) (plain : report_kind a.command ≡ None) (x : Ended)
+module _ (prelude : Stms) (a : Asked) (text : Text) (ss : Stms) (is : IsBuilt text ss) (runs : is_run a.command ≡ true) (plain : report_kind a.command ≡ None) (x : Ended)
     (out_old out_ran log_old log_ran : Pieces → Pieces → Type 0)
-    (f : ScriptFinished ss a.steps (tells_events a) out_old out_ran log_old log_ran x) where
-  pub script_taken : RunTaken a (script_read a text ss) x f.outcome f.work out_old out_ran log_old log_ran
+    (f : ScriptFinished prelude ss a.steps (tells_events a) out_old out_ran log_old log_ran x) where
+  pub script_taken : RunTaken a (script_read a text prelude ss) x f.outcome f.work out_old out_ran log_old log_ran
   script_taken = record { units = f.units; instructions = f.instructions; depth = f.depth; ends = f.ends; took = f.took }
 
-  pub script_says : Says a text (script_read a text ss) f.outcome f.work
+  pub script_says : Says prelude a text (script_read a text prelude ss) f.outcome f.work
   script_says e ws is_end are =
-      ran ss f.outcome f.work runs is f.runs f.code_runs is_end (are ∙ sym (ap (λ k. script_writes k a text ss f.outcome f.work) plain))
+      ran ss f.outcome f.work runs is f.runs f.code_runs is_end (are ∙ sym (ap (λ k. script_writes k a text prelude ss f.outcome f.work) plain))
 
-module _ (a : Asked) (text : Text) (c : Code) (is : IsRunnableFile text c) (reads : reads_code a.command ≡ true) (x : Ended)
-    (out_old out_ran log_old log_ran : Pieces → Pieces → Type 0) (f : CodeFinished c a.steps (tells_events a) out_old out_ran log_old log_ran x) where
-  pub code_taken : RunTaken a (code_read a c) x f.outcome f.work out_old out_ran log_old log_ran
+module _ (prelude : Stms) (a : Asked) (text : Text) (c : Code) (ready : IsRunnable (code_of prelude)) (is : IsRunnableFile text c) (reads : reads_code a.command ≡ true) (x : Ended)
+    (out_old out_ran log_old log_ran : Pieces → Pieces → Type 0) (f : CodeFinished (code_of prelude) c a.steps (tells_events a) out_old out_ran log_old log_ran x) where
+  pub code_taken : RunTaken a (code_read a (code_of prelude) c) x f.outcome f.work out_old out_ran log_old log_ran
   code_taken = record { units = f.units; instructions = f.instructions; depth = f.depth; ends = f.ends; took = f.took }
 
-  pub code_says : Says a text (code_read a c) f.outcome f.work
-  code_says e ws is_end are = of_code reads (ran_code c f.outcome f.work is f.runs is_end are)
+  pub code_says : Says prelude a text (code_read a (code_of prelude) c) f.outcome f.work
+  code_says e ws is_end are = of_code reads (ran_code c f.outcome f.work ready is f.runs is_end are)
 
 -- a run that came to its outcome, and what the log got behind it
-module _ (a : Asked) (text : Text) (p : Program) (x : Ended) (o : Outcome Value World) (w : Work) (says : Says a text p o w)
+module _ (prelude : Stms) (a : Asked) (text : Text) (p : Program) (x : Ended) (o : Outcome Value World) (w : Work) (says : Says prelude a text p o w)
     (out_old out_ran log_old log_ran : Pieces → Pieces → Type 0) (f : RunTaken a p x o w out_old out_ran log_old log_ran) where
   abbrev written : List Write
   written = kept (tells_events a) o.written
@@ -172,12 +174,12 @@ module _ (a : Asked) (text : Text) (p : Program) (x : Ended) (o : Outcome Value 
       ∙ ap (λ l. written ++ (totals a.stats o.units (min w.instructions (2 ^ 64 - 1)) w.depth ++ l))
       (same_last p a.steps x.end o.ending f.ends)
 
-  pub answer : IsAnswerFor a text (end_of_run a.steps x.end) all_written
+  pub answer : IsAnswerOver prelude a text (end_of_run a.steps x.end) all_written
   answer = says (end_of_run a.steps x.end) all_written (same_end (block_name p) a.steps x.end o.ending f.ends) is_all
 
   module _ (out_new log_new : Pieces → Pieces → Type 0) where
     pub front_of_totals : (why : WriteErr) → TookFront out_ran out_new log_ran log_new why totals_written
-        → WroteFrontFor out_old out_new log_old log_new why a text
+        → WroteFrontOver out_old out_new log_old log_new prelude why a text
     front_of_totals why t =
         of_answer (end_of_run a.steps x.end) all_written answer
         (front_behind out_old out_ran out_new log_old log_ran log_new why written (totals_written ++ last_written) f.took
@@ -196,33 +198,36 @@ module _ (a : Asked) (text : Text) (p : Program) (x : Ended) (o : Outcome Value 
           (took_behind out_ran out_told out_new log_ran log_told log_new totals_written last_written t l)
 
       pub ok_behind : (r : Result End WriteErr) → IfOk r (λ e. (e ≡ end_of_run a.steps x.end) × Took out_told out_new log_told log_new last_written)
-          → IfOk r (WroteAllFor out_old out_new log_old log_new a text)
+          → IfOk r (WroteAllOver out_old out_new log_old log_new prelude a text)
       ok_behind (Ok e) l =
-          record { writes = all_written; is_answer = subst (λ z. IsAnswerFor a text z all_written) (sym l.0) answer; took = all_of_last l.1 }
+          record { writes = all_written; is_answer = subst (λ z. IsAnswerOver prelude a text z all_written) (sym l.0) answer; took = all_of_last l.1 }
       ok_behind (Err e) l = tt
 
       pub err_behind : (r : Result End WriteErr) → IfErr r (λ why. TookFront out_told out_new log_told log_new why last_written)
-          → IfErr r (BrokeOffFor out_old out_new log_old log_new a text)
+          → IfErr r (BrokeOffOver out_old out_new log_old log_new prelude a text)
       err_behind (Ok e) l = tt
-      err_behind (Err e) l = broke a text out_old out_new log_old log_new e (of_answer (end_of_run a.steps x.end) all_written answer (front_of_last e l))
+      err_behind (Err e) l = broke prelude a text out_old out_new log_old log_new e (of_answer (end_of_run a.steps x.end) all_written answer (front_of_last e l))
 
 -- a run that was broken off
-module _ (a : Asked) (text : Text) (ss : Stms) (is : IsBuilt text ss) (runs : is_run a.command ≡ true) (plain : report_kind a.command ≡ None)
+module _ (prelude : Stms) (a : Asked) (text : Text) (ss : Stms) (is : IsBuilt text ss) (runs : is_run a.command ≡ true) (plain : report_kind a.command ≡ None)
     (out_old out_new log_old log_new : Pieces → Pieces → Type 0) where
-  pub front_of_run : (why : WriteErr) → ScriptBrokeOff ss a.steps (tells_events a) out_old out_new log_old log_new why
-      → WroteFrontFor out_old out_new log_old log_new why a text
+  pub front_of_run : (why : WriteErr) → ScriptBrokeOff prelude ss a.steps (tells_events a) out_old out_new log_old log_new why
+      → WroteFrontOver out_old out_new log_old log_new prelude why a text
   front_of_run why b = of_run ss b.written runs plain is b.first b.took
 
-module _ (a : Asked) (text : Text) (c : Code) (is : IsRunnableFile text c) (reads : reads_code a.command ≡ true) (out_old out_new log_old log_new : Pieces → Pieces → Type 0) where
-  pub front_of_code_run : (why : WriteErr) → CodeBrokeOff c a.steps (tells_events a) out_old out_new log_old log_new why
-      → WroteFrontFor out_old out_new log_old log_new why a text
-  front_of_code_run why b = of_code_run c b.written reads is b.first b.took
+module _ (prelude : Stms) (a : Asked) (text : Text) (c : Code) (ready : IsRunnable (code_of prelude)) (is : IsRunnableFile text c) (reads : reads_code a.command ≡ true) (out_old out_new log_old log_new : Pieces → Pieces → Type 0) where
+  pub front_of_code_run : (why : WriteErr) → CodeBrokeOff (code_of prelude) c a.steps (tells_events a) out_old out_new log_old log_new why
+      → WroteFrontOver out_old out_new log_old log_new prelude why a text
+  front_of_code_run why b = of_code_run c b.written reads ready is b.first b.took
+
+pub is_built : (code : Code) (o : Option Line) → MatchOption o (BuiltCode code) (IsUnbuiltCode code) → o ≡ None → BuiltCode code
+is_built code None built e = built
+is_built code (Some line) built e = absurd (let no : Some line ≡ None = e in cc)
 
 -- of a code file that is read and fits
 module _ (bytes : Text) (code : Code) (is : IsFileOf bytes code) (fits : AllFit code) where
   pub runnable : (o : Option Line) → MatchOption o (BuiltCode code) (IsUnbuiltCode code) → o ≡ None → IsRunnableFile bytes code
-  runnable None built e = record { is_file = is.is_file; is_runnable = record { has_file = is.has_file; fit = fits; built = built } }
-  runnable (Some line) built e = absurd (let no : Some line ≡ None = e in cc)
+  runnable o found e = record { is_file = is.is_file; is_runnable = record { has_file = is.has_file; fit = fits; built = is_built code o found e } }
 
   pub unbuilt_file : (o : Option Line) (line : Line) → MatchOption o (BuiltCode code) (IsUnbuiltCode code) → o ≡ Some line → IsUnbuiltFile bytes line
   unbuilt_file o line found e =

@@ -24,6 +24,7 @@ use Rattle.pt_run_script.specs.pt_run_code.pt_runner.Work.{Work}
 use Rattle.pt_run_script.specs.ScriptRun.{CodeRunsBy, RunsTo, ScriptWritesFirst}
 use Rattle.pt_supported.specs.Built.{Built, unbuilt_of}
 use Rattle.pt_front.specs.Text.{IsScript, IsRefused}
+use Rattle.pt_prelude.specs.declared.source.TheConstants.{PRELUDE}
 use Rattle.pt_front.specs.declared.refusal.Refusal.{Refusal}
 use Rattle.pt_code.specs.declared.Code.{Code}
 use Rattle.pt_code.specs.File.{HasFile, file}
@@ -114,6 +115,11 @@ pub record IsUnbuilt (text : Text) (line : Line) : Type 0 where
   pub is_script : IsScript text script
   pub is_first : unbuilt_of script ≡ Some line.0
 
+-- the prelude, a text of the program's own, over which all runs: where it is refused, or isn't built, this is the end
+pub data IsNoPrelude (e : End) : Type 0 where
+  refused_prelude : (error : Refusal) → IsRefused PRELUDE.now error → e ≡ end.Refused error → IsNoPrelude e
+  unbuilt_prelude : (line : Line) → IsUnbuilt PRELUDE.now line → e ≡ end.Unbuilt line → IsNoPrelude e
+
 -- how a command writes code: as a listing of it for people, or as its file, from which no other code is read
 abbrev pub IsWrittenBy : Command → Code → (bytes : Text) → Type 0
 IsWrittenBy command.Run code bytes = ⊥
@@ -139,11 +145,11 @@ end_of n bare.spent = end.Spent n
 end_of n (bare.outside_at what line) = end.Outside what (record { 0 = line })
 
 -- what is run, as it is read from the file that the words name: a script with its text, and a code without a source
-abbrev pub script_read : Asked → Text → Stms → Program
-script_read a text script = read_from a.script (Some text) (program_of script)
+abbrev pub script_read : Asked → Text → (prelude script : Stms) → Program
+script_read a text prelude script = read_from a.script (Some text) (program_of prelude script)
 
-abbrev pub code_read : Asked → Code → Program
-code_read a code = read_from a.script None (program_of_code code)
+abbrev pub code_read : Asked → (prelude code : Code) → Program
+code_read a prelude code = read_from a.script None (program_of_code prelude code)
 
 -- the log's last write: the text of a SystemExit, which the script gives, the traceback of another exception that left it, or the text of the end
 abbrev pub last_writes : Program → (n : ℕ) → Ending Value World → List Write
@@ -174,15 +180,15 @@ abbrev pub reported : ReportKind → Asked → Stms → List Write → List Writ
 reported k a ss ws = map (write to_out) (outs ws) ++ map (write to_log) (logged a.events a.stats (report_on k ss) (logs ws))
 
 -- what the run of a script writes, without a report or with one
-abbrev pub script_writes : Option ReportKind → Asked → Text → Stms → Outcome Value World → Work → List Write
-script_writes None a text ss o w = run_writes (script_read a text ss) a o w
-script_writes (Some k) a text ss o w = reported k a ss (all_writes (script_read a text ss) a.steps true true o w)
+abbrev pub script_writes : Option ReportKind → Asked → Text → (prelude script : Stms) → Outcome Value World → Work → List Write
+script_writes None a text prelude script o w = run_writes (script_read a text prelude script) a o w
+script_writes (Some k) a text prelude script o w = reported k a script (all_writes (script_read a text prelude script) a.steps true true o w)
 
 -- what the run of a script writes first with its events and totals, whether or not it comes to an outcome
-pub data WritesFirst (a : Asked) (text : Text) (ss : Stms) : List Write → Type 0 where
-  of_front : (ws : List Write) → ScriptWritesFirst ss a.steps ws → WritesFirst a text ss (kept true ws)
-  of_all : (o : Outcome Value World) (w : Work) → RunsTo ss a.steps o → CodeRunsBy ss a.steps o w
-      → WritesFirst a text ss (all_writes (script_read a text ss) a.steps true true o w)
+pub data WritesFirst (a : Asked) (text : Text) (prelude script : Stms) : List Write → Type 0 where
+  of_front : (ws : List Write) → ScriptWritesFirst prelude script a.steps ws → WritesFirst a text prelude script (kept true ws)
+  of_all : (o : Outcome Value World) (w : Work) → RunsTo prelude script a.steps o → CodeRunsBy prelude script a.steps o w
+      → WritesFirst a text prelude script (all_writes (script_read a text prelude script) a.steps true true o w)
 
 -- the bytes are no code file, for this reason
 pub record IsNoFile (bytes : Text) (error : CodeErr) : Type 0 where
@@ -226,21 +232,29 @@ pub record IsRunnableFile (bytes : Text) (code : Code) : Type 0 where
   pub is_file : bytes ≡ file code
   pub is_runnable : IsRunnable code
 
--- the answer for the bytes of a code file
-pub data IsCodeAnswer (a : Asked) (bytes : Text) (e : End) (ws : List Write) : Type 0 where
-  bad_code : (error : CodeRefusal) → IsBadFile bytes error → e ≡ end.BadCode error → ws ≡ final e → IsCodeAnswer a bytes e ws
-  unbuilt_code : (line : Line) → IsUnbuiltFile bytes line → e ≡ end.Unbuilt line → ws ≡ final e → IsCodeAnswer a bytes e ws
-  ran_code : (c : Code) (o : Outcome Value World) (w : Work) → IsRunnableFile bytes c → CodeRunsTo c a.steps o w → e ≡ end_of a.steps o.ending
-      → ws ≡ run_writes (code_read a c) a o w → IsCodeAnswer a bytes e ws
+-- the answer for the bytes of a code file, over this prelude, whose code is run too
+pub data IsCodeAnswer (prelude : Stms) (a : Asked) (bytes : Text) (e : End) (ws : List Write) : Type 0 where
+  bad_code : (error : CodeRefusal) → IsBadFile bytes error → e ≡ end.BadCode error → ws ≡ final e → IsCodeAnswer prelude a bytes e ws
+  unbuilt_code : (line : Line) → IsUnbuiltFile bytes line → e ≡ end.Unbuilt line → ws ≡ final e → IsCodeAnswer prelude a bytes e ws
+  ran_code : (c : Code) (o : Outcome Value World) (w : Work) → IsRunnable (code_of prelude) → IsRunnableFile bytes c
+      → CodeRunsTo (code_of prelude) c a.steps o w → e ≡ end_of a.steps o.ending
+      → ws ≡ run_writes (code_read a (code_of prelude) c) a o w → IsCodeAnswer prelude a bytes e ws
 
--- the answer for a text: the end, and all that is written
+-- the answer for a text, over this prelude: the end, and all that is written
+pub data IsAnswerOver (prelude : Stms) (a : Asked) (text : Text) (e : End) (ws : List Write) : Type 0 where
+  of_code : reads_code a.command ≡ true → IsCodeAnswer prelude a text e ws → IsAnswerOver prelude a text e ws
+  refused : (error : Refusal) → reads_code a.command ≡ false → IsRefused text error → e ≡ end.Refused error → ws ≡ final e → IsAnswerOver prelude a text e ws
+  unbuilt : (line : Line) → is_run a.command ≡ true → IsUnbuilt text line → e ≡ end.Unbuilt line → ws ≡ final e → IsAnswerOver prelude a text e ws
+  ran : (script : Stms) (o : Outcome Value World) (w : Work) → is_run a.command ≡ true → IsBuilt text script → RunsTo prelude script a.steps o
+      → CodeRunsBy prelude script a.steps o w → e ≡ end_of a.steps o.ending
+      → ws ≡ script_writes (report_kind a.command) a text prelude script o w → IsAnswerOver prelude a text e ws
+  wrote_code : (bytes : Text) → is_run a.command ≡ false → IsCodeBy a.command text bytes → e ≡ end.Done → ws ≡ write to_out bytes ∷ []
+      → IsAnswerOver prelude a text e ws
+
+-- the answer for a text: the prelude is taken first
 pub data IsAnswerFor (a : Asked) (text : Text) (e : End) (ws : List Write) : Type 0 where
-  of_code : reads_code a.command ≡ true → IsCodeAnswer a text e ws → IsAnswerFor a text e ws
-  refused : (error : Refusal) → reads_code a.command ≡ false → IsRefused text error → e ≡ end.Refused error → ws ≡ final e → IsAnswerFor a text e ws
-  unbuilt : (line : Line) → is_run a.command ≡ true → IsUnbuilt text line → e ≡ end.Unbuilt line → ws ≡ final e → IsAnswerFor a text e ws
-  ran : (script : Stms) (o : Outcome Value World) (w : Work) → is_run a.command ≡ true → IsBuilt text script → RunsTo script a.steps o
-      → CodeRunsBy script a.steps o w → e ≡ end_of a.steps o.ending → ws ≡ script_writes (report_kind a.command) a text script o w → IsAnswerFor a text e ws
-  wrote_code : (bytes : Text) → is_run a.command ≡ false → IsCodeBy a.command text bytes → e ≡ end.Done → ws ≡ write to_out bytes ∷ [] → IsAnswerFor a text e ws
+  no_prelude : IsNoPrelude e → ws ≡ final e → IsAnswerFor a text e ws
+  over : (prelude : Stms) → IsBuilt PRELUDE.now prelude → IsAnswerOver prelude a text e ws → IsAnswerFor a text e ws
 
 -- the end is the one that the text says
 abbrev pub IsEndFor : Asked → Text → End → Type 0
@@ -263,15 +277,19 @@ pub data IsAnswer (misread : Type 0) (words : List (String Global)) (told : Text
 -- out and the log, each as it was and as it is
 module _ (out_old out_new log_old log_new : Pieces → Pieces → Type 0) where
   -- all of an answer was written
-  pub record WroteAllFor (a : Asked) (text : Text) (e : End) : Type 0 where
+  pub record WroteAllOf (IsIts : End → List Write → Type 0) (e : End) : Type 0 where
     pub writes : List Write
-    pub is_answer : IsAnswerFor a text e writes
+    pub is_answer : IsIts e writes
     pub took : Took out_old out_new log_old log_new writes
 
-  pub record WroteAll (misread : Type 0) (words : List (String Global)) (told : Text → Told) (e : End) : Type 0 where
-    pub writes : List Write
-    pub is_answer : IsAnswer misread words told e writes
-    pub took : Took out_old out_new log_old log_new writes
+  abbrev pub WroteAllOver : (prelude : Stms) → Asked → Text → End → Type 0
+  WroteAllOver prelude a text = WroteAllOf (IsAnswerOver prelude a text)
+
+  abbrev pub WroteAllFor : Asked → Text → End → Type 0
+  WroteAllFor a text = WroteAllOf (IsAnswerFor a text)
+
+  abbrev pub WroteAll : (misread : Type 0) → List (String Global) → (Text → Told) → End → Type 0
+  WroteAll misread words told = WroteAllOf (IsAnswer misread words told)
 
   -- of what a run writes, a front was written with a report: out took it as it stands, and the log took a front of what it gets of it
   pub record ReportedFront (why : WriteErr) (k : ReportKind) (a : Asked) (ss : Stms) (ws : List Write) : Type 0 where
@@ -283,16 +301,23 @@ module _ (out_old out_new log_old log_new : Pieces → Pieces → Type 0) where
     pub log : (g h : Pieces) → log_old g h
         → one.TookFront (λ ps. one.TookFront (log_new g) h (logged a.events a.stats (report_on k ss) ps)) (logs done) (logs (first rest))
 
-  -- a front of what an answer writes was written, or of what a run writes, whether or not that comes to an end; where a write failed, the next one goes to
-  -- its stream
-  pub data WroteFrontFor (why : WriteErr) (a : Asked) (text : Text) : Type 0 where
-    of_answer : (e : End) (ws : List Write) → IsAnswerFor a text e ws → TookFront out_old out_new log_old log_new why ws → WroteFrontFor why a text
+  -- over this prelude a front of what an answer writes was written, or of what a run writes, whether or not that comes to an end; where a write failed, the
+  -- next one goes to its stream
+  pub data WroteFrontOver (prelude : Stms) (why : WriteErr) (a : Asked) (text : Text) : Type 0 where
+    of_answer : (e : End) (ws : List Write) → IsAnswerOver prelude a text e ws → TookFront out_old out_new log_old log_new why ws
+        → WroteFrontOver prelude why a text
     of_run : (script : Stms) (ws : List Write) → is_run a.command ≡ true → report_kind a.command ≡ None → IsBuilt text script
-        → ScriptWritesFirst script a.steps ws → TookFront out_old out_new log_old log_new why (kept (tells_events a) ws) → WroteFrontFor why a text
+        → ScriptWritesFirst prelude script a.steps ws → TookFront out_old out_new log_old log_new why (kept (tells_events a) ws)
+        → WroteFrontOver prelude why a text
     of_reported_run : (k : ReportKind) (script : Stms) (ws : List Write) → report_kind a.command ≡ Some k → IsBuilt text script
-        → WritesFirst a text script ws → ReportedFront why k a script ws → WroteFrontFor why a text
-    of_code_run : (c : Code) (ws : List Write) → reads_code a.command ≡ true → IsRunnableFile text c → CodeWritesFirst c a.steps ws
-        → TookFront out_old out_new log_old log_new why (kept (tells_events a) ws) → WroteFrontFor why a text
+        → WritesFirst a text prelude script ws → ReportedFront why k a script ws → WroteFrontOver prelude why a text
+    of_code_run : (c : Code) (ws : List Write) → reads_code a.command ≡ true → IsRunnable (code_of prelude) → IsRunnableFile text c
+        → CodeWritesFirst (code_of prelude) c a.steps ws → TookFront out_old out_new log_old log_new why (kept (tells_events a) ws)
+        → WroteFrontOver prelude why a text
+
+  pub data WroteFrontFor (why : WriteErr) (a : Asked) (text : Text) : Type 0 where
+    of_no_prelude : (e : End) → IsNoPrelude e → TookFront out_old out_new log_old log_new why (final e) → WroteFrontFor why a text
+    of_prelude : (prelude : Stms) → IsBuilt PRELUDE.now prelude → WroteFrontOver prelude why a text → WroteFrontFor why a text
 
   pub data WroteFront (why : WriteErr) (misread : Type 0) (words : List (String Global)) (told : Text → Told) : Type 0 where
     of_no_text : (e : End) (ws : List Write) → IsAnswer misread words told e ws → TookFront out_old out_new log_old log_new why ws
@@ -300,6 +325,10 @@ module _ (out_old out_new log_old log_new : Pieces → Pieces → Type 0) where
     of_its_text : (a : Asked) (text : Text) → IsTextOf words told a text → WroteFrontFor why a text → WroteFront why misread words told
 
   -- what was written where a write failed, and where memory ran out
+  abbrev pub BrokeOffOver : (prelude : Stms) → Asked → Text → WriteErr → Type 0
+  BrokeOffOver prelude a text (error.Failed which) = WroteFrontOver prelude (error.Failed which) a text
+  BrokeOffOver prelude a text error.Memory = Took out_old out_new log_old log_new [] ⊎ WroteFrontOver prelude error.Memory a text
+
   abbrev pub BrokeOffFor : Asked → Text → WriteErr → Type 0
   BrokeOffFor a text (error.Failed which) = WroteFrontFor (error.Failed which) a text
   BrokeOffFor a text error.Memory = Took out_old out_new log_old log_new [] ⊎ WroteFrontFor error.Memory a text

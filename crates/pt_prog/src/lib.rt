@@ -9,6 +9,7 @@ mod ending;
 mod exec;
 mod laws;
 mod log_text;
+mod prelude;
 mod program;
 mod reporting;
 mod running;

@@ -1,12 +1,13 @@
 ghost use Rattle.std.specs.Prelude.{◌≡◌, ◌≢◌, ◌≤◌, ◌⊎◌, None, Some, Err, IfErr, IfOk};
-ghost use Rattle.std.specs.Prelude.{false, length};
+ghost use Rattle.std.specs.Prelude.{ℕ, List, false, length};
 ghost use Rattle.pt_base.specs.Faults.{Rose};
 ghost use Rattle.pt_base.specs.Told.{IsLacked, IsLonger};
-ghost use Rattle.pt_prog.specs.Answer.{BrokeOffFor, IsComplete, OfAsked, Wrote, WroteAllFor};
-ghost use Rattle.pt_prog.specs.Answer.{asked_for};
+ghost use Rattle.pt_prog.specs.Answer.{BrokeOffFor, BrokeOffOver, IsBuilt, IsComplete, OfAsked};
+ghost use Rattle.pt_prog.specs.Answer.{Wrote, WroteAllFor, WroteAllOver, asked_for};
 ghost use Rattle.pt_prog.specs.Limits.{limit_of, reads_code, script_limit};
 ghost use Rattle.pt_prog.specs.RunEnds.{ended};
 ghost use Rattle.pt_sinks.specs.declared.writing.Out.TheVariants as stream;
+ghost use Rattle.pt_tree.specs.StatementFold.{script_of};
 ghost use Rattle.pt_words.specs.Asked.{asked};
 
 use crate::build::file_of;
@@ -14,10 +15,12 @@ use crate::dis::listing_of;
 use crate::end::{End, File};
 use crate::ending::write_final;
 use crate::exec::exec_file;
+use crate::prelude::prelude;
 use crate::running::run_built;
 use pt_base::{Failure, Shelf, ShelfErr, Sink};
 use pt_front::front;
 use pt_sinks::{Out, WriteErr, put};
+use pt_tree::Script;
 use pt_words::{Command, CommandLine, WordsErr, parse};
 use std::alloc::Global;
 
@@ -57,17 +60,19 @@ fn answer_text<O: Sink, L: Sink>(
     alloc: Global,
     line: &CommandLine,
     text: &[u8],
+    prelude: &Script,
     out: &mut O,
     log: &mut L,
 ) -> Result<End, WriteErr>
+    requires is_prelude { (source : List ℕ) × IsBuilt source (script_of prelude.now) }
     requires within { length text.now ≤ script_limit }
     requires reads { reads_code line.now.command ≡ false }
     ensures ok { IfOk result
-        (WroteAllFor (O.taken out.old) (O.taken out.new) (L.taken log.old) (L.taken log.new)
-        (asked line.now) text.now) }
+        (WroteAllOver (O.taken out.old) (O.taken out.new) (L.taken log.old) (L.taken log.new)
+        (script_of prelude.now) (asked line.now) text.now) }
     ensures err { IfErr result
-        (BrokeOffFor (O.taken out.old) (O.taken out.new) (L.taken log.old) (L.taken log.new)
-        (asked line.now) text.now) }
+        (BrokeOffOver (O.taken out.old) (O.taken out.new) (L.taken log.old) (L.taken log.new)
+        (script_of prelude.now) (asked line.now) text.now) }
     ensures out_failed { result ≡ Err (WriteErr.Failed stream.Out)
         → Rose (O.faults out.old) (O.faults out.new) × (O.faults out.new ≤ O.most out.new) }
     ensures log_failed { result ≡ Err (WriteErr.Failed stream.Log)
@@ -85,7 +90,7 @@ fn answer_text<O: Sink, L: Sink>(
     };
     match line.command {
         Command::Run | Command::Trace | Command::Cover | Command::Profile => {
-            run_built(alloc, line, text, &script, out, log)
+            run_built(alloc, line, text, prelude, &script, out, log)
         }
         Command::Dis => {
             let lines = listing_of(alloc, &script)?;
@@ -102,7 +107,38 @@ fn answer_text<O: Sink, L: Sink>(
     }
 }
 
-/// Answers for the file that the words name.
+/// Answers for the file that the words name, over a prelude.
+fn answer_over<O: Sink, L: Sink>(
+    alloc: Global,
+    line: &CommandLine,
+    bytes: &[u8],
+    prelude: &Script,
+    out: &mut O,
+    log: &mut L,
+) -> Result<End, WriteErr>
+    requires is_prelude { (source : List ℕ) × IsBuilt source (script_of prelude.now) }
+    requires within { length bytes.now ≤ limit_of line.now.command }
+    ensures ok { IfOk result
+        (WroteAllOver (O.taken out.old) (O.taken out.new) (L.taken log.old) (L.taken log.new)
+        (script_of prelude.now) (asked line.now) bytes.now) }
+    ensures err { IfErr result
+        (BrokeOffOver (O.taken out.old) (O.taken out.new) (L.taken log.old) (L.taken log.new)
+        (script_of prelude.now) (asked line.now) bytes.now) }
+    ensures out_failed { result ≡ Err (WriteErr.Failed stream.Out)
+        → Rose (O.faults out.old) (O.faults out.new) × (O.faults out.new ≤ O.most out.new) }
+    ensures log_failed { result ≡ Err (WriteErr.Failed stream.Log)
+        → Rose (L.faults log.old) (L.faults log.new) × (L.faults log.new ≤ L.most log.new) }
+    ensures most { (O.most out.new ≡ O.most out.old) × (L.most log.new ≡ L.most log.old) }
+    ensures later { (O.faults out.old ≤ O.faults out.new)
+        × (L.faults log.old ≤ L.faults log.new) }
+{
+    if reads_code(line.command) {
+        return exec_file(alloc, line, bytes, prelude, out, log);
+    }
+    answer_text(alloc, line, bytes, prelude, out, log)
+}
+
+/// Answers for the file that the words name. The prelude is taken first.
 fn answer_file<O: Sink, L: Sink>(
     alloc: Global,
     line: &CommandLine,
@@ -125,10 +161,11 @@ fn answer_file<O: Sink, L: Sink>(
     ensures later { (O.faults out.old ≤ O.faults out.new)
         × (L.faults log.old ≤ L.faults log.new) }
 {
-    if reads_code(line.command) {
-        return exec_file(alloc, line, bytes, out, log);
+    match prelude(alloc) {
+        Ok(prelude) => answer_over(alloc, line, bytes, &prelude, out, log),
+        Err(Failure::Refused(end)) => write_final(alloc, end, out, log),
+        Err(Failure::Memory) => Err(WriteErr::Memory),
     }
-    answer_text(alloc, line, bytes, out, log)
 }
 
 /// A write that failed, and want of memory, as ends.
@@ -146,7 +183,8 @@ fn ended(answer: Result<End, WriteErr>) -> End
 /// runs it, or writes the listing or the file of a script's code.
 ///
 /// The order of answers is Usage, ReadFault, TooLong, Refused or BadCode, for a run Unbuilt, and
-/// then those of the run. Behind what a run writes the log gets the totals, where they are asked
+/// then those of the run. The prelude, over which all runs, comes before the file's text: where it
+/// is no script that is built, the answer says so, whatever the text is. Behind what a run writes the log gets the totals, where they are asked
 /// for, and in one write the traceback of an exception that left the script or the text of the end.
 /// With `cover` and `profile` a report on lines or names stands before the totals.
 /// After a write that failed nothing more is written.

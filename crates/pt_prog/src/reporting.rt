@@ -1,9 +1,9 @@
 //! The run of a script with a report on its lines or names.
 
-ghost use Rattle.std.specs.Prelude.{◌≡◌, ◌≤◌, Err, IfErr, IfOk, Some};
+ghost use Rattle.std.specs.Prelude.{◌≡◌, ◌≤◌, ℕ, List, Err, IfErr, IfOk, Some};
 ghost use Rattle.pt_base.specs.Faults.{Rose};
 ghost use Rattle.pt_front.specs.Text.{IsScript};
-ghost use Rattle.pt_prog.specs.Answer.{BrokeOffFor, WroteAllFor, all_told, report_kind};
+ghost use Rattle.pt_prog.specs.Answer.{BrokeOffOver, IsBuilt, WroteAllOver, all_told, report_kind};
 ghost use Rattle.pt_prog.specs.RunEnds.{unless_failed};
 ghost use Rattle.pt_sinks.specs.declared.writing.Out.TheVariants as stream;
 ghost use Rattle.pt_supported.specs.Built.{Built};
@@ -47,8 +47,8 @@ fn unless_failed(failed: Option<SinkErr>, answer: Result<End, WriteErr>) -> Resu
     }
 }
 
-/// Runs a script that a text is, all of which is built. Before its totals the log gets a report on
-/// its lines or names, and it gets events and totals where they are asked for.
+/// Runs a script that a text is, all of which is built, over a prelude. Before its totals the log
+/// gets a report on its lines or names, and it gets events and totals where they are asked for.
 ///
 /// # Errors
 ///
@@ -58,19 +58,21 @@ pub fn run_reported<O: Sink, L: Sink>(
     line: &CommandLine,
     kind: ReportKind,
     text: &[u8],
+    prelude: &Script,
     script: &Script,
     out: &mut O,
     log: &mut L,
 ) -> Result<End, WriteErr>
+    requires is_prelude { (source : List ℕ) × IsBuilt source (script_of prelude.now) }
     requires is_script { IsScript text.now (script_of script.now) }
     requires is_built { Built (script_of script.now) }
     requires reports { report_kind line.now.command ≡ Some kind }
     ensures ok { IfOk result
-        (WroteAllFor (O.taken out.old) (O.taken out.new) (L.taken log.old) (L.taken log.new)
-        (asked line.now) text.now) }
+        (WroteAllOver (O.taken out.old) (O.taken out.new) (L.taken log.old) (L.taken log.new)
+        (script_of prelude.now) (asked line.now) text.now) }
     ensures err { IfErr result
-        (BrokeOffFor (O.taken out.old) (O.taken out.new) (L.taken log.old) (L.taken log.new)
-        (asked line.now) text.now) }
+        (BrokeOffOver (O.taken out.old) (O.taken out.new) (L.taken log.old) (L.taken log.new)
+        (script_of prelude.now) (asked line.now) text.now) }
     ensures out_failed { result ≡ Err (WriteErr.Failed stream.Out)
         → Rose (O.faults out.old) (O.faults out.new) × (O.faults out.new ≤ O.most out.new) }
     ensures log_failed { result ≡ Err (WriteErr.Failed stream.Log)
@@ -83,7 +85,7 @@ pub fn run_reported<O: Sink, L: Sink>(
     let report = Reporter::of(alloc, kind, of_script.lines(), of_script.names())?;
     let mut counting = CountLog::over(log, report, line.events, line.stats);
     let told = all_told(line);
-    let answer = run_plainly(alloc, &told, text, script, out, &mut counting);
+    let answer = run_plainly(alloc, &told, text, prelude, script, out, &mut counting);
     let failed = counting.failed();
     let _log = counting.into_log();
     unless_failed(failed, answer)

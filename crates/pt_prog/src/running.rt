@@ -1,9 +1,9 @@
 //! The run of a script that a text is, with what the log gets behind it.
 
-ghost use Rattle.std.specs.Prelude.{◌≡◌, ◌≤◌, Err, IfErr, IfOk, None, true};
+ghost use Rattle.std.specs.Prelude.{◌≡◌, ◌≤◌, ℕ, List, Err, IfErr, IfOk, None, true};
 ghost use Rattle.pt_base.specs.Faults.{Rose};
 ghost use Rattle.pt_front.specs.Text.{IsScript};
-ghost use Rattle.pt_prog.specs.Answer.{BrokeOffFor, WroteAllFor, is_run, report_kind};
+ghost use Rattle.pt_prog.specs.Answer.{BrokeOffOver, IsBuilt, WroteAllOver, is_run, report_kind};
 ghost use Rattle.pt_prog.specs.Answer.{tells_events, traces};
 ghost use Rattle.pt_sinks.specs.declared.writing.Out.TheVariants as stream;
 ghost use Rattle.pt_supported.specs.Built.{Built};
@@ -39,8 +39,8 @@ pub fn tells_events(line: &CommandLine) -> bool
     traces || line.events
 }
 
-/// Runs a script that a text is, all of which is built, without a report, and writes what the log
-/// gets behind it.
+/// Runs a script that a text is, all of which is built, over a prelude, without a report, and writes
+/// what the log gets behind it.
 ///
 /// # Errors
 ///
@@ -49,20 +49,22 @@ pub fn run_plainly<O: Sink, L: Sink>(
     alloc: Global,
     line: &CommandLine,
     text: &[u8],
+    prelude: &Script,
     script: &Script,
     out: &mut O,
     log: &mut L,
 ) -> Result<End, WriteErr>
+    requires is_prelude { (source : List ℕ) × IsBuilt source (script_of prelude.now) }
     requires is_script { IsScript text.now (script_of script.now) }
     requires is_built { Built (script_of script.now) }
     requires is_run { is_run line.now.command ≡ true }
     requires reports_nothing { report_kind line.now.command ≡ None }
     ensures ok { IfOk result
-        (WroteAllFor (O.taken out.old) (O.taken out.new) (L.taken log.old) (L.taken log.new)
-        (asked line.now) text.now) }
+        (WroteAllOver (O.taken out.old) (O.taken out.new) (L.taken log.old) (L.taken log.new)
+        (script_of prelude.now) (asked line.now) text.now) }
     ensures err { IfErr result
-        (BrokeOffFor (O.taken out.old) (O.taken out.new) (L.taken log.old) (L.taken log.new)
-        (asked line.now) text.now) }
+        (BrokeOffOver (O.taken out.old) (O.taken out.new) (L.taken log.old) (L.taken log.new)
+        (script_of prelude.now) (asked line.now) text.now) }
     ensures out_failed { result ≡ Err (WriteErr.Failed stream.Out)
         → Rose (O.faults out.old) (O.faults out.new) × (O.faults out.new ≤ O.most out.new) }
     ensures log_failed { result ≡ Err (WriteErr.Failed stream.Log)
@@ -73,7 +75,7 @@ pub fn run_plainly<O: Sink, L: Sink>(
 {
     let seed = Seed::of(text);
     let events = tells_events(line);
-    let ended = run_script(alloc, seed, script, line.steps, events, out, log)?;
+    let ended = run_script(alloc, seed, prelude, script, line.steps, events, out, log)?;
     write_totals(alloc, line.stats, &ended.totals, out, log)?;
     let source = Some(text);
     write_last(alloc, line.script, source, &ended.end, line.steps, out, log)
@@ -90,7 +92,8 @@ fn report_kind(command: Command) -> Option<ReportKind>
     }
 }
 
-/// Runs the script that a text is, if all of it is built, and writes what the log gets behind it.
+/// Runs the script that a text is over a prelude, if all of it is built, and writes what the log gets
+/// behind it.
 ///
 /// # Errors
 ///
@@ -99,18 +102,20 @@ pub fn run_built<O: Sink, L: Sink>(
     alloc: Global,
     line: &CommandLine,
     text: &[u8],
+    prelude: &Script,
     script: &Script,
     out: &mut O,
     log: &mut L,
 ) -> Result<End, WriteErr>
+    requires is_prelude { (source : List ℕ) × IsBuilt source (script_of prelude.now) }
     requires is_script { IsScript text.now (script_of script.now) }
     requires is_run { is_run line.now.command ≡ true }
     ensures ok { IfOk result
-        (WroteAllFor (O.taken out.old) (O.taken out.new) (L.taken log.old) (L.taken log.new)
-        (asked line.now) text.now) }
+        (WroteAllOver (O.taken out.old) (O.taken out.new) (L.taken log.old) (L.taken log.new)
+        (script_of prelude.now) (asked line.now) text.now) }
     ensures err { IfErr result
-        (BrokeOffFor (O.taken out.old) (O.taken out.new) (L.taken log.old) (L.taken log.new)
-        (asked line.now) text.now) }
+        (BrokeOffOver (O.taken out.old) (O.taken out.new) (L.taken log.old) (L.taken log.new)
+        (script_of prelude.now) (asked line.now) text.now) }
     ensures out_failed { result ≡ Err (WriteErr.Failed stream.Out)
         → Rose (O.faults out.old) (O.faults out.new) × (O.faults out.new ≤ O.most out.new) }
     ensures log_failed { result ≡ Err (WriteErr.Failed stream.Log)
@@ -123,7 +128,7 @@ pub fn run_built<O: Sink, L: Sink>(
         return write_final(alloc, End::Unbuilt { line: first }, out, log);
     }
     match report_kind(line.command) {
-        None => run_plainly(alloc, line, text, script, out, log),
-        Some(kind) => run_reported(alloc, line, kind, text, script, out, log),
+        None => run_plainly(alloc, line, text, prelude, script, out, log),
+        Some(kind) => run_reported(alloc, line, kind, text, prelude, script, out, log),
     }
 }

@@ -37,7 +37,7 @@ fn call(
         let text = Text::from_str(machine.alloc, "too many activations")?;
         return raise_saying(machine, writes, blocks, block, RECURSION_ERROR, text);
     }
-    let callee = blocks.at(called);
+    let callee = blocks.at(called, hidden);
     open(machine, callee.iterates, called, hidden, locals)?;
     tell(machine, callee, "call", "", writes)?;
     Ok(Stride::Goes)

@@ -13,10 +13,11 @@ use pt_runner::{Ended, run};
 use pt_sinks::WriteErr;
 use std::alloc::Global;
 
-/// Runs a code that has a file, whose blocks fit and which is supported, under a bound on acts,
-/// whoever made it. What it prints goes to out, and with `events` the lines of events to the log,
-/// each in one write. Each of the two takes its own in the order of the run; how they lie beside
-/// each other is told only where a write breaks off.
+/// Runs a code that has a file, whose blocks fit and which is supported, over a prelude that is such
+/// a code too, under a bound on acts, whoever made them. The prelude's blocks are hidden. What it
+/// prints goes to out, and with `events` the lines of events to the log, each in one write. Each of
+/// the two takes its own in the order of the run; how they lie beside each other is told only where
+/// a write breaks off.
 ///
 /// Where it isn't broken off, it ends as the run of the code does under this bound, it has taken as
 /// many acts, instructions and slots, and all that the run writes was written. It is never stuck.
@@ -33,16 +34,18 @@ use std::alloc::Global;
 pub fn run_code<O: Sink, L: Sink>(
     alloc: Global,
     seed: Seed,
+    prelude: &Code,
     code: &Code,
     bound: u64,
     events: bool,
     out: &mut O,
     log: &mut L,
 ) -> Result<Ended, WriteErr>
-    requires { IsRunnable code.now }
-    ensures ok { IfOk result (CodeFinished code.now bound events (O.taken out.old)
+    requires prelude { IsRunnable prelude.now }
+    requires code { IsRunnable code.now }
+    ensures ok { IfOk result (CodeFinished prelude.now code.now bound events (O.taken out.old)
         (O.taken out.new) (L.taken log.old) (L.taken log.new)) }
-    ensures err { IfErr result (CodeBrokeOff code.now bound events (O.taken out.old)
+    ensures err { IfErr result (CodeBrokeOff prelude.now code.now bound events (O.taken out.old)
         (O.taken out.new) (L.taken log.old) (L.taken log.new)) }
     ensures out_failed { result ≡ Err (WriteErr.Failed stream.Out)
         → Rose (O.faults out.old) (O.faults out.new) × (O.faults out.new ≤ O.most out.new) }
@@ -55,7 +58,7 @@ pub fn run_code<O: Sink, L: Sink>(
     if names_too_much(code) {
         return Err(WriteErr::Memory);
     }
-    let loaded = load(alloc, seed, code)?;
+    let loaded = load(alloc, seed, prelude, code)?;
     let mut machine = start(alloc, seed, &loaded)?;
     run(alloc, &loaded.tables, &mut machine, bound, events, out, log)
 }

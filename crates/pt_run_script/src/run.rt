@@ -15,10 +15,10 @@ use pt_sinks::WriteErr;
 use pt_tree::Script;
 use std::alloc::Global;
 
-/// Runs a script that a text is, all of which is built, under a bound on acts. What it prints goes
-/// to out, and with `events` the lines of events to the log, each in one write. Each of the two
-/// takes its own in the order of the run; how they lie beside each other is told only where a
-/// write breaks off.
+/// Runs a script that a text is, over a prelude that is one too, all of which is built, under a bound
+/// on acts. The prelude's blocks are hidden. What it prints goes to out, and with `events` the lines
+/// of events to the log, each in one write. Each of the two takes its own in the order of the run;
+/// how they lie beside each other is told only where a write breaks off.
 ///
 /// Where it isn't broken off, it ends as the run of the script's tree does under this bound, it has
 /// taken as many acts, and all that the run writes was written.
@@ -30,18 +30,21 @@ use std::alloc::Global;
 pub fn run_script<O: Sink, L: Sink>(
     alloc: Global,
     seed: Seed,
+    prelude: &Script,
     script: &Script,
     bound: u64,
     events: bool,
     out: &mut O,
     log: &mut L,
 ) -> Result<Ended, WriteErr>
+    requires read_prelude { (text : List ℕ) × IsScript text (script_of prelude.now) }
+    requires built_prelude { Built (script_of prelude.now) }
     requires read { (text : List ℕ) × IsScript text (script_of script.now) }
     requires built { Built (script_of script.now) }
-    ensures ok { IfOk result (ScriptFinished (script_of script.now) bound events
-        (O.taken out.old) (O.taken out.new) (L.taken log.old) (L.taken log.new)) }
-    ensures err { IfErr result (ScriptBrokeOff (script_of script.now) bound events
-        (O.taken out.old) (O.taken out.new) (L.taken log.old) (L.taken log.new)) }
+    ensures ok { IfOk result (ScriptFinished (script_of prelude.now) (script_of script.now)
+        bound events (O.taken out.old) (O.taken out.new) (L.taken log.old) (L.taken log.new)) }
+    ensures err { IfErr result (ScriptBrokeOff (script_of prelude.now) (script_of script.now)
+        bound events (O.taken out.old) (O.taken out.new) (L.taken log.old) (L.taken log.new)) }
     ensures out_failed { result ≡ Err (WriteErr.Failed stream.Out)
         → Rose (O.faults out.old) (O.faults out.new) × (O.faults out.new ≤ O.most out.new) }
     ensures log_failed { result ≡ Err (WriteErr.Failed stream.Log)
@@ -50,8 +53,9 @@ pub fn run_script<O: Sink, L: Sink>(
     ensures later { (O.faults out.old ≤ O.faults out.new)
         × (L.faults log.old ≤ L.faults log.new) }
 {
+    let prelude_code = compile(alloc, prelude)?;
     let code = compile(alloc, script)?;
-    let loaded = load(alloc, seed, &code)?;
+    let loaded = load(alloc, seed, &prelude_code, &code)?;
     let mut machine = start(alloc, seed, &loaded)?;
     run(alloc, &loaded.tables, &mut machine, bound, events, out, log)
 }

@@ -14,6 +14,6 @@ impl BlockNames for TableNames<'_> {
     ghost name = { λ names. table_name names.tables.now };
 
     fn name(&self, block: BlockId) -> &str {
-        self.tables.blocks.at(block).name.as_str()
+        self.tables.blocks.at(block, false).name.as_str()
     }
 }

@@ -48,7 +48,7 @@ fn begin<O: Sink, L: Sink>(
     ensures most { (O.most out.new ≡ O.most out.old) × (L.most log.new ≡ L.most log.old) }
     ensures later { (O.faults out.old ≤ O.faults out.new) × (L.faults log.old ≤ L.faults log.new) }
 {
-    let block = tables.blocks.at(machine.here.block);
+    let block = tables.blocks.at(machine.here.block, machine.here.hidden);
     tell(machine, block, "call", "", writes)?;
     drain(writes, out, log)
 }

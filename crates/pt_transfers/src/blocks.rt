@@ -9,5 +9,5 @@ use pt_machine_state::{BlockCode, Blocks, Machine};
 pub fn block_of<'a>(machine: &Machine, blocks: &'a Blocks) -> &'a BlockCode
     ensures { result.now ≡ block_at blocks.now (block_of machine.now.here) }
 {
-    blocks.at(machine.here.block)
+    blocks.at(machine.here.block, machine.here.hidden)
 }

@@ -22,7 +22,7 @@ fn line_in(blocks: &Blocks, activation: &Activation) -> Line
 {
     match activation.line {
         Some(line) => line,
-        None => blocks.at(activation.block).first_line,
+        None => blocks.at(activation.block, activation.hidden).first_line,
     }
 }
 

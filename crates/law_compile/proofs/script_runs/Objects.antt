@@ -1,5 +1,5 @@
 -- The code objects of a script stand for its blocks, by their numbers.
-use Rattle.std.proofs.Common.{◌≡◌, ℕ, false, Option, Some, None, refl}
+use Rattle.std.proofs.Common.{◌≡◌, ℕ, Bool, true, false, Option, Some, None, refl}
 use Rattle.std.specs.Prelude.{slice_get}
 use Rattle.pt_tree.specs.Syntax.{Stms}
 use Rattle.pt_tree.specs.Blocks.{Block, blocks_script, yields}
@@ -14,6 +14,8 @@ use Rattle.pt_bare_code.specs.Law.{HaveTheirCode, NoneGivesOn}
 use Rattle.pt_bare_code.proofs.Coded.{has_the_bare_runs, is_stuck_nowhere_else, code_writes_nothing_else}
 use Rattle.pt_bare_code.proofs.Plain.{never_stuck_where_nothing_is_given_on}
 use Rattle.law_compile.specs.script_runs.Blocks.{number_or_module, code_or_module, script_trees, script_code, block_of, the_module}
+use Rattle.law_compile.specs.script_runs.ProgramBlocks.{program_code, program_trees, text_of}
+use Rattle.law_compile.specs.script_runs.ProgramLaws.{AreObjectsOfBoth, GiveNothingOn, ProgramHasItsBareRuns, ProgramCodeWritesNothingElse, ProgramCodeIsNeverStuck}
 use Rattle.law_compile.specs.script_runs.Laws.{AreItsObjects, ScriptHasItsBareRuns, CodeIsStuckNowhereElse, CodeWritesNothingElse, CodeIsNeverStuck, CodeRunsAsItsScript, tree_machine}
 
 module _ {V : Type 0} (null : V) (ss : Stms) (object : ℕ → CodeObject V) (are : AreItsObjects null ss object) where
@@ -40,7 +42,7 @@ module _ {V : Type 0} (null : V) (ss : Stms) (none : (k : ℕ) (block : Block) �
     none_by (Some k) n e = none n k e
     none_by None n e = none 0 _ refl
 
-    none_gives_on : NoneGivesOn (script_trees ss null)
+    pub none_gives_on : NoneGivesOn (script_trees ss null)
     none_gives_on b = none_by (block_of ss b) b.number refl
 
 module _ {N V W : Type 0} where
@@ -64,3 +66,36 @@ module _ {N V W : Type 0} where
   pub code_runs_as_its_script : CodeRunsAsItsScript N V W
   code_runs_as_its_script null ss object are host n names world o c =
       bare_runs_are_runs (tree_machine null ss) host n the_module names world o ((script_has_its_bare_runs null ss object are host n names world o).1 c)
+
+-- of a prelude and of a script over it
+module _ {V : Type 0} (null : V) (prelude ss : Stms) (object : (hidden : Bool) → ℕ → CodeObject V) (are : AreObjectsOfBoth null prelude ss object) where
+  -- each by its own text
+  both_have_their_code : HaveTheirCode (program_trees prelude ss null) (program_code prelude ss object)
+  both_have_their_code b = by b.hidden
+    where
+      by : (hidden : Bool) → let ts = text_of prelude ss hidden in
+          Of ((script_trees ts null).around b) ((script_code ts (object hidden)).object b) ((script_code ts (object hidden)).iterates b) ((script_trees ts null).code b)
+      by true = have_their_code null prelude (object true) are.of_prelude b
+      by false = have_their_code null ss (object false) are.of_script b
+
+  neither_gives_on : GiveNothingOn prelude → GiveNothingOn ss → NoneGivesOn (program_trees prelude ss null)
+  neither_gives_on first none b = by b.hidden
+    where
+      by : (hidden : Bool) → yields ((script_trees (text_of prelude ss hidden) null).code b) ≡ false
+      by true = none_gives_on null prelude first b
+      by false = none_gives_on null ss none b
+
+module _ {N V W : Type 0} where
+  pub program_has_its_bare_runs : ProgramHasItsBareRuns N V W
+  program_has_its_bare_runs null prelude ss object are host n names world =
+      has_the_bare_runs (program_trees prelude ss null) (program_code prelude ss object) (both_have_their_code null prelude ss object are) host n the_module names world
+
+  pub program_code_writes_nothing_else : ProgramCodeWritesNothingElse N V W
+  program_code_writes_nothing_else null prelude ss object are host n names world =
+      code_writes_nothing_else (program_trees prelude ss null) (program_code prelude ss object) (both_have_their_code null prelude ss object are) host n the_module
+      names world
+
+  pub program_code_is_never_stuck : ProgramCodeIsNeverStuck N V W
+  program_code_is_never_stuck null prelude ss object are first none host opens n names world =
+      never_stuck_where_nothing_is_given_on (program_trees prelude ss null) (program_code prelude ss object) (both_have_their_code null prelude ss object are)
+      (neither_gives_on null prelude ss object are first none) host opens n the_module names world

@@ -29,18 +29,20 @@ use Rattle.pt_supported.specs.Built.{Built}
 use Rattle.pt_supported.specs.Laws.{is_class_code}
 use Rattle.pt_supported.proofs.Silent.{built_blocks_are_no_classes}
 use Rattle.law_names.proofs.module_names.Classes.{module_has_no_frees}
-use Rattle.law_compile.specs.script_runs.Blocks.{number_or_module, script_code, the_module}
+use Rattle.law_compile.specs.script_runs.Blocks.{number_of, number_or_module, the_module}
+use Rattle.law_compile.specs.script_runs.ProgramBlocks.{program_code, text_of}
+use Rattle.sem_run.specs.run.Machine.{BlockId}
 use Rattle.law_loading.specs.script_program.ScriptProgram.{program_of, the_module_block}
 use Rattle.law_loading.specs.script_program.Laws.{HasItsNames}
 use Rattle.pt_code_loader.specs.declared.loading.Loaded.{Loaded}
-use Rattle.law_loading.specs.loaded_scripts.Laws.{HasTables, IsLoadable}
+use Rattle.law_loading.specs.loaded_scripts.Laws.{AreLoadable, HasTables, IsLoadable}
 use Rattle.sem_fits.specs.fits.Block.{links_of}
 use Rattle.law_typed_pieces.proofs.standing_pieces.Script.{instructions_may_stand}
 use Rattle.law_frames.specs.RunNames.{StoresHaveNames}
 use Rattle.law_frames.specs.Operands.{CodeNamesItsBlocks, OperandsNameIn}
 use Rattle.law_frames.proofs.Runs.{reached_has_names}
 use Rattle.law_frames.proofs.Start.{begins_with_names}
-use Rattle.law_loading.specs.code_names.Laws.{SupportedCodeNamesItsBlocks, SupportedCodeRunsWithItsNames}
+use Rattle.law_loading.specs.code_names.Laws.{AreBuilt, SupportedCodeNamesItsBlocks, SupportedCodeRunsWithItsNames}
 use Rattle.law_loading.proofs.code_names.Instructions.{TakesAsNamed, all-take, laid-is, mapped-at, operands-name, seen-names, within_of}
 
 mapped-count : {A B : Type 0} (f : A → B) (xs : List A) (ys : List B) → map f xs ≡ ys → length xs ≡ length ys
@@ -75,14 +77,16 @@ none-there (x ∷ xs) (y ∷ ys) (suc n) l e = none-there xs ys n (omega (arith,
 some-same : {A : Type 0} (a b : A) → Some a ≡ Some b → a ≡ b
 some-same a b e = cc
 
-module _ (script : wide.Stms) (ss : Stms) (l : Loaded) (ready : IsLoadable script ss) (built : Built ss) (t : HasTables ss l) where
+-- of a script, by objects of its blocks
+module _ (script : wide.Stms) (ss : Stms) (ready : IsLoadable script ss) (built : Built ss) (own : ℕ → CodeObject Value)
+    (of_blocks : (n : ℕ) (k : Block) → slice_get (blocks_script ss) n ≡ Some k → HasCode value.None ss n k (own n)) where
   -- of a block with its object
-  module _ (n : ℕ) (k : Block) (h : HasCode value.None ss n k (t.object n)) where
+  module _ (n : ℕ) (k : Block) (h : HasCode value.None ss n k (own n)) where
     abbrev b : BlockLayout
     b = h.layout
 
     abbrev object : CodeObject Value
-    object = t.object n
+    object = own n
 
     has : HasItsNames ss n (code_block b)
     has = ready.names n b h.is_layout
@@ -140,48 +144,76 @@ module _ (script : wide.Stms) (ss : Stms) (l : Loaded) (ready : IsLoadable scrip
   abbrev the_block : Block
   the_block = the_module_block ss
 
-  module-code : HasCode value.None ss 0 the_block (t.object 0)
-  module-code = t.of_blocks 0 the_block refl
+  module-code : HasCode value.None ss 0 the_block (own 0)
+  module-code = of_blocks 0 the_block refl
 
-  operands-by : (o : Option Block) (n : ℕ) → slice_get (blocks_script ss) n ≡ o → (pc : ℕ) (i : Ins) → (t.object (number_or_module o n)).at pc ≡ Some i
+  pub operands-by : (o : Option Block) (n : ℕ) → slice_get (blocks_script ss) n ≡ o → (pc : ℕ) (i : Ins) → (own (number_or_module o n)).at pc ≡ Some i
       → OperandsNameIn (length (names_of ss (number_or_module o n)).locals)
       (length ((names_of ss (number_or_module o n)).cells ++ (names_of ss (number_or_module o n)).frees))
-      (λ l. length ((t.object (number_or_module o n)).pool.texts l)) i.instr
-  operands-by (Some k) n e = operands n k (t.of_blocks n k e)
+      (λ l. length ((own (number_or_module o n)).pool.texts l)) i.instr
+  operands-by (Some k) n e = operands n k (of_blocks n k e)
   operands-by None n e = operands 0 the_block module-code
 
-  scope-by : (o : Option Block) (n : ℕ) → slice_get (blocks_script ss) n ≡ o → (t.object (number_or_module o n)).pool.name_scope ≡ T.global
-  scope-by (Some k) n e = scope n k (t.of_blocks n k e)
+  pub scope-by : (o : Option Block) (n : ℕ) → slice_get (blocks_script ss) n ≡ o → (own (number_or_module o n)).pool.name_scope ≡ T.global
+  scope-by (Some k) n e = scope n k (of_blocks n k e)
   scope-by None n e = scope 0 the_block module-code
 
-  captures-by : (o : Option Block) (n : ℕ) → slice_get (blocks_script ss) n ≡ o → (m : ℕ)
-      → (t.object (number_or_module o n)).pool.captures m ≡ free_in (slice_get (code_of ss).blocks m)
-  captures-by (Some k) n e = captures n k (t.of_blocks n k e)
+  pub captures-by : (o : Option Block) (n : ℕ) → slice_get (blocks_script ss) n ≡ o → (m : ℕ)
+      → (own (number_or_module o n)).pool.captures m ≡ free_in (slice_get (code_of ss).blocks m)
+  captures-by (Some k) n e = captures n k (of_blocks n k e)
   captures-by None n e = captures 0 the_block module-code
 
-  frees-by : (o : Option Block) (n : ℕ) → slice_get (blocks_script ss) n ≡ o
+  pub frees-by : (o : Option Block) (n : ℕ) → slice_get (blocks_script ss) n ≡ o
       → free_in (slice_get (code_of ss).blocks n) ≡ length (names_of ss (number_or_module o n)).frees
-  frees-by (Some k) n e = frees-count n k (t.of_blocks n k e)
+  frees-by (Some k) n e = frees-count n k (of_blocks n k e)
   frees-by None n e = ap free_in (none-there (code_of ss).blocks (blocks_script ss) n (as_many_blocks ss) e) ∙ ap length (sym (module_has_no_frees ss))
 
-  names-blocks : CodeNamesItsBlocks (program_of ss) (script_code ss t.object)
+-- of a prelude and of a script over it
+module _ (first script : wide.Stms) (prelude ss : Stms) (l : Loaded) (ready : AreLoadable first script prelude ss) (built : AreBuilt prelude ss)
+    (t : HasTables prelude ss l) where
+  abbrev At : (hidden : Bool) → (b : BlockId) → Type 0
+  At hidden b = let n = number_of (text_of prelude ss hidden) b in
+      ((pc : ℕ) (i : Ins) → (t.object hidden n).at pc ≡ Some i
+      → OperandsNameIn (length (names_of (text_of prelude ss hidden) n).locals)
+      (length ((names_of (text_of prelude ss hidden) n).cells ++ (names_of (text_of prelude ss hidden) n).frees)) (λ k. length ((t.object hidden n).pool.texts k)) i.instr)
+      × (((t.object hidden n).pool.name_scope ≡ T.global)
+      × ((m : ℕ) → (t.object hidden n).pool.captures m
+      ≡ length (names_of (text_of prelude ss hidden) (number_or_module (slice_get (blocks_script (text_of prelude ss hidden)) m) m)).frees))
+
+  at_side : (script : wide.Stms) (hidden : Bool) → IsLoadable script (text_of prelude ss hidden) → Built (text_of prelude ss hidden) → (b : BlockId) → At hidden b
+  at_side script hidden ready built b =
+      let ts = text_of prelude ss hidden in
+      let o = slice_get (blocks_script ts) b.number in (
+        operands-by script ts ready built (t.object hidden) (t.of_blocks hidden) o b.number refl,
+        (
+          scope-by script ts ready built (t.object hidden) (t.of_blocks hidden) o b.number refl,
+          λ m. captures-by script ts ready built (t.object hidden) (t.of_blocks hidden) o b.number refl m
+              ∙ frees-by script ts ready built (t.object hidden) (t.of_blocks hidden) (slice_get (blocks_script ts) m) m refl,
+        ),
+      )
+
+  at_both : (hidden : Bool) (b : BlockId) → At hidden b
+  at_both true b = at_side first true ready.prelude_is built.prelude_is b
+  at_both false b = at_side script false ready.script_is built.script_is b
+
+  names-blocks : CodeNamesItsBlocks (program_of prelude ss) (program_code prelude ss t.object)
   names-blocks = record {
-    operands = λ b. operands-by (slice_get (blocks_script ss) b.number) b.number refl;
+    operands = λ b. (at_both b.hidden b).0;
     names = λ b. t.tables.names b;
     extras = λ b. t.tables.extras b;
-    scopes = λ b. scope-by (slice_get (blocks_script ss) b.number) b.number refl;
-    captures = λ b m. captures-by (slice_get (blocks_script ss) b.number) b.number refl m ∙ frees-by (slice_get (blocks_script ss) m) m refl;
+    scopes = λ b. (at_both b.hidden b).1.0;
+    captures = λ b m. (at_both b.hidden b).1.1 m;
   }
 
 pub code_names_blocks : SupportedCodeNamesItsBlocks
-code_names_blocks script ss l ready built t = names-blocks script ss l ready built t
+code_names_blocks first script prelude ss l ready built t = names-blocks first script prelude ss l ready built t
 
 -- the run of the module begins with its names
-pub module_begins : (ss : Stms)
-    → StoresHaveNames (program_of ss) the_module (record { names = module_names (program_of ss); world = module_world (program_of ss) })
-module_begins ss = begins_with_names (program_of ss) (module_has_no_frees ss)
+pub module_begins : (prelude ss : Stms) → StoresHaveNames (program_of prelude ss) the_module
+    (record { names = module_names (program_of prelude ss); world = module_world (program_of prelude ss) })
+module_begins prelude ss = begins_with_names (program_of prelude ss) (module_has_no_frees ss)
 
 pub runs_with_names : SupportedCodeRunsWithItsNames
-runs_with_names script ss l ready built t n s r =
-    reached_has_names (program_of ss) (script_code ss t.object) (names-blocks script ss l ready built t) n the_module
-    (module_names (program_of ss)) (module_world (program_of ss)) (module_begins ss) s r
+runs_with_names first script prelude ss l ready built t n s r =
+    reached_has_names (program_of prelude ss) (program_code prelude ss t.object) (names-blocks first script prelude ss l ready built t) n the_module
+    (module_names (program_of prelude ss)) (module_world (program_of prelude ss)) (module_begins prelude ss) s r

@@ -28,7 +28,7 @@ use Rattle.law_frames.proofs.Start.{begins_with_names}
 use Rattle.pt_supported_code.specs.Built.{TakesAsListed, is_plain_kind}
 use Rattle.pt_supported_code.proofs.BlockLemmas.{fields_of}
 use Rattle.law_loading.proofs.loaded_scripts.Lists.{same_some}
-use Rattle.law_loading.specs.code_program.CodeProgram.{AreObjectsOf, code_blocks, facts_by, number_in, number_or_module, program_of_code}
+use Rattle.law_loading.specs.code_program.CodeProgram.{AreObjectsOf, code_blocks, code_in, facts_by, number_in, number_or_module, program_of_code}
 use Rattle.law_loading.specs.code_program.Laws.{IsRunnable, BuiltCodeNamesItsBlocks, RunOfCodeBeginsWithNames}
 use Rattle.law_loading.proofs.code_program.Objects.{at_number, the_first}
 
@@ -149,22 +149,44 @@ module _ (c : Code) (ready : IsRunnable c) where
         sym (ap (λ (x : Option CodeBlock). length (facts_by c.texts x).frees) e ∙ length-map a.free (λ x. text_in c.texts x.0))
     captures_by None m e = sym (module_frees (slice_get c.blocks 0) refl)
 
-    pub names_its_blocks : CodeNamesItsBlocks (program_of_code c) (code_blocks c object)
-    names_its_blocks = record {
-      operands = λ b pc i e. let a = at_number c ready.has_file b.number in let n = number_in c b.number in
-          by_pool n a.0 a.1 (object n).pool (are.of_blocks n a.0 a.1).pool (slice_get c.blocks n) refl pc i e;
-      names = λ b. let a = at_number c ready.has_file b.number in let n = number_in c b.number in names_at n a.0 a.1 (slice_get c.blocks n) refl;
-      extras = λ b. are.extras (number_in c b.number);
-      scopes = λ b. let a = at_number c ready.has_file b.number in scope_is (number_in c b.number) a.0 a.1;
-      captures = λ b m. let a = at_number c ready.has_file b.number in let n = number_in c b.number in
-          ap (λ (p : Pool). p.captures m) (are.of_blocks n a.0 a.1).pool ∙ captures_by (slice_get c.blocks m) m refl;
-    }
+    operands_by : (m pc : ℕ) (i : Ins) → (object (number_in c m)).at pc ≡ Some i
+        → OperandsName (facts_by c.texts (slice_get c.blocks (number_in c m))) (object (number_in c m)).pool i.instr
+    operands_by m pc i e =
+        let a = at_number c ready.has_file m in let n = number_in c m in
+        by_pool n a.0 a.1 (object n).pool (are.of_blocks n a.0 a.1).pool (slice_get c.blocks n) refl pc i e
+
+    names_by : (m : ℕ) → KnowsNames (object (number_in c m)) (facts_by c.texts (slice_get c.blocks (number_in c m)))
+    names_by m = let a = at_number c ready.has_file m in let n = number_in c m in names_at n a.0 a.1 (slice_get c.blocks n) refl
+
+    scopes_by : (m : ℕ) → (object (number_in c m)).pool.name_scope ≡ T.global
+    scopes_by m = let a = at_number c ready.has_file m in scope_is (number_in c m) a.0 a.1
+
+    captured_by : (m k : ℕ) → (object (number_in c m)).pool.captures k ≡ length (facts_by c.texts (slice_get c.blocks (number_in c k))).frees
+    captured_by m k =
+        let a = at_number c ready.has_file m in let n = number_in c m in
+        ap (λ (p : Pool). p.captures k) (are.of_blocks n a.0 a.1).pool ∙ captures_by (slice_get c.blocks k) k refl
+
+-- of a prelude and of a code over it
+module _ (prelude c : Code) (object : (hidden : Bool) → ℕ → CodeObject Value) (first : IsRunnable prelude) (ready : IsRunnable c)
+    (are : (hidden : Bool) → AreObjectsOf (code_in prelude c hidden) (object hidden)) where
+  runnable : (hidden : Bool) → IsRunnable (code_in prelude c hidden)
+  runnable true = first
+  runnable false = ready
+
+  names_its_blocks : CodeNamesItsBlocks (program_of_code prelude c) (code_blocks prelude c object)
+  names_its_blocks = record {
+    operands = λ b pc i e. operands_by (code_in prelude c b.hidden) (runnable b.hidden) (object b.hidden) (are b.hidden) b.number pc i e;
+    names = λ b. names_by (code_in prelude c b.hidden) (runnable b.hidden) (object b.hidden) (are b.hidden) b.number;
+    extras = λ b. (are b.hidden).extras (number_in (code_in prelude c b.hidden) b.number);
+    scopes = λ b. scopes_by (code_in prelude c b.hidden) (runnable b.hidden) (object b.hidden) (are b.hidden) b.number;
+    captures = λ b m. captured_by (code_in prelude c b.hidden) (runnable b.hidden) (object b.hidden) (are b.hidden) b.number m;
+  }
 
 pub built_code_names_its_blocks : BuiltCodeNamesItsBlocks
-built_code_names_its_blocks c object ready are = names_its_blocks c ready object are
+built_code_names_its_blocks prelude c object first ready are = names_its_blocks prelude c object first ready are
 
 pub run_begins_with_names : RunOfCodeBeginsWithNames
-run_begins_with_names c ready =
+run_begins_with_names prelude c ready =
     let n = number_in c 0 in
     let at = ap (slice_get c.blocks) (sym (module_number (slice_get c.blocks 0))) in
-    begins_with_names (program_of_code c) (no_items (facts_by c.texts (slice_get c.blocks n)).frees (module_frees c ready (slice_get c.blocks n) at))
+    begins_with_names (program_of_code prelude c) (no_items (facts_by c.texts (slice_get c.blocks n)).frees (module_frees c ready (slice_get c.blocks n) at))

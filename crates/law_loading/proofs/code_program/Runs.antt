@@ -27,7 +27,7 @@ use Rattle.law_fits.specs.Laws.{AreFitting}
 use Rattle.law_fits.proofs.Runs.{runs_on}
 use Rattle.pt_supported_code.specs.Built.{is_plain_kind}
 use Rattle.law_loading.proofs.loaded_scripts.Lists.{same_some}
-use Rattle.law_loading.specs.code_program.CodeProgram.{AreObjectsOf, code_blocks, iterates_by, number_in, program_of_code, the_module}
+use Rattle.law_loading.specs.code_program.CodeProgram.{AreObjectsOf, code_blocks, code_in, iterates_by, number_in, program_of_code, the_module}
 use Rattle.law_loading.specs.code_program.Laws.{IsRunnable, BuiltCodeIsNeverStuck}
 use Rattle.law_loading.proofs.code_program.Objects.{at_number, begins}
 
@@ -44,46 +44,61 @@ is_plain kind.Generator e = absurd (false≢true e)
 is_plain kind.Class e = absurd (false≢true e)
 is_plain kind.GeneratorExpression e = absurd (false≢true e)
 
-module _ (c : Code) (object : ℕ → CodeObject Value) (ready : IsRunnable c) (are : AreObjectsOf c object) where
+module _ (prelude c : Code) (object : (hidden : Bool) → ℕ → CodeObject Value) (first : IsRunnable prelude) (ready : IsRunnable c)
+    (are : (hidden : Bool) → AreObjectsOf (code_in prelude c hidden) (object hidden)) where
+  runnable : (hidden : Bool) → IsRunnable (code_in prelude c hidden)
+  runnable true = first
+  runnable false = ready
+
+  -- the code of a block
+  abbrev code : BlockId → Code
+  code b = code_in prelude c b.hidden
+
+  abbrev number : BlockId → ℕ
+  number b = number_in (code b) b.number
+
+  there : (b : BlockId) → (k : CodeBlock) × (slice_get (code b).blocks (number b) ≡ Some k)
+  there b = at_number (code b) (runnable b.hidden).has_file b.number
+
   abbrev block : BlockId → CodeBlock
-  block b = (at_number c ready.has_file b.number).0
+  block b = (there b).0
 
   abbrev own : BlockId → CodeObject Value
-  own b = object (number_in c b.number)
+  own b = object b.hidden (number b)
 
   abbrev blocks : BlockId → Block
-  blocks b = block_of c (block b) (own b).at
+  blocks b = block_of (code b) (block b) (own b).at
 
-  is : (b : BlockId) → IsBlockObject c (block b) (own b)
-  is b = are.of_blocks (number_in c b.number) (block b) (at_number c ready.has_file b.number).1
+  is : (b : BlockId) → IsBlockObject (code b) (block b) (own b)
+  is b = (are b.hidden).of_blocks (number b) (block b) (there b).1
 
   fits : (b : BlockId) → Fits (blocks b)
-  fits b = ready.fit (number_in c b.number) (block b) (at_number c ready.has_file b.number).1 (own b).at (is b).view
+  fits b = (runnable b.hidden).fit (number b) (block b) (there b).1 (own b).at (is b).view
 
   plain : (b : BlockId) → IsPlain (block b).kind
-  plain b = is_plain (block b).kind (ready.built (number_in c b.number) (block b) (at_number c ready.has_file b.number).1).is_plain
+  plain b = is_plain (block b).kind ((runnable b.hidden).built (number b) (block b) (there b).1).is_plain
 
   iterates_at : (b : CodeBlock) (o : Option CodeBlock) → o ≡ Some b → iterates b.kind ≡ false → iterates_by o ≡ false
   iterates_at b (Some a) e f = ap (λ (x : CodeBlock). iterates x.kind) (same_some a b e) ∙ f
   iterates_at b None e f = refl
 
-  starts : (b : BlockId) (iterator : Option Value) → Starts (blocks b) (start_of (code_blocks c object) b iterator)
+  starts : (b : BlockId) (iterator : Option Value) → Starts (blocks b) (start_of (code_blocks prelude c object) b iterator)
   starts b iterator =
-      let n = number_in c b.number in
-      let at = at_number c ready.has_file b.number in
-      let first = begins c ready.has_file n (block b) at.1 (own b).at (is b).view in
+      let first_there = begins (code b) (runnable b.hidden).has_file (number b) (block b) (there b).1 (own b).at (is b).view in
       subst (λ (t : Bool). Starts (blocks b) (if t then slots.start_generator (or_null (own b).null iterator) else slots.start))
-      (sym (iterates_at (block b) (slice_get c.blocks n) at.1 (plain b).iterates)) (laws.empty first.0 first.1 (plain b).starts)
+      (sym (iterates_at (block b) (slice_get (code b).blocks (number b)) (there b).1 (plain b).iterates))
+      (laws.empty first_there.0 first_there.1 (plain b).starts)
 
-  are_fitting : AreFitting (code_blocks c object) blocks
+  are_fitting : AreFitting (code_blocks prelude c object) blocks
   are_fitting = record {
-    runs = λ b. object_runs Value c (block b) (own b) (is b) (fits b);
+    runs = λ b. object_runs Value (code b) (block b) (own b) (is b) (fits b);
     fits = fits;
     starts = starts;
     gives_nothing_on = λ b. (plain b).silent;
   }
 
 pub built_code_is_never_stuck : BuiltCodeIsNeverStuck
-built_code_is_never_stuck c object ready are n =
-    runs_on (code_blocks c object) (blocks c object ready are) (are_fitting c object ready are) (heap_host (program_of_code c)) (opens_only (program_of_code c)) n the_module
-    (module_names (program_of_code c)) (module_world (program_of_code c))
+built_code_is_never_stuck prelude c object first ready are n =
+    runs_on (code_blocks prelude c object) (blocks prelude c object first ready are) (are_fitting prelude c object first ready are)
+    (heap_host (program_of_code prelude c)) (opens_only (program_of_code prelude c)) n the_module
+    (module_names (program_of_code prelude c)) (module_world (program_of_code prelude c))

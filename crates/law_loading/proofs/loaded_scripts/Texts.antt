@@ -13,7 +13,14 @@ use Rattle.sem_code.specs.slots.BlockObject.{constant_of, text_in}
 use Rattle.pt_assembler.specs.Tables.{kept}
 use Rattle.law_typed_pieces.specs.law_operands.law_files.sem_compile.compile.ScriptCode.{code_of}
 use Rattle.law_typed_pieces.specs.law_operands.free_names.FreeNames.{Among}
-use Rattle.pt_code_loader.specs.Texts.{text_of, kept_texts}
+use Rattle.pt_code_loader.specs.Texts.{constant_texts, kept_texts, program_texts, text_of}
+use Rattle.pt_tree.specs.Syntax.{Stms}
+use Rattle.pt_tree.specs.Blocks.{Block}
+use Rattle.pt_heap.specs.declared.value.Value.{Value}
+use Rattle.pt_heap.specs.declared.value.Value.TheVariants as value
+use Rattle.sem_code.specs.slots.CodeObject.{CodeObject}
+use Rattle.law_compile.specs.script_objects.Laws.{HasCode}
+use Rattle.law_compile.specs.script_runs.ProgramBlocks as program
 use Rattle.law_loading.specs.loaded_scripts.Laws.{ConstantsHaveTheirTexts}
 
 abbrev is_text : Constant → Type 0
@@ -88,8 +95,21 @@ text_there texts [] k t e = no_text constant.None t (λ f. f) e
 text_there texts (c ∷ ks) zero t e = of_const texts c t (flat_map (text_of texts) ks) e
 text_there texts (c ∷ ks) (suc k) t e = among_right (text_of texts c) (flat_map (text_of texts) ks) t (text_there texts ks k t e)
 
-pub constants_have_texts : ConstantsHaveTheirTexts
-constants_have_texts ss n block object h k t e =
+-- of the code of a script
+code_has_texts : (ss : Stms) (n : ℕ) (block : Block) (object : CodeObject Value) → HasCode value.None ss n block object → (k : ℕ) (t : List ℕ)
+    → object.pool.constant k ≡ constant.Str t → Among (flat_map (text_of (code_of ss).texts) (code_of ss).constants) t
+code_has_texts ss n block object h k t e =
     let c = code_of ss in
-    kept_has [] (flat_map (text_of c.texts) c.constants) t
-    (text_there c.texts c.constants k t (sym (ap (λ (p : Pool). p.constant k) (h.is_object).pool) ∙ e))
+    text_there c.texts c.constants k t (sym (ap (λ (p : Pool). p.constant k) (h.is_object).pool) ∙ e)
+
+pub constants_have_texts : ConstantsHaveTheirTexts
+constants_have_texts prelude ss hidden n block object h k t e = by hidden h
+  where
+    behind : List Name
+    behind = flat_map (text_of (code_of ss).texts) (code_of ss).constants
+
+    by : (b : Bool) → HasCode value.None (program.text_of prelude ss b) n block object → Among (program_texts (code_of prelude) (code_of ss)) t
+    by true g =
+        kept_keeps (constant_texts (code_of prelude)) behind t
+        (kept_has [] (flat_map (text_of (code_of prelude).texts) (code_of prelude).constants) t (code_has_texts prelude n block object g k t e))
+    by false g = kept_has (constant_texts (code_of prelude)) behind t (code_has_texts ss n block object g k t e)

@@ -1,5 +1,5 @@
--- What the laws say of a code that has a file, whose blocks fit and which is supported.
-use Rattle.std.specs.Prelude.{◌≡◌, ℕ}
+-- What the laws say of a code that has a file, whose blocks fit and which is supported, over a prelude that is such a code too.
+use Rattle.std.specs.Prelude.{◌≡◌, ℕ, Bool}
 use Rattle.pt_heap.specs.declared.value.Value.{Value}
 use Rattle.pt_code.specs.declared.Code.{Code}
 use Rattle.pt_code.specs.File.{HasFile}
@@ -13,34 +13,36 @@ use Rattle.law_frames.specs.RunNames.{StoresHaveNames}
 use Rattle.law_frames.specs.Operands.{CodeNamesItsBlocks}
 use Rattle.pt_code_loader.specs.pt_code_tables.Tables.{AreTablesOf}
 use Rattle.pt_code_loader.specs.declared.loading.Loaded.{Loaded}
-use Rattle.pt_code_loader.specs.Loaded.{IsLoadedCode}
+use Rattle.pt_code_loader.specs.Loaded.{IsLoadedProgram}
 use Rattle.pt_supported_code.specs.Built.{BuiltCode}
-use Rattle.law_loading.specs.code_program.CodeProgram.{AreObjectsOf, code_blocks, program_of_code, the_module}
+use Rattle.law_loading.specs.code_program.CodeProgram.{AreObjectsOf, code_blocks, code_in, program_of_code, the_module}
 
 pub record IsRunnable (c : Code) : Type 0 where
   pub has_file : HasFile c
   pub fit : AllFit c
   pub built : BuiltCode c
 
--- code objects of the blocks; the tables are those of the program and of these, and its texts are the program's
-pub record HasCodeTables (c : Code) (l : Loaded) : Type 0 where
-  pub object : ℕ → CodeObject Value
-  pub are : AreObjectsOf c object
-  pub tables : AreTablesOf (program_of_code c) (code_blocks c object) l.tables
-  pub texts : (program_of_code c).texts ≡ l.texts
+-- code objects of the blocks of a prelude and of a code over it; the tables are those of the program and of these, and its texts are the program's
+pub record HasCodeTables (prelude c : Code) (l : Loaded) : Type 0 where
+  pub object : (hidden : Bool) → ℕ → CodeObject Value
+  pub are : (hidden : Bool) → AreObjectsOf (code_in prelude c hidden) (object hidden)
+  pub tables : AreTablesOf (program_of_code prelude c) (code_blocks prelude c object) l.tables
+  pub texts : (program_of_code prelude c).texts ≡ l.texts
 
 abbrev pub LoadedCodeHasTables : Type 0
-LoadedCodeHasTables = (c : Code) (l : Loaded) → IsRunnable c → IsLoadedCode c l → HasCodeTables c l
+LoadedCodeHasTables = (prelude c : Code) (l : Loaded) → IsRunnable prelude → IsRunnable c → IsLoadedProgram prelude c l → HasCodeTables prelude c l
 
 abbrev pub BuiltCodeNamesItsBlocks : Type 0
-BuiltCodeNamesItsBlocks = (c : Code) (object : ℕ → CodeObject Value) → IsRunnable c → AreObjectsOf c object
-    → CodeNamesItsBlocks (program_of_code c) (code_blocks c object)
+BuiltCodeNamesItsBlocks = (prelude c : Code) (object : (hidden : Bool) → ℕ → CodeObject Value) → IsRunnable prelude → IsRunnable c
+    → ((hidden : Bool) → AreObjectsOf (code_in prelude c hidden) (object hidden))
+    → CodeNamesItsBlocks (program_of_code prelude c) (code_blocks prelude c object)
 
 abbrev pub RunOfCodeBeginsWithNames : Type 0
-RunOfCodeBeginsWithNames = (c : Code) → IsRunnable c
-    → StoresHaveNames (program_of_code c) the_module (record { names = module_names (program_of_code c); world = module_world (program_of_code c) })
+RunOfCodeBeginsWithNames = (prelude c : Code) → IsRunnable c → StoresHaveNames (program_of_code prelude c) the_module
+    (record { names = module_names (program_of_code prelude c); world = module_world (program_of_code prelude c) })
 
 abbrev pub BuiltCodeIsNeverStuck : Type 0
-BuiltCodeIsNeverStuck = (c : Code) (object : ℕ → CodeObject Value) → IsRunnable c → AreObjectsOf c object → (n : ℕ)
-    → NeverStuck (machine (code_blocks c object)) (heap_host (program_of_code c)) n the_module
-    (module_names (program_of_code c)) (module_world (program_of_code c))
+BuiltCodeIsNeverStuck = (prelude c : Code) (object : (hidden : Bool) → ℕ → CodeObject Value) → IsRunnable prelude → IsRunnable c
+    → ((hidden : Bool) → AreObjectsOf (code_in prelude c hidden) (object hidden)) → (n : ℕ)
+    → NeverStuck (machine (code_blocks prelude c object)) (heap_host (program_of_code prelude c)) n the_module
+    (module_names (program_of_code prelude c)) (module_world (program_of_code prelude c))

@@ -1,5 +1,5 @@
--- When tables made of a script's code are those of the script.
-use Rattle.std.specs.Prelude.{◌≡◌, ◌<◌, ◌++◌, ℕ, List, length, slice_get, Some, None}
+-- When tables made of the code of a prelude and of a script over it are those of both.
+use Rattle.std.specs.Prelude.{◌≡◌, ◌<◌, ◌++◌, ℕ, Bool, true, false, List, length, slice_get, Some, None}
 use Rattle.std.specs.List.{IsDistinct}
 use Rattle.std.specs.Str.{bytes_eq}
 use Rattle.pt_tree.specs.declared.expression.Constant.TheVariants as constant
@@ -19,11 +19,11 @@ use Rattle.law_typed_pieces.specs.law_operands.law_files.operands_fit.Laws.{Cell
 use Rattle.law_typed_pieces.specs.law_operands.free_names.FreeNames.{Among, ClassNameIsUnused}
 use Rattle.law_compile.specs.formed_scripts.Wide as formed
 use Rattle.law_compile.specs.script_objects.Laws.{HasCode}
-use Rattle.law_compile.specs.script_runs.Blocks.{script_code}
+use Rattle.law_compile.specs.script_runs.ProgramBlocks.{program_code, text_of}
 use Rattle.law_compile.specs.read_runs.Laws.{IsReadWith}
 use Rattle.pt_code_loader.specs.pt_code_tables.Tables.{AreTablesOf}
 use Rattle.pt_code_loader.specs.declared.loading.Loaded.{Loaded}
-use Rattle.pt_code_loader.specs.Loaded.{IsLoadedCode}
+use Rattle.pt_code_loader.specs.Loaded.{IsLoadedProgram}
 use Rattle.law_loading.specs.script_program.ScriptProgram.{program_of}
 use Rattle.law_loading.specs.script_program.Laws.{BlocksHaveTheirNames}
 
@@ -39,24 +39,34 @@ pub record IsLoadable (script : wide.Stms) (ss : Stms) : Type 0 where
   pub names : BlocksHaveTheirNames ss
   pub cells_are_different : (n : ℕ) → IsDistinct bytes_eq ((names_of ss n).cells ++ (names_of ss n).frees)
 
--- objects of the script's code, which has a run as the script has one; the tables are those of the program and of its code, and its texts are the program's
-pub record HasTables (ss : Stms) (l : Loaded) : Type 0 where
-  pub object : ℕ → CodeObject Value
-  pub of_blocks : (n : ℕ) (block : Block) → slice_get (blocks_script ss) n ≡ Some block → HasCode value.None ss n block (object n)
-  pub tables : AreTablesOf (program_of ss) (script_code ss object) l.tables
-  pub texts : (program_of ss).texts ≡ l.texts
+-- objects of the code of a prelude and of a script over it, which has a run as these have one; the tables are those of the program and of its code, and its
+-- texts are the program's
+pub record HasTables (prelude ss : Stms) (l : Loaded) : Type 0 where
+  pub object : (hidden : Bool) → ℕ → CodeObject Value
+  pub of_blocks : (hidden : Bool) (n : ℕ) (block : Block) → slice_get (blocks_script (text_of prelude ss hidden)) n ≡ Some block
+      → HasCode value.None (text_of prelude ss hidden) n block (object hidden n)
+  pub tables : AreTablesOf (program_of prelude ss) (program_code prelude ss object) l.tables
+  pub texts : (program_of prelude ss).texts ≡ l.texts
+
+-- a prelude and a script over it
+pub record AreLoadable (wide_prelude wide_script : wide.Stms) (prelude ss : Stms) : Type 0 where
+  pub prelude_is : IsLoadable wide_prelude prelude
+  pub script_is : IsLoadable wide_script ss
 
 abbrev pub LoadedScriptHasTables : Type 0
-LoadedScriptHasTables = (script : wide.Stms) (ss : Stms) (l : Loaded) → IsLoadable script ss → IsLoadedCode (code_of ss) l → HasTables ss l
+LoadedScriptHasTables = (first script : wide.Stms) (prelude ss : Stms) (l : Loaded) → AreLoadable first script prelude ss
+    → IsLoadedProgram (code_of prelude) (code_of ss) l → HasTables prelude ss l
 
 abbrev pub CodeHasItsModule : Type 0
 CodeHasItsModule = (ss : Stms) → 0 < length (code_of ss).blocks
 
--- so the script is read with these objects, and has the bare runs of its code
+-- so both are read with these objects, and have the bare runs of their code
 abbrev pub LoadedScriptIsRead : Type 0
-LoadedScriptIsRead = (script : wide.Stms) (ss : Stms) (l : Loaded) → IsLoadable script ss → (t : HasTables ss l) → IsReadWith value.None script ss t.object
+LoadedScriptIsRead = (first script : wide.Stms) (prelude ss : Stms) (l : Loaded) → AreLoadable first script prelude ss → (t : HasTables prelude ss l)
+    → IsReadWith value.None first prelude (t.object true) × IsReadWith value.None script ss (t.object false)
 
--- each text of a constant that the script's code gives is one of the program's, and so has its object
+-- each text of a constant that the code of either gives is one of the program's, and so has its object
 abbrev pub ConstantsHaveTheirTexts : Type 0
-ConstantsHaveTheirTexts = (ss : Stms) (n : ℕ) (block : Block) (object : CodeObject Value) → HasCode value.None ss n block object → (k : ℕ) (t : List ℕ)
-    → object.pool.constant k ≡ constant.Str t → Among (program_of ss).texts t
+ConstantsHaveTheirTexts = (prelude ss : Stms) (hidden : Bool) (n : ℕ) (block : Block) (object : CodeObject Value)
+    → HasCode value.None (text_of prelude ss hidden) n block object → (k : ℕ) (t : List ℕ)
+    → object.pool.constant k ≡ constant.Str t → Among (program_of prelude ss).texts t

@@ -1,5 +1,5 @@
--- What a host knows of a script: of each block what its code object tells (Language Reference 3.2.13.1, 4.2; Library Reference, "inspect": code
--- objects), and the texts of the script's constants.
+-- What a host knows of a script over a prelude: of each block what its code object tells (Language Reference 3.2.13.1, 4.2; Library Reference, "inspect": code
+-- objects), and the texts of their constants.
 use Rattle.std.specs.Prelude.{[], Bool, false, map, is_some, codes, Option, Some, None}
 use Rattle.pt_tree.specs.Syntax as S
 use Rattle.pt_tree.specs.Syntax.{Name, Params, Stms}
@@ -13,7 +13,8 @@ use Rattle.law_typed_pieces.specs.law_operands.law_files.sem_compile.compile.Scr
 use Rattle.sem_run.specs.run.Machine.{BlockId}
 use Rattle.pt_builtins.specs.pt_host.World.{CodeFacts, Program}
 use Rattle.law_compile.specs.script_runs.Blocks.{block_of, number_of}
-use Rattle.pt_code_loader.specs.Texts.{constant_texts}
+use Rattle.law_compile.specs.script_runs.ProgramBlocks.{text_of}
+use Rattle.pt_code_loader.specs.Texts.{program_texts}
 
 -- a call of a function that gives values on makes a generator (6.2.9)
 abbrev pub makes_generator : BlockCode → Bool
@@ -53,6 +54,13 @@ module _ (ss : Stms) where
   abbrev pub facts_at : BlockId → CodeFacts
   facts_at b = let n = number_of ss b in facts_with (spelled_in (naming_script ss) n) (names_of ss n) (block_or_module ss (block_of ss b))
 
-  -- texts stand in the order in which the script's code has its constants; where it was read from is said beside (`read_from`)
+-- a script over a prelude, which is one too and whose blocks are hidden
+module _ (prelude ss : Stms) where
+  -- texts stand in the order in which the prelude's code and then the script's has its constants; where it was read from is said beside (`read_from`)
   abbrev pub program_of : Program
-  program_of = record { facts = facts_at; texts = constant_texts (code_of ss); file = []; source = None }
+  program_of = record {
+    facts = λ b. facts_at (text_of prelude ss b.hidden) b;
+    texts = program_texts (code_of prelude) (code_of ss);
+    file = [];
+    source = None;
+  }

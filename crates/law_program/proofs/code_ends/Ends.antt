@@ -1,5 +1,5 @@
--- The run of a code comes to one outcome, whatever code objects of its blocks it runs.
-use Rattle.std.proofs.Common.{◌≡◌, ℕ, length, Bool, Option, Some, refl, sym, ap, ◌∙◌, subst, if◌then◌else◌}
+-- The run of a code over a prelude comes to one outcome, whatever code objects of their blocks it runs.
+use Rattle.std.proofs.Common.{◌≡◌, ℕ, length, Bool, true, false, Option, Some, refl, sym, ap, ◌∙◌, subst, if◌then◌else◌}
 use Rattle.std.specs.Prelude.{slice_get}
 use Rattle.pt_instr.specs.Effects.{Kinds}
 use Rattle.pt_heap.specs.declared.value.Value.{Value}
@@ -7,7 +7,6 @@ use Rattle.pt_code.specs.declared.BlockKind.{BlockKind}
 use Rattle.pt_code.specs.declared.BlockKind.TheVariants as kind
 use Rattle.pt_code.specs.declared.CodeBlock.{CodeBlock}
 use Rattle.pt_code.specs.declared.Code.{Code}
-use Rattle.pt_code.specs.File.{HasFile}
 use Rattle.pt_code.specs.View.{Ins}
 use Rattle.pt_code.proofs.OneView.{one_view}
 use Rattle.sem_control.specs.control.Turn.{Turn}
@@ -17,14 +16,14 @@ use Rattle.sem_code.specs.slots.BlockObject.{IsBlockObject}
 use Rattle.sem_code.specs.slots.Machine as slots
 use Rattle.sem_fits.specs.fits.Block.{Block, block_of, kinds_at_start}
 use Rattle.sem_fits.specs.fits.Places.{Gets}
-use Rattle.sem_fits.specs.fits.Fits.{AllFit, Fits}
+use Rattle.sem_fits.specs.fits.Fits.{Fits}
 use Rattle.sem_fits.specs.fits.Laws as laws
 use Rattle.sem_fits.specs.fits.Laws.{Runs, Sound, Starts}
 use Rattle.pt_verify_depths.proofs.ObjectRuns.{object_runs}
 use Rattle.sem_run.specs.run.Machine.{BlockId, Machine, refuses, not_at_line}
 use Rattle.sem_run.specs.run.Source.{or_null}
 use Rattle.sem_code.specs.comp_expr.Law.{active_at}
-use Rattle.sem_rows.specs.pt_host.World.{Names, World}
+use Rattle.sem_rows.specs.pt_host.World.{Names, Program, World}
 use Rattle.sem_rows.specs.pt_host.Calls.{module_names, module_world}
 use Rattle.sem_rows.specs.pt_host.HeapHost.{heap_host}
 use Rattle.pt_bare_runs.specs.Strides as bare
@@ -35,10 +34,10 @@ use Rattle.pt_prog.specs.pt_run_script.pt_run_code.pt_code_loader.Loaded.{iterat
 use Rattle.law_fits.proofs.Runs.{starts_sound}
 use Rattle.pt_prog.specs.pt_run_script.pt_run_code.pt_runner.Work.{Work, RunDoes}
 use Rattle.pt_prog.proofs.pt_run_script.pt_run_code.pt_runner.GoesTo.{does_one_work, runs_so}
-use Rattle.pt_prog.specs.pt_run_script.pt_run_code.law_loading.code_program.CodeProgram.{AreObjectsOf, code_blocks, iterates_by, number_in, program_of_code, the_module}
+use Rattle.pt_prog.specs.pt_run_script.pt_run_code.law_loading.code_program.CodeProgram.{AreObjectsOf, code_blocks, code_in, iterates_by, number_in, program_of_code, the_module}
 use Rattle.pt_prog.proofs.pt_run_script.pt_run_code.law_loading.code_program.Objects.{at_number, begins}
 use Rattle.pt_prog.specs.pt_run_script.pt_run_code.CodeRun.{nothing, of_run}
-use Rattle.law_program.specs.code_ends.Laws.{CodeRunsToOneOutcome, OutcomeBeginsWithFirstWrites}
+use Rattle.law_program.specs.code_ends.Laws.{CodeRunsToOneOutcome, IsVerified, OutcomeBeginsWithFirstWrites}
 use Rattle.law_program.proofs.code_ends.Strides.{TurnIn}
 use Rattle.law_program.proofs.code_ends.Turns as turns
 use Rattle.law_program.proofs.code_ends.Turns.{turns_alike}
@@ -55,127 +54,141 @@ starts_by b i e kind.Function is null iterator = laws.empty i e (ap kinds_at_sta
 starts_by b i e kind.Generator is null iterator = laws.empty i e (ap kinds_at_start is)
 starts_by b i e kind.Class is null iterator = laws.empty i e (ap kinds_at_start is)
 
-module _ (c : Code) (has : HasFile c) where
+-- of a prelude and a code over it
+module _ (prelude c : Code) (both : (hidden : Bool) → IsVerified (code_in prelude c hidden)) where
+  abbrev code : BlockId → Code
+  code b = code_in prelude c b.hidden
+
   abbrev number : BlockId → ℕ
-  number b = number_in c b.number
+  number b = number_in (code b) b.number
 
   abbrev block : BlockId → CodeBlock
-  block b = (at_number c has b.number).0
+  block b = (at_number (code b) (both b.hidden).has_file b.number).0
 
-  there : (b : BlockId) → slice_get c.blocks (number b) ≡ Some (block b)
-  there b = (at_number c has b.number).1
+  there : (b : BlockId) → slice_get (code b).blocks (number b) ≡ Some (block b)
+  there b = (at_number (code b) (both b.hidden).has_file b.number).1
 
-  module _ (object : ℕ → CodeObject Value) (are : AreObjectsOf c object) where
+  abbrev Objects : Type 0
+  Objects = (hidden : Bool) → ℕ → CodeObject Value
+
+  abbrev AreObjects : Objects → Type 0
+  AreObjects object = (hidden : Bool) → AreObjectsOf (code_in prelude c hidden) (object hidden)
+
+  abbrev program : Program
+  program = program_of_code prelude c
+
+  module _ (object : Objects) (are : AreObjects object) where
+    abbrev object_of : BlockId → CodeObject Value
+    object_of b = object b.hidden (number b)
+
     abbrev blocks : BlockId → Block
-    blocks b = block_of c (block b) (object (number b)).at
+    blocks b = block_of (code b) (block b) (object_of b).at
 
-    is : (b : BlockId) → IsBlockObject c (block b) (object (number b))
-    is b = are.of_blocks (number b) (block b) (there b)
+    is : (b : BlockId) → IsBlockObject (code b) (block b) (object_of b)
+    is b = (are b.hidden).of_blocks (number b) (block b) (there b)
 
-    starts : (b : BlockId) (iterator : Option Value) → Starts (blocks b) (start_of (code_blocks c object) b iterator)
+    starts : (b : BlockId) (iterator : Option Value) → Starts (blocks b) (start_of (code_blocks prelude c object) b iterator)
     starts b iterator =
-        let first = begins c has (number b) (block b) (there b) (object (number b)).at (is b).view in
-        subst (λ (t : Bool). Starts (blocks b) (if t then slots.start_generator (or_null (object (number b)).null iterator) else slots.start))
-        (sym (ap iterates_by (there b))) (starts_by (blocks b) first.0 first.1 (block b).kind refl (object (number b)).null iterator)
+        let first = begins (code b) (both b.hidden).has_file (number b) (block b) (there b) (object_of b).at (is b).view in
+        subst (λ (t : Bool). Starts (blocks b) (if t then slots.start_generator (or_null (object_of b).null iterator) else slots.start))
+        (sym (ap iterates_by (there b))) (starts_by (blocks b) first.0 first.1 (block b).kind refl (object_of b).null iterator)
 
-  module _ (fit : AllFit c) where
-    fits : (object : ℕ → CodeObject Value) (are : AreObjectsOf c object) (b : BlockId) → Fits (blocks object are b)
-    fits object are b = fit (number b) (block b) (there b) (object (number b)).at (is object are b).view
+    fits : (b : BlockId) → Fits (blocks b)
+    fits b = (both b.hidden).fit (number b) (block b) (there b) (object_of b).at (is b).view
 
-    runs : (object : ℕ → CodeObject Value) (are : AreObjectsOf c object) (b : BlockId) → Runs (object (number b)) (blocks object are b)
-    runs object are b = object_runs Value c (block b) (object (number b)) (is object are b) (fits object are b)
+    runs : (b : BlockId) → Runs (object_of b) (blocks b)
+    runs b = object_runs Value (code b) (block b) (object_of b) (is b) (fits b)
 
-    -- two families of code objects
-    module _ (object other : ℕ → CodeObject Value) (are : AreObjectsOf c object) (too : AreObjectsOf c other) where
-      abbrev one : BlockId → CodeObject Value
-      one b = object (number b)
+  -- two families of code objects
+  module _ (object other : Objects) (are : AreObjects object) (too : AreObjects other) where
+    abbrev one : BlockId → CodeObject Value
+    one b = object b.hidden (number b)
 
-      abbrev two : BlockId → CodeObject Value
-      two b = other (number b)
+    abbrev two : BlockId → CodeObject Value
+    two b = other b.hidden (number b)
 
-      -- they differ in no more than how many slots they know and in operations that aren't supported
-      same_object : (b : BlockId) → turns.other (one b) (two b).depth_at (two b).extras ≡ two b
-      same_object b = λ j. record {
-        at = one_view (block b) (one b).at (two b).at (is object are b).view (is other too b).view j;
-        depth_at = (two b).depth_at;
-        pool = ((is object are b).pool ∙ sym (is other too b).pool) j;
-        extras = (two b).extras;
-        null = same_null b j;
-        truth = λ t. ((are.truths (number b)).truth t ∙ sym ((too.truths (number b)).truth t)) j;
-        is_truth = λ v. ((are.truths (number b)).is_truth v ∙ sym ((too.truths (number b)).is_truth v)) j;
-      }
-        where
-          same_null : (b : BlockId) → (one b).null ≡ (two b).null
-          same_null b = (are.truths (number b)).null ∙ sym (too.truths (number b)).null
+    same_null : (b : BlockId) → (one b).null ≡ (two b).null
+    same_null b = ((are b.hidden).truths (number b)).null ∙ sym ((too b.hidden).truths (number b)).null
 
-      abbrev first : Machine (State Value) Value
-      first = machine (code_blocks c object)
+    same_at : (b : BlockId) → (one b).at ≡ (two b).at
+    same_at b = one_view (block b) (one b).at (two b).at (is object are b).view (is other too b).view
 
-      abbrev turn : BlockId → State Value → Turn (State Value) Value
-      turn b s = slots.turn (two b) s
+    -- they differ in no more than how many slots they know and in operations that aren't supported
+    same_object : (b : BlockId) → turns.other (one b) (two b).depth_at (two b).extras ≡ two b
+    same_object b = λ j. record {
+      at = same_at b j;
+      depth_at = (two b).depth_at;
+      pool = ((is object are b).pool ∙ sym (is other too b).pool) j;
+      extras = (two b).extras;
+      null = same_null b j;
+      truth = λ t. (((are b.hidden).truths (number b)).truth t ∙ sym (((too b.hidden).truths (number b)).truth t)) j;
+      is_truth = λ v. (((are b.hidden).truths (number b)).is_truth v ∙ sym (((too b.hidden).truths (number b)).is_truth v)) j;
+    }
 
-      abbrev second : Machine (State Value) Value
-      second = record first { turn = turn }
+    abbrev first : Machine (State Value) Value
+    first = machine (code_blocks prelude c object)
 
-      second_is : machine (code_blocks c other) ≡ second
-      second_is = λ j. record {
-        start = λ b iterator. if iterates_by (slice_get c.blocks (number b)) then slots.start_generator (or_null (same_null b j) iterator) else slots.start;
-        turn = turn;
-        jump = λ b t l. refuses not_at_line;
-        active = active_at;
-        destination = λ b t. 0;
-      }
-        where
-          same_null : (b : BlockId) → (two b).null ≡ (one b).null
-          same_null b = (too.truths (number b)).null ∙ sym (are.truths (number b)).null
+    abbrev turn : BlockId → State Value → Turn (State Value) Value
+    turn b s = slots.turn (two b) s
 
-      depths : (b : BlockId) (pc : ℕ) (ks : Kinds) → Gets (blocks object are b) (blocks object are b).size pc ks → (two b).depth_at pc ≡ length ks
-      depths b pc ks gets =
-          (runs other too b).depth_at pc ks
-          (subst (λ view. Gets (block_of c (block b) view) (blocks object are b).size pc ks)
-          (one_view (block b) (one b).at (two b).at (is object are b).view (is other too b).view) gets)
+    abbrev second : Machine (State Value) Value
+    second = record first { turn = turn }
 
-      abbrev Within : BlockId → State Value → Type 0
-      Within b s = Sound (blocks object are b) s
+    second_is : machine (code_blocks prelude c other) ≡ second
+    second_is = λ j. record {
+      start = λ b iterator. if iterates_by (slice_get (code b).blocks (number b)) then slots.start_generator (or_null (sym (same_null b) j) iterator) else slots.start;
+      turn = turn;
+      jump = λ b t l. refuses not_at_line;
+      active = active_at;
+      destination = λ b t. 0;
+    }
 
-      begin : (b : BlockId) (iterator : Option Value) → Within b (first.start b iterator)
-      begin b iterator = starts_sound (blocks object are b) (starts object are b iterator)
+    depths : (b : BlockId) (pc : ℕ) (ks : Kinds) → Gets (blocks object are b) (blocks object are b).size pc ks → (two b).depth_at pc ≡ length ks
+    depths b pc ks gets =
+        (runs other too b).depth_at pc ks
+        (subst (λ view. Gets (block_of (code b) (block b) view) (blocks object are b).size pc ks) (same_at b) gets)
 
-      stay : (b : BlockId) (s : State Value) → Within b s → TurnIn (Within b) (first.turn b s)
-      stay b s sound = turn_in (one b) (blocks object are b) (runs object are b) (fits object are b) s sound
+    abbrev Within : BlockId → State Value → Type 0
+    Within b s = Sound (blocks object are b) s
 
-      alike : (n : ℕ) (b : BlockId) (s : State Value) → Within b s → (z : bare.State (State Value) Names Value World)
-          → take_turn second (heap_host (program_of_code c)) n (first.turn b s) z ≡ take_turn second (heap_host (program_of_code c)) n (turn b s) z
-      alike n b s sound z =
-          alike_strides (program_of_code c) second n (one b) (two b).depth_at (two b).extras (extras_leave (one b) (are.extras (number b)))
-          (extras_leave (two b) (too.extras (number b))) (slots.turn (one b) s) (slots.turn (turns.other (one b) (two b).depth_at (two b).extras) s)
-          (turns_alike (one b) (two b).depth_at (two b).extras s
-          (sound_alike (one b) (blocks object are b) (runs object are b) (fits object are b) (two b).depth_at (two b).extras (depths b) s sound)) z
-          ∙ ap (λ x. take_turn second (heap_host (program_of_code c)) n (slots.turn x s) z) (same_object b)
+    begin : (b : BlockId) (iterator : Option Value) → Within b (first.start b iterator)
+    begin b iterator = starts_sound (blocks object are b) (starts object are b iterator)
 
-      -- a run of the one is one of the other
-      does_too : (n : ℕ) (o : Outcome Value World) (k : Work)
-          → RunDoes (machine (code_blocks c object)) (heap_host (program_of_code c)) n the_module
-          (module_names (program_of_code c)) (module_world (program_of_code c)) o k
-          → RunDoes (machine (code_blocks c other)) (heap_host (program_of_code c)) n the_module
-          (module_names (program_of_code c)) (module_world (program_of_code c)) o k
-      does_too n o k d =
-          subst (λ m. RunDoes m (heap_host (program_of_code c)) n the_module
-          (module_names (program_of_code c)) (module_world (program_of_code c)) o k) (sym second_is)
-          (run_does_too first turn (heap_host (program_of_code c)) n Within begin stay (alike n) the_module
-          (module_names (program_of_code c)) (module_world (program_of_code c)) o k d)
+    stay : (b : BlockId) (s : State Value) → Within b s → TurnIn (Within b) (first.turn b s)
+    stay b s sound = turn_in (one b) (blocks object are b) (runs object are b) (fits object are b) s sound
+
+    alike : (n : ℕ) (b : BlockId) (s : State Value) → Within b s → (z : bare.State (State Value) Names Value World)
+        → take_turn second (heap_host program) n (first.turn b s) z ≡ take_turn second (heap_host program) n (turn b s) z
+    alike n b s sound z =
+        alike_strides program second n (one b) (two b).depth_at (two b).extras (extras_leave (one b) ((are b.hidden).extras (number b)))
+        (extras_leave (two b) ((too b.hidden).extras (number b))) (slots.turn (one b) s) (slots.turn (turns.other (one b) (two b).depth_at (two b).extras) s)
+        (turns_alike (one b) (two b).depth_at (two b).extras s
+        (sound_alike (one b) (blocks object are b) (runs object are b) (fits object are b) (two b).depth_at (two b).extras (depths b) s sound)) z
+        ∙ ap (λ x. take_turn second (heap_host program) n (slots.turn x s) z) (same_object b)
+
+    -- a run of the one is one of the other
+    does_too : (n : ℕ) (o : Outcome Value World) (k : Work)
+        → RunDoes (machine (code_blocks prelude c object)) (heap_host program) n the_module (module_names program) (module_world program) o k
+        → RunDoes (machine (code_blocks prelude c other)) (heap_host program) n the_module (module_names program) (module_world program) o k
+    does_too n o k d =
+        subst (λ m. RunDoes m (heap_host program) n the_module (module_names program) (module_world program) o k) (sym second_is)
+        (run_does_too first turn (heap_host program) n Within begin stay (alike n) the_module (module_names program) (module_world program) o k d)
+
+-- by side
+pub both_verified : (prelude c : Code) → IsVerified prelude → IsVerified c → (hidden : Bool) → IsVerified (code_in prelude c hidden)
+both_verified prelude c of_prelude of_code true = of_prelude
+both_verified prelude c of_prelude of_code false = of_code
 
 pub runs_to_one_outcome : CodeRunsToOneOutcome
-runs_to_one_outcome c has fit n o p k l r q =
-    does_one_work (machine (code_blocks c q.object)) (heap_host (program_of_code c)) n the_module
-    (module_names (program_of_code c)) (module_world (program_of_code c)) o p k l
-    (does_too c has fit r.object q.object r.are_objects q.are_objects n o k r.does) q.does
+runs_to_one_outcome prelude c of_prelude of_code n o p k l r q =
+    let program = program_of_code prelude c in
+    does_one_work (machine (code_blocks prelude c q.object)) (heap_host program) n the_module (module_names program) (module_world program) o p k l
+    (does_too prelude c (both_verified prelude c of_prelude of_code) r.object q.object r.are_objects q.are_objects n o k r.does) q.does
 
 pub begins_with_first_writes : OutcomeBeginsWithFirstWrites
-begins_with_first_writes c has fit n o k _ r nothing = (o.written, refl)
-begins_with_first_writes c has fit n o k _ r (of_run ws cells object are first) =
-    outcomes_begin_so (machine (code_blocks c object)) (heap_host (program_of_code c)) n the_module
-    (module_names (program_of_code c)) (module_world (program_of_code c)) o ws
-    (runs_so (machine (code_blocks c object)) (heap_host (program_of_code c)) n the_module
-    (module_names (program_of_code c)) (module_world (program_of_code c)) o k
-    (does_too c has fit r.object object r.are_objects are n o k r.does)) first
+begins_with_first_writes prelude c of_prelude of_code n o k _ r nothing = (o.written, refl)
+begins_with_first_writes prelude c of_prelude of_code n o k _ r (of_run ws cells object are writes) =
+    let program = program_of_code prelude c in
+    outcomes_begin_so (machine (code_blocks prelude c object)) (heap_host program) n the_module (module_names program) (module_world program) o ws
+    (runs_so (machine (code_blocks prelude c object)) (heap_host program) n the_module (module_names program) (module_world program) o k
+    (does_too prelude c (both_verified prelude c of_prelude of_code) r.object object r.are_objects are n o k r.does)) writes

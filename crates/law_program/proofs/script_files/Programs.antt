@@ -1,5 +1,5 @@
--- A host knows the same of a supported script's code as of the script.
-use Rattle.std.proofs.Common.{◌≡◌, ℕ, List, [], length, Option, Some, None, refl, sym, ap, ◌∙◌}
+-- A host knows the same of a supported script's code as of the script, over a prelude.
+use Rattle.std.proofs.Common.{◌≡◌, ℕ, Bool, true, false, List, [], length, Option, Some, None, refl, sym, ap, ◌∙◌}
 use Rattle.std.specs.Prelude.{slice_get}
 use Rattle.std.proofs.Math.Path.{fun_ext}
 use Rattle.std.proofs.lemmas.List.{length-map}
@@ -13,12 +13,13 @@ use Rattle.pt_code.specs.declared.CodeBlock.{CodeBlock}
 use Rattle.law_typed_pieces.specs.law_operands.law_files.sem_compile.compile.ScriptCode.{BlockLayout, code_block, code_of, script_layouts}
 use Rattle.law_typed_pieces.proofs.law_operands.law_files.sem_compile.compile.Blocks.{as_many_blocks}
 use Rattle.law_compile.specs.script_runs.Blocks as script
-use Rattle.pt_prog.specs.pt_run_script.pt_run_code.law_loading.script_program.ScriptProgram.{block_or_module, facts_at, facts_with, the_module_block}
+use Rattle.law_compile.specs.script_runs.ProgramBlocks.{text_of}
+use Rattle.pt_prog.specs.pt_run_script.pt_run_code.law_loading.script_program.ScriptProgram.{block_or_module, facts_at, facts_with, program_of, the_module_block}
 use Rattle.pt_prog.proofs.pt_run_script.pt_run_code.law_loading.script_program.Facts.{code_tells}
-use Rattle.pt_prog.specs.pt_run_script.pt_run_code.pt_code_loader.Texts.{constant_texts}
+use Rattle.pt_prog.specs.pt_run_script.pt_run_code.pt_code_loader.Texts.{program_texts}
 use Rattle.pt_prog.proofs.pt_run_script.pt_run_code.law_loading.loaded_scripts.Lists.{mapped_at, none_there, there}
-use Rattle.pt_prog.specs.pt_run_script.pt_run_code.law_loading.code_program.CodeProgram.{facts_by, number_in, number_or_module, program_of_code}
-use Rattle.law_program.specs.script_files.Laws.{CodeHasOneProgram, HasCodeFile}
+use Rattle.pt_prog.specs.pt_run_script.pt_run_code.law_loading.code_program.CodeProgram.{code_in, facts_by, number_in, number_or_module, program_of_code}
+use Rattle.law_program.specs.script_files.Laws.{CodeHasOneProgram, HasCodeFile, HaveCodeFiles}
 use Rattle.law_program.proofs.script_files.Named.{names}
 
 module _ (ss : Stms) where
@@ -58,7 +59,17 @@ module _ (text : List ℕ) (ss : Stms) (h : HasCodeFile text ss) where
   facts_of None n e =
       ap (λ m. facts_by (code_of ss).texts (slice_get (code_of ss).blocks m)) (number_by ss None n e) ∙ block_facts 0 (the_module_block ss) refl
 
+module _ (prelude ss : Stms) (both : HaveCodeFiles prelude ss) where
+  abbrev side : (hidden : Bool) → Code
+  side hidden = code_in (code_of prelude) (code_of ss) hidden
+
+  side_facts : (hidden : Bool) (b : BlockId) → facts_by (side hidden).texts (slice_get (side hidden).blocks (number_in (side hidden) b.number))
+      ≡ facts_at (text_of prelude ss hidden) b
+  side_facts true b = facts_of both.prelude_text prelude both.of_prelude (script.block_of prelude b) b.number refl
+  side_facts false b = facts_of both.script_text ss both.of_script (script.block_of ss b) b.number refl
+
 pub code_has_one_program : CodeHasOneProgram
-code_has_one_program text ss h =
-    let same : (program_of_code (code_of ss)).facts ≡ facts_at ss = fun_ext (λ b. facts_of text ss h (script.block_of ss b) b.number refl) in
-    λ i. record { facts = same i; texts = constant_texts (code_of ss); file = []; source = None }
+code_has_one_program prelude ss both =
+    let same : (program_of_code (code_of prelude) (code_of ss)).facts ≡ (program_of prelude ss).facts =
+    fun_ext (λ b. side_facts prelude ss both b.hidden b) in
+    λ i. record { facts = same i; texts = program_texts (code_of prelude) (code_of ss); file = []; source = None }

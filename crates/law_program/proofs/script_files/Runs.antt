@@ -1,5 +1,5 @@
--- A run of a supported script's code is one of the code that is read from its file, and the other way round.
-use Rattle.std.proofs.Common.{◌≡◌, ℕ, false, List, [], Option, Some, None, refl, sym, ap, ◌∙◌, subst}
+-- A run of a supported script's code over a prelude's is one of the code that is read from its file, and the other way round.
+use Rattle.std.proofs.Common.{◌≡◌, ℕ, Bool, true, false, List, [], Option, Some, None, refl, sym, ap, ◌∙◌, subst}
 use Rattle.std.specs.Prelude.{slice_get}
 use Rattle.std.proofs.Math.Path.{fun_ext}
 use Rattle.pt_tree.specs.Syntax.{Stms}
@@ -32,17 +32,19 @@ use Rattle.law_compile.proofs.formed_scripts.Statements.{scripts_are_formed}
 use Rattle.law_compile.specs.script_objects.Laws.{HasCode}
 use Rattle.law_compile.proofs.script_objects.Objects.{objects_have_their_code}
 use Rattle.law_compile.specs.script_runs.Blocks as script
-use Rattle.law_compile.specs.script_runs.Blocks.{script_code, the_module}
-use Rattle.law_compile.specs.script_runs.Laws.{AreItsObjects, code_machine}
-use Rattle.law_compile.proofs.script_runs.Objects.{code_of_script_writes_nothing_else, script_has_its_bare_runs}
+use Rattle.law_compile.specs.script_runs.Blocks.{the_module}
+use Rattle.law_compile.specs.script_runs.Laws.{AreItsObjects}
+use Rattle.law_compile.specs.script_runs.ProgramBlocks.{program_code, program_code_machine, text_of}
+use Rattle.law_compile.specs.script_runs.ProgramLaws.{AreObjectsOfBoth}
+use Rattle.law_compile.proofs.script_runs.Objects.{program_code_writes_nothing_else, program_has_its_bare_runs}
 use Rattle.pt_prog.specs.pt_run_script.pt_run_code.law_loading.script_program.ScriptProgram.{program_of, the_module_block}
 use Rattle.pt_prog.proofs.pt_run_script.pt_run_code.law_loading.loaded_scripts.Lists.{same_some}
 use Rattle.pt_prog.proofs.pt_run_script.pt_run_code.law_loading.loaded_scripts.Loading.{kind_iterates}
-use Rattle.pt_prog.specs.pt_run_script.pt_run_code.law_loading.code_program.CodeProgram.{AreObjectsOf, code_blocks, iterates_by, number_in, number_or_module, program_of_code}
+use Rattle.pt_prog.specs.pt_run_script.pt_run_code.law_loading.code_program.CodeProgram.{AreObjectsOf, code_blocks, code_in, iterates_by, number_in, number_or_module, program_of_code}
 use Rattle.pt_prog.proofs.pt_run_script.pt_run_code.law_loading.code_program.Operands.{module_number}
 use Rattle.pt_prog.specs.pt_run_script.pt_run_code.CodeRun.{CodeRunsTo, CodeWritesFirst, nothing, of_run}
 use Rattle.pt_prog.specs.pt_run_script.ScriptRun.{AreCodeOf, CodeRunsBy, RunsTo, ScriptWritesFirst}
-use Rattle.law_program.specs.script_files.Laws.{CodeRunsAsScript, HasCodeFile, ScriptRunsAsCode, ScriptWritesAsCode}
+use Rattle.law_program.specs.script_files.Laws.{CodeRunsAsScript, HasCodeFile, HaveCodeFiles, ScriptRunsAsCode, ScriptWritesAsCode}
 use Rattle.law_program.proofs.script_files.Named.{cells_fit, in_script, numbered_blocks, numbers, unused}
 use Rattle.law_program.proofs.script_files.Programs.{code_has_one_program, laid_out, number_by, one_number}
 use Rattle.law_program.proofs.script_files.Supported.{code_is_supported}
@@ -72,11 +74,30 @@ module _ (ss : Stms) where
   starts_by (Some k) n e = ap (λ m. iterates_by (slice_get c.blocks m)) (number_by ss (Some k) n e) ∙ starts_at n k e
   starts_by None n e = ap (λ m. iterates_by (slice_get c.blocks m)) (number_by ss None n e) ∙ starts_at 0 (the_module_block ss) refl
 
+module _ (prelude ss : Stms) where
+  abbrev side : (hidden : Bool) → Code
+  side hidden = code_in (code_of prelude) (code_of ss) hidden
+
+  abbrev Objects : Type 0
+  Objects = (hidden : Bool) → ℕ → CodeObject Value
+
+  side_number : (hidden : Bool) (b : BlockId) → number_in (side hidden) b.number ≡ script.number_of (text_of prelude ss hidden) b
+  side_number true b = one_number prelude b
+  side_number false b = one_number ss b
+
+  side_starts : (hidden : Bool) (b : BlockId) → iterates_by (slice_get (side hidden).blocks (number_in (side hidden) b.number))
+      ≡ follows.iterates (script.code_of (text_of prelude ss hidden) b)
+  side_starts true b = starts_by prelude (script.block_of prelude b) b.number refl
+  side_starts false b = starts_by ss (script.block_of ss b) b.number refl
+
   -- the blocks in code, by objects that are the same at each number of the code
-  one_code : (own object : ℕ → CodeObject Value) → ((n : ℕ) → own (number_in c n) ≡ object (number_in c n)) → code_blocks c own ≡ script_code ss object
+  one_code : (own object : Objects) → ((hidden : Bool) (n : ℕ) → own hidden (number_in (side hidden) n) ≡ object hidden (number_in (side hidden) n))
+      → code_blocks (code_of prelude) (code_of ss) own ≡ program_code prelude ss object
   one_code own object same =
-      let objects : (code_blocks c own).object ≡ (script_code ss object).object = fun_ext (λ b. same b.number ∙ ap object (one_number ss b)) in
-      let starts : (code_blocks c own).iterates ≡ (script_code ss object).iterates = fun_ext (λ b. starts_by (script.block_of ss b) b.number refl) in
+      let objects : (code_blocks (code_of prelude) (code_of ss) own).object ≡ (program_code prelude ss object).object =
+      fun_ext (λ b. same b.hidden b.number ∙ ap (object b.hidden) (side_number b.hidden b)) in
+      let starts : (code_blocks (code_of prelude) (code_of ss) own).iterates ≡ (program_code prelude ss object).iterates =
+      fun_ext (λ b. side_starts b.hidden b) in
       λ i. record { object = objects i; iterates = starts i }
 
 -- a run by a program and code
@@ -86,9 +107,6 @@ Run n o w p code = RunDoes (machine code) (heap_host p) n the_module (module_nam
 module _ (text : List ℕ) (ss : Stms) (h : HasCodeFile text ss) where
   abbrev code : Code
   code = code_of ss
-
-  program : program_of_code code ≡ program_of ss
-  program = code_has_one_program text ss h
 
   module _ (object : ℕ → CodeObject Value) where
     -- code objects of the script are some of the code
@@ -130,52 +148,90 @@ module _ (text : List ℕ) (ss : Stms) (h : HasCodeFile text ss) where
           of_blocks = λ n block e. objects_have_their_code value.None ss n block (object n) h.is_script.no_fault formed frees (are.of_blocks n block e);
         }
 
+module _ (prelude ss : Stms) (both : HaveCodeFiles prelude ss) where
+  abbrev first : Code
+  first = code_of prelude
+
+  abbrev second : Code
+  second = code_of ss
+
+  program : program_of_code first second ≡ program_of prelude ss
+  program = code_has_one_program prelude ss both
+
+  -- what is so of each side
+  all_objects : (object : Objects prelude ss) → ((hidden : Bool) → AreCodeOf (text_of prelude ss hidden) (object hidden)) → (hidden : Bool)
+      → AreObjectsOf (code_in first second hidden) (by_numbers (code_in first second hidden) (object hidden))
+  all_objects object are true = as_objects both.prelude_text prelude both.of_prelude (object true) (are true)
+  all_objects object are false = as_objects both.script_text ss both.of_script (object false) (are false)
+
+  all_code : (object : Objects prelude ss) → ((hidden : Bool) → AreObjectsOf (code_in first second hidden) (object hidden)) → (hidden : Bool)
+      → AreCodeOf (text_of prelude ss hidden) (object hidden)
+  all_code object are true = as_code both.prelude_text prelude both.of_prelude (object true) (are true)
+  all_code object are false = as_code both.script_text ss both.of_script (object false) (are false)
+
+  are_their_objects : (object : Objects prelude ss) → ((hidden : Bool) → AreCodeOf (text_of prelude ss hidden) (object hidden))
+      → AreObjectsOfBoth value.None prelude ss object
+  are_their_objects object are = record {
+    of_prelude = are_its_objects both.prelude_text prelude both.of_prelude (object true) (are true);
+    of_script = are_its_objects both.script_text ss both.of_script (object false) (are false);
+  }
+
   module _ (n : ℕ) where
     module _ (o : Outcome Value World) (w : Work) where
-      code_run : CodeRunsBy ss n o w → CodeRunsTo code n o w
+      code_run : CodeRunsBy prelude ss n o w → CodeRunsTo first second n o w
       code_run r =
-          let own = by_numbers code r.object in
-          let same : code_blocks code own ≡ script_code ss r.object =
-          one_code ss own r.object (λ k. ap r.object (number_again code (slice_get code.blocks k) k refl)) in
+          let own : Objects prelude ss = λ hidden. by_numbers (code_in first second hidden) (r.object hidden) in
+          let same : code_blocks first second own ≡ program_code prelude ss r.object =
+          one_code prelude ss own r.object
+          (λ hidden k. ap (r.object hidden) (number_again (side prelude ss hidden) (slice_get (side prelude ss hidden).blocks k) k refl)) in
           record {
-            cells_fit = cells_fit text ss h;
+            cells_fit = (cells_fit both.prelude_text prelude both.of_prelude, cells_fit both.script_text ss both.of_script);
             object = own;
-            are_objects = as_objects r.object r.are_code;
-            does = subst (λ p. Run n o w p (code_blocks code own)) (sym program) (subst (Run n o w (program_of ss)) (sym same) r.does);
+            are_objects = all_objects r.object r.are_code;
+            does = subst (λ p. Run n o w p (code_blocks first second own)) (sym program)
+                (subst (Run n o w (program_of prelude ss)) (sym same) r.does);
           }
 
-      script_run : AllFit code → CodeRunsTo code n o w → CodeRunsBy ss n o w
-      script_run fit r = record {
-        fits = fit;
+      script_run : AllFit first → AllFit second → CodeRunsTo first second n o w → CodeRunsBy prelude ss n o w
+      script_run fit fit_too r = record {
+        numbers_fit = (numbers both.prelude_text prelude both.of_prelude, numbers both.script_text ss both.of_script);
+        fits = (fit, fit_too);
         object = r.object;
-        are_code = as_code r.object r.are_objects;
-        does = subst (Run n o w (program_of ss)) (one_code ss r.object r.object (λ k. refl))
-            (subst (λ p. Run n o w p (code_blocks code r.object)) program r.does);
+        are_code = all_code r.object r.are_objects;
+        does = subst (Run n o w (program_of prelude ss)) (one_code prelude ss r.object r.object (λ hidden k. refl))
+            (subst (λ p. Run n o w p (code_blocks first second r.object)) program r.does);
       }
 
       -- the script has the runs of its code
-      tree_run : CodeRunsBy ss n o w → RunsTo ss n o
+      tree_run : CodeRunsBy prelude ss n o w → RunsTo prelude ss n o
       tree_run r =
-          let host = heap_host (program_of ss) in
-          let names = module_names (program_of ss) in
-          let world = module_world (program_of ss) in
-          (script_has_its_bare_runs value.None ss r.object (are_its_objects r.object r.are_code) host n names world o).1
-          (runs_so (code_machine ss r.object) host n the_module names world o w r.does)
+          let host = heap_host (program_of prelude ss) in
+          let names = module_names (program_of prelude ss) in
+          let world = module_world (program_of prelude ss) in
+          (program_has_its_bare_runs value.None prelude ss r.object (are_their_objects r.object r.are_code) host n names world o).1
+          (runs_so (program_code_machine prelude ss r.object) host n the_module names world o w r.does)
 
-    writes_first : (ws : List Write) → CodeWritesFirst code n ws → ScriptWritesFirst ss n ws
+    writes_first : (ws : List Write) → CodeWritesFirst first second n ws → ScriptWritesFirst prelude ss n ws
     writes_first _ nothing = within _ [] _ refl
     writes_first _ (of_run ws cells object are writes) =
         let First : Program → CodeBlocks Value → Type 0 = λ p c. RunWritesFirst (machine c) (heap_host p) n the_module (module_names p) (module_world p) ws in
-        code_of_script_writes_nothing_else value.None ss object (are_its_objects object (as_code object are)) (heap_host (program_of ss)) n (module_names (program_of ss))
-        (module_world (program_of ss)) ws
-        (subst (First (program_of ss)) (one_code ss object object (λ k. refl)) (subst (λ p. First p (code_blocks code object)) program writes))
+        program_code_writes_nothing_else value.None prelude ss object (are_their_objects object (all_code object are)) (heap_host (program_of prelude ss)) n
+        (module_names (program_of prelude ss)) (module_world (program_of prelude ss)) ws
+        (subst (First (program_of prelude ss)) (one_code prelude ss object object (λ hidden k. refl))
+        (subst (λ p. First p (code_blocks first second object)) program writes))
 
 pub code_runs_as_script : CodeRunsAsScript
-code_runs_as_script text ss h n o w r =
-    (record { has_file = h.has_file; fit = r.fits; built = code_is_supported text ss h }, code_run text ss h n o w r)
+code_runs_as_script prelude ss both n o w r = (
+  record { has_file = both.of_prelude.has_file; fit = r.fits.0; built = code_is_supported both.prelude_text prelude both.of_prelude },
+  (
+    record { has_file = both.of_script.has_file; fit = r.fits.1; built = code_is_supported both.script_text ss both.of_script },
+    code_run prelude ss both n o w r,
+  ),
+)
 
 pub script_runs_as_code : ScriptRunsAsCode
-script_runs_as_code text ss h fit n o w r = let by = script_run text ss h n o w fit r in (tree_run text ss h n o w by, by)
+script_runs_as_code prelude ss both fit fit_too n o w r =
+    let by = script_run prelude ss both n o w fit fit_too r in (tree_run prelude ss both n o w by, by)
 
 pub script_writes_as_code : ScriptWritesAsCode
-script_writes_as_code text ss h n ws first = writes_first text ss h n ws first
+script_writes_as_code prelude ss both n ws first = writes_first prelude ss both n ws first

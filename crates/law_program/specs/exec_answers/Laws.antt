@@ -12,7 +12,7 @@ use Rattle.pt_prog.specs.declared.end.End.{End}
 use Rattle.pt_prog.specs.declared.end.End.TheVariants as end
 use Rattle.pt_prog.specs.Limits.{reads_code}
 use Rattle.pt_prog.specs.LogText.{Text, traced}
-use Rattle.pt_prog.specs.Answer.{IsAnswerFor, IsBuilt, IsCodeAnswer, IsCodeBy, IsEndFor, is_run, report_kind, tells_events}
+use Rattle.pt_prog.specs.Answer.{IsAnswerFor, IsBuilt, IsCodeBy, IsEndFor, is_run, report_kind, tells_events}
 
 -- for a command line a text says one end at most: that of a script, and the bytes of a code file
 abbrev pub TextSaysOneEnd : Type 0
@@ -20,8 +20,8 @@ TextSaysOneEnd = (a : Asked) (text : Text) (e f : End) → IsEndFor a text e →
 
 -- for the bytes of a code file there is one answer at most: the end, and all that is written
 abbrev pub CodeFileHasOneAnswer : Type 0
-CodeFileHasOneAnswer = (a : Asked) (bytes : Text) (e f : End) (ws vs : List Write) → IsCodeAnswer a bytes e ws → IsCodeAnswer a bytes f vs
-    → (e ≡ f) × (ws ≡ vs)
+CodeFileHasOneAnswer = (a : Asked) (bytes : Text) (e f : End) (ws vs : List Write) → reads_code a.command ≡ true → IsAnswerFor a bytes e ws
+    → IsAnswerFor a bytes f vs → (e ≡ f) × (ws ≡ vs)
 
 -- a run of a script and one of a code file, for as many acts and with the same lines of the log
 pub record AskAlike (a b : Asked) : Type 0 where

@@ -1,4 +1,4 @@
--- What the laws say of the code of a supported script that has a file: it is supported, and run as the script is.
+-- What the laws say of the code of a supported script that has a file: it is supported, and run over the code of a prelude as the script is over the prelude.
 use Rattle.std.specs.Prelude.{◌≡◌, ℕ, List, slice_get, Option, Some}
 use Rattle.pt_tree.specs.Syntax.{Stms}
 use Rattle.sem_run.specs.run.Run.{Write}
@@ -41,21 +41,28 @@ CodeIsSupported = (text : List ℕ) (ss : Stms) → HasCodeFile text ss → Buil
 abbrev pub ShallowCodeIsRunnable : Type 0
 ShallowCodeIsRunnable = (text : List ℕ) (ss : Stms) → HasCodeFile text ss → IsShallowCode (code_of ss) → IsRunnable (code_of ss)
 
--- a host knows the same of the code as of the script
-abbrev pub CodeHasOneProgram : Type 0
-CodeHasOneProgram = (text : List ℕ) (ss : Stms) → HasCodeFile text ss → program_of_code (code_of ss) ≡ program_of ss
+-- a prelude and a script, both of which are such
+pub record HaveCodeFiles (prelude ss : Stms) : Type 0 where
+  pub prelude_text : List ℕ
+  pub of_prelude : HasCodeFile prelude_text prelude
+  pub script_text : List ℕ
+  pub of_script : HasCodeFile script_text ss
 
--- where the code of the script, as `run` has it, comes to an outcome by some work, so does the code that is read
+-- a host knows the same of their code as of them
+abbrev pub CodeHasOneProgram : Type 0
+CodeHasOneProgram = (prelude ss : Stms) → HaveCodeFiles prelude ss → program_of_code (code_of prelude) (code_of ss) ≡ program_of prelude ss
+
+-- where the code of both, as `run` has it, comes to an outcome by some work, so does the code that is read
 abbrev pub CodeRunsAsScript : Type 0
-CodeRunsAsScript = (text : List ℕ) (ss : Stms) → HasCodeFile text ss → (n : ℕ) (o : Outcome Value World) (w : Work) → CodeRunsBy ss n o w
-    → IsRunnable (code_of ss) × CodeRunsTo (code_of ss) n o w
+CodeRunsAsScript = (prelude ss : Stms) → HaveCodeFiles prelude ss → (n : ℕ) (o : Outcome Value World) (w : Work) → CodeRunsBy prelude ss n o w
+    → IsRunnable (code_of prelude) × (IsRunnable (code_of ss) × CodeRunsTo (code_of prelude) (code_of ss) n o w)
 
 -- and the other way round
 abbrev pub ScriptRunsAsCode : Type 0
-ScriptRunsAsCode = (text : List ℕ) (ss : Stms) → HasCodeFile text ss → AllFit (code_of ss) → (n : ℕ) (o : Outcome Value World) (w : Work)
-    → CodeRunsTo (code_of ss) n o w → RunsTo ss n o × CodeRunsBy ss n o w
+ScriptRunsAsCode = (prelude ss : Stms) → HaveCodeFiles prelude ss → AllFit (code_of prelude) → AllFit (code_of ss) → (n : ℕ) (o : Outcome Value World)
+    (w : Work) → CodeRunsTo (code_of prelude) (code_of ss) n o w → RunsTo prelude ss n o × CodeRunsBy prelude ss n o w
 
 -- what the run of the code writes first the script writes first, whether or not it comes to an outcome
 abbrev pub ScriptWritesAsCode : Type 0
-ScriptWritesAsCode = (text : List ℕ) (ss : Stms) → HasCodeFile text ss → (n : ℕ) (ws : List Write) → CodeWritesFirst (code_of ss) n ws
-    → ScriptWritesFirst ss n ws
+ScriptWritesAsCode = (prelude ss : Stms) → HaveCodeFiles prelude ss → (n : ℕ) (ws : List Write) → CodeWritesFirst (code_of prelude) (code_of ss) n ws
+    → ScriptWritesFirst prelude ss n ws

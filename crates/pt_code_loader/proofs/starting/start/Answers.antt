@@ -1,8 +1,10 @@
 use Rattle.std.proofs.Common.{◌+◌, ◌++◌, map, ap, ◌∙◌, refl}
 use Rattle.pt_heap.specs.declared.object.Object.TheVariants.{Str}
 use Rattle.pt_builtin_objects.specs.Start.{start_objects}
+use Rattle.pt_helper_objects.specs.Objects.{helper_objects}
 use Rattle.pt_code_tables.specs.pt_machine_state.declared.machine.Machine.{Machine}
 use Rattle.pt_code_tables.specs.pt_machine_state.declared.machine.Standing.TheVariants as standing
+use Rattle.pt_code_loader.specs.Starting.{stands_in}
 use Rattle.pt_code_loader.proofs.StartLemmas.{begun}
 use Rattle.pt_code_loader.proofs.starting.start.Goals as goal
 
@@ -34,7 +36,7 @@ returns-clause-begins c program code are same =
       globals = ap (λ f. f.globals) next ∙ c.in_ok-frames.ensures.globals;
       cells = ap (λ f. f.cells) next ∙ c.in_ok-frames.ensures.cells;
       frames = ap (λ f. f.frame_count) next ∙ ap (λ n. n + 1) c.in_ok-frames.ensures.frame_count;
-      heap = c.in_ok-heap.ensures ∙ ap (λ ts. start_objects ++ map Str ts) c.as_slice.ensures;
+      heap = c.in_ok-heap.ensures ∙ ap (λ ts. (start_objects ++ helper_objects (stands_in c.args.loaded.now.tables.facts)) ++ map Str ts) c.as_slice.ensures;
       units = refl;
     })
 

@@ -1,4 +1,6 @@
-use Rattle.std.proofs.Common.{rules}
+use Rattle.std.proofs.Common.{◌∙◌, ap, rules}
+use Rattle.pt_code_tables.specs.declared.tables.PoolTables.{PoolTables}
+use Rattle.pt_code_tables.specs.Tables.{constant_in, text_in}
 use Rattle.pt_instr.specs.declared.Instr.TheVariants as instr
 use Rattle.pt_machine.proofs.RowLemmas.{row_ok}
 use Rattle.pt_machine.proofs.FastRows.{fast_row, fast_constant, fast_jump, fast_load, fast_store, fast_local, fast_set_local, fast_cell, fast_set_cell}
@@ -7,7 +9,8 @@ use Rattle.pt_machine.proofs.fast.perform_fast.Goals as goal
 pub returns-in-Const : goal.returns-in-Const
 returns-in-Const c =
     row_ok c.fast_constant.result c.fast_constant.ensures (λ o led. fast_constant c.args.tables.now c.args.next c.args.machine.now c.args.instr
-    c.in-Const.number c.in-Const.is c.constant.result o c.fast_constant.new.slots led c.constant.ensures)
+    c.in-Const.number c.in-Const.is c.constant.result o c.fast_constant.new.slots led
+    (c.constant.ensures ∙ ap (λ (k : PoolTables). constant_in k c.in-Const.number.0) c.pool-pool.ensures))
 
 pub returns-in-Pop : goal.returns-in-Pop
 returns-in-Pop c =
@@ -45,12 +48,14 @@ returns-in-InPlace c =
 pub returns-in-Global : goal.returns-in-Global
 returns-in-Global c =
     row_ok c.fast_global.result c.fast_global.ensures (λ o led. fast_load c.args.tables.now c.args.next c.args.machine.now c.args.instr
-    c.in-Global.text c.in-Global.is _ o c.fast_global.new.slots led (search rules))
+    c.in-Global.text (search rules) c.in-Global.is c.text.result.now o c.fast_global.new.slots led
+    (c.text.ensures ∙ ap (λ (k : PoolTables). text_in k c.in-Global.text.0) c.pool-pool.ensures))
 
 pub returns-in-SetGlobal : goal.returns-in-SetGlobal
 returns-in-SetGlobal c =
     row_ok c.fast_set_global.result c.fast_set_global.ensures (λ o led. fast_store c.args.tables.now c.args.next c.args.machine.now c.args.instr
-    c.in-SetGlobal.text c.in-SetGlobal.is _ o c.fast_set_global.new.slots c.fast_set_global.new.globals led (search rules))
+    c.in-SetGlobal.text c.in-SetGlobal.is c.text-in-SetGlobal.result.now o c.fast_set_global.new.slots c.fast_set_global.new.globals led
+    (c.text-in-SetGlobal.ensures ∙ ap (λ (k : PoolTables). text_in k c.in-SetGlobal.text.0) c.pool-pool.ensures))
 
 pub returns-in-Local : goal.returns-in-Local
 returns-in-Local c =

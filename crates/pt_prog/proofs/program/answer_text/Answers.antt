@@ -16,18 +16,18 @@ use Rattle.pt_prog.proofs.program.answer_text.Goals as goal
 
 pub returns-in-Err-Refused-clause-ok : goal.returns-in-Err-Refused-clause-ok
 returns-in-Err-Refused-clause-ok g c =
-    every_ok_of (asked c.args.line.now) c.args.text.now _ _ _ _ c.write_final.result (final (end.Refused c.in-Err-Refused.error)) (end.Refused c.in-Err-Refused.error)
+    every_ok_of (script_of c.args.prelude.now) (asked c.args.line.now) c.args.text.now _ _ _ _ c.write_final.result (final (end.Refused c.in-Err-Refused.error)) (end.Refused c.in-Err-Refused.error)
     (refused c.in-Err-Refused.error c.requires.reads (subst (IfRefused (IsRefused c.args.text.now)) c.in-Err-Refused.field-0-is c.in-Err-Refused.ensures) refl refl) c.write_final.ensures.ok
 
 pub returns-in-Err-Refused-clause-err : goal.returns-in-Err-Refused-clause-err
 returns-in-Err-Refused-clause-err g c =
-    every_err_of (asked c.args.line.now) c.args.text.now _ _ _ _ c.write_final.result (final (end.Refused c.in-Err-Refused.error)) (end.Refused c.in-Err-Refused.error)
+    every_err_of (script_of c.args.prelude.now) (asked c.args.line.now) c.args.text.now _ _ _ _ c.write_final.result (final (end.Refused c.in-Err-Refused.error)) (end.Refused c.in-Err-Refused.error)
     (refused c.in-Err-Refused.error c.requires.reads (subst (IfRefused (IsRefused c.args.text.now)) c.in-Err-Refused.field-0-is c.in-Err-Refused.ensures) refl refl) c.write_final.ensures.err
 
 pub returns-in_err-put-in-Dis-clause-err : goal.returns-in_err-put-in-Dis-clause-err
 returns-in_err-put-in-Dis-clause-err g c =
     let same : string_bytes c.in_ok-lines-in-Dis.lines ≡ c.as_bytes.result.now = search rules in
-    every_err (asked c.args.line.now) c.args.text.now _ _ _ _ c.from_residual-in_err-put-in-Dis.result _ c.from_residual-in_err-put-in-Dis.ensures
+    every_err (script_of c.args.prelude.now) (asked c.args.line.now) c.args.text.now _ _ _ _ c.from_residual-in_err-put-in-Dis.result _ c.from_residual-in_err-put-in-Dis.ensures
     (of_answer end.Done (write to_out c.as_bytes.result.now ∷ [])
     (wrote_code c.as_bytes.result.now (ap is_run c.in-Dis.is)
     (by_dis c.args.line.now.command c.args.text.now c.as_bytes.result.now (script_of c.in-Ok.script) c.in-Ok.ensures.is_script c.in-Dis.is
@@ -47,7 +47,7 @@ returns-in-Dis-clause-ok g c =
 
 pub returns-in_err-put-in-Build-clause-err : goal.returns-in_err-put-in-Build-clause-err
 returns-in_err-put-in-Build-clause-err g c =
-    every_err (asked c.args.line.now) c.args.text.now _ _ _ _ c.from_residual-in_err-put-in-Build.result _ c.from_residual-in_err-put-in-Build.ensures
+    every_err (script_of c.args.prelude.now) (asked c.args.line.now) c.args.text.now _ _ _ _ c.from_residual-in_err-put-in-Build.result _ c.from_residual-in_err-put-in-Build.ensures
     (of_answer end.Done (write to_out c.as_slice.result.now ∷ [])
     (wrote_code c.as_slice.result.now (ap is_run c.in-Build.is)
     (by_build c.args.line.now.command c.args.text.now c.as_slice.result.now (script_of c.in-Ok.script) c.in-Ok.ensures.is_script c.in-Build.is

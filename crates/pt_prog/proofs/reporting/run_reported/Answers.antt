@@ -9,7 +9,7 @@ use Rattle.pt_sinks.specs.declared.writing.Out.TheVariants as stream
 use Rattle.pt_sinks.specs.declared.writing.WriteErr.TheVariants as error
 use Rattle.pt_prog.specs.RunEnds.{unless_failed}
 use Rattle.pt_words.specs.Asked.{asked}
-use Rattle.pt_prog.specs.Answer.{BrokeOffFor, WroteAllFor}
+use Rattle.pt_prog.specs.Answer.{BrokeOffOver, WroteAllOver}
 use Rattle.pt_prog.proofs.ReportLemmas.{all_of_it, failed_so, reports_run, some_of_it}
 use Rattle.pt_prog.proofs.reporting.run_reported.Goals as goal
 
@@ -23,18 +23,18 @@ returns-clause-ok g c =
     (g.L.Sink.most s.log.log.now) (g.L.Sink.most n.log.log.now) same ∙ c.over-counting.ensures.same_log in
     let final : c.log-1.given.0 ≡ n.log.log.now = c.log-1.given.1 (sym name) ∙ c.into_log-log.ensures.log in
     rw (c.unless_failed.ensures, c.failed-failed.ensures) (subst (λ x. IfOk (unless_failed n.log.failed c.run_plainly-answer.result)
-    (WroteAllFor (g.O.Sink.taken c.args.out.now) (g.O.Sink.taken c.run_plainly-answer.new.out) (g.L.Sink.taken c.args.log.now)
-    (g.L.Sink.taken x) (asked c.args.line.now) c.args.text.now)) (sym final)
-    (all_of_it (asked c.args.line.now) c.args.text.now (script_of c.args.script.now)
+    (WroteAllOver (g.O.Sink.taken c.args.out.now) (g.O.Sink.taken c.run_plainly-answer.new.out) (g.L.Sink.taken c.args.log.now)
+    (g.L.Sink.taken x) (script_of c.args.prelude.now) (asked c.args.line.now) c.args.text.now)) (sym final)
+    (all_of_it (script_of c.args.prelude.now) (asked c.args.line.now) c.args.text.now (script_of c.args.script.now)
     (record { is_script = c.requires.is_script; is_built = c.requires.is_built }) c.args.kind c.requires.reports
     s.report s.is_over s.events s.totals s.log.failed (g.L.Sink.taken s.log.log.now) (g.L.Sink.taken c.args.log.now)
     counts c.over-counting.ensures.over c.over-counting.ensures.events c.over-counting.ensures.totals c.over-counting.ensures.failed
     (ap g.L.Sink.taken c.over-counting.ensures.log) n.report n.is_over n.events n.totals n.log.failed (g.O.Sink.taken c.args.out.now)
     (g.O.Sink.taken c.run_plainly-answer.new.out) (g.L.Sink.taken n.log.log.now)
     c.run_plainly-answer.result (reports_run c.args.line.now.command c.args.kind c.requires.reports)
-    (subst (λ q. IfOk c.run_plainly-answer.result (WroteAllFor (g.O.Sink.taken c.args.out.now) (g.O.Sink.taken c.run_plainly-answer.new.out)
+    (subst (λ q. IfOk c.run_plainly-answer.result (WroteAllOver (g.O.Sink.taken c.args.out.now) (g.O.Sink.taken c.run_plainly-answer.new.out)
     (Taken s.report s.is_over s.events s.totals s.log.failed (g.L.Sink.taken s.log.log.now))
-    (Taken n.report n.is_over n.events n.totals n.log.failed (g.L.Sink.taken n.log.log.now)) q c.args.text.now))
+    (Taken n.report n.is_over n.events n.totals n.log.failed (g.L.Sink.taken n.log.log.now)) (script_of c.args.prelude.now) q c.args.text.now))
     c.all_told-told.ensures c.run_plainly-answer.ensures.ok)))
 
 pub returns-clause-err : goal.returns-clause-err
@@ -47,22 +47,22 @@ returns-clause-err g c =
     (g.L.Sink.most s.log.log.now) (g.L.Sink.most n.log.log.now) same ∙ c.over-counting.ensures.same_log in
     let final : c.log-1.given.0 ≡ n.log.log.now = c.log-1.given.1 (sym name) ∙ c.into_log-log.ensures.log in
     rw (c.unless_failed.ensures, c.failed-failed.ensures) (subst (λ x. IfErr (unless_failed n.log.failed c.run_plainly-answer.result)
-    (BrokeOffFor (g.O.Sink.taken c.args.out.now) (g.O.Sink.taken c.run_plainly-answer.new.out) (g.L.Sink.taken c.args.log.now)
-    (g.L.Sink.taken x) (asked c.args.line.now) c.args.text.now)) (sym final)
-    (some_of_it (asked c.args.line.now) c.args.text.now (script_of c.args.script.now)
+    (BrokeOffOver (g.O.Sink.taken c.args.out.now) (g.O.Sink.taken c.run_plainly-answer.new.out) (g.L.Sink.taken c.args.log.now)
+    (g.L.Sink.taken x) (script_of c.args.prelude.now) (asked c.args.line.now) c.args.text.now)) (sym final)
+    (some_of_it (script_of c.args.prelude.now) (asked c.args.line.now) c.args.text.now (script_of c.args.script.now)
     (record { is_script = c.requires.is_script; is_built = c.requires.is_built }) c.args.kind c.requires.reports
     s.report s.is_over s.events s.totals s.log.failed (g.L.Sink.taken s.log.log.now) (g.L.Sink.taken c.args.log.now)
     counts c.over-counting.ensures.over c.over-counting.ensures.events c.over-counting.ensures.totals c.over-counting.ensures.failed
     (ap g.L.Sink.taken c.over-counting.ensures.log) n.report n.is_over n.events n.totals n.log.failed (g.O.Sink.taken c.args.out.now)
     (g.O.Sink.taken c.run_plainly-answer.new.out) (g.L.Sink.taken n.log.log.now)
     c.run_plainly-answer.result
-    (subst (λ q. IfOk c.run_plainly-answer.result (WroteAllFor (g.O.Sink.taken c.args.out.now) (g.O.Sink.taken c.run_plainly-answer.new.out)
+    (subst (λ q. IfOk c.run_plainly-answer.result (WroteAllOver (g.O.Sink.taken c.args.out.now) (g.O.Sink.taken c.run_plainly-answer.new.out)
     (Taken s.report s.is_over s.events s.totals s.log.failed (g.L.Sink.taken s.log.log.now))
-    (Taken n.report n.is_over n.events n.totals n.log.failed (g.L.Sink.taken n.log.log.now)) q c.args.text.now))
+    (Taken n.report n.is_over n.events n.totals n.log.failed (g.L.Sink.taken n.log.log.now)) (script_of c.args.prelude.now) q c.args.text.now))
     c.all_told-told.ensures c.run_plainly-answer.ensures.ok)
-    (subst (λ q. IfErr c.run_plainly-answer.result (BrokeOffFor (g.O.Sink.taken c.args.out.now) (g.O.Sink.taken c.run_plainly-answer.new.out)
+    (subst (λ q. IfErr c.run_plainly-answer.result (BrokeOffOver (g.O.Sink.taken c.args.out.now) (g.O.Sink.taken c.run_plainly-answer.new.out)
     (Taken s.report s.is_over s.events s.totals s.log.failed (g.L.Sink.taken s.log.log.now))
-    (Taken n.report n.is_over n.events n.totals n.log.failed (g.L.Sink.taken n.log.log.now)) q c.args.text.now))
+    (Taken n.report n.is_over n.events n.totals n.log.failed (g.L.Sink.taken n.log.log.now)) (script_of c.args.prelude.now) q c.args.text.now))
     c.all_told-told.ensures c.run_plainly-answer.ensures.err)))
 
 pub returns-clause-log_failed : goal.returns-clause-log_failed

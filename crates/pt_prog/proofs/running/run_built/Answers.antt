@@ -9,12 +9,12 @@ use Rattle.pt_prog.proofs.running.run_built.Goals as goal
 
 pub returns-in-Some-clause-ok : goal.returns-in-Some-clause-ok
 returns-in-Some-clause-ok g c =
-    every_ok_of (asked c.args.line.now) c.args.text.now _ _ _ _ c.write_final.result (final (end.Unbuilt c.in-Some.first)) (end.Unbuilt c.in-Some.first)
+    every_ok_of (script_of c.args.prelude.now) (asked c.args.line.now) c.args.text.now _ _ _ _ c.write_final.result (final (end.Unbuilt c.in-Some.first)) (end.Unbuilt c.in-Some.first)
     (unbuilt c.in-Some.first c.requires.is_run (record { script = script_of c.args.script.now; is_script = c.requires.is_script; is_first = sym c.in-Some.ensures }) refl refl)
     c.write_final.ensures.ok
 
 pub returns-in-Some-clause-err : goal.returns-in-Some-clause-err
 returns-in-Some-clause-err g c =
-    every_err_of (asked c.args.line.now) c.args.text.now _ _ _ _ c.write_final.result (final (end.Unbuilt c.in-Some.first)) (end.Unbuilt c.in-Some.first)
+    every_err_of (script_of c.args.prelude.now) (asked c.args.line.now) c.args.text.now _ _ _ _ c.write_final.result (final (end.Unbuilt c.in-Some.first)) (end.Unbuilt c.in-Some.first)
     (unbuilt c.in-Some.first c.requires.is_run (record { script = script_of c.args.script.now; is_script = c.requires.is_script; is_first = sym c.in-Some.ensures }) refl refl)
     c.write_final.ensures.err

@@ -34,7 +34,7 @@ pub returns : goal.returns
 returns c next =
     let m = c.args.machine.now in
     let called = block_at c.args.blocks.now (block_id c.args.called c.args.hidden) in
-    let callee : c.at-callee.result.now ≡ called = c.at-callee.ensures c.args.hidden in
+    let callee : c.at-callee.result.now ≡ called = c.at-callee.ensures in
     let room : length m.frames.activations + 1 < most_activations = omega arith in
     let above : c.open.new.machine ≡ opened called.iterates c.args.called c.args.hidden c.args.locals m =
     c.in_ok-open.ensures ∙ ap (λ (b : BlockCode). opened b.iterates c.args.called c.args.hidden c.args.locals m) callee in

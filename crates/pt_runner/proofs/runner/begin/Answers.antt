@@ -9,9 +9,9 @@ returns-in_err-tell-clause-err g c =
 pub returns-clause-ok : goal.returns-clause-ok
 returns-clause-ok g c =
     told_whole c.args.writes.now c.tell.new.writes c.at-block.result.now _ c.args.machine.now c.requires.empty
-    (c.at-block.ensures c.args.machine.now.here.hidden) c.in_ok-tell.ensures _ _ _ _ c.drain.result c.drain.ensures.ok
+    c.at-block.ensures c.in_ok-tell.ensures _ _ _ _ c.drain.result c.drain.ensures.ok
 
 pub returns-clause-err : goal.returns-clause-err
 returns-clause-err g c =
     told_front c.args.writes.now c.tell.new.writes c.at-block.result.now _ c.args.machine.now c.requires.empty
-    (c.at-block.ensures c.args.machine.now.here.hidden) c.in_ok-tell.ensures _ _ _ _ c.drain.result c.drain.ensures.err
+    c.at-block.ensures c.in_ok-tell.ensures _ _ _ _ c.drain.result c.drain.ensures.err

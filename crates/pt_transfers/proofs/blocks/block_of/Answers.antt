@@ -1,4 +1,4 @@
 use Rattle.pt_transfers.proofs.blocks.block_of.Goals as goal
 
 pub returns : goal.returns
-returns c = c.at.ensures c.args.machine.now.here.hidden
+returns c = c.at.ensures

@@ -9,5 +9,5 @@ use Rattle.pt_transfers.proofs.lines.line_in.Goals as goal
 
 pub returns-in-None : goal.returns-in-None
 returns-in-None c =
-    ap (λ (b : BlockCode). b.first_line.0) (c.at.ensures c.args.activation.now.hidden)
+    ap (λ (b : BlockCode). b.first_line.0) c.at.ensures
     ∙ ap (λ o. line_or (block_at c.args.blocks.now (block_of c.args.activation.now)).first_line.0 (option_map (λ (l : Line). l.0) o)) (sym c.in-None.is)

@@ -1,0 +1,2 @@
+pub mod Objects
+pub use Rattle.pt_prelude.specs as pt_prelude
