@@ -9,8 +9,8 @@ SUPPORTED = (
     ast.FormattedValue, ast.ListComp, ast.SetComp, ast.DictComp, ast.Assert, ast.Raise, ast.Try, ast.ExceptHandler,
     ast.Import, ast.ImportFrom, ast.alias)
 
-# builtins that are functions written in Python, and aren't there yet
-UNAVAILABLE = frozenset("sum min max any all sorted map filter zip enumerate reversed".split())
+# builtins that are to give generators, and aren't there yet
+UNAVAILABLE = frozenset("map filter zip enumerate reversed".split())
 
 
 def place(node):

@@ -53,7 +53,8 @@ def differences(run, trace, text):
     if is_whole and (end == "done") != (trace.status == DONE):
         found.append(f"ended {ENDINGS[trace.status]}, CPython {end}")
     raised = next((e[3] for e in reversed(events) if e[0] == "exception"), None)
-    if trace.status == RAISED and raised != end:
+    # the events of a StopIteration are in none of the two, so its traceback tells it
+    if trace.status == RAISED and raised != end != "StopIteration":
         found.append(f"raised {raised}, CPython {end}")
     if trace.status == RAISED and not found:
         told, traceback = tracebacks(text, last)
@@ -67,8 +68,9 @@ def differences(run, trace, text):
 
 
 def random_script(seed):
-    """Every second one has line ends within parentheses, most have containers, and some exceptions, comprehensions, stars and orders of sequences."""
-    text = program(seed, containers=seed % 4 > 0, exceptions=seed % 5 == 0, forms=seed % 4 > 1)
+    """Every second one has line ends within parentheses, most have containers, and some exceptions, comprehensions, stars and orders of sequences,
+    and builtins that come seldom or are written in Python."""
+    text = program(seed, containers=seed % 4 > 0, exceptions=seed % 5 == 0, forms=seed % 4 > 1, builtins=seed % 3 == 0, helpers=seed % 3 == 1)
     return broken(text, seed) if seed % 2 else text
 
 

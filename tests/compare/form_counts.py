@@ -37,7 +37,7 @@ def names_of(node):
 
 
 BUILTINS = ["print", "len", "range", "str", "int", "bool", "repr", "type", "isinstance", "issubclass", "iter", "next", "abs", "divmod", "ord", "chr", "hasattr",
-            "getattr", "callable"]
+            "getattr", "callable", "list", "tuple", "set", "dict", "sum", "any", "all", "min", "max", "sorted"]
 
 
 def forms_of(text, lines):

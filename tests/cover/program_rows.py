@@ -102,13 +102,13 @@ def rows():
 
 
 def main():
-    (CRATE / "data" / "reports.txt").write_text("# reports on lines and names\n" + "".join(f"{r}\n" for r, _ in rows()), encoding="utf-8")
-    args = (CRATE / "args").read_text().split()
-    count = sum(len((CRATE / "data" / name).read_text().splitlines()) for name in args if name != "reports.txt")
-    (CRATE / "args").write_text("".join(f"{name}\n" for name in args if name != "reports.txt") + "reports.txt\n")
-    kept = (CRATE / "stdout").read_text(encoding="utf-8").splitlines()[:count]
-    kept += ["# reports on lines and names", *(end for _, end in rows())]
-    (CRATE / "stdout").write_text("".join(f"{line}\n" for line in kept), encoding="utf-8")
+    head, told, names = "# reports on lines and names", list(rows()), (CRATE / "args").read_text().split()
+    answers = iter((CRATE / "stdout").read_text(encoding="utf-8").splitlines())
+    kept = {name: [next(answers) for _ in (CRATE / "data" / name).read_text().splitlines()] for name in names}
+    kept["reports.txt"] = [head, *(end for _, end in told)]
+    (CRATE / "data" / "reports.txt").write_text("".join(f"{line}\n" for line in [head, *(row for row, _ in told)]), encoding="utf-8")
+    (CRATE / "args").write_text("".join(f"{name}\n" for name in kept))
+    (CRATE / "stdout").write_text("".join(f"{line}\n" for lines in kept.values() for line in lines), encoding="utf-8")
 
 
 if __name__ == "__main__":

@@ -80,6 +80,15 @@ ROWS = [
     Row("a slice with far ends", f"print([1, 2, 3][-{2 ** 100}:{2 ** 100}], \"abc\"[{2 ** 100}:], (1, 2, 3)[::{2 ** 100}])\n", "[1, 2, 3]  (1,)\n"),
     Row("a split into many", "print(len((\"a \" * 200000).split()))\n", "200000\n"),
     Row("many keys of one dictionary", "d = {}\nfor i in range(200000):\n    d[i * 4294967296] = i\nprint(len(d), d[4294967296])\n", "200000 1\n"),
+    Row("a long list in order", "x = sorted(range(100000, 0, -1))\nprint(len(x), x[0], x[-1])\n", "100000 1 100000\n"),
+    Row("a list that is in order already", "x = list(range(100000))\nx.sort()\nx.sort(reverse=True)\nprint(x[0], x[-1])\n", "99999 0\n"),
+    Row("many equal keys", "x = sorted(range(100000), key=lambda n: 0)\nprint(x[0], x[-1])\n", "0 99999\n"),
+    Row("keys that differ at their ends", "x = sorted([\"a\" * 20000 + str(n) for n in range(1000)])\nprint(x[1][20000:])\n", "1\n"),
+    Row("keys that are long tuples", "t = (1,) * 1000\nx = sorted([t + (-n,) for n in range(1000)])\nprint(x[0][1000])\n", "-999\n"),
+    Row("the greatest of many", "print(max(range(100000)), min(range(100000), key=lambda n: -n), sum(range(100000)))\n", "99999 99999 4999950000\n"),
+    Row("a list extended beyond its limit", f"x = [0] * {ENTRIES}\nx.extend(range(1))\n", "", OUTSIDE, length_at(2)),
+    Row("key functions that sort", "def f(n):\n    return sorted([n], key=f)\nf(1)\n", "", RAISED, TOO_DEEP),
+    Row("a sum beyond an integer", f"print(sum([{2 ** 126}] * 2))\n", "", OUTSIDE, "pt: outside the profile: integer at line 1"),
     Row("a search for what is everywhere", "print((\"a\" * 100000 + \"b\").find(\"a\" * 50000 + \"b\"))\n", "50000\n"),
 ]
 

@@ -10,7 +10,7 @@ PART = re.compile(r'(now|later) r#"(.*?)"#', re.S)
 def parts():
     """The parts of the text, each with whether it comes later."""
     found = [(word == "later", text) for word, text in PART.findall(SOURCE.read_text(encoding="utf-8"))]
-    assert len(found) == 7, len(found)
+    assert len(found) == 5, len(found)
     return found
 
 
@@ -35,9 +35,9 @@ def presets(text):
 
 
 def called(text):
-    """The functions that hold `raise`, `try` or `yield`, and those that call them."""
+    """The functions that hold `try` or `yield`, and those that call them."""
     tree = {f.name: list(ast.walk(f)) for f in ast.parse(text).body}
-    found = {name for name, nodes in tree.items() if any(isinstance(n, (ast.Raise, ast.Try, ast.Yield, ast.YieldFrom)) for n in nodes)}
+    found = {name for name, nodes in tree.items() if any(isinstance(n, (ast.Try, ast.Yield, ast.YieldFrom)) for n in nodes)}
     while True:
         more = {name for name, nodes in tree.items() if any(isinstance(n, ast.Call) and isinstance(n.func, ast.Name) and n.func.id in found for n in nodes)}
         if more <= found:

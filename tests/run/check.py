@@ -257,7 +257,7 @@ def of_one_line(recorder, stream, event):
 
 def of_spread_call(recorder, stream, event):
     """A call of a function with arguments that are spread is told here alone. This is taken out of both."""
-    return event[0] == "CALL" and event[3] == "<function>" and "(*" in recorder.lines[event[2] - 1]
+    return event[0] == "CALL" and event[3] == "<function>" and re.search(r"[(,] ?\*", recorder.lines[event[2] - 1]) is not None
 
 
 RULES = [of_class_head, of_same_line, of_hook, of_ended_iteration, of_jump, of_one_line, of_spread_call]

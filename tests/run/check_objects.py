@@ -144,6 +144,12 @@ WRITTEN = [
     ("x = 0\nwhile x < 2:\n    x += 1\nprint(x)\n", 99, "2\n", [1, 2, 3, 2, 3, 2, 4], 26, ("done",)),
     ("x = 2\nwhile x: x -= 1\n", 99, "", [1, 2, 2, 2], 16, ("done",)),
     ("print(x)\n", 99, "", [1], 2, ("raised", "<NameError>", "name 'x' is not defined")),
+    ("print(sum([1, 2]))\n", 99, "3\n", [1], 25, ("done",)),
+    ("print(list(range(2)),\n  [3, 1].sort())\n", 99, "[0, 1] None\n", [1, 2, 1], 80, ("done",)),
+    ("sum([1, None])\n", 99, "", [1], 18, ("raised", "<TypeError>", "unsupported operand type(s) for +: 'int' and 'NoneType'")),
+    ("sum()\n", 99, "", [1], 2, ("outside", "Feature", 1)),
+    ("list(5)\n", 99, "", [1], 7, ("raised", "<TypeError>", "'int' object is not iterable")),
+    ("sum([1, 2, 3])\n", 9, "", [1], 9, ("spent",)),
     (OUTER, 99, "8\n", [1, 9, 2, 3, 7, 5, 6, 8, 5, 6], 31, ("done",)),
     (DEEP, 9999, "", [1, 3] + [2] * 999, 2002, ("raised", "<RecursionError>", "too many activations")),
     (DEEP, 2001, "", [1, 3] + [2] * 999, 2001, ("spent",)),
@@ -342,7 +348,7 @@ def main():
     ends, acts, events = collections.Counter(), 0, 0
     seeds = [a.show] if a.show is not None else range(a.first, a.first + a.many)
     calling = [] if a.show is not None else sorted({(text, text) for text, _ in CALLING})
-    for seed, text in [(seed, program(seed, containers=seed % 4 > 0, exceptions=seed % 3 > 0)) for seed in seeds] + calling:
+    for seed, text in [(seed, program(seed, containers=seed % 4 > 0, exceptions=seed % 3 > 0, helpers=seed % 5 < 2)) for seed in seeds] + calling:
         difference, end, taken, told = check.compare(text)
         ends[" ".join(str(e) for e in end[:2])] += 1
         acts, events = acts + taken, events + told

@@ -15,8 +15,9 @@ import warnings
 HERE = os.path.dirname(os.path.abspath(__file__))
 sys.path[:0] = [HERE, os.path.join(HERE, "..", "dis"), os.path.join(HERE, "..", "code")]
 
-from laid import CodedTrees, Listings  # noqa: E402
+from laid import CRATES, CodedTrees, Listings  # noqa: E402
 from machines import items  # noqa: E402
+from objects import prelude_text  # noqa: E402
 from programs import program  # noqa: E402
 
 WRITTEN = ["x = 1\nprint('a', x)\n", """\
@@ -91,10 +92,12 @@ class Check(Listings):
         self.facts_of = get("pt_code_facts", "Facts", "facts_of")
         self.facts_view = get("pt_code_facts", "Facts", "facts_view")
         self.texts_of = get("pt_host", "Constants", "texts_of")
+        self.prelude = CodedTrees(prelude_text(CRATES)).tree
+        self.hidden = self.code_of(self.prelude)
 
     def differences(self, text):
         tree, found = CodedTrees(text).tree, {}
-        said, code = self.program_of(tree), self.code_of(tree)
+        said, code = self.program_of(self.prelude, tree), self.code_of(tree)
         for theirs in code_objects(compile(text, "script", "exec")):
             found.setdefault((theirs.co_name, theirs.co_firstlineno), []).append(theirs)
         blocks = items(code["blocks"])
@@ -107,8 +110,11 @@ class Check(Listings):
             # CPython has no code for what it folds away
             if theirs and not any(is_told(facts, c) for c in theirs):
                 yield number, "CPython"
+        for number, block in enumerate(items(self.hidden["blocks"])):
+            if said["facts"]({"hidden": True, "number": number}) != self.facts_view(self.facts_of(self.hidden["texts"], block)):
+                yield number, "the prelude's code"
         texts = list(map(text_of, items(said["texts"])))
-        if sorted(texts) != sorted(map(text_of, items(self.texts_of(tree)))):
+        if sorted(texts) != sorted(map(text_of, {*items(self.texts_of(self.prelude)), *items(self.texts_of(tree))})):
             yield "texts", texts
 
 

@@ -18,7 +18,7 @@ from check_objects import CONTAINERS, IMPORTS, WRITTEN, Check  # noqa: E402
 from definitions import STD, integer, items, listed  # noqa: E402
 from follow import Checked  # noqa: E402
 from machines import NONE, WORDS, Pieces, Script, Specs  # noqa: E402
-from objects import facts_of, text_of, word  # noqa: E402
+from objects import facts_of, prelude_text, text_of, word  # noqa: E402
 from programs import program  # noqa: E402
 
 
@@ -48,6 +48,7 @@ class Rows:
         self.module_names = get("pt_host", "Calls", "module_names")
         self.module_world = get("pt_host", "Calls", "module_world")
         self.names_view = get("sem_rows", "heap_rows.Views", "names_view")
+        self.hidden = None
 
     def objects(self, script):
         """The code objects of the blocks."""
@@ -60,17 +61,23 @@ class Rows:
                 "truth": lambda t: ("Bool", t), "is_truth": lambda v: ("Some", v[1]) if v[0] == "Bool" else NONE,
             }
 
+    def side(self, text):
+        """What a host knows of the blocks of a text, their code objects, and the texts of constants."""
+        script = Script(self.specs, text)
+        facts = [self.facts_of(b, script, laid.block) for b, laid in zip(self.runner.blocks(text), script.blocks)]
+        return facts, list(self.objects(script)), items(self.runner.texts_of(self.runner.trees(text).tree))
+
     def run(self, text, most):
         """The acts, what is printed, and how the run ends."""
-        script = Script(self.specs, text)
-        self.facts = [self.facts_of(b, script, laid.block) for b, laid in zip(self.runner.blocks(text), script.blocks)]
-        self.program = {"facts": lambda b: self.facts[b["number"]], "texts": self.runner.texts_of(self.runner.trees(text).tree),
-                        "file": word("script.py"), "source": ("Some", word(text))}
-        self.host, self.codes = self.heap_host(self.program), list(self.objects(script))
-        self.world, self.most, self.acts, self.out, self.line = self.module_world(self.program), most, [], "", 1
+        self.hidden = self.hidden or self.side(prelude_text(self.runner.definitions.crates))
+        self.sides = {True: self.hidden, False: self.side(text)}
+        texts = list(dict.fromkeys(self.sides[True][2] + self.sides[False][2]))
+        self.program = {"facts": self.facts, "texts": listed(texts), "file": word("script.py"), "source": ("Some", word(text))}
+        self.host = self.heap_host(self.program)
+        self.world, self.most, self.acts, self.out = self.module_world(self.program), most, [], ""
         self.open, self.frames = [], 0
         try:
-            end = self.block(0, self.module_names(self.program))
+            end = self.block({"hidden": False, "number": 0}, self.module_names(self.program))
         except Ends as e:
             return self.acts, self.out, e.args
         if end[0] == "gave":
@@ -85,14 +92,17 @@ class Rows:
         names = {"locals": "locals", "cells": "cells", "frees": "free"}
         return {**facts_of(block), **{k: listed(word(texts[t["0"]]) for t in items(code[v])) for k, v in names.items()}}
 
-    def block(self, number, names):
+    def facts(self, block):
+        return self.sides[block["hidden"]][0][block["number"]]
+
+    def block(self, block, names):
         """How a block ends."""
-        here = {"block": number, "frame": self.frames, "names": names, "state": ("on", 0, ()),
+        here = {"block": block, "frame": self.frames, "names": names, "state": ("on", 0, ()), "line": self.facts(block)["first_line"],
                 "locals": [e[2] for e in items(names["values"])], "cells": [e[2] for e in items(names["cells"])]}
         self.frames += 1
         self.open.append(here)
         while here["state"][0] != "off":
-            self.step(here, self.codes[number])
+            self.step(here, self.sides[block["hidden"]][1][block["number"]])
         self.open.pop()
         return here["state"][1]
 
@@ -103,8 +113,8 @@ class Rows:
             if len(self.acts) == self.most:
                 raise Ends("spent")
             mark = turn[1][1]
-            self.line = mark["line"]
-            self.acts.append((here["block"], mark["act"], mark["line"], mark["is_retest"]))
+            here["line"] = mark["line"]
+            self.acts.append((*here["block"].values(), mark["act"], mark["line"], mark["is_retest"]))
         stores = {"names": here["names"], "world": self.world}
         if state[0] == "on":
             ins = code["at"](state[1])[1]
@@ -127,7 +137,7 @@ class Rows:
             case ("Local", number) if here["state"][0] == "on" and here["locals"][number["0"]] != NONE:
                 assert here["state"][2][0] == ("value", here["locals"][number["0"]][1])
         activation = {"locals": listed(here["locals"]), "cells": listed(here["cells"]), "names": ()}
-        assert self.names_view(self.facts[here["block"]], activation) == here["names"], (instr, here["names"])
+        assert self.names_view(self.facts(here["block"]), activation) == here["names"], (instr, here["names"])
         if instr[0] in ("SetCell", "DelCell", "FreshCell"):
             assert before == items(self.world["cells"])
 
@@ -138,7 +148,7 @@ class Rows:
     def place(self, here):
         slots = [a["state"][-1] for a in reversed(self.open)]
         active = next((v for v in map(self.active, slots) if v != NONE), NONE)
-        return {"frame": here["frame"], "block": {"hidden": False, "number": here["block"]}, "active": active}
+        return {"frame": here["frame"], "block": here["block"], "active": active}
 
     def follow(self, here, successor):
         match successor:
@@ -154,13 +164,13 @@ class Rows:
             case ("behind_note", _, onward):
                 here["state"] = onward(("got", ("tt",)))
             case ("outside", what):
-                raise Ends("outside", what[0], self.line)
+                raise Ends("outside", what[0], next(a["line"] for a in reversed(self.open) if not a["block"]["hidden"]))
             case _:
                 raise Ends(successor[0])
 
     def opened(self, here, opening):
         if len(self.open) < 1000:
-            return self.block(opening["block"]["number"], opening["names"])
+            return self.block(opening["block"], opening["names"])
         made = self.host["makes"](("too_deep",))(self.place(here))(self.world)
         self.world = made[2]
         return "left_by", made[1]
@@ -168,7 +178,7 @@ class Rows:
 
 def by_tree(check, text, most):
     _, outputs, state, step = check.runner.run(text, most)
-    acts = [(o[1]["number"], *(o[2][k] for k in ("act", "line", "is_retest"))) for o in outputs if o[0] == "begins"]
+    acts = [(*o[1].values(), *(o[2][k] for k in ("act", "line", "is_retest"))) for o in outputs if o[0] == "begins"]
     return acts, "".join(text_of(o[1]) for o in outputs if o[0] == "prints"), check.ending(step, state["world"]["heap"])
 
 
@@ -182,7 +192,7 @@ def main():
     check = Check(a.crates)
     rows, bad, ends, acts = Rows(a.crates, check.runner), 0, collections.Counter(), 0
     scripts = [w[:2] for w in WRITTEN] + [(t, a.most) for t in CONTAINERS + IMPORTS]
-    scripts += [(program(seed, containers=seed % 4 > 0, exceptions=seed % 3 > 0), a.most) for seed in range(a.first, a.first + a.many)]
+    scripts += [(program(seed, containers=seed % 4 > 0, exceptions=seed % 3 > 0, helpers=seed % 5 < 2), a.most) for seed in range(a.first, a.first + a.many)]
     for text, most in scripts:
         found, wanted = rows.run(text, most), by_tree(check, text, most)
         ends[" ".join(map(str, found[2][:2]))] += 1

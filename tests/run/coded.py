@@ -3,7 +3,7 @@ import os
 import sys
 
 from definitions import items, listed
-from objects import ObjectRunner
+from objects import ObjectRunner, prelude_text
 
 sys.path.append(os.path.join(os.path.dirname(os.path.abspath(__file__)), "..", "code"))
 
@@ -27,7 +27,8 @@ class CodedRunner(ObjectRunner):
         self.label_at = d.get("pt_assembler", "Layout", "label_at")
         self.ins_at = d.get("pt_code", "View", "ins_at")
         self.pool_of = d.get("sem_code", "slots.BlockObject", "pool_of")
-        self.code_machine = d.get("law_compile", "script_runs.Laws", "code_machine")
+        self.code_machine = d.get("law_compile", "script_runs.ProgramBlocks", "program_code_machine")
+        self.hidden_code = None
 
     def code_object(self, code, block, written):
         """The code object of a block; where a loop is left to has as many slots as its label says."""
@@ -42,12 +43,17 @@ class CodedRunner(ObjectRunner):
                 "extras": {"tuple_join": ("tuple",), "dict_merge": ("dict",), "super": ("item",)}, "null": NONE,
                 "truth": lambda b: ("Bool", b), "is_truth": lambda v: ("Some", v[1]) if v[0] == "Bool" else NONE}
 
+    def side_code(self, text):
+        """The tree of a text, and the code objects of its blocks."""
+        tree = self.trees(text).tree
+        code = self.code_of(tree)
+        return tree, [self.code_object(code, block, layout["written"])
+                      for block, layout in zip(items(code["blocks"]), items(self.layouts(tree)), strict=True)]
+
     def both_outcomes(self, text, most):
         """What the bare run of a script comes to, and that of its code."""
         _, machine, host, module = self.begin(text)
-        tree = self.trees(text).tree
-        code = self.code_of(tree)
-        objects = [self.code_object(code, block, layout["written"])
-                   for block, layout in zip(items(code["blocks"]), items(self.layouts(tree)), strict=True)]
-        by_code = self.code_machine(tree, objects.__getitem__)
+        self.hidden_code = self.hidden_code or self.side_code(prelude_text(self.definitions.crates))
+        sides = {True: self.hidden_code, False: self.side_code(text)}
+        by_code = self.code_machine(sides[True][0], sides[False][0], lambda hidden: sides[hidden][1].__getitem__)
         return self.bare_outcome(machine, host, module, most), self.bare_outcome(by_code, host, module, most)

@@ -3,6 +3,7 @@
 A definition becomes a Python function, its clauses in order. Values: numbers and truths are Python's, a list is () or (first, rest),
 a constructor a tuple that begins with its name, a record a dict by its fields, a pair ("×", a, b), a function takes one argument
 after the other. Types and proofs are never looked at. What an argument named in BY_NAME is worth is found where it is used."""
+import itertools
 import os
 import re
 
@@ -403,6 +404,8 @@ class Definitions:
 
 
 CONSTANT = re.compile(r"pub const (\w+): [^=]* = ([^;]*);")
+# a text of several parts, of which a macro takes some
+TEXT_PART = re.compile(r'(now|later) r#"(.*?)"#', re.S)
 CODE_WORD = re.compile(r'\s*("[^"]*"|[\w:]+|[\[\](),])')
 
 
@@ -413,8 +416,13 @@ def constants(folder):
     for at, _, files in sorted(os.walk(folder)):
         for file in sorted(files):
             with open(os.path.join(at, file), encoding="utf-8") as f:
-                for name, value in CONSTANT.findall(f.read()):
-                    out[name] = code_value(CODE_WORD.findall(value))
+                text = f.read()
+                for name, value in CONSTANT.findall(text):
+                    if value.startswith("prelude!"):
+                        parts = [t for when, t in TEXT_PART.findall(text) if when == "now" or "whole" in value]
+                        out[name] = {"now": listed("".join(parts).encode())}
+                    else:
+                        out[name] = code_value(CODE_WORD.findall(value))
     return out
 
 
@@ -793,6 +801,9 @@ STD = {
     "option_flatten": lambda o: o[1] if o[0] == "Some" else o,
     "option_or": lambda o, p: o if o[0] == "Some" else p,
     "nat_eq": lambda a, b: a == b,
+    "find": lambda f, xs: next((("Some", x) for x in items(xs) if f(x)), ("None",)),
+    "before_first": lambda f, xs: listed(itertools.takewhile(lambda x: not f(x), items(xs))),
+    "lines": lambda a: listed(listed(line) for line in bytes(items(a)).split(b"\n")),
     "int_lt": lambda a, b: number(a) < number(b),
     "int_le": lambda a, b: number(a) <= number(b),
     "unsigned_abs": lambda a: abs(number(a)),

@@ -1,7 +1,8 @@
 """A script run by the definitions of `sem_run.run` with the host of `pt_host`: names are bytes, and values are those of the definitions."""
 import ast
+import os
 
-from definitions import integer, items, listed, number
+from definitions import constants, integer, items, listed, number
 from run import Runner
 from trees import Trees
 
@@ -12,6 +13,11 @@ def word(text):
 
 def text_of(codes):
     return bytes(items(codes)).decode()
+
+
+def prelude_text(crates):
+    """The text over which scripts are run."""
+    return text_of(constants(os.path.join(crates, "pt_prelude", "src"))["PRELUDE"]["now"])
 
 
 class ByteTrees(Trees):
@@ -39,6 +45,7 @@ class ObjectRunner(Runner):
 
     def __init__(self, crates):
         super().__init__(crates)
+        self.hidden = None
         self.heap_host = self.get("pt_host", "HeapHost", "heap_host")
         self.module_names = self.get("pt_host", "Calls", "module_names")
         self.module_world = self.get("pt_host", "Calls", "module_world")
@@ -67,16 +74,22 @@ class ObjectRunner(Runner):
     def facts(self, blocks):
         return [facts_of(b) for b in blocks]
 
+    def side(self, text):
+        """The blocks of a text, what control knows around them, what a host knows of them, and the texts of constants."""
+        blocks = self.blocks(text)
+        return blocks, [self.around(blocks, b) for b in blocks], self.facts(blocks), self.texts_of(self.trees(text).tree)
+
     def begin(self, text):
         """The blocks of a script, it as a machine, its host, and how its module begins: block, names and world."""
-        blocks = self.blocks(text)
-        around = [self.around(blocks, b) for b in blocks]
-        facts = self.facts(blocks)
-        self.program = program = {"facts": lambda b: facts[b["number"]], "texts": self.texts_of(self.trees(text).tree),
+        self.hidden = self.hidden or self.side(prelude_text(self.definitions.crates))
+        sides = {True: self.hidden, False: self.side(text)}
+        blocks = sides[False][0]
+        texts = list(dict.fromkeys(items(sides[True][3]) + items(sides[False][3])))
+        self.program = program = {"facts": lambda b: sides[b["hidden"]][2][b["number"]], "texts": listed(texts),
                                   "file": word("script.py"), "source": ("Some", word(text))}
         machine = self.machine({
-            "code": lambda b: blocks[b["number"]].record["code"],
-            "around": lambda b: around[b["number"]],
+            "code": lambda b: sides[b["hidden"]][0][b["number"]].record["code"],
+            "around": lambda b: sides[b["hidden"]][1][b["number"]],
         })
         return blocks, machine, self.heap_host(program), ({"hidden": False, "number": 0}, self.module_names(program), self.module_world(program))
 
@@ -121,7 +134,7 @@ class ObjectRunner(Runner):
                     case "Str":
                         return repr(text_of(thing[1]))
                     case "Function":
-                        return "<function>"
+                        return "<builtin>" if thing[1]["hidden"] else "<function>"
                     case "Builtin":
                         return "<builtin>"
                     case "Class":

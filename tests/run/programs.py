@@ -2,7 +2,8 @@
 by name, decorators and recursion; some of lists, tuples and ranges as well, with `for` loops, unpacking and subscripts, starred parameters and
 arguments that are spread, and of f-strings,
 slices, dictionaries, sets, items that are assigned to and deleted, and methods of all these. One statement stands on a line. Loops and recursions end, and some
-scripts raise. Sets aren't printed: their order is CPython's own. Where asked for, there are comprehensions and orders of lists and tuples as well."""
+scripts raise. Sets aren't printed: their order is CPython's own. Where asked for, there are comprehensions and orders of lists and tuples as well, and
+statements of the builtins and methods that come seldom, and of those that are written in Python."""
 import random
 
 HEAD = """\
@@ -41,11 +42,12 @@ class Block:
 
 class Program:
     """`containers` says that there are lists, tuples, ranges, f-strings, slices, dictionaries and sets; `exceptions` that there are `try`,
-    `raise`, `assert` and exceptions; `forms` that there are comprehensions and orders of sequences."""
+    `raise`, `assert` and exceptions; `forms` that there are comprehensions and orders of sequences; `builtins` that there are statements of
+    builtins and methods that come seldom; `helpers` that there are statements of those that are written in Python."""
 
-    def __init__(self, seed, containers=False, exceptions=False, forms=False):
+    def __init__(self, seed, containers=False, exceptions=False, forms=False, builtins=False, helpers=False):
         self.r = random.Random(seed)
-        self.forms = forms
+        self.forms, self.builtins, self.helpers = forms, builtins, helpers
         self.lines, self.fresh, self.containers, self.exceptions, self.handling = list(HEAD), 0, containers, exceptions, 0
         self.starred = {}
 
@@ -348,6 +350,171 @@ class Program:
             case _:
                 put(f"print({self.of_text(block)}, {self.of_method(block)})")
 
+    # builtins and methods that come seldom
+    def of_builtins(self, block, deeper):
+        """Statements of a builtin or a method, with a wrong argument now and then, most of which are caught."""
+        put = lambda text, more=0: self.put(block, text, deeper + more)
+        number, often = lambda: self.atom(block), lambda chance: self.r.random() < chance
+        match self.r.randrange(12):
+            case 0:
+                put(f"print(abs({number()} - 3), divmod({number()}, {self.r.choice(['2', '-3', '7', 'True', number()])}))")
+            case 1:
+                text = self.r.choice(["'a'", "'\u00e9'", "'\\n'", "'\U0001f600'"] + ["5"] * often(0.1))
+                put(f"print(ord({text}), repr(chr({self.r.choice(['97', '0', '233', 'True', f'ord({text}) + 1'] + ['-1', '1114112', repr('a')] * often(0.1))})))")
+            case 2:
+                i, over = self.name("n"), self.r.choice([self.sequence(block, 0), self.mapping(block), self.sliced(block)])
+                put(f"{i} = iter({over})")
+                put(f"for {self.name('v')} in {i}:")
+                put(self.r.choice([f"print(next({i}, 7), {i} is iter({i}))", f"print(next({i}, None))", "break"]), 1)
+                if often(0.3):
+                    put("try:")
+                    put(f"print(next({i}))", 1)
+                    put("except StopIteration as stop:")
+                    put("print(repr(stop))", 1)
+            case 3:
+                of, name = self.r.choice([number(), "'a'", "[1]", "()", "{}", "print"]), self.r.choice(["append", "index", "get", "nosuch", "join"])
+                put(f"print(callable({self.r.choice(['print', 'rest', 'same', of, 'int'])}), getattr({of}, {name!r}, 3) == 3, hasattr({of}, {name!r}))")
+            case 4:
+                of, name = self.r.choice(["[1, 2]", "'ab'", "(1,)"]), self.r.choice(["count", "index", "count"])
+                put(f"print(getattr({of}, {name!r})({self.r.choice(['1', repr('a'), number()])}))" if often(0.3) else f"print(getattr({of}, {name!r}) is None)")
+            case 5 | 6:
+                s = self.name("s")
+                put(f"{s} = {self.set_of(block)}")
+                for _ in range(self.r.randint(1, 3)):
+                    k = self.r.choice([self.key(), number()])
+                    put(self.r.choice([f"{s}.add({k})", f"{s}.discard({k})", f"if {k} in {s}: {s}.remove({k})", f"{s} {self.r.choice('|&-^')}= {self.set_of(block)}"]))
+                put(f"print(len({s}), {self.key()} in {s}, {s} == {s}.copy(), {s} is {s})")
+                if often(0.3):
+                    put(f"{s}.clear()")
+                    put(f"print({s}, bool({s}))")
+                if often(0.1):
+                    put(f"{s}.remove({self.key()})")
+            case 7:
+                l = self.name("l")
+                put(f"{l} = [{number()}, {number()}, 1]")
+                for _ in range(self.r.randint(1, 3)):
+                    put(self.r.choice([f"{l}.insert({self.r.choice(['0', '1', '-1', '9'])}, {number()})", f"{l}.reverse()", f"{l}.append({number()})", f"{l}.remove(1)",
+                                       f"{l}.extend([{number()}])", f"print({l}.pop({self.r.choice(['', '0', '-1'])}))"]))
+                put(f"print({l}, repr({l}), str({l}))")
+                if often(0.3):
+                    put(f"{l}.clear()")
+                    put(f"print({l})")
+            case 8:
+                d = self.name("d")
+                put(f"{d} = {self.dictionary(block)}")
+                put(f"print({d}.keys(), {d}.values(), {d}.items())")
+                put(f"{d}.clear()")
+                put(f"print({d}, {d}.get(1), {d}.setdefault(1, 2), {d})")
+            case 9:
+                x = self.r.choice([number(), "'a'", "[]", "None", "print", "range(2)", "int", "{}", "KeyError"])
+                put(f"print(type({x}), isinstance({x}, ({self.r.choice(['int', 'str', 'bool', 'type', 'BaseException'])}, (list,))), "
+                    f"issubclass({self.r.choice(['bool', 'int', 'KeyError'])}, {self.r.choice(['int', 'LookupError', '(str, object)'])}))")
+            case 10:
+                module = self.r.choice(["sys", "sys", "sys", "nosuch", "sys, nosuch"])
+                put("try:")
+                put(self.r.choice([f"import {module}", "import sys as s", "from sys import exit", f"from {module.split(',')[0]} import nosuch"]), 1)
+                put("except ImportError as missing:")
+                put("print(type(missing))", 1)
+            case _:
+                put("import sys")
+                put("try:")
+                put(f"sys.exit({self.r.choice(['', 'None', '0', '3', repr('a'), number(), '[1]'])})", 1)
+                put(f"except {self.r.choice(['SystemExit', 'BaseException', '(KeyError, SystemExit)'])} as left:")
+                put("print(repr(left), left)", 1)
+                put("finally:")
+                put("print('left')", 1)
+
+    # builtins and methods that are written in Python
+    def key_function(self, block, deeper):
+        """A function that gives keys, by its name or as an expression; one is made where none is there, and some raise."""
+        inner, chance = Block(block.depth, block), self.r.random()
+        x = self.name("x")
+        inner.names = [x]
+        if chance < 0.25:
+            return self.r.choice(["abs", "len", "str", "None", "int", "bool"])
+        if chance < 0.7:
+            return f"lambda {x}: {self.r.choice([f'-{x}', f'({x} % 2, {x})', f'({x} == 1, -{x})', f'str({x})', x, f'{x} // {x}', self.exp(inner, 1)])}"
+        f, made = self.name("k"), Block(block.depth + 1, block)
+        self.put(block, f"def {f}({x}):", deeper)
+        self.put(made, self.r.choice([f"print('key', {x})", "pass", f"if {x} == 2: raise KeyError({x})", f"{x} = {x} or 7"]), deeper)
+        self.put(made, f"return {self.r.choice([f'-{x}', f'{x} * {x}', f'6 // {x}', x, f'({x},)'])}", deeper)
+        return f
+
+    def iterable(self, block):
+        """What is iterable, mostly of numbers; an iterator or no iterable now and then."""
+        number, chance = lambda: self.r.choice([self.atom(block), str(self.r.randrange(-3, 9))]), self.r.random()
+        if chance < 0.04:
+            return self.r.choice(["5", "None", "print", self.atom(block)])
+        if chance < 0.1:
+            return f"iter({self.sequence(block, 0)})"
+        if chance < 0.3:
+            return self.r.choice([self.mapping(block), f"({self.mapping(block)}).values()", f"{{{number()}}}"])
+        if chance < 0.4:
+            return self.r.choice(["['b', 'a', 'c']", "'cab'", "[(2, 'b'), (1, 'z'), (1, 'a')]", "[1, 'a']", "[[1], [2]]"])
+        items = [number() for _ in range(self.r.randrange(5))]
+        return self.sequence(block, 0) if chance < 0.6 else self.r.choice([f"[{', '.join(items)}]", f"({', '.join(items)}{',' * (len(items) == 1)})"])
+
+    def pairs(self, block):
+        pair = lambda: f"({self.key()}, {self.atom(block)})"
+        some = [pair() for _ in range(self.r.randrange(3))] + [self.r.choice(["5", "(1, 2, 3)", "'a'", "(1,)"])] * (self.r.random() < 0.06)
+        return self.r.choice([f"[{', '.join(some)}]", f"[{', '.join(some)}]", self.mapping(block), "['ab', 'cd']", "{}.items()"])
+
+    def of_helpers(self, block, deeper):
+        """Statements of these, with a wrong argument now and then, most of which are caught."""
+        is_caught = self.r.random() < 0.5
+        if is_caught:
+            self.put(block, "try:", deeper)
+            self.of_helper(block, deeper + 1)
+            self.put(block, f"except {self.r.choice(['Exception', '(TypeError, ValueError)', 'ArithmeticError'])} as wrong:", deeper)
+            self.put(block, "print(type(wrong))", deeper + 1)
+        else:
+            self.of_helper(block, deeper)
+
+    def of_helper(self, block, deeper):
+        put = lambda text, more=0: self.put(block, text, deeper + more)
+        xs, number, often = self.iterable(block), lambda: self.atom(block), lambda chance: self.r.random() < chance
+        match self.r.randrange(12):
+            case 0:
+                start = self.r.choice(["", "", f", {number()}", f", start={number()}", ", ()", ", begin=1"] if often(0.3) else [""])
+                put(f"print(sum({xs}{start}))")
+            case 1:
+                put(f"print({self.r.choice(['any', 'all'])}({xs}), {self.r.choice(['any', 'all'])}({self.iterable(block)}))")
+            case 2 | 3:
+                key = f", key={self.key_function(block, deeper)}" if often(0.6) else ""
+                turned = self.r.choice(["", ", reverse=True", f", reverse={number()}", ", cmp=1"] if often(0.4) else [""])
+                put(f"print(sorted({xs}{key}{turned}))")
+            case 4 | 5:
+                name, of = self.r.choice(["min", "max"]), xs if often(0.6) else f"{number()}, {number()}"
+                key = f", key={self.key_function(block, deeper)}" if often(0.5) else ""
+                default = f", default={number()}" if often(0.3) and of == xs else ""
+                put(f"print({name}({of}{key}{default}))")
+            case 6:
+                made = self.r.choice([f"list({xs})", f"tuple({xs})", f"list(tuple({xs}))", f"len(set({xs}))", "list()", "tuple()", "(set(), dict())", f"list({xs}, 1)"])
+                put(f"print({made})")
+            case 7:
+                named = self.r.choice(["", f", a={number()}, b=2", ", **{'a': 1}"])
+                put(f"print(dict({self.pairs(block)}{named}), dict({named[2:]}))")
+            case 8:
+                l = self.name("l")
+                put(f"{l} = [{number()}]")
+                put(f"{l}.extend({xs})")
+                put(f"print({l}, {l}.extend({self.iterable(block)}), len({l}))")
+            case 9:
+                d = self.name("d")
+                put(f"{d} = {self.dictionary(block)}")
+                put(f"{d}.update({self.pairs(block)})")
+                put(f"print({d}, {d}.update({self.pairs(block)}))")
+            case 10:
+                texts = self.r.choice(["'abc'", "{'k': 1, 'l': 2}", f"[str(v) for v in {xs}]", "iter(('x', 'y'))", "sorted('hello')", xs])
+                put(f"print({self.r.choice([repr('-'), repr(''), repr(', ')])}.join({texts}))")
+            case _:
+                l = self.name("l")
+                put(f"{l} = list({xs})")
+                key = f"key={self.key_function(block, deeper)}" if often(0.5) else ""
+                turned = "reverse=True" if often(0.3) else ""
+                put(f"{l}.sort({', '.join(x for x in (key, turned) if x)})")
+                put(f"print({l})")
+
     def items(self, block, room):
         item = lambda: self.sequence(block, room - 1) if room and self.r.random() < 0.2 else self.exp(block, room)
         return [item() for _ in range(self.r.randrange(4))]
@@ -641,6 +808,10 @@ class Program:
         put = lambda text: self.put(block, text, deeper)
         if self.exceptions and self.r.random() < 0.3:
             return self.of_exceptions(block, deeper, room)
+        if self.builtins and self.r.random() < 0.25:
+            return self.of_builtins(block, deeper)
+        if self.helpers and self.r.random() < 0.25:
+            return self.of_helpers(block, deeper)
         if self.containers and self.r.random() < 0.45:
             return self.of_containers(block, deeper, room)
         match self.r.randrange(16):
@@ -753,5 +924,5 @@ class Program:
         return "\n".join(self.lines) + "\n"
 
 
-def program(seed, containers=False, exceptions=False, forms=False):
-    return Program(seed, containers, exceptions, forms).text()
+def program(seed, containers=False, exceptions=False, forms=False, builtins=False, helpers=False):
+    return Program(seed, containers, exceptions, forms, builtins, helpers).text()

@@ -29,16 +29,17 @@ OPERANDS = ["None", "True", "0", "1", "-3", "7", "''", "'a'", "'h\\u00e9l'", "'a
 BINARY = ["+", "-", "*", "//", "%", "**", "&", "|", "^", "<<", ">>", "<", "<=", ">", ">=", "==", "!=", "in", "not in", "is", "is not"]
 UNARY = ["-", "+", "~", "not "]
 INDICES = ["0", "-1", "5", "'a'", "None", "1:", ":-1", "::-1", "2:0:-1", "-9:9:2", "::0", "[1]", "1, 2"]
-CALLS = ["len", "str", "repr", "bool", "int", "abs", "ord", "chr", "iter", "print"]
+CALLS = ["len", "str", "repr", "bool", "int", "abs", "ord", "chr", "iter", "print", "sum", "any", "all", "min", "max", "sorted", "list", "tuple", "dict"]
 METHODS = {
     "'aXb ab'": ["upper()", "lower()", "strip()", "strip('ab')", "split()", "split('a')", "split('')", "split(None)", "split('a', 1)", "replace('a', 'cc')",
                  "replace('', '-')", "find('b')", "find('z')", "index('b')", "index('z')", "count('a')", "startswith('a')", "endswith(('b', 'c'))",
-                 "isdigit()", "isalpha()", "join(['1', '2'])", "join(('x',))", "join([1])", "lstrip()", "rstrip()", "title()", "find(1)", "nothing()"],
+                 "isdigit()", "isalpha()", "join(['1', '2'])", "join(('x',))", "join([1])", "join('ab')", "join({'x': 1})", "join(5)", "lstrip()", "rstrip()", "title()", "find(1)", "nothing()"],
     "[3, 1, 2]": ["append(4)", "pop()", "pop(0)", "pop(9)", "insert(1, 'x')", "insert(-9, 0)", "remove(1)", "remove(9)", "index(2)", "index(9)", "count(3)",
-                  "reverse()", "clear()", "copy()", "extend([5])", "extend((6, 7))", "pop('a')", "nothing()"],
+                  "reverse()", "clear()", "copy()", "extend([5])", "extend((6, 7))", "extend('ab')", "extend(range(2))", "extend(5)", "sort()", "sort(reverse=True)",
+                  "sort(key=str)", "sort(key=lambda n: n % 2)", "sort(key=5)", "pop('a')", "nothing()"],
     "(1, 2, 1)": ["index(2)", "index(9)", "count(1)", "nothing()"],
     "{'a': 1, 'b': 2}": ["get('a')", "get('z')", "get('z', 0)", "get([])", "pop('a')", "pop('z')", "pop('z', None)", "setdefault('a', 5)", "setdefault('c', 5)",
-                         "keys()", "values()", "items()", "clear()", "copy()", "popitem()", "nothing()"],
+                         "keys()", "values()", "items()", "clear()", "copy()", "update({'a': 3})", "update([('c', 4), 'de'])", "update([5])", "update(5)", "popitem()", "nothing()"],
     "{1, 2}": ["add(3)", "add([])", "discard(1)", "discard(9)", "remove(1)", "remove(9)", "copy()", "clear()", "nothing()"],
 }
 FORMATS = ["5", "<6", ">6", "^7", "*^7", "05", "+", ",", "x", "#x", "b", "o", "c", ".2", "s", "d", "q", "<", "10d", "_"]
