@@ -52,10 +52,7 @@ def differences(run, trace, text):
         found.append(f"printed {trace.out[-200:]!r}, CPython {out[-200:]!r}")
     if is_whole and (end == "done") != (trace.status == DONE):
         found.append(f"ended {ENDINGS[trace.status]}, CPython {end}")
-    raised = next((e[3] for e in reversed(events) if e[0] == "exception"), None)
-    # the events of a StopIteration are in none of the two, so its traceback tells it
-    if trace.status == RAISED and raised != end != "StopIteration":
-        found.append(f"raised {raised}, CPython {end}")
+    # which exception left: a StopIteration has no event, and what goes on has none of its own
     if trace.status == RAISED and not found:
         told, traceback = tracebacks(text, last)
         if told != traceback:

@@ -249,7 +249,7 @@ class Program:
                 return f"int({self.r.choice(['7', ' -12 ', '+1_000', '0', '\\t5\\n'])!r})".replace("\\\\", "\\")
             case 7:
                 return f"isinstance({self.part(block)}, (int, (str, (list,))))"
-        return f"hasattr({self.sequence(block, 0)}, {self.r.choice(['append', 'index', 'items'])!r})"
+        return f"hasattr({self.sequence(block, 0)}, {self.r.choice(['append', 'keys', 'items'])!r})"
 
     # methods
     def plain_text(self):
