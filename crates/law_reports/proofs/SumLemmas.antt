@@ -75,16 +75,20 @@ kept-among m xs (n ∷ ns) some = kept-among m (with_name xs n) ns (step (list_a
             → (b || list_any (bytes_eq m) (ys ++ n ∷ [])) ≡ ((b || list_any (bytes_eq m) ys) || (bytes_eq m n || false))
         go true e = refl
         go false e = e
+
     regroup : (a b c : Bool) → (a || (b || c)) ≡ true → ((a || (b || false)) || c) ≡ true
     regroup true b c e = refl
     regroup false true c e = refl
     regroup false false c e = e
+
     had : (ys : List Text) (b : Bool) → bytes_eq m n ≡ b → list_any (bytes_eq n) ys ≡ true → b ≡ true → list_any (bytes_eq m) ys ≡ true
     had ys b e any is = subst (λ k. list_any (bytes_eq k) ys ≡ true) (sym ((bytes_eq-Decides m n).0 (e ∙ is))) any
+
     drop-it : (a b c : Bool) → (a || (b || c)) ≡ true → (b ≡ true → a ≡ true) → (a || c) ≡ true
     drop-it true b c e f = refl
     drop-it false true c e f = absurd (false≢true (f refl))
     drop-it false false c e f = e
+
     step : (b : Bool) → list_any (bytes_eq n) xs ≡ b → (list_any (bytes_eq m) (with_name xs n) || list_any (bytes_eq m) ns) ≡ true
     step true e =
         subst (λ q. (list_any (bytes_eq m) (cond q xs (xs ++ n ∷ [])) || list_any (bytes_eq m) ns) ≡ true) (sym e)

@@ -29,12 +29,12 @@ use Rattle.pt_turning.specs.pt_telling.pt_run_state.pt_purposes.Seen.{block_of}
 use Rattle.pt_turning.specs.pt_telling.pt_run_state.pt_purposes.Asks.{told_of_call, told_by_control}
 use Rattle.pt_turning.specs.pt_telling.pt_run_state.pt_purposes.Openers.{Ways, settled}
 use Rattle.pt_turning.specs.pt_telling.pt_run_state.declared.machine.Machine.{Machine as Held}
-use Rattle.pt_turning.specs.pt_telling.pt_run_state.Stands.{StandsAround, IsToTell}
-use Rattle.pt_turning.specs.pt_telling.Laws.{Comes, BehindTold}
-use Rattle.pt_turning.proofs.pt_telling.Tells.{tells_as_run}
+use Rattle.pt_turning.specs.pt_telling.pt_run_state.Stands.{Stands, StandsAround, IsToTell}
+use Rattle.pt_turning.specs.pt_telling.Laws.{Comes}
 use Rattle.pt_turning.specs.Ways.{IsOfCode}
 use Rattle.pt_turning.specs.Turning.{standing_of, behind_raise, raised_in}
-use Rattle.pt_turning.proofs.Turns.{named-by, onward-is, lands-so, around-raised, not-landed}
+use Rattle.pt_turning.proofs.Turns.{onward-is, lands-so, around-raised, not-landed}
+use Rattle.pt_replying.proofs.Goes.{tells_on_as_run}
 use Rattle.pt_arising.specs.Arising.{arising_told, arising, arisen}
 use Rattle.pt_arising.specs.Laws.{IsReplied, ArisesAsRun}
 
@@ -137,10 +137,10 @@ module _ {S : Type 0} (program : Program) (code : CodeBlocks Value) (machine : M
 
   arises : (t : Run)
       × (Comes program machine ways minds n s1 [] t
-      × BehindTold program machine ways minds n (arising block v active m) t (arisen block v called acts active m))
+      × Stands program machine ways (arisen block v called acts active m).machine t)
   arises =
-      tells_as_run program machine ways minds n m2 (arising block v active m) (arising_told called acts v) s1 to-tell block
-      (named-by program code machine embed ways is_of minds n (block_of m.code.here) block known)
+      tells_on_as_run program code machine embed ways is_of minds n m2 (standing_of cs) active came_from
+      (arising_told called acts v) s1 to-tell block known
 
 pub arises_as_run : {S : Type 0} (program : Program) (code : CodeBlocks Value)
     (machine : Machine S Value) (embed : CodeState Value → S) (ways : Ways S)

@@ -1,6 +1,6 @@
 -- What the machine does where an exception arises in place of the reply to an ask: it lands from the
--- place of the newest activation, and is told, behind a call of a builtin that raised it (Language
--- Reference 7.8, 8.4; Library Reference, `sys.monitoring`).
+-- place of the newest activation, and is told, behind a call of a builtin that raised it; then it goes
+-- on (Language Reference 7.8, 8.4; Library Reference, `sys.monitoring`).
 use Rattle.std.specs.Prelude.{List, [], ◌∷◌, ◌++◌, Bool, true, false, Option, Some, None, if◌then◌else◌}
 use Rattle.pt_heap.specs.declared.value.Value.{Value}
 use Rattle.pt_happenings.specs.declared.happening.Happening.{Happening}
@@ -9,8 +9,9 @@ use Rattle.pt_turning.specs.pt_telling.pt_transfers.pt_machine_state.declared.bl
 use Rattle.pt_turning.specs.pt_telling.pt_run_state.pt_purposes.declared.purpose.Called.{Called}
 use Rattle.pt_turning.specs.pt_telling.pt_run_state.declared.machine.Machine.{Machine}
 use Rattle.pt_turning.specs.pt_telling.pt_run_state.declared.machine.Waiting.{Waiting}
-use Rattle.pt_turning.specs.pt_telling.Telling.{Told, told as tell}
+use Rattle.pt_turning.specs.pt_telling.Telling.{Told}
 use Rattle.pt_turning.specs.Turning.{raised_in, going}
+use Rattle.pt_replying.specs.Replying.{told_on}
 
 -- behind a call, of an act alone
 abbrev pub builtin_told : Called → List Happening
@@ -30,4 +31,4 @@ arising block v active m = record (going block v m) { active = active }
 abbrev pub arisen : BlockCode → Value → Option Called → (is_act : Bool) → Option Value → Machine
     → Told
 arisen block v called is_act active m =
-    tell block (arising block v active m) (arising_told called is_act v) (raised_in block v m)
+    told_on block (arising block v active m) (arising_told called is_act v) (raised_in block v m)

@@ -20,10 +20,10 @@ use Rattle.pt_turning.specs.pt_telling.pt_run_state.pt_purposes.Seen.{block_of}
 use Rattle.pt_turning.specs.pt_telling.pt_run_state.pt_purposes.Asks.{TellsSo}
 use Rattle.pt_turning.specs.pt_telling.pt_run_state.pt_purposes.Openers.{Ways}
 use Rattle.pt_turning.specs.pt_telling.pt_run_state.declared.machine.Machine.{Machine as Held}
-use Rattle.pt_turning.specs.pt_telling.pt_run_state.Stands.{StandsAround}
-use Rattle.pt_turning.specs.pt_telling.Laws.{Comes, BehindTold}
+use Rattle.pt_turning.specs.pt_telling.pt_run_state.Stands.{Stands, StandsAround}
+use Rattle.pt_turning.specs.pt_telling.Laws.{Comes}
 use Rattle.pt_turning.specs.Ways.{rows_at}
-use Rattle.pt_arising.specs.Arising.{arising, arisen}
+use Rattle.pt_arising.specs.Arising.{arisen}
 
 module _ {S : Type 0} (program : Program) (code : CodeBlocks Value) (machine : Machine S Value)
     (embed : CodeState Value → S) (ways : Ways S) (minds : Event Value → Bool) (n : ℕ) where
@@ -51,5 +51,4 @@ module _ {S : Type 0} (program : Program) (code : CodeBlocks Value) (machine : M
       → (t : Run)
       × (Comes program machine ways minds n
       (reply_to machine (heap_host program) q (raised v) [] s) [] t
-      × BehindTold program machine ways minds n (arising block v active m) t
-      (arisen block v called acts active m))
+      × Stands program machine ways (arisen block v called acts active m).machine t)

@@ -7,7 +7,8 @@ use pt_base::{Memory, Seq};
 use pt_happenings::Happening;
 use pt_heap::Value;
 use pt_pendings::{Origin, Pending};
-use pt_turning::{BlockCode, Called, Machine, Waiting, below_top, land_raise, tell};
+use pt_replying::tell_on;
+use pt_turning::{BlockCode, Called, Machine, Waiting, below_top, land_raise};
 use std::alloc::Global;
 
 /// What is told of it.
@@ -35,7 +36,7 @@ fn told_of(
 /// An exception arises in place of the reply to what was asked at the place of the newest activation,
 /// of this block: it lands from there, and is told, behind a call of a builtin. Its slots are those
 /// below what was taken, and this exception was active in it as it was asked. It answers whether an
-/// event is told, at which hooks are to be asked.
+/// event is told, at which hooks are to be asked; where none is, the activation goes on.
 ///
 /// # Errors
 ///
@@ -63,5 +64,5 @@ pub fn arise(
             from: Origin { pc, below },
         },
     };
-    tell(machine, block, told, waiting)
+    tell_on(machine, block, told, waiting)
 }

@@ -1,0 +1,2 @@
+pub mod OnlyPlace
+pub mod Answers

@@ -1,0 +1,3 @@
+pub mod Answering
+pub mod Laws
+pub use Rattle.pt_replying.specs as pt_replying

@@ -1,0 +1,21 @@
+//! The law of instructions that fail, the contract of a function that does nothing.
+ghost use Rattle.std.specs.Prelude.{ℕ, Bool, Option};
+ghost use Rattle.pt_heap.specs.declared.value.Value.{Value};
+ghost use Rattle.sem_code.specs.slots.Slots.{State};
+ghost use Rattle.sem_code_machine.specs.code_machine.CodeBlocks.{CodeBlocks};
+ghost use Rattle.sem_run.specs.run.Events.{Event};
+ghost use Rattle.sem_run.specs.run.Machine.{Machine};
+ghost use Rattle.pt_turning.specs.pt_telling.pt_run_state.pt_purposes.sem_rows.pt_host.World.{Program};
+ghost use Rattle.pt_turning.specs.pt_telling.pt_run_state.pt_purposes.Openers.{Ways};
+ghost use Rattle.pt_turning.specs.Ways.{IsOfCode};
+ghost use Rattle.pt_failing.specs.Laws.{FailsAsRun};
+
+/// Where an instruction fails its exception arises in the machine as in each run for which it stands,
+/// over any machine whose turns are those of code; and where the run leaves the profile of the
+/// language, or the heap is full, the run does so next (Language Reference 7.8, 8.4).
+pub fn failures_arise_as_in_a_run<S>()
+    ensures { (program : Program) (code : CodeBlocks Value) (machine : Machine S Value)
+        (embed : State Value → S) (ways : Ways S) → IsOfCode code machine embed ways
+        → (minds : Event Value → Bool) (n : ℕ) (ends : Option Value → Bool)
+        → FailsAsRun program code machine embed ways minds n ends }
+{}
