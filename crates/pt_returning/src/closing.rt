@@ -1,0 +1,45 @@
+//! The newest activation closes.
+ghost use Rattle.std.specs.Prelude.{◌≡◌};
+ghost use Rattle.pt_returning.specs.Returning.{closed_by};
+
+use pt_base::Seq;
+use pt_heap::Value;
+use pt_telling::{Machine, Opener, Purpose, Running, Step};
+
+/// What an activation that waited was open for: what goes on in it, what is done on the result before,
+/// in this order, and the context of an exception that arises then; and the generator that has gone on
+/// above it, if one has.
+#[derive(Drop)]
+pub struct Returned {
+    pub purpose: Purpose,
+    pub todo: Seq<Step>,
+    pub context: Option<Value>,
+    pub generator: Option<u32>,
+}
+
+/// Closes the newest activation, whose block has ended, and the one that waits for it is the newest. It
+/// answers what that was open for, or that none waits.
+pub fn close(machine: &mut Machine) -> Option<Returned>
+    ensures { record { returned = result; machine = machine.new }
+        ≡ closed_by machine.old.openers machine.old }
+{
+    let Some(opener) = machine.openers.pop() else {
+        return None;
+    };
+    let Opener {
+        running,
+        purpose,
+        todo,
+        context,
+        generator,
+    } = opener;
+    let Running { activation, course } = running;
+    machine.code.here = activation;
+    machine.course = course;
+    Some(Returned {
+        purpose,
+        todo,
+        context,
+        generator,
+    })
+}
