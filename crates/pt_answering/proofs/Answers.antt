@@ -1,5 +1,5 @@
 -- Answers go on as in a run.
-use Rattle.std.proofs.Common.{◌≡◌, ◌∙◌, ℕ, List, [], ◌∷◌, ◌++◌, Bool, true, Option, Some, None, refl, sym, ap, subst, append-nil}
+use Rattle.std.proofs.Common.{◌≡◌, ◌∙◌, ℕ, List, [], ◌++◌, Bool, true, Option, Some, None, refl, sym, ap, subst, append-nil}
 use Rattle.pt_base.specs.declared.numbers.Pc.{Pc}
 use Rattle.pt_heap.specs.declared.value.Value.{Value}
 use Rattle.pt_heap.specs.declared.completion.Completion.{Completion}
@@ -7,10 +7,9 @@ use Rattle.pt_heap.specs.declared.completion.Completion.TheVariants.{Normal, Rai
 use Rattle.pt_code.specs.View.{Ins}
 use Rattle.pt_frames.specs.declared.activation.Activation.{Activation}
 use Rattle.sem_control.specs.control.Turn as T
-use Rattle.sem_control.specs.control.Turn.{Ask, Answer, got, raised}
+use Rattle.sem_control.specs.control.Turn.{Ask, Answer, got}
 use Rattle.sem_code.specs.slots.Slots as C
 use Rattle.sem_code.specs.slots.Slots.{Slots, State as CodeState}
-use Rattle.sem_code.specs.slots.CodeObject.{CodeObject}
 use Rattle.sem_code_machine.specs.code_machine.CodeBlocks.{CodeBlocks}
 use Rattle.law_leads.specs.Leads.{ToldBy, RepliesSo, in_run}
 use Rattle.sem_run.specs.run.Machine.{Machine}
@@ -45,14 +44,14 @@ use Rattle.pt_replying.specs.pt_turning.pt_telling.pt_run_state.Stands.{Stands, 
 use Rattle.pt_replying.specs.pt_turning.pt_telling.Laws.{Comes}
 use Rattle.pt_turning.proofs.pt_telling.Asks.{writes-append}
 use Rattle.pt_turning.proofs.Turns.{around-at, settled-there}
-use Rattle.pt_replying.specs.pt_turning.Ways.{IsOfCode, rows_of, rows_at, state_at}
+use Rattle.pt_replying.specs.pt_turning.Ways.{IsOfCode, rows_of, state_at}
 use Rattle.pt_replying.specs.pt_turning.Turning.{standing_of}
 use Rattle.pt_replying.specs.declared.replying.Decided.{Decided}
 use Rattle.pt_replying.specs.declared.replying.Decided.TheVariants as decided
 use Rattle.pt_replying.specs.Laws.{IfBranches, IsGiven}
 use Rattle.pt_replying.proofs.Replies.{replies_as_run}
 use Rattle.pt_answering.specs.declared.answering.Asked.{Asked}
-use Rattle.pt_answering.specs.Answering.{given_of, replied_there, at_pc, left_in, moved, stands_by, answered, answer_writes}
+use Rattle.pt_answering.specs.Answering.{given_of, replied_there, at_pc, left_in, answered, answer_writes}
 use Rattle.pt_answering.specs.Laws.{by_itself, TellsOf, IsAnswered, BehindAnswer, goes_on, further, AnswersAsRun}
 
 -- where an iterator is at its end by itself nothing is told by the answer

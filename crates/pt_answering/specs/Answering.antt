@@ -1,9 +1,8 @@
 -- What the machine does with what an instruction's row tells: the newest activation goes to a place, a
 -- completion leaves the place, or a raise that was held goes on; a text is printed first; and the
 -- reply is told (Language Reference 4.1, 7.6 to 7.10, 8.4).
-use Rattle.std.specs.Prelude.{List, [], ◌∷◌, Bool, Option, None}
+use Rattle.std.specs.Prelude.{List, [], ◌∷◌, None}
 use Rattle.pt_base.specs.declared.numbers.Pc.{Pc}
-use Rattle.pt_heap.specs.declared.value.Value.{Value}
 use Rattle.pt_heap.specs.declared.completion.Completion.{Completion}
 use Rattle.sem_run.specs.run.Run.{Write}
 use Rattle.pt_replying.specs.pt_turning.pt_telling.pt_transfers.pt_machine_state.declared.blocks.BlockCode.{BlockCode}

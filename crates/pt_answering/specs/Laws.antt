@@ -1,5 +1,5 @@
 -- What the law says of answers: they go on so in each run for which the machine stands.
-use Rattle.std.specs.Prelude.{◌≡◌, ℕ, List, [], Bool, true, false, Option, Some, None}
+use Rattle.std.specs.Prelude.{◌≡◌, ℕ, List, Bool, true, false, Option, Some, None}
 use Rattle.pt_base.specs.declared.numbers.Pc.{Pc}
 use Rattle.pt_heap.specs.declared.value.Value.{Value}
 use Rattle.pt_code.specs.View.{Ins}
@@ -16,7 +16,7 @@ use Rattle.sem_run.specs.run.State.{State, OpenAsk, with_store}
 use Rattle.sem_run.specs.run.Run.{Write}
 use Rattle.sem_run.specs.run.Step.{of_call}
 use Rattle.sem_steps.specs.Steps.{minded}
-use Rattle.pt_replying.specs.pt_turning.pt_telling.pt_run_state.pt_purposes.sem_rows.pt_host.World.{Names, World, Stores, Program}
+use Rattle.pt_replying.specs.pt_turning.pt_telling.pt_run_state.pt_purposes.sem_rows.pt_host.World.{Names, World, Program}
 use Rattle.pt_replying.specs.pt_turning.pt_telling.pt_run_state.pt_purposes.sem_rows.pt_host.HeapHost.{heap_host}
 use Rattle.pt_replying.specs.pt_turning.pt_telling.pt_run_state.pt_purposes.sem_rows.heap_rows.Views.{slots_view}
 use Rattle.pt_replying.specs.pt_turning.pt_telling.pt_run_state.pt_purposes.sem_rows.heap_rows.Told.{told}
