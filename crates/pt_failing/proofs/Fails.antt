@@ -1,7 +1,6 @@
 -- Instructions fail as in a run.
-use Rattle.std.proofs.Common.{◌≡◌, ◌∙◌, ℕ, List, [], ◌∷◌, ◌++◌, Bool, true, false, Option, Some, None, refl, sym, ap, subst, append-nil, map}
+use Rattle.std.proofs.Common.{◌≡◌, ◌∙◌, ℕ, List, [], ◌∷◌, ◌++◌, Bool, true, false, Option, None, refl, sym, ap, subst}
 use Rattle.std.specs.Prelude.{if◌then◌else◌, nat_eq, length}
-use Rattle.pt_base.specs.declared.numbers.ObjId.{ObjId}
 use Rattle.pt_base.specs.declared.what.What.{What}
 use Rattle.pt_base.specs.declared.what.What.TheVariants.{Heap}
 use Rattle.pt_heap.specs.declared.value.Value.{Value}
@@ -10,7 +9,6 @@ use Rattle.pt_heap.specs.declared.object.Object.{Object}
 use Rattle.pt_content.specs.Changes.{next_object}
 use Rattle.pt_code.specs.View.{Ins}
 use Rattle.sem_control.specs.control.Bases.{or_else}
-use Rattle.sem_control.specs.control.Turn.{raised}
 use Rattle.sem_code.specs.slots.Slots as C
 use Rattle.sem_code.specs.slots.Slots.{Slots, State as CodeState}
 use Rattle.sem_code.specs.slots.CodeObject.{CodeObject}
@@ -21,18 +19,17 @@ use Rattle.law_takes.proofs.Alike.{lands_alike}
 use Rattle.law_steps.proofs.waiting.Telling.{seen_tells}
 use Rattle.sem_run.specs.run.Machine.{Machine}
 use Rattle.sem_run.specs.run.Events.{Event}
-use Rattle.sem_run.specs.run.Host.{Host, Here, made, beyond}
+use Rattle.sem_run.specs.run.Host.{Host, made, beyond}
 use Rattle.sem_run.specs.run.State.{State, OpenAsk, with_store}
 use Rattle.sem_run.specs.run.Views.{here_of, visible_line}
 use Rattle.sem_run.specs.run.Outcome as O
 use Rattle.sem_run.specs.run.Outcome.{Output}
-use Rattle.sem_run.specs.run.Run.{writes}
-use Rattle.sem_run.specs.run.Step.{step, reply_to}
+use Rattle.sem_run.specs.run.Step.{step}
 use Rattle.sem_run.specs.transitions.Successors as leads
 use Rattle.sem_steps.specs.Steps.{Steps, minded}
 use Rattle.sem_steps.proofs.Moves.{join}
 use Rattle.pt_openers.specs.Openers.{active_in}
-use Rattle.pt_turning.specs.pt_telling.pt_run_state.pt_purposes.sem_rows.pt_host.World.{Names, World, Stores, Program, Allotted, IsAllotted, allot, allot_then, with_objects}
+use Rattle.pt_turning.specs.pt_telling.pt_run_state.pt_purposes.sem_rows.pt_host.World.{Names, World, Stores, Program, Allotted, IsAllotted, allot, with_objects}
 use Rattle.pt_turning.specs.pt_telling.pt_run_state.pt_purposes.sem_rows.pt_host.Calls.{arguments_of}
 use Rattle.pt_turning.specs.pt_telling.pt_run_state.pt_purposes.sem_rows.pt_host.Errors.{arise_while, error, error_saying, object_place}
 use Rattle.pt_turning.specs.pt_telling.pt_run_state.pt_purposes.sem_rows.pt_host.Trees.{raise_with}
@@ -49,7 +46,6 @@ use Rattle.pt_turning.specs.pt_telling.pt_run_state.pt_purposes.Openers.{Ways}
 use Rattle.pt_transfers.proofs.pt_machine_state.FailLemmas.{saying-heap}
 use Rattle.pt_turning.proofs.pt_telling.pt_run_state.pt_purposes.Seeing.{parts_tell}
 use Rattle.pt_turning.proofs.pt_telling.Around.{are-seen}
-use Rattle.pt_turning.proofs.pt_telling.Asks.{writes-append}
 use Rattle.pt_turning.specs.pt_telling.pt_run_state.declared.machine.Machine.{Machine as Held}
 use Rattle.pt_turning.specs.pt_telling.pt_run_state.Stands.{Stands, StandsAround}
 use Rattle.pt_turning.specs.pt_telling.Laws.{Comes}
@@ -57,9 +53,8 @@ use Rattle.pt_turning.specs.Ways.{IsOfCode, rows_of, rows_at}
 use Rattle.pt_arising.specs.Laws.{IsReplied}
 use Rattle.pt_arising.proofs.Arises.{arises_as_run}
 use Rattle.pt_failing.specs.declared.failing.Failed.{Failed}
-use Rattle.pt_failing.specs.declared.failing.Failed.TheVariants.{Goes, Leaves, Further}
 use Rattle.pt_failing.specs.declared.failing.Failing.{Failing}
-use Rattle.pt_failing.specs.Failing.{FailedSo, context_of, with_heap, arisen_by, failed_by, raised_there, FailsOf, FailsSo}
+use Rattle.pt_failing.specs.Failing.{FailedSo, context_of, with_heap, arisen_by, failed_by, FailsOf, FailsSo}
 use Rattle.pt_failing.specs.Laws.{IsFailing, BehindFailure, goes_on, leaves, further, FailsAsRun}
 
 -- what is too much for a heap leaves the profile

@@ -1,7 +1,7 @@
 -- What the machine does where an instruction fails: the exception that it raises or that is made for
 -- it arises, in the context of the one that is active in the run; or the run leaves the profile of the
 -- language, also where the heap is full (Language Reference 7.8, 8.4).
-use Rattle.std.specs.Prelude.{◌≡◌, List, Bool, Option, Some, None}
+use Rattle.std.specs.Prelude.{◌≡◌, List, Option, Some, None}
 use Rattle.pt_base.specs.declared.numbers.ObjId.{ObjId}
 use Rattle.pt_base.specs.declared.what.What.{What}
 use Rattle.pt_base.specs.declared.what.What.TheVariants.{Heap}

@@ -10,7 +10,7 @@ use Rattle.sem_code_machine.specs.code_machine.CodeBlocks.{CodeBlocks}
 use Rattle.law_leads.specs.Leads.{Leads, in_run}
 use Rattle.sem_run.specs.run.Machine.{Machine}
 use Rattle.sem_run.specs.run.Events.{Event}
-use Rattle.sem_run.specs.run.Host.{Host, Here}
+use Rattle.sem_run.specs.run.Host.{Host}
 use Rattle.sem_run.specs.run.State.{State, OpenAsk, with_store}
 use Rattle.sem_run.specs.run.Views.{here_of, visible_line}
 use Rattle.sem_run.specs.run.Outcome as O
