@@ -1,14 +1,13 @@
 -- Results go to what waits, as in a run.
-use Rattle.std.proofs.Common.{◌≡◌, ◌∙◌, ℕ, List, [], ◌∷◌, Bool, Option, Some, None, ◌++◌, map, refl, sym, ap, subst}
+use Rattle.std.proofs.Common.{◌≡◌, ◌∙◌, ℕ, List, [], ◌∷◌, Bool, Option, Some, None, ◌++◌, map, refl, ap, subst}
 use Rattle.pt_heap.specs.declared.value.Value.{Value}
-use Rattle.sem_control.specs.control.Turn as T
 use Rattle.sem_run.specs.run.Machine.{Machine}
 use Rattle.sem_run.specs.run.Events.{Event}
-use Rattle.sem_run.specs.run.Host.{Host, Here, BlockResult}
+use Rattle.sem_run.specs.run.Host.{Host, BlockResult}
 use Rattle.sem_run.specs.run.State as run
 use Rattle.sem_run.specs.run.State.{State, at, answering, hearing, store}
 use Rattle.sem_run.specs.run.Outcome as O
-use Rattle.sem_run.specs.run.Step.{step, by_phase, close, close_frame, return_to, pass_result}
+use Rattle.sem_run.specs.run.Step.{by_phase, close, close_frame, return_to, pass_result}
 use Rattle.sem_steps.specs.Steps.{stays, behind_step}
 use Rattle.pt_telling.specs.pt_run_state.pt_purposes.sem_rows.pt_host.World.{Names, World, Program}
 use Rattle.pt_telling.specs.pt_run_state.pt_purposes.sem_rows.pt_host.HeapHost.{heap_host}
@@ -17,19 +16,15 @@ use Rattle.pt_pendings.specs.declared.pending.Pending.{Pending}
 use Rattle.pt_pendings.specs.declared.pending.Pending.TheVariants as pending
 use Rattle.pt_pendings.specs.Stands as pend
 use Rattle.pt_pendings.specs.Views.{end_view}
-use Rattle.pt_steps.specs.declared.step.Step.{Step}
-use Rattle.pt_telling.specs.pt_run_state.pt_purposes.declared.standing.Standing.{Standing}
 use Rattle.pt_telling.specs.pt_run_state.pt_purposes.declared.opener.Opener.{Opener}
 use Rattle.pt_telling.specs.pt_run_state.pt_purposes.declared.purpose.Purpose.{Purpose}
-use Rattle.pt_telling.specs.pt_run_state.pt_purposes.Seen.{active_of}
 use Rattle.pt_telling.specs.pt_run_state.pt_purposes.Openers as openers
 use Rattle.pt_telling.specs.pt_run_state.pt_purposes.Openers.{Ways, AreOpeners, IsOpener, IsOpenFor, standpoint}
 use Rattle.pt_telling.specs.pt_run_state.declared.machine.Machine.{Machine as Held}
-use Rattle.pt_telling.specs.pt_run_state.Stands.{AreGivenOnce, numbers_kept, StandsAround, IsToTell}
-use Rattle.pt_telling.specs.Laws.{Comes}
+use Rattle.pt_telling.specs.pt_run_state.Stands.{AreGivenOnce, numbers_kept, StandsAround}
 use Rattle.pt_returning.specs.Returning.{returned_to}
 use Rattle.pt_returning.specs.Laws as laws
-use Rattle.pt_returning.specs.Laws.{ending_so, asked_by, GoesTo, ReturnsAsRun}
+use Rattle.pt_returning.specs.Laws.{asked_by, GoesTo, ReturnsAsRun}
 
 module _ {S : Type 0} (program : Program) (machine : Machine S Value) (ways : Ways S)
     (minds : Event Value → Bool) (n : ℕ) (m : Held) where
