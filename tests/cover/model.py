@@ -76,22 +76,22 @@ def logged(kind, given, events_asked, totals_asked, pieces):
 
 
 class Failing:
-    """A log whose calls fail at some numbers, and a log that counts over it."""
+    """A log whose calls fail at some numbers and want memory at others, and a log that counts over it."""
 
-    def __init__(self, kind, given, events_asked, totals_asked, fails):
-        self.kind, self.given, self.asked, self.fails = kind, given, (events_asked, totals_asked), fails
-        self.pieces, self.taken, self.calls, self.failed = [], [], 0, False
+    def __init__(self, kind, given, events_asked, totals_asked, fails, wants):
+        self.kind, self.given, self.asked, self.fails, self.wants = kind, given, (events_asked, totals_asked), fails, wants
+        self.pieces, self.taken, self.calls, self.failed = [], [], 0, None
 
     def write(self, piece):
-        """Whether the answer is Ok."""
+        """The error, if there is one."""
         before = len(logged(self.kind, self.given, *self.asked, self.pieces))
         self.pieces.append(piece)
         for new in logged(self.kind, self.given, *self.asked, self.pieces)[before:]:
             if self.failed:
-                return True
+                return None
             self.calls += 1
-            if self.calls in self.fails:
-                self.failed = True
-                return False
+            self.failed = "memory" if self.calls in self.wants else "failed" if self.calls in self.fails else None
+            if self.failed:
+                return self.failed
             self.taken.append(new)
-        return True
+        return None

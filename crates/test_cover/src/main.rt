@@ -2,14 +2,16 @@
 #![tactic(auto)]
 
 mod no_row;
+mod wanting;
 mod words;
 
 use no_row::NoRow;
-use pt_base::{MemSink, Sink, SinkErr};
+use pt_base::{Sink, SinkErr};
 use pt_cover::{CountLog, ReportKind};
 use std::alloc::Global;
 use std::process::ExitCode;
 use test_notation::{Kind, Printed, answer_tables};
+use wanting::Wanting;
 
 /// What the rows of a table are.
 #[derive(Clone, Copy)]
@@ -45,7 +47,8 @@ fn write_pieces<L: Sink>(
 }
 
 /// A row has the kind of the report, whether events and totals are asked for, the numbers of the
-/// calls that fail, the lines, the names, and the pieces, with tabs between.
+/// calls that fail and of those that want memory, the lines, the names, and the pieces, with tabs
+/// between.
 fn write_row(out: &mut String, alloc: Global, row: &str) -> Result<(), NoRow> {
     let mut fields = row.split("\t");
     let kind = match fields.next() {
@@ -55,9 +58,10 @@ fn write_row(out: &mut String, alloc: Global, row: &str) -> Result<(), NoRow> {
     };
     let asked = fields.next().ok_or(NoRow)?;
     let fails = words::numbers(alloc, fields.next().ok_or(NoRow)?)?;
+    let wants = words::numbers(alloc, fields.next().ok_or(NoRow)?)?;
     let lines = words::lines(alloc, fields.next().ok_or(NoRow)?)?;
     let names = words::names(alloc, fields.next().ok_or(NoRow)?)?;
-    let mut log = MemSink::new(alloc, fails);
+    let mut log = Wanting::new(alloc, fails, wants);
     let mut counting = CountLog::new(
         alloc,
         &mut log,
