@@ -137,7 +137,7 @@ class Heap:
                 return ("View", {"part": (part,), "dict": {"0": self.put(self.behind[id(thing)])}})
         if kind in SCRIPTED:
             return ("Error" if kind is Failure else "Instance", {"class": {"0": 50 + SCRIPTED.index(kind)}, "names": (), "args": ()})
-        return {type(len): ("Builtin", {}), type(module): ("Function", {}), type: ("Class", {"name": listed(b"C"), "scripted": False})}[kind]
+        return {type(len): ("Builtin", {}), type(module): ("Function", {"hidden": False}), type: ("Class", {"name": listed(b"C"), "scripted": False})}[kind]
 
     def value(self, thing):
         return value_of(thing, self.put)

@@ -80,7 +80,7 @@ class Heap:
         if isinstance(thing, (prims.Scripted, prims.ScriptedError)):
             return ("Instance" if isinstance(thing, prims.Scripted) else "Error", {"class": {"0": SCRIPTED[type(thing).__name__]}, "args": (), "cause": ("None",), "context": ("None",), "names": ()})
         return {set: ("Set", ()), type({}.keys()): ("View", {"part": ("Keys",), "dict": {"0": self.places.get("D", 0)}}),
-                ValueError: ("Error", {"class": {"0": 46}, "args": (), "cause": ("None",), "context": ("None",), "names": ()}), type(prims.first): ("Function", {}), type(print): ("Builtin", {}),
+                ValueError: ("Error", {"class": {"0": 46}, "args": (), "cause": ("None",), "context": ("None",), "names": ()}), type(prims.first): ("Function", {"hidden": False}), type(print): ("Builtin", {}),
                 object: ("Instance", {"class": {"0": 0}, "names": ()}), type(sys): ("Module", ("Sys",))}[type(thing)]
 
     def value(self, thing):
