@@ -184,10 +184,10 @@ fn ended(answer: Result<End, WriteErr>) -> End
 ///
 /// The order of answers is Usage, ReadFault, TooLong, Refused or BadCode, for a run Unbuilt, and
 /// then those of the run. The prelude, over which all runs, comes before the file's text: where it
-/// is no script that is built, the answer says so, whatever the text is. Behind what a run writes the log gets the totals, where they are asked
-/// for, and in one write the traceback of an exception that left the script or the text of the end.
-/// With `cover` and `profile` a report on lines or names stands before the totals.
-/// After a write that failed nothing more is written.
+/// is no script that is built, the answer says so, whatever the text is. Behind what a run writes
+/// the log gets the totals, where they are asked for, and in one write the traceback of an exception
+/// that left the script or the text of the end. With `cover` and `profile` a report on lines or
+/// names stands before the totals. After a write that failed nothing more is written.
 pub fn top<F: Shelf, O: Sink, L: Sink>(
     alloc: Global,
     words: &[String],
