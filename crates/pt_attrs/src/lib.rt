@@ -5,6 +5,7 @@ mod look;
 mod names;
 mod unbuilt;
 
-pub use look::{Found, NoAttr, lookup, object_of, super_of};
+pub use look::{Found, NoAttr, class_attribute, lookup, object_of, super_of};
 pub use names::{delete, store};
 pub use pt_dicts::{class_at, combine, object_at};
+pub use unbuilt::is_special;

@@ -1,10 +1,11 @@
-ghost use Rattle.std.specs.Prelude.{◌≡◌, slice_get};
+ghost use Rattle.std.specs.Prelude.{◌≡◌, slice_get, IfOk};
+ghost use Rattle.pt_dicts.specs.Keys.{name_codes};
 ghost use Rattle.std.specs.Option.{option_copied};
 ghost use Rattle.pt_dicts.specs.Chain.{class_value};
 ghost use Rattle.pt_attrs.specs.Look.{above, as_found, as_method, from_base, is_function_object, looked_up, looked_up_above, object_found, object_of, own_or, super_found, value_found, Answers};
 
 use crate::unbuilt::is_unbuilt;
-use pt_base::{Failure, ObjId};
+use pt_base::{Failure, Memory, ObjId};
 use pt_dicts::{class_at, class_value, name_key, object_at};
 use pt_heap::{Heap, Key, Object, Value};
 use std::alloc::Global;
@@ -147,4 +148,18 @@ pub fn super_of(
         Some(found) => Ok(found),
         None => Err(Failure::Refused(NoAttr)),
     }
+}
+
+/// What a class and its bases give their instances under a name: a function as a method.
+pub fn class_attribute(
+    alloc: Global,
+    heap: &Heap,
+    class: ObjId,
+    name: &str,
+) -> Result<Option<Found>, Memory>
+    ensures { IfOk result
+        (λ found. found ≡ as_method heap.now (class_value heap.now (name_codes name.now) class)) }
+{
+    let key = name_key(alloc, name)?;
+    Ok(as_method(heap, class_value(heap, &key, class)))
 }

@@ -92,7 +92,7 @@ fn ends(name: &str) -> bool
 }
 
 /// Whether something stands between two underscores and two.
-fn is_special(name: &str) -> bool
+pub fn is_special(name: &str) -> bool
     ensures { result ≡ is_special name.now }
 {
     if name.len() <= 4 {

@@ -26,6 +26,7 @@ made (new.Slice s) = object.Slice s
 made (new.Cursor c) = object.Cursor c
 made (new.View v) = object.View v
 made (new.Method m) = object.Method m
+made (new.Builtin b) = object.Builtin b
 
 -- an object of the kind that holds this
 abbrev pub has_kind : Mutable → Option Object → Bool

@@ -26,6 +26,7 @@ fn made(new: NewObject) -> Object
         NewObject::Cursor(cursor) => Object::Cursor(cursor),
         NewObject::View(view) => Object::View(view),
         NewObject::Method(method) => Object::Method(method),
+        NewObject::Builtin(builtin) => Object::Builtin(builtin),
     }
 }
 

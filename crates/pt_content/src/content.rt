@@ -1,8 +1,8 @@
 use crate::{Helper, PrimAns};
 use pt_base::{ObjId, Seq, Text, What};
-use pt_heap::{Cursor, Dict, DictView, Method, Range, Slice, Value};
+use pt_heap::{Builtin, Cursor, Dict, DictView, Method, Range, Slice, Value};
 
-/// An object that an operation makes. It is no function, no class and no instance of one.
+/// An object that an operation makes. It is no function of a script, no class and no instance of one.
 #[derive(Drop)]
 pub enum NewObject {
     Text(Text),
@@ -15,6 +15,8 @@ pub enum NewObject {
     Cursor(Cursor),
     View(DictView),
     Method(Method),
+    /// A method of builtin values.
+    Builtin(Builtin),
 }
 
 /// What an object that operations change holds.

@@ -45,6 +45,32 @@ pub enum Function {
     SortItems,
     /// A list gets the items of another.
     Refill,
+    /// Whether a value is an instance of a script's class that has a name, or whose bases have it.
+    HasName,
+    /// The method of that name, bound to the value.
+    GetName,
+    /// Raises what an operator says of operands that it doesn't take.
+    Refuse,
+    /// Whether a value is an exception.
+    IsError,
+    /// Whether a value is a container from which an instance of a script's class is reached.
+    HoldsInstance,
+    /// The `repr` of a value without a method of its own.
+    PlainRepr,
+    /// What stands for a container inside itself.
+    Dots,
+    /// The items of a container, or its keys and values in turn, as a list.
+    Parts,
+    /// The text of a container from those of its parts.
+    Wrap,
+    /// A text that `__str__` or `__repr__` gave.
+    TextGiven,
+    /// A truth value that `__bool__` gave.
+    TruthGiven,
+    /// A length that `__len__` gave.
+    LengthGiven,
+    /// Prints a text.
+    Write,
 }
 
 /// The functions of values, by their numbers.
@@ -67,13 +93,26 @@ pub const FUNCTIONS: [Function; 15] = [
 ];
 
 /// The functions that those written in Python ask, by their numbers behind the first of them.
-pub const HIDDEN_FUNCTIONS: [Function; 6] = [
+pub const HIDDEN_FUNCTIONS: [Function; 19] = [
     Function::MakeTuple,
     Function::MakeSet,
     Function::IsOf,
     Function::JoinItems,
     Function::SortItems,
     Function::Refill,
+    Function::HasName,
+    Function::GetName,
+    Function::Refuse,
+    Function::IsError,
+    Function::HoldsInstance,
+    Function::PlainRepr,
+    Function::Dots,
+    Function::Parts,
+    Function::Wrap,
+    Function::TextGiven,
+    Function::TruthGiven,
+    Function::LengthGiven,
+    Function::Write,
 ];
 
 /// The number of the first of these, which stand behind those of `sys`.

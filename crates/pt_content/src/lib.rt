@@ -25,8 +25,11 @@ pub use function::{Function, of_class, of_function};
 pub use method_name::MethodName;
 pub use op::Op;
 pub use operand::{Operand, operand_of, text_at, text_of};
-pub use pt_attrs::{class_at, combine, object_at, object_of};
+pub use pt_attrs::{
+    Found, NoAttr, class_at, class_attribute, combine, delete, is_special, object_at, object_of,
+    store,
+};
 pub use type_error::{
-    bad_argument, binary_type_error, order_type_error, raise, sentence, unary_type_error,
-    use_type_error,
+    bad_argument, binary_type_error, error_of_two, order_type_error, raise, sentence,
+    unary_type_error, use_type_error,
 };

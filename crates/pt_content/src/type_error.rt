@@ -87,7 +87,7 @@ fn error_of_one<'a>(
 }
 
 /// A TypeError that names an operator and the classes of its operands.
-fn error_of_two<'a>(
+pub fn error_of_two<'a>(
     alloc: Global,
     before: &'a str,
     sign: &'a str,

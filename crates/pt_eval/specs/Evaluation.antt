@@ -1,6 +1,6 @@
 -- What an expression gives in a frame where nothing is called: operands from left to right, and then its own operation (Language
 -- Reference 6). Objects that it makes stand behind those that are there.
-use Rattle.std.specs.Prelude.{Bool, true, false, List, [], ◌∷◌, ◌++◌, Option, Some, Err, codes, if◌then◌else◌}
+use Rattle.std.specs.Prelude.{Bool, true, false, List, [], ◌∷◌, ◌++◌, Option, Some, None, Err, codes, if◌then◌else◌}
 use Rattle.std.specs.Str.{bytes_eq}
 use Rattle.pt_base.specs.declared.what.What.TheVariants.{Feature}
 use Rattle.pt_tree.specs.declared.expression.Constant.{Constant}
@@ -21,11 +21,11 @@ use Rattle.pt_content.specs.declared.answer.PrimAns.TheVariants as prim
 use Rattle.pt_content.specs.Classes.{class_name}
 use Rattle.pt_prims.specs.Operations.{prim_answer, prim_heap}
 use Rattle.pt_prims.specs.pt_methods.declared.attribute.Attribute.{Attribute}
-use Rattle.pt_prims.specs.pt_methods.declared.attribute.Attribute.TheVariants.{Method, Held, Missing, Unbuilt}
-use Rattle.pt_prims.specs.pt_methods.Attributes.{attribute_of}
+use Rattle.pt_prims.specs.pt_methods.declared.attribute.Attribute.TheVariants.{Method, Held, Bound, NameOf, Arguments, Missing, Unbuilt}
+use Rattle.pt_prims.specs.pt_methods.Attributes.{attribute_of, receiver_of}
 use Rattle.pt_builtins.specs.pt_host.declared.places.TheConstants.{ATTRIBUTE_ERROR, NAME_ERROR}
 use Rattle.pt_builtins.specs.pt_host.World.{Allotted, allot}
-use Rattle.pt_builtins.specs.pt_host.Attributes.{method_object}
+use Rattle.pt_builtins.specs.pt_host.Attributes.{arguments_in, bound_object, method_object}
 use Rattle.pt_builtins.specs.pt_host.Builtins.{Builtin, is, unavailable, no_builtin}
 use Rattle.pt_builtins.specs.pt_host.Texts.{missing_text, name_text}
 use Rattle.sem_run.specs.run.Host.{made, beyond}
@@ -83,9 +83,21 @@ is_of_run x (Some (object.CodeRef b g)) = true
 is_of_run x (Some (object.Function f)) = bytes_eq x (codes "__code__")
 is_of_run x o = false
 
+-- the name of a class; that of a function isn't known here
+abbrev pub name_object : Option Object → Option Object
+name_object (Some (object.Class c)) = Some (object.Str c.name)
+name_object o = None
+
+abbrev pub new_if : Option Object → List Object → Came Value
+new_if (Some o) h = new_object o h
+new_if None h = Err (Outside Feature)
+
 abbrev pub by_attribute : Name → Value → Attribute → List Object → Came Value
 by_attribute x v (Method m) h = new_object (method_object m v) h
 by_attribute x v (Held w) h = gives w h
+by_attribute x v (Bound f) h = new_object (bound_object f (receiver_of h v)) h
+by_attribute x v NameOf h = new_if (name_object (object_of h v)) h
+by_attribute x v Arguments h = new_object (object.Tuple (arguments_in (object_of h v))) h
 by_attribute x v Missing h = Err (raised h ATTRIBUTE_ERROR (missing_text (class_name h v) x))
 by_attribute x v Unbuilt h = Err (Outside Feature)
 

@@ -1,9 +1,10 @@
 //! Operations that an expression asks for: each gives a value, or says why there is none.
-ghost use Rattle.std.specs.Prelude.{◌≡◌, true};
+ghost use Rattle.std.specs.Prelude.{◌≡◌, true, IfOk};
 ghost use Rattle.law_additions.specs.Additions.{only_adds};
 ghost use Rattle.pt_eval.specs.Evaluation.{asked, attribute, by_attribute, named};
-ghost use Rattle.pt_eval.specs.Evaluation.{constant_of, is_of_run, new_object, of_prim, spec_of};
-ghost use Rattle.pt_eval.specs.Evaluation.{truth_of};
+ghost use Rattle.pt_eval.specs.Evaluation.{constant_of, is_of_run, name_object, new_if};
+ghost use Rattle.pt_eval.specs.Evaluation.{new_object, of_prim, spec_of, truth_of};
+ghost use Rattle.pt_builtins.specs.pt_host.Attributes.{arguments_in};
 ghost use Rattle.pt_prims.specs.pt_methods.declared.attribute.Attribute.TheVariants.{Missing};
 ghost use Rattle.pt_eval.specs.Steps.{Comes};
 ghost use Rattle.std.specs.Option.{option_copied};
@@ -11,12 +12,12 @@ ghost use Rattle.std.specs.Option.{option_copied};
 use crate::names::Names;
 use crate::no_value::{NoValue, raised, raised_with};
 use crate::scratch::Scratch;
-use pt_base::{Dup, Failure, Text, What};
+use pt_base::{Dup, Failure, Memory, Seq, Text, What};
 use pt_builtins::{BuiltinLookup, NAME_ERROR, name_text};
 use pt_content::{Op, PrimAns, class_name, object_of};
-use pt_heap::{Builtin, Heap, Object, Str, Value};
+use pt_heap::{Builtin, Heap, Method, Object, Str, Value};
 use pt_host::{ATTRIBUTE_ERROR, missing_text};
-use pt_prims::{Attribute, attribute_of, method_number};
+use pt_prims::{Attribute, attribute_of, method_number, receiver_of};
 use pt_tree::Constant;
 use std::alloc::Global;
 
@@ -139,7 +140,37 @@ fn missing(alloc: Global, heap: &Heap, value: Value, name: &str) -> Result<Value
     Err(Failure::Refused(error))
 }
 
-/// What an attribute comes to; a method of a builtin value is a new object.
+/// The name of a class as an object. That of a function isn't known here.
+fn name_object(alloc: Global, object: Option<&Object>) -> Result<Option<Object>, Memory>
+    ensures { IfOk result (λ name. name ≡ name_object (option_copied object.entry)) }
+{
+    match object {
+        Some(Object::Class(class)) => Ok(Some(Object::Str(Str::new(class.name.dup(alloc)?)))),
+        _ => Ok(None),
+    }
+}
+
+fn arguments_in(alloc: Global, object: Option<&Object>) -> Result<Seq<Value>, Memory>
+    ensures { IfOk result (λ args. args ≡ arguments_in (option_copied object.entry)) }
+{
+    match object {
+        Some(Object::Error(error)) => Seq::from_slice(alloc, error.args.as_slice()),
+        _ => Ok(Seq::new(alloc)),
+    }
+}
+
+/// A new object, where there is one to make.
+fn new_if(scratch: &mut Scratch, object: Option<Object>) -> Result<Value, Failure<NoValue>>
+    ensures came { Comes (new_if object scratch.old.objects) result scratch.new.objects }
+    ensures below { scratch.new.below ≡ scratch.old.below }
+{
+    match object {
+        Some(object) => scratch.add(object),
+        None => Err(Failure::Refused(NoValue::Outside(What::Feature))),
+    }
+}
+
+/// What an attribute comes to; a method is a new object, and so is a name.
 fn by_attribute(
     alloc: Global,
     scratch: &mut Scratch,
@@ -157,6 +188,18 @@ fn by_attribute(
             receiver: Some(value),
         })),
         Attribute::Held(held) => Ok(held),
+        Attribute::Bound(function) => {
+            let receiver = receiver_of(scratch.heap(), value);
+            scratch.add(Object::Method(Method { function, receiver }))
+        }
+        Attribute::NameOf => {
+            let name = name_object(alloc, object_of(scratch.heap(), value))?;
+            new_if(scratch, name)
+        }
+        Attribute::Arguments => {
+            let args = arguments_in(alloc, object_of(scratch.heap(), value))?;
+            scratch.add(Object::Tuple(args))
+        }
         Attribute::Missing => missing(alloc, scratch.heap(), value, name),
         Attribute::Unbuilt => Err(Failure::Refused(NoValue::Outside(What::Feature))),
     }

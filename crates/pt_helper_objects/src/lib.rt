@@ -31,7 +31,7 @@ pub enum HelperKind {
 
 /// The names of these objects, in the order of their places: the functions as they stand in the
 /// text, and what they ask.
-pub const HELPERS: [(&str, HelperKind); 35] = [
+pub const HELPERS: [(&str, HelperKind); 48] = [
     ("iter_of", HelperKind::Function(Helper::IterOf)),
     ("next_of", HelperKind::Function(Helper::NextOf)),
     ("len_of", HelperKind::Function(Helper::LenOf)),
@@ -67,6 +67,19 @@ pub const HELPERS: [(&str, HelperKind); 35] = [
     ("_join", HelperKind::Primitive(31)),
     ("_sort", HelperKind::Primitive(32)),
     ("_refill", HelperKind::Primitive(33)),
+    ("_has", HelperKind::Primitive(34)),
+    ("_get", HelperKind::Primitive(35)),
+    ("_bad", HelperKind::Primitive(36)),
+    ("_error", HelperKind::Primitive(37)),
+    ("_holds", HelperKind::Primitive(38)),
+    ("_repr", HelperKind::Primitive(39)),
+    ("_dots", HelperKind::Primitive(40)),
+    ("_parts", HelperKind::Primitive(41)),
+    ("_wrap", HelperKind::Primitive(42)),
+    ("_str", HelperKind::Primitive(43)),
+    ("_bool", HelperKind::Primitive(44)),
+    ("_len", HelperKind::Primitive(45)),
+    ("_write", HelperKind::Primitive(46)),
 ];
 
 /// The place of the empty tuple.

@@ -8,7 +8,7 @@ mod method;
 mod names;
 mod search;
 
-pub use attribute::{Attribute, attribute_of};
+pub use attribute::{Attribute, attribute_of, receiver_of};
 pub use method::method_content;
 pub use names::{METHODS, method_number, of_method_number};
 pub use pt_comparisons::{

@@ -1,8 +1,7 @@
--- Rows of operators.
+-- Operations on values that ask no function of the prelude, and rows of operators that give a value at once.
 use Rattle.std.proofs.Common.{◌≡◌, ◌∙◌, List, [], ◌∷◌, Option, Some, None, refl, sym, ap, subst}
 use Rattle.std.specs.Prelude.{drop}
 use Rattle.pt_base.specs.declared.operators.BinOp.{BinOp}
-use Rattle.pt_base.specs.declared.operators.UnOp.{UnOp}
 use Rattle.pt_base.specs.declared.operators.CompareOp.{CompareOp}
 use Rattle.pt_instr.specs.declared.Instr.TheVariants as instr
 use Rattle.pt_heap.specs.declared.value.Value.{Value}
@@ -21,16 +20,16 @@ use Rattle.pt_content.specs.declared.answer.PrimAns.{PrimAns}
 use Rattle.pt_content.specs.declared.answer.PrimAns.TheVariants as prim
 use Rattle.pt_prims.specs.Operations.{prim_answer, prim_heap}
 use Rattle.pt_moves.specs.sem_rows.pt_host.World.{Program, Stores, with_objects}
-use Rattle.pt_moves.specs.sem_rows.pt_host.Primitives.{Awaited, asked, of_prim, one_value}
+use Rattle.pt_moves.specs.sem_rows.pt_host.Trees.{Tree}
+use Rattle.pt_moves.specs.sem_rows.pt_host.Calls.{asked_in_place, by_prim_or_helper}
+use Rattle.pt_moves.specs.sem_rows.pt_host.Primitives.{Awaited, of_prim, one_value, prim_asked}
 use Rattle.pt_moves.specs.sem_rows.declared.heap_rows.progress.Progress.{Progress}
-use Rattle.pt_moves.specs.sem_rows.declared.heap_rows.progress.Progress.TheVariants as progress
 use Rattle.pt_moves.specs.sem_rows.heap_rows.Leads.{by_tree, giving}
 use Rattle.pt_moves.specs.sem_rows.heap_rows.Told.{told}
 use Rattle.pt_moves.specs.sem_rows.heap_rows.Views.{slots_view}
 use Rattle.pt_moves.proofs.sem_rows.heap_rows.RowLemmas.{asks_lead}
 use Rattle.pt_moves.specs.Operands.{one_value as value_on_top, two_values, RowsHeap}
-use Rattle.pt_moves.proofs.TakeLemmas.{one_on, two_on}
-use Rattle.pt_moves.proofs.MoveLemmas.{stuck_row}
+use Rattle.pt_moves.proofs.TakeLemmas.{two_on}
 use Rattle.pt_operators.specs.Operates.{Continuation, Asks, Operates, over_value, progress_of, value_given}
 
 -- what is done with the answer of an operation is what the host's answer leads to, if what that answer comes to is told so
@@ -41,7 +40,7 @@ module _ {A : Type 0} (w : Awaited A) (next : Continuation A) (as_progress : Pri
 
   asks_of : (o : Op) (args : List Value) (old : List Slot) (heap : List Object) → Tells (prim_answer o args heap)
       → Asks w next o args old heap (as_progress (prim_answer o args heap)) (over (prim_answer o args heap) old) (prim_heap o args heap)
-  unfolding Asks asked
+  unfolding Asks prim_asked
   asks_of o args old heap tells program code i h st = tells program code i h (with_objects (prim_heap o args heap) st) old
 
   pub asks : (o : Op) (args : List Value) (old : List Slot) (heap : List Object) (p : Progress) (new : List Slot) (grown : List Object) → Tells (prim_answer o args heap)
@@ -69,57 +68,62 @@ operates o args old heap p new grown v is grows progresses stands =
     (answer_told (prim_answer o args heap)) grows progresses
     (stands ∙ ap (λ x. over_value x old) is)
 
-module _ (below : List Slot) (heap : List Object) (p : Progress) (new : List Slot) (grown : List Object) where
-  unary_of : (o : UnOp) (v : Value) → Operates (op.Unary o) (v ∷ []) below heap p new grown → RowsHeap (instr.Unary o) (slot.Value v ∷ below) heap p new grown
-  unfolding Operates Asks RowsHeap
-  unary_of o v done program code pc i h st known = done program code i h st ∙ sym (asks_lead program code i h (with_objects heap st) (T.seek (T.operate (T.unary o) (v ∷ []))) (giving code i (slots_view below)) (slots_view below) tt)
+-- an operation that gives a value asks nothing else
+by_value : (program : Program) (o : Op) (vs : List Value) (h : Here Value) (st : Stores) (x : Value) → prim_answer o vs st.world.heap ≡ prim.Value x
+    → ◌≡◌ {A = Tree Value} (prim_asked one_value o vs h st) (by_prim_or_helper program o vs h st)
+unfolding prim_asked by_prim_or_helper
+by_value program o vs h st x e =
+    ap (λ a. of_prim one_value a h (with_objects (prim_heap o vs st.world.heap) st)) e
+    ∙ sym (ap (λ a. asked_in_place program o a h (with_objects (prim_heap o vs st.world.heap) st)) e)
 
-  not_of : (v : Value) → Operates op.Not (v ∷ []) below heap p new grown → RowsHeap instr.Not (slot.Value v ∷ below) heap p new grown
-  unfolding Operates Asks RowsHeap
-  not_of v done program code pc i h st known = done program code i h st ∙ sym (asks_lead program code i h (with_objects heap st) (T.seek (T.operate T.inverted (v ∷ []))) (giving code i (slots_view below)) (slots_view below) tt)
+module _ (below : List Slot) (heap : List Object) (p : Progress) (new : List Slot) (grown : List Object) (v w x : Value) where
+  abbrev Gives : Op → Type 0
+  Gives o = prim_answer o (v ∷ w ∷ []) heap ≡ prim.Value x
 
-  binary_of : (o : BinOp) (v w : Value) → Operates (op.Binary o) (v ∷ w ∷ []) below heap p new grown → RowsHeap (instr.Binary o) (slot.Value w ∷ (slot.Value v ∷ below)) heap p new grown
-  unfolding Operates Asks RowsHeap
-  binary_of o v w done program code pc i h st known = done program code i h st ∙ sym (asks_lead program code i h (with_objects heap st) (T.seek (T.operate (T.binary o) (v ∷ w ∷ []))) (giving code i (slots_view below)) (slots_view below) tt)
+  leads : (program : Program) (code : CodeObject Value) (i : Ins) (h : Here Value) (st : Stores) (o : Op) → Gives o → Operates o (v ∷ w ∷ []) below heap p new grown
+      → told program code i h p (slots_view new) (with_objects grown st)
+      ≡ by_tree code i (giving code i (slots_view below)) (slots_view below) (by_prim_or_helper program o (v ∷ w ∷ []) h (with_objects heap st))
+  unfolding Operates Asks
+  leads program code i h st o e done =
+      done program code i h st
+      ∙ ap (λ (t : Tree Value). by_tree code i (giving code i (slots_view below)) (slots_view below) t) (by_value program o (v ∷ w ∷ []) h (with_objects heap st) x e)
 
-  in_place_of : (o : BinOp) (v w : Value) → Operates (op.InPlace o) (v ∷ w ∷ []) below heap p new grown → RowsHeap (instr.InPlace o) (slot.Value w ∷ (slot.Value v ∷ below)) heap p new grown
-  unfolding Operates Asks RowsHeap
-  in_place_of o v w done program code pc i h st known = done program code i h st ∙ sym (asks_lead program code i h (with_objects heap st) (T.seek (T.operate (T.in_place o) (v ∷ w ∷ []))) (giving code i (slots_view below)) (slots_view below) tt)
+  binary_of : (o : BinOp) → Gives (op.Binary o) → Operates (op.Binary o) (v ∷ w ∷ []) below heap p new grown
+      → RowsHeap (instr.Binary o) (slot.Value w ∷ (slot.Value v ∷ below)) heap p new grown
+  unfolding RowsHeap
+  binary_of o e done program code pc i h st known = leads program code i h st (op.Binary o) e done
+      ∙ sym (asks_lead program code i h (with_objects heap st) (T.seek (T.operate (T.binary o) (v ∷ w ∷ []))) (giving code i (slots_view below)) (slots_view below) tt)
 
-  compare_of : (o : CompareOp) (v w : Value) → Operates (op.Compare o) (v ∷ w ∷ []) below heap p new grown → RowsHeap (instr.Compare o) (slot.Value w ∷ (slot.Value v ∷ below)) heap p new grown
-  unfolding Operates Asks RowsHeap
-  compare_of o v w done program code pc i h st known = done program code i h st ∙ sym (asks_lead program code i h (with_objects heap st) (T.seek (T.operate (T.compare o) (v ∷ w ∷ []))) (giving code i (slots_view below)) (slots_view below) tt)
+  in_place_of : (o : BinOp) → Gives (op.InPlace o) → Operates (op.InPlace o) (v ∷ w ∷ []) below heap p new grown
+      → RowsHeap (instr.InPlace o) (slot.Value w ∷ (slot.Value v ∷ below)) heap p new grown
+  unfolding RowsHeap
+  in_place_of o e done program code pc i h st known = leads program code i h st (op.InPlace o) e done
+      ∙ sym (asks_lead program code i h (with_objects heap st) (T.seek (T.operate (T.in_place o) (v ∷ w ∷ []))) (giving code i (slots_view below)) (slots_view below) tt)
+
+  compare_of : (o : CompareOp) → Gives (op.Compare o) → Operates (op.Compare o) (v ∷ w ∷ []) below heap p new grown
+      → RowsHeap (instr.Compare o) (slot.Value w ∷ (slot.Value v ∷ below)) heap p new grown
+  unfolding RowsHeap
+  compare_of o e done program code pc i h st known = leads program code i h st (op.Compare o) e done
+      ∙ sym (asks_lead program code i h (with_objects heap st) (T.seek (T.operate (T.compare o) (v ∷ w ∷ []))) (giving code i (slots_view below)) (slots_view below) tt)
 
 -- the same by what was taken, for code
 
-module _ (old below : List Slot) (heap : List Object) (p : Progress) (new : List Slot) (grown : List Object) where
-  pub unary_row : (o : UnOp) (v : Value) → value_on_top old ≡ Some v → below ≡ drop 1 old → Operates (op.Unary o) (v ∷ []) below heap p new grown → RowsHeap (instr.Unary o) old heap p new grown
-  unary_row o v e f done = subst (λ x. RowsHeap (instr.Unary o) x heap p new grown) (sym (one_on old v e ∙ ap (λ ss. slot.Value v ∷ ss) (sym f))) (unary_of below heap p new grown o v done)
+module _ (old below : List Slot) (heap : List Object) (p : Progress) (new : List Slot) (grown : List Object) (v w x : Value) (e : two_values old ≡ Some (v, w))
+    (f : below ≡ drop 2 old) where
+  stand : old ≡ slot.Value w ∷ (slot.Value v ∷ below)
+  stand = two_on old v w e ∙ ap (λ ss. slot.Value w ∷ (slot.Value v ∷ ss)) (sym f)
 
-  pub not_row : (v : Value) → value_on_top old ≡ Some v → below ≡ drop 1 old → Operates op.Not (v ∷ []) below heap p new grown → RowsHeap instr.Not old heap p new grown
-  not_row v e f done = subst (λ x. RowsHeap instr.Not x heap p new grown) (sym (one_on old v e ∙ ap (λ ss. slot.Value v ∷ ss) (sym f))) (not_of below heap p new grown v done)
+  pub binary_values : (o : BinOp) → prim_answer (op.Binary o) (v ∷ w ∷ []) heap ≡ prim.Value x → Operates (op.Binary o) (v ∷ w ∷ []) below heap p new grown
+      → RowsHeap (instr.Binary o) old heap p new grown
+  binary_values o g done = subst (λ y. RowsHeap (instr.Binary o) y heap p new grown) (sym stand) (binary_of below heap p new grown v w x o g done)
 
-  module _ (q : Value × Value) (e : two_values old ≡ Some q) (f : below ≡ drop 2 old) where
-    stand : old ≡ slot.Value q.1 ∷ (slot.Value q.0 ∷ below)
-    stand = two_on old q.0 q.1 e ∙ ap (λ ss. slot.Value q.1 ∷ (slot.Value q.0 ∷ ss)) (sym f)
+  pub in_place_values : (o : BinOp) → prim_answer (op.InPlace o) (v ∷ w ∷ []) heap ≡ prim.Value x → Operates (op.InPlace o) (v ∷ w ∷ []) below heap p new grown
+      → RowsHeap (instr.InPlace o) old heap p new grown
+  in_place_values o g done = subst (λ y. RowsHeap (instr.InPlace o) y heap p new grown) (sym stand) (in_place_of below heap p new grown v w x o g done)
 
-    pub binary_row : (o : BinOp) → Operates (op.Binary o) (q.0 ∷ q.1 ∷ []) below heap p new grown → RowsHeap (instr.Binary o) old heap p new grown
-    binary_row o done = subst (λ x. RowsHeap (instr.Binary o) x heap p new grown) (sym stand) (binary_of below heap p new grown o q.0 q.1 done)
-
-    pub in_place_row : (o : BinOp) → Operates (op.InPlace o) (q.0 ∷ q.1 ∷ []) below heap p new grown → RowsHeap (instr.InPlace o) old heap p new grown
-    in_place_row o done = subst (λ x. RowsHeap (instr.InPlace o) x heap p new grown) (sym stand) (in_place_of below heap p new grown o q.0 q.1 done)
-
-    pub compare_row : (o : CompareOp) → Operates (op.Compare o) (q.0 ∷ q.1 ∷ []) below heap p new grown → RowsHeap (instr.Compare o) old heap p new grown
-    compare_row o done = subst (λ x. RowsHeap (instr.Compare o) x heap p new grown) (sym stand) (compare_of below heap p new grown o q.0 q.1 done)
-
-  pub binary_values : (o : BinOp) (v w : Value) → two_values old ≡ Some (v, w) → below ≡ drop 2 old → Operates (op.Binary o) (v ∷ w ∷ []) below heap p new grown → RowsHeap (instr.Binary o) old heap p new grown
-  binary_values o v w e f done = binary_row (v, w) e f o done
-
-  pub in_place_values : (o : BinOp) (v w : Value) → two_values old ≡ Some (v, w) → below ≡ drop 2 old → Operates (op.InPlace o) (v ∷ w ∷ []) below heap p new grown → RowsHeap (instr.InPlace o) old heap p new grown
-  in_place_values o v w e f done = in_place_row (v, w) e f o done
-
-  pub compare_values : (o : CompareOp) (v w : Value) → two_values old ≡ Some (v, w) → below ≡ drop 2 old → Operates (op.Compare o) (v ∷ w ∷ []) below heap p new grown → RowsHeap (instr.Compare o) old heap p new grown
-  compare_values o v w e f done = compare_row (v, w) e f o done
+  pub compare_values : (o : CompareOp) → prim_answer (op.Compare o) (v ∷ w ∷ []) heap ≡ prim.Value x → Operates (op.Compare o) (v ∷ w ∷ []) below heap p new grown
+      → RowsHeap (instr.Compare o) old heap p new grown
+  compare_values o g done = subst (λ y. RowsHeap (instr.Compare o) y heap p new grown) (sym stand) (compare_of below heap p new grown v w x o g done)
 
 -- where values are missing
 
@@ -132,7 +136,7 @@ lacks_one_of (slot.Exc v ∷ slots) e vs next = refl
 lacks_one_of (slot.Pending c ∷ slots) e vs next = refl
 lacks_one_of (slot.With v ∷ slots) e vs next = refl
 
-lacks_two_of : (slots : List Slot) → two_values slots ≡ None → (vs : List Value) (next : Next Value (List Value)) → values 2 vs (slots_view slots) next ≡ stuck
+pub lacks_two_of : (slots : List Slot) → two_values slots ≡ None → (vs : List Value) (next : Next Value (List Value)) → values 2 vs (slots_view slots) next ≡ stuck
 lacks_two_of [] e vs next = refl
 lacks_two_of (slot.Cell n ∷ slots) e vs next = refl
 lacks_two_of (slot.Iter v ∷ slots) e vs next = refl
@@ -146,24 +150,3 @@ lacks_two_of (slot.Value w ∷ slot.Iter v ∷ slots) e vs next = refl
 lacks_two_of (slot.Value w ∷ slot.Exc v ∷ slots) e vs next = refl
 lacks_two_of (slot.Value w ∷ slot.Pending c ∷ slots) e vs next = refl
 lacks_two_of (slot.Value w ∷ slot.With v ∷ slots) e vs next = refl
-
-module _ (old : List Slot) (heap : List Object) (new : List Slot) (grown : List Object) where
-  pub unary_lacks : (o : UnOp) → value_on_top old ≡ None → RowsHeap (instr.Unary o) old heap progress.Lacks new grown
-  unfolding RowsHeap
-  unary_lacks o e program code pc i h st known = stuck_row program h (with_objects heap st) _ (lacks_one_of old e [] _)
-
-  pub not_lacks : value_on_top old ≡ None → RowsHeap instr.Not old heap progress.Lacks new grown
-  unfolding RowsHeap
-  not_lacks e program code pc i h st known = stuck_row program h (with_objects heap st) _ (lacks_one_of old e [] _)
-
-  pub binary_lacks : (o : BinOp) → two_values old ≡ None → RowsHeap (instr.Binary o) old heap progress.Lacks new grown
-  unfolding RowsHeap
-  binary_lacks o e program code pc i h st known = stuck_row program h (with_objects heap st) _ (lacks_two_of old e [] _)
-
-  pub in_place_lacks : (o : BinOp) → two_values old ≡ None → RowsHeap (instr.InPlace o) old heap progress.Lacks new grown
-  unfolding RowsHeap
-  in_place_lacks o e program code pc i h st known = stuck_row program h (with_objects heap st) _ (lacks_two_of old e [] _)
-
-  pub compare_lacks : (o : CompareOp) → two_values old ≡ None → RowsHeap (instr.Compare o) old heap progress.Lacks new grown
-  unfolding RowsHeap
-  compare_lacks o e program code pc i h st known = stuck_row program h (with_objects heap st) _ (lacks_two_of old e [] _)

@@ -13,7 +13,7 @@ use Rattle.sem_run.specs.run.Host.{Here}
 use Rattle.pt_content.specs.declared.op.Op.{Op}
 use Rattle.pt_content.specs.declared.answer.PrimAns.{PrimAns}
 use Rattle.pt_content.specs.declared.answer.PrimAns.TheVariants as prim
-use Rattle.pt_moves.specs.sem_rows.pt_host.Primitives.{Awaited, asked, one_value}
+use Rattle.pt_moves.specs.sem_rows.pt_host.Primitives.{Awaited, one_value, prim_asked}
 use Rattle.pt_moves.specs.sem_rows.pt_host.World.{Program, Stores, with_objects}
 use Rattle.pt_moves.specs.sem_rows.declared.heap_rows.progress.Progress.{Progress}
 use Rattle.pt_moves.specs.sem_rows.declared.heap_rows.progress.Progress.TheVariants as progress
@@ -52,7 +52,7 @@ unfoldable pub Asks : {A : Type 0} → Awaited A → Continuation A → Op → L
 Asks w next o args old heap p new grown =
     (program : Program) (code : CodeObject Value) (i : Ins) (h : Here Value) (st : Stores)
     → told program code i h p (slots_view new) (with_objects grown st)
-    ≡ by_tree code i (next code i (slots_view old)) (slots_view old) (asked w o args h (with_objects heap st))
+    ≡ by_tree code i (next code i (slots_view old)) (slots_view old) (prim_asked w o args h (with_objects heap st))
 
 -- the same where a value is given
 unfoldable pub Operates : Op → List Value → (old : List Slot) (heap : List Object) → Progress → (new : List Slot) (grown : List Object) → Type 0

@@ -1,13 +1,11 @@
-//! What instructions of operators and comparisons do (Language Reference 6.5 to 6.12, 7.2.1).
+//! What the answers of operations on values come to (Language Reference 6.5 to 6.12, 7.2.1).
 #![tactic(auto)]
 
 mod operators;
 
-pub use operators::{
-    Outcome, answered, ask, binary, compare, in_place, not, operation, outcome_of, unary,
-};
+pub use operators::{Outcome, answered, ask, outcome_of};
 pub use pt_moves::{
-    BASE_EXCEPTION, Progress, TYPE_ERROR, allot, are_named, binding_text, derives, error,
-    not_callable_text, take_one, take_three, take_two, values_given,
+    BASE_EXCEPTION, Progress, TYPE_ERROR, allot, are_named, derives, error, not_callable_text,
+    take_one, take_three, take_two, values_given,
 };
-pub use pt_prims::{of_method_number, prim};
+pub use pt_prims::{method_of, of_method_number, prim};

@@ -39,7 +39,7 @@ entries-below h (e ∷ es) w =
     (both-below (length h) (place_of e.first) (place_of e.value) (value-below h e.first w.0) (value-below h e.value w.1))
     (entries-below h es w.2)
 
-below-entries : (h : List Object) (es : List Entry) → Below (length h) (entry_places es) → AreWithin h es
+pub below-entries : (h : List Object) (es : List Entry) → Below (length h) (entry_places es) → AreWithin h es
 below-entries h [] b = tt
 below-entries h (e ∷ es) b =
     let own : Below (length h) (place_of e.first ++ place_of e.value) = λ p c. b p (Contains-append_left (place_of e.first ++ place_of e.value) (entry_places es) p c) in (

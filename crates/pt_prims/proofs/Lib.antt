@@ -12,5 +12,6 @@ pub mod ContainerLemmas
 pub mod StarLemmas
 pub mod MethodLemmas
 pub mod AttributeLemmas
+pub mod InstanceLemmas
 pub mod WithinLemmas
 pub mod UpdateLemmas

@@ -60,6 +60,7 @@ new-classes h i (new.Slice s) = tt
 new-classes h i (new.Cursor c) = tt
 new-classes h i (new.View v) = tt
 new-classes h i (new.Method m) = tt
+new-classes h i (new.Builtin b) = tt
 
 one-sound : (h : List Object) (o : NewObject) → IsSound start_objects h → NewIsWithin h o → IsSound start_objects (h ++ made o ∷ [])
 one-sound h o s w = sound-add h (made o) start_objects s (record { places = w; classes = new-classes h (length h) o })

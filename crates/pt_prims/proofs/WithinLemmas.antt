@@ -1,6 +1,6 @@
 -- What operations give of values of a sound heap lies there: what they make of what they are given, and classes of the start.
 use Rattle.std.proofs.Common.{◌≡◌, ◌+◌, ℕ, zero, suc, ℤ, pos, negsuc, Bool, true, false, ◌&&◌, List, [], ◌∷◌, ◌++◌, Option, None, Some, Result, Ok, Err, length, map, set, codes, nat_le, slice_get, if◌then◌else◌, refl, subst, arith}
-use Rattle.std.specs.Prelude.{◌||◌, option_to_list, nat_lt}
+use Rattle.std.specs.Prelude.{◌||◌, is_some, option_to_list, nat_lt}
 use Rattle.std.specs.Char.{encode_utf8}
 use Rattle.std.specs.List.{remove}
 use Rattle.std.specs.Str.{chars}
@@ -55,7 +55,7 @@ use Rattle.pt_methods.specs.pt_sequences.Unpacking as unpacking
 use Rattle.pt_methods.specs.pt_reprs.declared.writer.WriteErr.{WriteErr}
 use Rattle.pt_methods.specs.pt_reprs.declared.writer.WriteErr.TheVariants as write
 use Rattle.pt_methods.specs.pt_reprs.Pieces.{written, Piece}
-use Rattle.pt_methods.specs.pt_reprs.Reached.{need_help, needs_help}
+use Rattle.pt_methods.specs.pt_reprs.Reached.{need_help, needs_help, parts_of}
 use Rattle.pt_methods.specs.pt_reprs.Reprs.{depth_limit, repr_pieces}
 use Rattle.pt_methods.specs.pt_reprs.Shown.{shown}
 use Rattle.pt_methods.specs.pt_reprs.Texts as texts
@@ -65,10 +65,12 @@ use Rattle.pt_prims.specs.Arithmetic.{binary_by, binary_content, integer_content
 use Rattle.pt_prims.specs.AttributeCalls as asked
 use Rattle.pt_methods.specs.declared.attribute.Attribute.{Attribute}
 use Rattle.pt_methods.specs.declared.attribute.Attribute.TheVariants as attribute
-use Rattle.pt_methods.specs.Attributes.{attribute_of}
+use Rattle.pt_methods.specs.Attributes.{attribute_of, receiver_of}
 use Rattle.pt_prims.specs.Calls as calls
 use Rattle.pt_prims.specs.Classes as classes
 use Rattle.pt_prims.specs.Hidden as hidden
+use Rattle.pt_special_methods.specs.Containers as special
+use Rattle.pt_special_methods.specs.Instances.{method_of}
 use Rattle.pt_prims.specs.declared.classes.Kinship.{Kinship}
 use Rattle.pt_prims.specs.declared.classes.Kinship.TheVariants as kinship
 use Rattle.pt_prims.specs.IntegerTexts as texts_as_integers
@@ -107,7 +109,8 @@ use Rattle.pt_methods.specs.pt_text_operations.Slices as slices
 use Rattle.pt_methods.specs.pt_fields.Fields as fields
 use Rattle.pt_methods.specs.pt_list_changes.Changed as lists
 use Rattle.pt_methods.specs.pt_list_changes.Items as list
-use Rattle.pt_prims.proofs.AttributeLemmas.{attribute-within, AttributeWithin}
+use Rattle.pt_prims.proofs.AttributeLemmas.{attribute-within, error-arguments, receiver-within, AttributeWithin}
+use Rattle.pt_prims.proofs.InstanceLemmas.{get-name-within, has-name-within, length-given-within, parts-within, refuse-within, text-given-within, truth-given-within, write-within}
 use Rattle.pt_prims.proofs.ValueLists.{all-left, all-picked, all-set}
 use Rattle.pt_methods.specs.pt_views.Cursors as views
 use Rattle.pt_heap.specs.Entries.{Entry, found}
@@ -874,13 +877,13 @@ module _ (h : List Object) (s : IsSound start_objects h) where
   integer-by-within k (Some t) = integer-or-error-within (texts_as_integers.signed_number (texts_as_integers.without_blanks (chars t)))
   integer-by-within k None = (_, refl)
 
-  callable-within : (k : Operand) (o : Option Object) → IsWithinHeap h (calls.callable_by k o)
-  callable-within operand.Instance o = tt
-  callable-within k (Some (object.Function f)) = tt
-  callable-within k (Some (object.Method m)) = tt
-  callable-within k (Some (object.Builtin b)) = tt
-  callable-within k (Some (object.Class c)) = tt
-  callable-within k o = tt
+  callable-within : (k : Operand) (c : Bool) (o : Option Object) → IsWithinHeap h (calls.callable_by k c o)
+  callable-within operand.Instance c o = tt
+  callable-within k c (Some (object.Function f)) = tt
+  callable-within k c (Some (object.Method m)) = tt
+  callable-within k c (Some (object.Builtin b)) = tt
+  callable-within k c (Some (object.Class x)) = tt
+  callable-within k c o = tt
 
   kinship-within : (k : Kinship) → IsWithinHeap h (classes.kinship_answer k)
   kinship-within (kinship.Told b) = tt
@@ -901,6 +904,9 @@ module _ (h : List Object) (s : IsSound start_objects h) where
   has-within : (a : Attribute) → IsWithinHeap h (asked.has a)
   has-within (attribute.Method m) = tt
   has-within (attribute.Held v) = tt
+  has-within (attribute.Bound f) = tt
+  has-within attribute.NameOf = tt
+  has-within attribute.Arguments = tt
   has-within attribute.Missing = tt
   has-within attribute.Unbuilt = tt
 
@@ -908,22 +914,35 @@ module _ (h : List Object) (s : IsSound start_objects h) where
   has-attribute-within v (Some name) = has-within (attribute_of h v name)
   has-attribute-within v None = (_, refl)
 
-  gotten-within : (a : Attribute) (c : Content) → AttributeWithin h a → IsWithinHeap h c → IsWithinHeap h (asked.gotten a c)
-  gotten-within attribute.Missing c i w = w
-  gotten-within (attribute.Held v) c i w = i
-  gotten-within a c i w = tt
+  name-by-within : (o : Option Object) → IsWithinHeap h (asked.name_by o)
+  name-by-within (Some (object.Class c)) = none-below (length h)
+  name-by-within o = tt
 
-  get-attribute-within : (v : Value) (o : Option (List ℕ)) → IsWithinHeap h (asked.get_attribute h v o)
-  get-attribute-within v (Some name) = gotten-within (attribute_of h v name) (asked.attribute_error h v name) (attribute-within h s v name) (_, refl)
-  get-attribute-within v None = (_, refl)
+  arguments-by-within : (v : Value) (o : Option Object) → object_of h v ≡ o → IsWithinHeap h (asked.arguments_by o)
+  arguments-by-within v (Some (object.Error x)) e = tuple-within h x.args (error-arguments h s v x e)
+  arguments-by-within v o e = tt
 
-  get-attribute-or-within : (v : Value) (o : Option (List ℕ)) (x : Value) → IsWithin h x → IsWithinHeap h (asked.get_attribute_or h v o x)
-  get-attribute-or-within v (Some name) x w = gotten-within (attribute_of h v name) (content.Value x) (attribute-within h s v name) w
-  get-attribute-or-within v None x w = (_, refl)
+  gotten-within : (v : Value) (a : Attribute) (c : Content) → IsWithin h v → AttributeWithin h a → IsWithinHeap h c → IsWithinHeap h (asked.gotten h v a c)
+  gotten-within v (attribute.Method m) c x i w = value-below h v x
+  gotten-within v (attribute.Held u) c x i w = i
+  gotten-within v (attribute.Bound f) c x i w =
+      both-below (length h) (place_of f) (place_of (receiver_of h v)) (value-below h f i) (value-below h (receiver_of h v) (receiver-within h s v x))
+  gotten-within v attribute.NameOf c x i w = name-by-within (object_of h v)
+  gotten-within v attribute.Arguments c x i w = arguments-by-within v (object_of h v) refl
+  gotten-within v attribute.Missing c x i w = w
+  gotten-within v attribute.Unbuilt c x i w = tt
+
+  get-attribute-within : (v : Value) (o : Option (List ℕ)) → IsWithin h v → IsWithinHeap h (asked.get_attribute h v o)
+  get-attribute-within v (Some name) i = gotten-within v (attribute_of h v name) (asked.attribute_error h v name) i (attribute-within h s v name) (_, refl)
+  get-attribute-within v None i = (_, refl)
+
+  get-attribute-or-within : (v : Value) (o : Option (List ℕ)) (x : Value) → IsWithin h v → IsWithin h x → IsWithinHeap h (asked.get_attribute_or h v o x)
+  get-attribute-or-within v (Some name) x i w = gotten-within v (attribute_of h v name) (content.Value x) i (attribute-within h s v name) w
+  get-attribute-or-within v None x i w = (_, refl)
 
   call-getattr-within : (vs : List Value) → AllWithin h vs → IsWithinHeap h (asked.call_getattr vs h)
-  call-getattr-within (v ∷ n ∷ []) w = get-attribute-within v (text_of h n)
-  call-getattr-within (v ∷ n ∷ x ∷ []) w = get-attribute-or-within v (text_of h n) x w.1.1.0
+  call-getattr-within (v ∷ n ∷ []) w = get-attribute-within v (text_of h n) w.0
+  call-getattr-within (v ∷ n ∷ x ∷ []) w = get-attribute-or-within v (text_of h n) x w.0 w.1.1.0
   call-getattr-within vs w = tt
 
   builtin : (n : ℕ) → IsClassAt start_objects n → IsWithin h (calls.builtin_class n)
@@ -1058,34 +1077,65 @@ module _ (h : List Object) (s : IsSound start_objects h) where
   refill-within (l ∷ a ∷ []) = refill-by-within l a (object_of h a) refl
   refill-within vs = tt
 
+  wrap-by-within : (o p : Option Object) → IsWithinHeap h (special.wrap_by h o p)
+  wrap-by-within o (Some (object.List ts)) = pieces-within (special.wrapped h o ts)
+  wrap-by-within o p = tt
+
+  wrap-within : (vs : List Value) → IsWithinHeap h (special.wrap vs h)
+  wrap-within (a ∷ ts ∷ []) = wrap-by-within (object_of h a) (object_of h ts)
+  wrap-within vs = tt
+
+  hidden-call-within : (f : Function) (vs : List Value) → AllWithin h vs → IsWithinHeap h (calls.hidden_content f vs h)
+  hidden-call-within function.MakeTuple vs w = make-tuple-within vs
+  hidden-call-within function.MakeSet vs w = make-set-within vs
+  hidden-call-within function.IsOf vs w = is-of-within vs
+  hidden-call-within function.JoinItems vs w = join-items-within vs
+  hidden-call-within function.SortItems vs w = sort-items-within vs
+  hidden-call-within function.Refill vs w = refill-within vs
+  hidden-call-within function.HasName vs w = has-name-within h s vs
+  hidden-call-within function.GetName vs w = get-name-within h s vs w
+  hidden-call-within function.Refuse vs w = refuse-within h s vs
+  hidden-call-within function.IsError (a ∷ []) w = tt
+  hidden-call-within function.HoldsInstance (a ∷ []) w = tt
+  hidden-call-within function.PlainRepr (a ∷ []) w = pieces-within (repr_pieces h a)
+  hidden-call-within function.Dots (a ∷ []) w = none-below (length h)
+  hidden-call-within function.Parts (a ∷ []) w = list-within h (parts_of h a) (parts-within h s a)
+  hidden-call-within function.Wrap vs w = wrap-within vs
+  hidden-call-within function.TextGiven (a ∷ []) w = text-given-within h s a (text_of h a) w.0
+  hidden-call-within function.TruthGiven (a ∷ []) w = truth-given-within h s a
+  hidden-call-within function.LengthGiven (a ∷ []) w = length-given-within h s (operand_of h a)
+  hidden-call-within function.Write (a ∷ []) w = write-within h s (text_of h a)
+  hidden-call-within f vs w = tt
+
+  builtin-call-within : (f : Function) (vs : List Value) → AllWithin h vs → IsWithinHeap h (calls.builtin_content f vs h)
+  builtin-call-within function.Print (x ∷ y ∷ vs) w = print-within (texts.text_or (codes " ") h x) (texts.text_or (10 ∷ []) h y) vs
+  builtin-call-within function.Len (a ∷ []) w = length-within a (length_of h a)
+  builtin-call-within function.Repr (a ∷ []) w = helped-within helper.ReprOf (repr_pieces h a) (needs_help h a)
+  builtin-call-within function.Isinstance (a ∷ c ∷ []) w = of-classes-within (calls.class_of h a) c
+  builtin-call-within function.Issubclass (a ∷ c ∷ []) w = subclass-within a c
+  builtin-call-within function.Iter (a ∷ []) w = any-iterator-within a w.0
+  builtin-call-within function.Next vs w = call-next-within vs w
+  builtin-call-within function.Abs (a ∷ []) w = magnitude-within (operand_of h a)
+  builtin-call-within function.Divmod (a ∷ b ∷ []) w = division-within (operand_of h a) (operand_of h b)
+  builtin-call-within function.Ord (a ∷ []) w = code-within (text_of h a)
+  builtin-call-within function.Chr (a ∷ []) w = char-within (operand_of h a)
+  builtin-call-within function.Hasattr (a ∷ n ∷ []) w = has-attribute-within a (text_of h n)
+  builtin-call-within function.Getattr vs w = call-getattr-within vs w
+  builtin-call-within function.Callable (a ∷ []) w = callable-within (operand_of h a) (is_some (method_of h a (codes "__call__"))) (object_of h a)
+  builtin-call-within function.Exit vs w = call-exit-within vs w
+  builtin-call-within function.Type (a ∷ []) w = class-of-within a
+  builtin-call-within function.Int vs w = call-int-within vs
+  builtin-call-within function.Bool vs w = call-bool-within vs
+  builtin-call-within function.Str vs w = call-str-within vs w
+  builtin-call-within function.Range vs w = range-within vs
+  builtin-call-within f vs w = tt
+
   call-within : (f : Function) (vs : List Value) → AllWithin h vs → IsWithinHeap h (calls.call_content f vs h)
-  call-within function.Print (x ∷ y ∷ vs) w = print-within (texts.text_or (codes " ") h x) (texts.text_or (10 ∷ []) h y) vs
-  call-within function.Len (a ∷ []) w = length-within a (length_of h a)
-  call-within function.Repr (a ∷ []) w = helped-within helper.ReprOf (repr_pieces h a) (needs_help h a)
-  call-within function.Isinstance (a ∷ c ∷ []) w = of-classes-within (calls.class_of h a) c
-  call-within function.Issubclass (a ∷ c ∷ []) w = subclass-within a c
-  call-within function.Iter (a ∷ []) w = any-iterator-within a w.0
-  call-within function.Next vs w = call-next-within vs w
-  call-within function.Abs (a ∷ []) w = magnitude-within (operand_of h a)
-  call-within function.Divmod (a ∷ b ∷ []) w = division-within (operand_of h a) (operand_of h b)
-  call-within function.Ord (a ∷ []) w = code-within (text_of h a)
-  call-within function.Chr (a ∷ []) w = char-within (operand_of h a)
-  call-within function.Hasattr (a ∷ n ∷ []) w = has-attribute-within a (text_of h n)
-  call-within function.Getattr vs w = call-getattr-within vs w
-  call-within function.Callable (a ∷ []) w = callable-within (operand_of h a) (object_of h a)
-  call-within function.Exit vs w = call-exit-within vs w
-  call-within function.Type (a ∷ []) w = class-of-within a
-  call-within function.Int vs w = call-int-within vs
-  call-within function.Bool vs w = call-bool-within vs
-  call-within function.Str vs w = call-str-within vs w
-  call-within function.Range vs w = range-within vs
-  call-within function.MakeTuple vs w = make-tuple-within vs
-  call-within function.MakeSet vs w = make-set-within vs
-  call-within function.IsOf vs w = is-of-within vs
-  call-within function.JoinItems vs w = join-items-within vs
-  call-within function.SortItems vs w = sort-items-within vs
-  call-within function.Refill vs w = refill-within vs
-  call-within f vs w = tt
+  call-within f vs w = by (calls.is_hidden f)
+    where
+      by : (b : Bool) → IsWithinHeap h (if b then calls.hidden_content f vs h else calls.builtin_content f vs h)
+      by true = hidden-call-within f vs w
+      by false = builtin-call-within f vs w
 
   -- fields of f-strings
   converted-within : (c : Option Conversion) (v : Value) → IsWithin h v → IsWithinHeap h (fields.converted c h v)

@@ -1,5 +1,5 @@
 -- What calls of builtin functions and classes give (Library Reference, "Built-in Functions"; "Built-in Types").
-use Rattle.std.specs.Prelude.{ℕ, ℤ, pos, negsuc, ◌&&◌, Bool, true, false, List, [], ◌∷◌, Option, Some, None, nat_lt, nat_le, slice_get, if◌then◌else◌}
+use Rattle.std.specs.Prelude.{ℕ, ℤ, pos, negsuc, ◌&&◌, Bool, true, false, List, [], ◌∷◌, Option, Some, None, nat_lt, nat_le, slice_get, codes, is_some, if◌then◌else◌}
 use Rattle.std.specs.Char.{encode_utf8}
 use Rattle.std.specs.Str.{chars}
 use Rattle.pt_base.specs.declared.operators.BinOp.TheVariants.{FloorDiv, Mod}
@@ -38,6 +38,14 @@ use Rattle.pt_prims.specs.AttributeCalls.{call_getattr, has_attribute}
 use Rattle.pt_prims.specs.Classes.{is_of_classes, subclass_by}
 use Rattle.pt_prims.specs.Hidden.{is_of, join_items, make_set, make_tuple, refill, sort_items}
 use Rattle.pt_prims.specs.IntegerTexts.{text_integer}
+use Rattle.pt_special_methods.specs.Containers.{dots_of, wrap}
+use Rattle.pt_special_methods.specs.Given.{length_given, text_given, truth_given, write_by}
+use Rattle.pt_special_methods.specs.Instances.{get_name, has_name, holds_instance, is_error, method_of}
+use Rattle.pt_special_methods.specs.Refusals.{refuse}
+use Rattle.pt_methods.specs.pt_reprs.Reached.{parts_of}
+use Rattle.pt_methods.specs.pt_reprs.Reprs.{repr_pieces}
+use Rattle.pt_methods.specs.pt_reprs.Texts.{text_content}
+use Rattle.pt_methods.specs.pt_sequences.Displays.{list_content}
 use Rattle.pt_methods.specs.pt_comparisons.Truths.{truth_content, truth_value}
 
 -- `abs`
@@ -85,14 +93,14 @@ integer_by (Number z) t = content.Value (value.Int z)
 integer_by k (Some t) = text_integer t
 integer_by k None = bad_argument TYPE_ERROR
 
--- `callable`: the method of an instance isn't asked yet
-abbrev pub callable_by : Operand → Option Object → Content
-callable_by Instance o = content.Outside Feature
-callable_by k (Some (object.Function f)) = truth_value true
-callable_by k (Some (object.Method m)) = truth_value true
-callable_by k (Some (object.Builtin b)) = truth_value true
-callable_by k (Some (object.Class c)) = truth_value true
-callable_by k o = truth_value false
+-- `callable`: an instance is by its class
+abbrev pub callable_by : Operand → (called : Bool) → Option Object → Content
+callable_by Instance b o = truth_value b
+callable_by k b (Some (object.Function f)) = truth_value true
+callable_by k b (Some (object.Method m)) = truth_value true
+callable_by k b (Some (object.Builtin f)) = truth_value true
+callable_by k b (Some (object.Class c)) = truth_value true
+callable_by k b o = truth_value false
 
 -- the place of a class of builtin values
 abbrev pub builtin_class : (place : ℕ) → Value
@@ -184,32 +192,74 @@ call_exit [] = exits_with None
 call_exit (a ∷ []) = exits_with (status_in a)
 call_exit vs = content.Outside Feature
 
--- a row for each function; of other numbers of arguments there is none
+-- what functions that are written in Python ask: a row for each; of other numbers of arguments there is none
+abbrev pub hidden_content : Function → List Value → List Object → Content
+hidden_content function.MakeTuple vs h = make_tuple vs h
+hidden_content function.MakeSet vs h = make_set vs
+hidden_content function.IsOf vs h = is_of vs h
+hidden_content function.JoinItems vs h = join_items vs h
+hidden_content function.SortItems vs h = sort_items vs h
+hidden_content function.Refill vs h = refill vs h
+hidden_content function.HasName vs h = has_name vs h
+hidden_content function.GetName vs h = get_name vs h
+hidden_content function.Refuse vs h = refuse vs h
+hidden_content function.IsError (a ∷ []) h = truth_value (is_error (object_of h a))
+hidden_content function.HoldsInstance (a ∷ []) h = truth_value (holds_instance h a)
+hidden_content function.PlainRepr (a ∷ []) h = text_content (repr_pieces h a)
+hidden_content function.Dots (a ∷ []) h = new_text (dots_of (object_of h a))
+hidden_content function.Parts (a ∷ []) h = list_content (parts_of h a)
+hidden_content function.Wrap vs h = wrap vs h
+hidden_content function.TextGiven (a ∷ []) h = text_given a (text_of h a)
+hidden_content function.TruthGiven (a ∷ []) h = truth_given a
+hidden_content function.LengthGiven (a ∷ []) h = length_given (operand_of h a)
+hidden_content function.Write (a ∷ []) h = write_by (text_of h a)
+hidden_content f vs h = content.Outside Feature
+
+-- the same of builtin functions and classes
+abbrev pub builtin_content : Function → List Value → List Object → Content
+builtin_content function.Print (separator ∷ end ∷ vs) h = print_content h separator end vs
+builtin_content function.Len (a ∷ []) h = length_content h a
+builtin_content function.Repr (a ∷ []) h = repr_content h a
+builtin_content function.Isinstance (a ∷ classes ∷ []) h = is_of_classes h (class_of h a) classes
+builtin_content function.Issubclass (a ∷ classes ∷ []) h = subclass_by h a classes
+builtin_content function.Iter (a ∷ []) h = iterator_content h a
+builtin_content function.Next vs h = call_next vs h
+builtin_content function.Abs (a ∷ []) h = magnitude_by (operand_of h a)
+builtin_content function.Divmod (a ∷ b ∷ []) h = division_by (operand_of h a) (operand_of h b)
+builtin_content function.Ord (a ∷ []) h = code_by (text_of h a)
+builtin_content function.Chr (a ∷ []) h = char_by (operand_of h a)
+builtin_content function.Hasattr (a ∷ name ∷ []) h = has_attribute h a (text_of h name)
+builtin_content function.Getattr vs h = call_getattr vs h
+builtin_content function.Callable (a ∷ []) h = callable_by (operand_of h a) (is_some (method_of h a (codes "__call__"))) (object_of h a)
+builtin_content function.Exit vs h = call_exit vs
+builtin_content function.Type (a ∷ []) h = content.Value (class_of h a)
+builtin_content function.Int vs h = call_int vs h
+builtin_content function.Bool vs h = call_bool vs h
+builtin_content function.Str vs h = call_str vs h
+builtin_content function.Range vs h = range_content h vs
+builtin_content f vs h = content.Outside Feature
+
+abbrev pub is_hidden : Function → Bool
+is_hidden function.MakeTuple = true
+is_hidden function.MakeSet = true
+is_hidden function.IsOf = true
+is_hidden function.JoinItems = true
+is_hidden function.SortItems = true
+is_hidden function.Refill = true
+is_hidden function.HasName = true
+is_hidden function.GetName = true
+is_hidden function.Refuse = true
+is_hidden function.IsError = true
+is_hidden function.HoldsInstance = true
+is_hidden function.PlainRepr = true
+is_hidden function.Dots = true
+is_hidden function.Parts = true
+is_hidden function.Wrap = true
+is_hidden function.TextGiven = true
+is_hidden function.TruthGiven = true
+is_hidden function.LengthGiven = true
+is_hidden function.Write = true
+is_hidden f = false
+
 abbrev pub call_content : Function → List Value → List Object → Content
-call_content function.Print (separator ∷ end ∷ vs) h = print_content h separator end vs
-call_content function.Len (a ∷ []) h = length_content h a
-call_content function.Repr (a ∷ []) h = repr_content h a
-call_content function.Isinstance (a ∷ classes ∷ []) h = is_of_classes h (class_of h a) classes
-call_content function.Issubclass (a ∷ classes ∷ []) h = subclass_by h a classes
-call_content function.Iter (a ∷ []) h = iterator_content h a
-call_content function.Next vs h = call_next vs h
-call_content function.Abs (a ∷ []) h = magnitude_by (operand_of h a)
-call_content function.Divmod (a ∷ b ∷ []) h = division_by (operand_of h a) (operand_of h b)
-call_content function.Ord (a ∷ []) h = code_by (text_of h a)
-call_content function.Chr (a ∷ []) h = char_by (operand_of h a)
-call_content function.Hasattr (a ∷ name ∷ []) h = has_attribute h a (text_of h name)
-call_content function.Getattr vs h = call_getattr vs h
-call_content function.Callable (a ∷ []) h = callable_by (operand_of h a) (object_of h a)
-call_content function.Exit vs h = call_exit vs
-call_content function.Type (a ∷ []) h = content.Value (class_of h a)
-call_content function.Int vs h = call_int vs h
-call_content function.Bool vs h = call_bool vs h
-call_content function.Str vs h = call_str vs h
-call_content function.Range vs h = range_content h vs
-call_content function.MakeTuple vs h = make_tuple vs h
-call_content function.MakeSet vs h = make_set vs
-call_content function.IsOf vs h = is_of vs h
-call_content function.JoinItems vs h = join_items vs h
-call_content function.SortItems vs h = sort_items vs h
-call_content function.Refill vs h = refill vs h
-call_content f vs h = content.Outside Feature
+call_content f vs h = if is_hidden f then hidden_content f vs h else builtin_content f vs h

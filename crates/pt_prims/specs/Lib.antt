@@ -12,3 +12,4 @@ pub mod Operations
 pub mod Updates
 pub mod Laws
 pub use Rattle.pt_methods.specs as pt_methods
+pub use Rattle.pt_special_methods.specs as pt_special_methods

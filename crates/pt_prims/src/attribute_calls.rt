@@ -1,15 +1,22 @@
 //! Attributes that are asked for by a text.
 
-ghost use Rattle.std.specs.Prelude.{◌≡◌, IfOk};
+ghost use Rattle.std.specs.Prelude.{◌≡◌, ◌≢◌, IfOk};
+ghost use Rattle.pt_methods.specs.declared.attribute.Attribute.TheVariants.{Missing};
 ghost use Rattle.std.specs.Option.{option_copied};
 ghost use Rattle.pt_content.specs.Operands.{text_of};
-ghost use Rattle.pt_prims.specs.AttributeCalls.{attribute_error, call_getattr, get_attribute};
-ghost use Rattle.pt_prims.specs.AttributeCalls.{get_attribute_or, has, has_attribute};
+ghost use Rattle.pt_prims.specs.AttributeCalls.{attribute_error, bound_method, call_getattr};
+ghost use Rattle.pt_prims.specs.AttributeCalls.{arguments_by, get_attribute, get_attribute_or, gotten};
+ghost use Rattle.pt_prims.specs.AttributeCalls.{has, has_attribute, method_by, name_by};
 
-use pt_base::{Memory, ObjId, What};
-use pt_content::{Content, TYPE_ERROR, bad_argument, class_name, sentence, text_of};
-use pt_heap::{Heap, Str, Value};
-use pt_methods::{Attribute, attribute_of, truth_value};
+use pt_base::{Dup, Memory, ObjId, Seq, What};
+use pt_content::{
+    Content, MethodName, NewObject, TYPE_ERROR, bad_argument, class_name, object_of, sentence,
+    text_of,
+};
+use pt_heap::{Builtin, Heap, Method, Object, Str, Value};
+use pt_methods::{
+    Attribute, attribute_of, method_number, new_text, receiver_of, truth_value, tuple_content,
+};
 use std::alloc::Global;
 
 /// The place of the class of exceptions of a missing attribute.
@@ -19,7 +26,11 @@ fn has(attribute: Attribute) -> Content
     ensures { result ≡ has attribute }
 {
     match attribute {
-        Attribute::Method(_) | Attribute::Held(_) => truth_value(true),
+        Attribute::Method(_)
+        | Attribute::Held(_)
+        | Attribute::Bound(_)
+        | Attribute::NameOf
+        | Attribute::Arguments => truth_value(true),
         Attribute::Missing => truth_value(false),
         Attribute::Unbuilt => Content::Outside(What::Feature),
     }
@@ -53,6 +64,60 @@ fn attribute_error(alloc: Global, heap: &Heap, value: Value, name: &str) -> Resu
     })
 }
 
+/// A method of a builtin value, bound to it.
+fn bound_method(method: MethodName, receiver: Value) -> Content
+    ensures { result ≡ bound_method method receiver }
+{
+    Content::New(NewObject::Builtin(Builtin {
+        number: method_number(method),
+        receiver: Some(receiver),
+    }))
+}
+
+/// A function of a value's class, bound as its method.
+fn method_by(function: Value, receiver: Value) -> Content
+    ensures { result ≡ method_by function receiver }
+{
+    Content::New(NewObject::Method(Method { function, receiver }))
+}
+
+/// The name of a class. That of a function isn't known here.
+fn name_by(alloc: Global, object: Option<&Object>) -> Result<Content, Memory>
+    ensures { IfOk result (λ content. content ≡ name_by (option_copied object.entry)) }
+{
+    match object {
+        Some(Object::Class(class)) => Ok(new_text(class.name.dup(alloc)?)),
+        _ => Ok(Content::Outside(What::Feature)),
+    }
+}
+
+fn arguments_by(alloc: Global, object: Option<&Object>) -> Result<Content, Memory>
+    ensures { IfOk result (λ content. content ≡ arguments_by (option_copied object.entry)) }
+{
+    match object {
+        Some(Object::Error(error)) => {
+            Ok(tuple_content(Seq::from_slice(alloc, error.args.as_slice())?))
+        }
+        _ => Ok(Content::Outside(What::Feature)),
+    }
+}
+
+/// An attribute that a value has.
+fn gotten(alloc: Global, heap: &Heap, value: Value, attribute: Attribute) -> Result<Content, Memory>
+    requires { attribute ≢ Missing }
+    ensures { IfOk result
+        (λ content. (otherwise : _) → content ≡ gotten heap.now value attribute otherwise) }
+{
+    match attribute {
+        Attribute::Held(held) => Ok(Content::Value(held)),
+        Attribute::Bound(function) => Ok(method_by(function, receiver_of(heap, value))),
+        Attribute::NameOf => name_by(alloc, object_of(heap, value)),
+        Attribute::Arguments => arguments_by(alloc, object_of(heap, value)),
+        Attribute::Method(method) => Ok(bound_method(method, value)),
+        Attribute::Missing | Attribute::Unbuilt => Ok(Content::Outside(What::Feature)),
+    }
+}
+
 fn get_attribute(
     alloc: Global,
     heap: &Heap,
@@ -68,8 +133,7 @@ fn get_attribute(
     let name = name.text().as_str();
     match attribute_of(alloc, heap, value, name)? {
         Attribute::Missing => attribute_error(alloc, heap, value, name),
-        Attribute::Held(held) => Ok(Content::Value(held)),
-        Attribute::Method(_) | Attribute::Unbuilt => Ok(Content::Outside(What::Feature)),
+        found => gotten(alloc, heap, value, found),
     }
 }
 
@@ -89,8 +153,7 @@ fn get_attribute_or(
     };
     match attribute_of(alloc, heap, value, name.text().as_str())? {
         Attribute::Missing => Ok(Content::Value(default)),
-        Attribute::Held(held) => Ok(Content::Value(held)),
-        Attribute::Method(_) | Attribute::Unbuilt => Ok(Content::Outside(What::Feature)),
+        found => gotten(alloc, heap, value, found),
     }
 }
 

@@ -1,17 +1,21 @@
 //! Calls of builtin functions and classes.
 
-ghost use Rattle.std.specs.Prelude.{◌≡◌, slice_get, IfOk};
+ghost use Rattle.std.specs.Prelude.{◌≡◌, codes, is_some, slice_get, IfOk};
 ghost use Rattle.std.specs.Char.{encode_utf8};
 ghost use Rattle.std.specs.Option.{option_copied};
 ghost use Rattle.std.specs.Str.{chars};
 ghost use Rattle.pt_content.specs.pt_attrs.Look.{object_of};
 ghost use Rattle.pt_content.specs.Operands.{operand_of};
-ghost use Rattle.pt_prims.specs.Calls.{builtin_class, call_bool, call_content, call_int, call_next};
+ghost use Rattle.pt_methods.specs.pt_reprs.Reached.{parts_of};
+ghost use Rattle.pt_methods.specs.pt_sequences.Displays.{list_content};
+ghost use Rattle.pt_prims.specs.Calls.{builtin_class, builtin_content, call_bool, call_content};
+ghost use Rattle.pt_prims.specs.Calls.{call_int, call_next, is_hidden};
 ghost use Rattle.pt_prims.specs.Calls.{call_exit, call_str, callable_by, char_by, char_of};
 ghost use Rattle.pt_prims.specs.Calls.{class_of, class_of_object, code_by, code_of, division_by};
 ghost use Rattle.pt_prims.specs.Calls.{function_class, integer_by, magnitude, magnitude_by};
-ghost use Rattle.pt_prims.specs.Calls.{or_default, or_raise};
+ghost use Rattle.pt_prims.specs.Calls.{hidden_content, or_default, or_raise};
 ghost use Rattle.pt_prims.specs.Calls.{exits_with, quotient_and_remainder, status_in, view_class};
+ghost use Rattle.pt_special_methods.specs.Instances.{method_of};
 
 use crate::arithmetic::integer_content;
 use crate::attribute_calls::{call_getattr, has_attribute};
@@ -26,8 +30,12 @@ use pt_content::{
 use pt_heap::{Heap, Object, Part, Str, Value};
 use pt_ints::IntAns;
 use pt_methods::{
-    iterator_content, length_content, new_text, next_content, print_content, range_content,
-    repr_content, str_content, truth_content, truth_value, tuple_content,
+    iterator_content, length_content, list_content, new_text, next_content, print_content,
+    range_content, repr_content, str_content, truth_content, truth_value, tuple_content,
+};
+use pt_special_methods::{
+    dots, get_name, has_name, holds_instance, is_error, length_given, method_of, parts_of, refuse,
+    repr_text, text_given, truth_given, wrap, write_by,
 };
 use std::alloc::Global;
 
@@ -166,13 +174,13 @@ fn integer_by(alloc: Global, operand: Operand, text: Option<&Str>) -> Result<Con
     }
 }
 
-/// `callable`
-fn callable_by(heap: &Heap, value: Value) -> Content
+/// `callable`, by whether an instance has the method.
+fn callable_by(heap: &Heap, value: Value, called: bool) -> Content
     ensures { result
-        ≡ callable_by (operand_of heap.now value) (object_of heap.now value) }
+        ≡ callable_by (operand_of heap.now value) called (object_of heap.now value) }
 {
     if operand_of(heap, value) == Operand::Instance {
-        return Content::Outside(What::Feature);
+        return truth_value(called);
     }
     match object_of(heap, value) {
         Some(Object::Function(_)) => truth_value(true),
@@ -181,6 +189,15 @@ fn callable_by(heap: &Heap, value: Value) -> Content
         Some(Object::Class(_)) => truth_value(true),
         _ => truth_value(false),
     }
+}
+
+/// The same of a value.
+fn callable(alloc: Global, heap: &Heap, value: Value) -> Result<Content, Memory>
+    ensures { IfOk result (λ content. content ≡ callable_by (operand_of heap.now value)
+        (is_some (method_of heap.now value (codes "__call__"))) (object_of heap.now value)) }
+{
+    let found = method_of(alloc, heap, value, "__call__")?;
+    Ok(callable_by(heap, value, found.is_some()))
 }
 
 /// A class of builtin values, by its place.
@@ -240,7 +257,7 @@ fn class_of_object(heap: &Heap, id: ObjId) -> Value
 }
 
 /// `type` of one value.
-fn class_of(heap: &Heap, value: Value) -> Value
+pub fn class_of(heap: &Heap, value: Value) -> Value
     ensures { result ≡ class_of heap.now value }
 {
     match value {
@@ -376,14 +393,54 @@ fn call_exit(alloc: Global, args: &[Value]) -> Content
     }
 }
 
-/// What a call of a builtin function or class gives (Library Reference, "Built-in Functions").
-pub fn call_content(
+/// The parts of a container as a new list.
+fn parts(alloc: Global, heap: &Heap, value: Value) -> Result<Content, Memory>
+    ensures { IfOk result (λ content. content ≡ list_content (parts_of heap.now value)) }
+{
+    Ok(list_content(parts_of(alloc, heap, value)?))
+}
+
+/// What functions that are written in Python ask of values.
+fn hidden_content(
     alloc: Global,
     function: Function,
     args: &[Value],
     heap: &Heap,
 ) -> Result<Content, Memory>
-    ensures { IfOk result (λ content. content ≡ call_content function args.now heap.now) }
+    ensures { IfOk result (λ content. content ≡ hidden_content function args.now heap.now) }
+{
+    match (function, args) {
+        (Function::MakeTuple, args) => make_tuple(alloc, args, heap),
+        (Function::MakeSet, args) => make_set(alloc, args, heap),
+        (Function::IsOf, args) => Ok(is_of(args, heap)),
+        (Function::JoinItems, args) => join_items(alloc, args, heap),
+        (Function::SortItems, args) => sort_items(alloc, args, heap),
+        (Function::Refill, args) => refill(alloc, args, heap),
+        (Function::HasName, args) => has_name(alloc, args, heap),
+        (Function::GetName, args) => get_name(alloc, args, heap),
+        (Function::Refuse, args) => refuse(alloc, args, heap),
+        (Function::IsError, [a]) => Ok(truth_value(is_error(heap, *a))),
+        (Function::HoldsInstance, [a]) => Ok(truth_value(holds_instance(alloc, heap, *a)?)),
+        (Function::PlainRepr, [a]) => repr_text(alloc, heap, *a),
+        (Function::Dots, [a]) => dots(alloc, heap, *a),
+        (Function::Parts, [a]) => parts(alloc, heap, *a),
+        (Function::Wrap, args) => wrap(alloc, args, heap),
+        (Function::TextGiven, [a]) => text_given(alloc, heap, *a),
+        (Function::TruthGiven, [a]) => truth_given(alloc, *a),
+        (Function::LengthGiven, [a]) => length_given(alloc, heap, *a),
+        (Function::Write, [a]) => write_by(alloc, heap, *a),
+        _ => Ok(Content::Outside(What::Feature)),
+    }
+}
+
+/// What builtin functions and classes give.
+fn builtin_content(
+    alloc: Global,
+    function: Function,
+    args: &[Value],
+    heap: &Heap,
+) -> Result<Content, Memory>
+    ensures { IfOk result (λ content. content ≡ builtin_content function args.now heap.now) }
 {
     match (function, args) {
         (Function::Print, [separator, end, values @ ..]) => {
@@ -407,19 +464,56 @@ pub fn call_content(
         (Function::Chr, [a]) => char_by(alloc, operand_of(heap, *a)),
         (Function::Hasattr, [a, name]) => { has_attribute(alloc, heap, *a, text_of(heap, *name)) }
         (Function::Getattr, args) => call_getattr(alloc, args, heap),
-        (Function::Callable, [a]) => Ok(callable_by(heap, *a)),
+        (Function::Callable, [a]) => callable(alloc, heap, *a),
         (Function::Exit, args) => Ok(call_exit(alloc, args)),
         (Function::Type, [a]) => Ok(Content::Value(class_of(heap, *a))),
         (Function::Int, args) => call_int(alloc, args, heap),
         (Function::Bool, args) => Ok(call_bool(args, heap)),
         (Function::Str, args) => call_str(alloc, args, heap),
         (Function::Range, values) => range_content(alloc, heap, values),
-        (Function::MakeTuple, args) => make_tuple(alloc, args, heap),
-        (Function::MakeSet, args) => make_set(alloc, args, heap),
-        (Function::IsOf, args) => Ok(is_of(args, heap)),
-        (Function::JoinItems, args) => join_items(alloc, args, heap),
-        (Function::SortItems, args) => sort_items(alloc, args, heap),
-        (Function::Refill, args) => refill(alloc, args, heap),
         _ => Ok(Content::Outside(What::Feature)),
     }
+}
+
+/// Whether functions that are written in Python alone ask it.
+fn is_hidden(function: Function) -> bool
+    ensures { result ≡ is_hidden function }
+{
+    match function {
+        Function::MakeTuple
+        | Function::MakeSet
+        | Function::IsOf
+        | Function::JoinItems
+        | Function::SortItems
+        | Function::Refill
+        | Function::HasName
+        | Function::GetName
+        | Function::Refuse
+        | Function::IsError
+        | Function::HoldsInstance
+        | Function::PlainRepr
+        | Function::Dots
+        | Function::Parts
+        | Function::Wrap
+        | Function::TextGiven
+        | Function::TruthGiven
+        | Function::LengthGiven
+        | Function::Write => true,
+        _ => false,
+    }
+}
+
+/// What a call of a builtin function or class gives (Library Reference, "Built-in Functions").
+pub fn call_content(
+    alloc: Global,
+    function: Function,
+    args: &[Value],
+    heap: &Heap,
+) -> Result<Content, Memory>
+    ensures { IfOk result (λ content. content ≡ call_content function args.now heap.now) }
+{
+    if is_hidden(function) {
+        return hidden_content(alloc, function, args, heap);
+    }
+    builtin_content(alloc, function, args, heap)
 }

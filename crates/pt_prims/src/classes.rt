@@ -52,7 +52,8 @@ fn is_class(heap: &Heap, value: Value) -> bool
     matches!(object_of(heap, value), Some(Object::Class(_)))
 }
 
-fn is_of(heap: &Heap, class: Value, from: Value) -> bool
+/// Whether a class is another one or has it among its bases.
+pub fn is_of(heap: &Heap, class: Value, from: Value) -> bool
     ensures { result ≡ is_of heap.now class from }
 {
     match (class, from) {

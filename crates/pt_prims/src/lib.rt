@@ -18,9 +18,10 @@ mod subscripts;
 mod updates;
 
 pub use attribute_calls::ATTRIBUTE_ERROR;
-pub use calls::STOP_ITERATION;
-pub use classes::{Kinship, derives};
+pub use calls::{STOP_ITERATION, class_of};
+pub use classes::{Kinship, derives, is_of};
 pub use laws::{answers_lie_within, errors_are_of_their_classes, keeps_sound, objects_stay};
 pub use operation::prim;
-pub use pt_methods::{Attribute, attribute_of, method_number, of_method_number};
+pub use pt_methods::{Attribute, attribute_of, method_number, of_method_number, receiver_of};
+pub use pt_special_methods::method_of;
 pub use spreads::are_named;

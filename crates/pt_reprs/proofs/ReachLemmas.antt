@@ -128,13 +128,14 @@ container-within h p e = by (slice_get h p) refl e
     by (Some o) at e = get-within h p o at
 
 -- what isn't marked has no parts
-no-parts : (o : Option Object) → is_container o ≡ false → parts_in o ≡ []
-no-parts (Some (object.List vs)) e = absurd cc
-no-parts (Some (object.Tuple vs)) e = absurd cc
-no-parts (Some (object.Dict es)) e = absurd cc
-no-parts (Some (object.Set es)) e = absurd cc
-no-parts (Some (object.Error x)) e = absurd cc
-no-parts o e = refl
+no-parts : (h : List Object) (o : Option Object) → is_container o ≡ false → parts_in h o ≡ []
+no-parts h (Some (object.List vs)) e = absurd cc
+no-parts h (Some (object.Tuple vs)) e = absurd cc
+no-parts h (Some (object.Dict es)) e = absurd cc
+no-parts h (Some (object.Set es)) e = absurd cc
+no-parts h (Some (object.View v)) e = absurd cc
+no-parts h (Some (object.Error x)) e = absurd cc
+no-parts h o e = refl
 
 marked-stays : (h : List Object) (ks : List ℕ) (v : Value) (i p : ℕ) → slice_get ks i ≡ Some p → slice_get (with_mark h ks v) i ≡ Some p
 marked-stays h ks value.None i p at = at
@@ -186,7 +187,7 @@ marked-settled h ks (value.Obj id) plain = (plain, by (is_container (slice_get h
   where
     by : (b : Bool) → is_container (slice_get h id.0) ≡ b → (parts_of h (value.Obj id) ≡ []) ⊎ ((p : ℕ) × (value.Obj id ≡ at_place p) × IsMarked (if b then insert_key nat_eq ks id.0 else ks) p)
     by true e = inr (id.0, refl, insert-marked ks id.0)
-    by false e = inl (no-parts (slice_get h id.0) e)
+    by false e = inl (no-parts h (slice_get h id.0) e)
 
 pub settled-more : (h : List Object) (old new : List ℕ) (v : Value) → ((i p : ℕ) → slice_get old i ≡ Some p → slice_get new i ≡ Some p) → Settled h old v → Settled h new v
 settled-more h old new v stay s = (s.0, elim s.1 [ inl none ↦ inl none | inr m ↦ inr (m.0, m.1, (m.2.0, stay m.2.0 m.0 m.2.1)) ])
@@ -321,7 +322,7 @@ pub instance-needs : (h : List Object) (v : Value) → is_instance (operand_of h
 instance-needs h v e = instance-now h (length h) v e
 
 pub uncontained : (h : List Object) (id : ObjId) → is_container (slice_get h id.0) ≡ false → parts_of h (value.Obj id) ≡ []
-uncontained h id e = no-parts (slice_get h id.0) e
+uncontained h id e = no-parts h (slice_get h id.0) e
 
 pub any-first : (h : List Object) (v : Value) (vs : List Value) → is_instance (operand_of h v) ≡ false → has_instance h (v ∷ vs) ≡ has_instance h vs
 any-first h v vs plain = ap (λ b. b || has_instance h vs) plain

@@ -12,6 +12,7 @@ use Rattle.pt_strs.specs.Answer.{length_limit}
 use Rattle.pt_content.specs.declared.answer.Helper.TheVariants.{PrintOf}
 use Rattle.pt_content.specs.declared.content.Content.{Content}
 use Rattle.pt_content.specs.declared.content.Content.TheVariants as content
+use Rattle.pt_reprs.specs.declared.repr.EntryForm.{EntryForm}
 use Rattle.pt_reprs.specs.declared.writer.WriteErr.{WriteErr}
 use Rattle.pt_reprs.specs.declared.writer.WriteErr.TheVariants.{Deep}
 use Rattle.pt_reprs.specs.declared.writer.Writer.{Writer}
@@ -44,16 +45,16 @@ unfolding item_pieces
 items-between h zero path vs l = absurd (omega (arith, l))
 items-between h (suc depth) path vs l = let less : depth ≡ suc depth - 1 = omega arith in ap (λ d. between_commas (value_pieces (item_pieces h d) h path) vs) less
 
-pub entries-between : (h : List Object) (depth : ℕ) (path : List ℕ) (es : List Entry) → 0 < depth → item_pieces h depth path (inr es) ≡ between_commas (entry_pieces (value_pieces (item_pieces h (depth - 1)) h path)) es
+pub entries-between : (h : List Object) (depth : ℕ) (path : List ℕ) (form : EntryForm) (es : List Entry) → 0 < depth → item_pieces h depth path (inr (form, es)) ≡ between_commas (entry_pieces form (value_pieces (item_pieces h (depth - 1)) h path)) es
 unfolding item_pieces
-entries-between h zero path es l = absurd (omega (arith, l))
-entries-between h (suc depth) path es l = let less : depth ≡ suc depth - 1 = omega arith in ap (λ d. between_commas (entry_pieces (value_pieces (item_pieces h d) h path)) es) less
+entries-between h zero path form es l = absurd (omega (arith, l))
+entries-between h (suc depth) path form es l = let less : depth ≡ suc depth - 1 = omega arith in ap (λ d. between_commas (entry_pieces form (value_pieces (item_pieces h d) h path)) es) less
 
 -- the first entry, and those behind it
-pub first-entry : (h : List Object) (depth : ℕ) (path : List ℕ) (es rest : List Entry) (e : Entry) → 0 < depth → es ≡ e ∷ rest
-    → item_pieces h depth path (inr es) ≡ entry_pieces (value_pieces (item_pieces h (depth - 1)) h path) e ++ behind_commas (entry_pieces (value_pieces (item_pieces h (depth - 1)) h path)) rest
-first-entry h depth path es rest e l split =
-    entries-between h depth path es l ∙ ap (between_commas (entry_pieces (value_pieces (item_pieces h (depth - 1)) h path))) split
+pub first-entry : (h : List Object) (depth : ℕ) (path : List ℕ) (form : EntryForm) (es rest : List Entry) (e : Entry) → 0 < depth → es ≡ e ∷ rest
+    → item_pieces h depth path (inr (form, es)) ≡ entry_pieces form (value_pieces (item_pieces h (depth - 1)) h path) e ++ behind_commas (entry_pieces form (value_pieces (item_pieces h (depth - 1)) h path)) rest
+first-entry h depth path form es rest e l split =
+    entries-between h depth path form es l ∙ ap (between_commas (entry_pieces form (value_pieces (item_pieces h (depth - 1)) h path))) split
 
 rest-of : (v : Value) (vs : List Value) → vs ≡ take (length (v ∷ vs) - 1) (drop 1 (v ∷ vs))
 rest-of v vs = let less : length (v ∷ vs) - 1 ≡ length vs = omega arith in sym (ap (λ n. take n vs) less ∙ take-length vs)

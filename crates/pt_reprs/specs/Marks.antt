@@ -14,10 +14,11 @@ is_container (Some (object.List vs)) = true
 is_container (Some (object.Tuple vs)) = true
 is_container (Some (object.Dict es)) = true
 is_container (Some (object.Set es)) = true
+is_container (Some (object.View v)) = true
 is_container (Some (object.Error x)) = true
 is_container o = false
 
--- a container or exception is marked by its place
+-- a container, view or exception is marked by its place
 abbrev pub with_mark : List Object → List ℕ → Value → List ℕ
 with_mark h ks (Obj id) = if is_container (slice_get h id.0) then insert_key nat_eq ks id.0 else ks
 with_mark h ks v = ks

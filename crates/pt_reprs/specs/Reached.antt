@@ -1,5 +1,5 @@
--- Which values can't be written or compared without methods of a script: an instance of a script's class, and a container or
--- exception from which one is reached (Language Reference 3.1, 3.3.1).
+-- Which values can't be written or compared without methods of a script: an instance of a script's class, and a container, view
+-- or exception from which one is reached (Language Reference 3.1, 3.3.1).
 use Rattle.std.specs.Prelude.{ℕ, zero, suc, Bool, true, false, ◌||◌, List, [], ◌∷◌, Option, Some, length}
 use Rattle.pt_heap.specs.declared.value.Value.{Value}
 use Rattle.pt_heap.specs.declared.object.Object.{Object}
@@ -9,23 +9,24 @@ use Rattle.pt_content.specs.pt_attrs.Look.{object_of}
 use Rattle.pt_content.specs.declared.operand.Operand.{Operand}
 use Rattle.pt_content.specs.declared.operand.Operand.TheVariants.{Instance}
 use Rattle.pt_content.specs.Operands.{operand_of}
-use Rattle.pt_reprs.specs.Shown.{shown}
+use Rattle.pt_reprs.specs.Shown.{shown, viewed}
 
 abbrev pub is_instance : Operand → Bool
 is_instance Instance = true
 is_instance k = false
 
--- the items of a list, tuple or set, the keys and values of a dictionary, the arguments of an exception
-abbrev pub parts_in : Option Object → List Value
-parts_in (Some (object.List vs)) = vs
-parts_in (Some (object.Tuple vs)) = vs
-parts_in (Some (object.Dict es)) = shown Items es
-parts_in (Some (object.Set es)) = shown Keys es
-parts_in (Some (object.Error x)) = x.args
-parts_in o = []
+-- the items of a list, tuple or set, the keys and values of a dictionary, what a view shows, the arguments of an exception
+abbrev pub parts_in : List Object → Option Object → List Value
+parts_in h (Some (object.List vs)) = vs
+parts_in h (Some (object.Tuple vs)) = vs
+parts_in h (Some (object.Dict es)) = shown Items es
+parts_in h (Some (object.Set es)) = shown Keys es
+parts_in h (Some (object.View v)) = shown v.part (viewed h v)
+parts_in h (Some (object.Error x)) = x.args
+parts_in h o = []
 
 abbrev pub parts_of : List Object → Value → List Value
-parts_of h v = parts_in (object_of h v)
+parts_of h v = parts_in h (object_of h v)
 
 abbrev pub any_of : (Value → Bool) → List Value → Bool
 any_of p [] = false

@@ -9,15 +9,18 @@ use Rattle.pt_heap.specs.declared.value.Value.{Value}
 use Rattle.pt_heap.specs.declared.value.Value.TheVariants as value
 use Rattle.pt_heap.specs.declared.object.Object.{Object}
 use Rattle.pt_heap.specs.declared.object.Object.TheVariants as object
-use Rattle.pt_heap.specs.declared.object.Part.TheVariants.{Keys}
+use Rattle.pt_heap.specs.declared.object.Part.{Part}
+use Rattle.pt_heap.specs.declared.object.Part.TheVariants.{Keys, Values, Items}
 use Rattle.pt_heap.specs.declared.object.Range.{Range}
 use Rattle.pt_heap.specs.Entries.{Entry}
 use Rattle.pt_content.specs.Classes.{name_at, object_class}
 use Rattle.pt_content.specs.TypeErrors.{sentence}
 use Rattle.pt_reprs.specs.declared.writer.WriteErr.{WriteErr}
 use Rattle.pt_reprs.specs.declared.writer.WriteErr.TheVariants.{Deep, Feature}
+use Rattle.pt_reprs.specs.declared.repr.EntryForm.{EntryForm}
+use Rattle.pt_reprs.specs.declared.repr.EntryForm.TheVariants.{Colon, Pair}
 use Rattle.pt_reprs.specs.Pieces.{Piece}
-use Rattle.pt_reprs.specs.Shown.{shown}
+use Rattle.pt_reprs.specs.Shown.{shown, viewed}
 
 -- a text in quotes: apostrophes, or quotation marks where it has an apostrophe and none of these
 abbrev pub has_char : (c : ℕ) → List ℕ → Bool
@@ -70,6 +73,9 @@ plain_text h (Some (object.Class c)) = sentence (codes "<class '" ∷ c.name ∷
 plain_text h (Some (object.Range r)) = range_text r
 plain_text h o = sentence (codes "<" ∷ object_class h o ∷ codes " object>" ∷ [])
 
+abbrev pub around : (before : List ℕ) → List Piece → (behind : List ℕ) → List Piece
+around before ps behind = Ok before ∷ (ps ++ Ok behind ∷ [])
+
 -- each behind a comma
 abbrev pub behind_commas : {A : Type 0} → (A → List Piece) → List A → List Piece
 behind_commas repr [] = []
@@ -79,9 +85,17 @@ abbrev pub between_commas : {A : Type 0} → (A → List Piece) → List A → L
 between_commas repr [] = []
 between_commas repr (v ∷ vs) = repr v ++ behind_commas repr vs
 
--- an entry of a dictionary
-abbrev pub entry_pieces : (Value → List Piece) → Entry → List Piece
-entry_pieces repr e = repr e.first ++ (Ok (codes ": ") ∷ repr e.value)
+-- a key and a value
+abbrev pub both_pieces : (Value → List Piece) → (between : List ℕ) → (first value : Value) → List Piece
+both_pieces repr between v w = repr v ++ (Ok between ∷ repr w)
+
+-- as in a dictionary, or as the tuple that a view shows
+abbrev pub formed_pieces : EntryForm → (Value → List Piece) → (first value : Value) → List Piece
+formed_pieces Colon repr v w = both_pieces repr (codes ": ") v w
+formed_pieces Pair repr v w = around (codes "(") (both_pieces repr (codes ", ") v w) (codes ")")
+
+abbrev pub entry_pieces : EntryForm → (Value → List Piece) → Entry → List Piece
+entry_pieces form repr e = formed_pieces form repr e.first e.value
 
 -- a tuple of one item ends in a comma
 abbrev pub tuple_end : List Value → List ℕ
@@ -96,9 +110,6 @@ is_open p (q ∷ path) = nat_eq p q || is_open p path
 abbrev pub unless_open : (place : ℕ) → (path : List ℕ) → (dots : List ℕ) → List Piece → List Piece
 unless_open p path dots ps = if is_open p path then Ok dots ∷ [] else ps
 
-abbrev pub around : (before : List ℕ) → List Piece → (behind : List ℕ) → List Piece
-around before ps behind = Ok before ∷ (ps ++ Ok behind ∷ [])
-
 -- an exception by its class and its arguments, one alone without a comma (Library Reference, "Built-in Exceptions")
 abbrev pub error_start : List Object → (class : ObjId) → List ℕ
 error_start h class = sentence (name_at h class ∷ codes "(" ∷ [])
@@ -107,18 +118,29 @@ error_start h class = sentence (name_at h class ∷ codes "(" ∷ [])
 abbrev pub set_pieces : List Entry → List Piece → List Piece
 set_pieces es ps = if nat_eq (length es) 0 then Ok (codes "set()") ∷ [] else ps
 
--- what stands between the brackets of a container: items, or the entries of a dictionary
+-- what stands between the brackets of a container: items, or entries of one form
 abbrev pub Inside : Type 0
-Inside = List Value ⊎ List Entry
+Inside = List Value ⊎ (EntryForm × List Entry)
 
--- what stands at a place; of views and slices there is no text yet
+-- a view by its class and a list of what it shows (Library Reference, "Dictionary view objects")
+abbrev pub view_start : Part → List ℕ
+view_start Keys = codes "dict_keys(["
+view_start Values = codes "dict_values(["
+view_start Items = codes "dict_items(["
+
+abbrev pub view_inside : Part → List Entry → Inside
+view_inside Keys es = inl (shown Keys es)
+view_inside Values es = inl (shown Values es)
+view_inside Items es = inr (Pair, es)
+
+-- what stands at a place; of slices there is no text yet
 abbrev pub object_pieces : ((path : List ℕ) → Inside → List Piece) → List Object → (path : List ℕ) → (place : ℕ) → Option Object → List Piece
 object_pieces items h path p (Some (object.Str t)) = Ok (quoted t) ∷ []
 object_pieces items h path p (Some (object.List vs)) = unless_open p path (codes "[...]") (around (codes "[") (items (path ++ p ∷ []) (inl vs)) (codes "]"))
 object_pieces items h path p (Some (object.Tuple vs)) = unless_open p path (codes "(...)") (around (codes "(") (items (path ++ p ∷ []) (inl vs)) (tuple_end vs))
-object_pieces items h path p (Some (object.Dict es)) = unless_open p path (codes "{...}") (around (codes "{") (items (path ++ p ∷ []) (inr es)) (codes "}"))
+object_pieces items h path p (Some (object.Dict es)) = unless_open p path (codes "{...}") (around (codes "{") (items (path ++ p ∷ []) (inr (Colon, es))) (codes "}"))
 object_pieces items h path p (Some (object.Set es)) = set_pieces es (around (codes "{") (items (path ++ p ∷ []) (inl (shown Keys es))) (codes "}"))
-object_pieces items h path p (Some (object.View v)) = Err Feature ∷ []
+object_pieces items h path p (Some (object.View v)) = unless_open p path (codes "...") (around (view_start v.part) (items (path ++ p ∷ []) (view_inside v.part (viewed h v))) (codes "])"))
 object_pieces items h path p (Some (object.Slice s)) = Err Feature ∷ []
 object_pieces items h path p (Some (object.Error x)) = unless_open p path (codes "...") (around (error_start h x.class) (items (path ++ p ∷ []) (inl x.args)) (codes ")"))
 object_pieces items h path p o = Ok (plain_text h o) ∷ []
@@ -135,7 +157,7 @@ value_pieces items h path (value.Obj id) = object_pieces items h path id.0 (slic
 unfoldable pub item_pieces : List Object → (depth : ℕ) → (path : List ℕ) → Inside → List Piece
 item_pieces h zero path inside = Err Deep ∷ []
 item_pieces h (suc depth) path (inl vs) = between_commas (value_pieces (item_pieces h depth) h path) vs
-item_pieces h (suc depth) path (inr es) = between_commas (entry_pieces (value_pieces (item_pieces h depth) h path)) es
+item_pieces h (suc depth) path (inr (form, es)) = between_commas (entry_pieces form (value_pieces (item_pieces h depth) h path)) es
 
 -- how many containers may stand inside one another
 abbrev pub depth_limit : ℕ

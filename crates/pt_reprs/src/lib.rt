@@ -9,7 +9,11 @@ mod repr;
 mod texts;
 mod writer;
 
-pub use dict_view::shown;
-pub use reached::{need_help, needs_help};
-pub use texts::{KEY_ERROR, error_content, new_text, print_content, repr_content, str_content};
+pub use dict_view::{shown, viewed};
+pub use reached::{is_container, need_help, needs_help};
+pub use repr::{error_start, tuple_end, view_start};
+pub use texts::{
+    KEY_ERROR, error_content, new_text, print_content, repr_content, repr_text, str_content,
+    unwritten,
+};
 pub use writer::{WriteErr, Writer};

@@ -5,7 +5,7 @@ ghost use Rattle.pt_heap.specs.declared.value.Value.TheVariants as values;
 ghost use Rattle.pt_reprs.specs.Marks.{has_instance, is_container, with_mark, Follows, MarksFirst};
 ghost use Rattle.pt_reprs.specs.Reached.{is_instance, need_help, needs_help, parts_of};
 
-use crate::dict_view::shown;
+use crate::dict_view::{shown, viewed};
 use indexmap::IndexSet;
 use pt_base::{Memory, ObjId};
 use pt_content::{Operand, object_at, operand_of};
@@ -18,8 +18,8 @@ fn is_instance(heap: &Heap, value: Value) -> bool
     operand_of(heap, value) == Operand::Instance
 }
 
-/// Whether a list, tuple, dictionary, set or exception stands at a place.
-fn is_container(heap: &Heap, id: ObjId) -> bool
+/// Whether a list, tuple, dictionary, set, view or exception stands at a place.
+pub fn is_container(heap: &Heap, id: ObjId) -> bool
     ensures { result ≡ is_container (slice_get heap.now id.0) }
 {
     match object_at(heap, id) {
@@ -27,12 +27,13 @@ fn is_container(heap: &Heap, id: ObjId) -> bool
         Some(Object::Tuple(_)) => true,
         Some(Object::Dict(_)) => true,
         Some(Object::Set(_)) => true,
+        Some(Object::View(_)) => true,
         Some(Object::Error(_)) => true,
         _ => false,
     }
 }
 
-/// Marks a container or exception by its place.
+/// Marks a container, view or exception by its place.
 fn mark(heap: &Heap, marks: &mut IndexSet<u32, Seed>, value: Value) -> Result<(), Memory>
     ensures keys { OnOk result (marks.new.keys ≡ with_mark heap.now marks.old.keys value) }
     ensures unique { OnOk result (IsUnique nat_eq marks.old → IsUnique nat_eq marks.new) }
@@ -45,7 +46,7 @@ fn mark(heap: &Heap, marks: &mut IndexSet<u32, Seed>, value: Value) -> Result<()
     Ok(())
 }
 
-/// Marks the containers and exceptions of some values up to an instance of a script's class, and
+/// Marks the containers, views and exceptions of some values up to an instance of a script's class, and
 /// answers whether there is one.
 fn mark_all(heap: &Heap, marks: &mut IndexSet<u32, Seed>, values: &[Value]) -> Result<bool, Memory>
     ensures found { IfOk result (λ found. found ≡ has_instance heap.now values.now) }
@@ -62,7 +63,7 @@ fn mark_all(heap: &Heap, marks: &mut IndexSet<u32, Seed>, values: &[Value]) -> R
     Ok(false)
 }
 
-/// Marks the containers and exceptions that stand in the one at a place.
+/// Marks the containers, views and exceptions that stand in the one at a place.
 fn mark_parts(
     alloc: Global,
     heap: &Heap,
@@ -87,6 +88,10 @@ fn mark_parts(
             let parts = shown(alloc, Part::Keys, set)?;
             mark_all(heap, marks, parts.as_slice())
         }
+        Some(Object::View(view)) => {
+            let parts = viewed(alloc, heap, *view)?;
+            mark_all(heap, marks, parts.as_slice())
+        }
         Some(Object::Error(error)) => mark_all(heap, marks, error.args.as_slice()),
         _ => mark_all(heap, marks, &[]),
     }
@@ -99,7 +104,8 @@ fn marked(marks: &IndexSet<u32, Seed>, at: u32) -> Option<u32>
     marks.get_index(at as usize).copied()
 }
 
-/// Whether an instance of a script's class is reached from the container or exception at a place.
+/// Whether an instance of a script's class is reached from the container, view or exception at a
+/// place.
 /// Each that is reached is gone through once.
 fn is_reached(alloc: Global, heap: &Heap, id: ObjId) -> Result<bool, Memory>
     requires plain { is_instance (operand_of heap.now (values.Obj id)) ≡ false }
@@ -131,8 +137,8 @@ fn object_needs_help(alloc: Global, heap: &Heap, id: ObjId) -> Result<bool, Memo
     Ok(false)
 }
 
-/// Whether a value is an instance of a script's class, or a container or exception from which one is
-/// reached, in time linear in what is reached.
+/// Whether a value is an instance of a script's class, or a container, view or exception from which
+/// one is reached, in time linear in what is reached.
 pub fn needs_help(alloc: Global, heap: &Heap, value: Value) -> Result<bool, Memory>
     ensures { IfOk result (λ needs. needs ≡ needs_help heap.now value) }
 {

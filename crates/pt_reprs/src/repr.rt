@@ -3,24 +3,35 @@ ghost use Rattle.std.proofs.Common.{inl, inr};
 ghost use Rattle.std.specs.Fmt.{signed_decimal};
 ghost use Rattle.pt_heap.specs.Entries.{entry};
 ghost use Rattle.pt_heap.specs.declared.object.Part.TheVariants as parts;
+ghost use Rattle.pt_reprs.specs.declared.repr.EntryForm.TheVariants as forms;
 ghost use Rattle.pt_reprs.specs.Pieces.{Writes};
-ghost use Rattle.pt_reprs.specs.Reprs.{around, depth_limit, entry_pieces, error_start, is_open};
+ghost use Rattle.pt_reprs.specs.Reprs.{around, both_pieces, depth_limit, entry_pieces};
+ghost use Rattle.pt_reprs.specs.Reprs.{error_start, is_open, view_inside, view_start};
 ghost use Rattle.pt_reprs.specs.Reprs.{item_pieces, object_pieces, plain_text, range_end};
 ghost use Rattle.pt_reprs.specs.Reprs.{tuple_pieces};
 ghost use Rattle.pt_reprs.specs.Reprs.{range_text, repr_pieces, tuple_end};
 ghost use Rattle.pt_reprs.specs.Reprs.{value_pieces};
-ghost use Rattle.pt_reprs.specs.Shown.{shown};
+ghost use Rattle.pt_reprs.specs.Shown.{shown, viewed};
 
 use crate::dict_view::shown;
 use crate::quoted::quoted;
 use crate::{WriteErr, Writer};
 use pt_base::{Failure, Memory, ObjId, Seq, Text};
 use pt_content::{name_at, object_at, object_class, sentence};
-use pt_heap::{Dict, Heap, Object, Part, Range, Value};
+use pt_heap::{Dict, DictView, Heap, Object, Part, Range, Value};
 use std::alloc::Global;
 
 /// How many containers or exceptions may stand inside one another.
 pub const DEPTH_LIMIT: u32 = 1000;
+
+/// How an entry of a dictionary is written.
+#[derive(Clone, Copy, Debug, PartialEq, Eq)]
+pub enum EntryForm {
+    /// As in a dictionary.
+    Colon,
+    /// As a tuple of its key and its value.
+    Pair,
+}
 
 fn number_text(alloc: Global, number: i128) -> Result<Text, Memory>
     ensures { IfOk result (λ text. text ≡ signed_decimal number) }
@@ -75,7 +86,8 @@ fn is_open(path: &[u32], id: ObjId) -> bool
     false
 }
 
-fn tuple_end(items: &[Value]) -> &'static str
+/// What stands behind the items of a tuple. One of one item ends in a comma.
+pub fn tuple_end(items: &[Value]) -> &'static str
     ensures { result.now ≡ tuple_end items.now }
 {
     match items {
@@ -84,8 +96,19 @@ fn tuple_end(items: &[Value]) -> &'static str
     }
 }
 
+/// What stands before what a view shows.
+pub fn view_start(part: Part) -> &'static str
+    ensures { result.now ≡ view_start part }
+{
+    match part {
+        Part::Keys => "dict_keys([",
+        Part::Values => "dict_values([",
+        Part::Items => "dict_items([",
+    }
+}
+
 /// What stands before the arguments of an exception.
-fn error_start(alloc: Global, heap: &Heap, class: ObjId) -> Result<Text, Memory>
+pub fn error_start(alloc: Global, heap: &Heap, class: ObjId) -> Result<Text, Memory>
     ensures { IfOk result (λ text. text ≡ error_start heap.now class) }
 {
     sentence(alloc, &[name_at(heap, class), "("])
@@ -146,6 +169,49 @@ fn push_container(
     writer.push(behind)
 }
 
+/// Writes a key and a value.
+#[cycle(reprs)]
+fn push_both(
+    alloc: Global,
+    heap: &Heap,
+    writer: &mut Writer,
+    path: &mut Seq<u32>,
+    first: Value,
+    value: Value,
+    depth: u32,
+    between: &str,
+) -> Result<(), Failure<WriteErr>>
+    ensures writes { Writes writer.old writer.new result
+        (both_pieces (value_pieces (item_pieces heap.now depth) heap.now path.old) between.now
+        first value) }
+    ensures path { OnOk result (path.new ≡ path.old) }
+{
+    push_value(alloc, heap, writer, path, first, depth)?;
+    writer.push(between)?;
+    push_value(alloc, heap, writer, path, value, depth)
+}
+
+/// Writes a key and a value as a tuple.
+#[cycle(reprs)]
+fn push_pair(
+    alloc: Global,
+    heap: &Heap,
+    writer: &mut Writer,
+    path: &mut Seq<u32>,
+    first: Value,
+    value: Value,
+    depth: u32,
+) -> Result<(), Failure<WriteErr>>
+    ensures writes { Writes writer.old writer.new result
+        (around (codes "(") (both_pieces (value_pieces (item_pieces heap.now depth) heap.now
+        path.old) (codes ", ") first value) (codes ")")) }
+    ensures path { OnOk result (path.new ≡ path.old) }
+{
+    writer.push("(")?;
+    push_both(alloc, heap, writer, path, first, value, depth, ", ")?;
+    writer.push(")")
+}
+
 /// Writes an entry of a dictionary.
 #[cycle(reprs)]
 fn push_entry(
@@ -156,15 +222,17 @@ fn push_entry(
     first: Value,
     value: Value,
     depth: u32,
+    form: EntryForm,
 ) -> Result<(), Failure<WriteErr>>
     ensures writes { Writes writer.old writer.new result
-        (entry_pieces (value_pieces (item_pieces heap.now depth) heap.now path.old)
+        (entry_pieces form (value_pieces (item_pieces heap.now depth) heap.now path.old)
         (entry [] first value)) }
     ensures path { OnOk result (path.new ≡ path.old) }
 {
-    push_value(alloc, heap, writer, path, first, depth)?;
-    writer.push(": ")?;
-    push_value(alloc, heap, writer, path, value, depth)
+    match form {
+        EntryForm::Colon => push_both(alloc, heap, writer, path, first, value, depth, ": "),
+        EntryForm::Pair => push_pair(alloc, heap, writer, path, first, value, depth),
+    }
 }
 
 /// Writes the entries of a dictionary, in which so many containers may stand inside one another, it
@@ -177,9 +245,10 @@ fn push_entries(
     path: &mut Seq<u32>,
     dict: &Dict,
     depth: u32,
+    form: EntryForm,
 ) -> Result<(), Failure<WriteErr>>
     ensures writes { Writes writer.old writer.new result
-        (item_pieces heap.now depth path.old (inr dict.now)) }
+        (item_pieces heap.now depth path.old (inr (form, dict.now))) }
     ensures path { OnOk result (path.new ≡ path.old) }
 {
     if depth == 0 {
@@ -197,6 +266,7 @@ fn push_entries(
         first.first,
         first.value,
         depth - 1,
+        form,
     )?;
     while let Some(entry) = left.next() {
         writer.push(", ")?;
@@ -208,12 +278,13 @@ fn push_entries(
             entry.first,
             entry.value,
             depth - 1,
+            form,
         )?;
     }
     Ok(())
 }
 
-/// Writes a dictionary.
+/// Writes a dictionary, or a view of its entries, between its brackets.
 #[cycle(reprs)]
 fn push_dict(
     alloc: Global,
@@ -223,17 +294,20 @@ fn push_dict(
     id: ObjId,
     dict: &Dict,
     depth: u32,
+    form: EntryForm,
+    before: &str,
+    behind: &str,
 ) -> Result<(), Failure<WriteErr>>
     ensures writes { Writes writer.old writer.new result
-        (around (codes "{") (item_pieces heap.now depth (path.old ++ id.0 ∷ []) (inr dict.now))
-        (codes "}")) }
+        (around before.now (item_pieces heap.now depth (path.old ++ id.0 ∷ [])
+        (inr (form, dict.now))) behind.now) }
     ensures path { OnOk result (path.new ≡ path.old) }
 {
-    writer.push("{")?;
+    writer.push(before)?;
     path.push(id.0)?;
-    push_entries(alloc, heap, writer, path, dict, depth)?;
+    push_entries(alloc, heap, writer, path, dict, depth, form)?;
     let _ = path.pop();
-    writer.push("}")
+    writer.push(behind)
 }
 
 /// Writes a set that is not empty.
@@ -264,6 +338,83 @@ fn push_set(
         "{",
         "}",
     )
+}
+
+/// Writes what a view shows of a dictionary.
+#[cycle(reprs)]
+fn push_shown(
+    alloc: Global,
+    heap: &Heap,
+    writer: &mut Writer,
+    path: &mut Seq<u32>,
+    id: ObjId,
+    part: Part,
+    dict: &Dict,
+    depth: u32,
+) -> Result<(), Failure<WriteErr>>
+    ensures writes { Writes writer.old writer.new result
+        (around (view_start part) (item_pieces heap.now depth (path.old ++ id.0 ∷ [])
+        (view_inside part dict.now)) (codes "])")) }
+    ensures path { OnOk result (path.new ≡ path.old) }
+{
+    let start = view_start(part);
+    match part {
+        Part::Keys | Part::Values => {
+            let items = shown(alloc, part, dict)?;
+            push_container(
+                alloc,
+                heap,
+                writer,
+                path,
+                id,
+                items.as_slice(),
+                depth,
+                start,
+                "])",
+            )
+        }
+        Part::Items => {
+            push_dict(
+                alloc,
+                heap,
+                writer,
+                path,
+                id,
+                dict,
+                depth,
+                EntryForm::Pair,
+                start,
+                "])",
+            )
+        }
+    }
+}
+
+/// Writes a view.
+#[cycle(reprs)]
+fn push_view(
+    alloc: Global,
+    heap: &Heap,
+    writer: &mut Writer,
+    path: &mut Seq<u32>,
+    id: ObjId,
+    view: DictView,
+    depth: u32,
+) -> Result<(), Failure<WriteErr>>
+    ensures writes { Writes writer.old writer.new result
+        (around (view_start view.part) (item_pieces heap.now depth (path.old ++ id.0 ∷ [])
+        (view_inside view.part (viewed heap.now view))) (codes "])")) }
+    ensures path { OnOk result (path.new ≡ path.old) }
+{
+    match object_at(heap, view.dict) {
+        Some(Object::Dict(dict)) => {
+            push_shown(alloc, heap, writer, path, id, view.part, dict, depth)
+        }
+        _ => {
+            let none = Dict::new(alloc, heap.seed());
+            push_shown(alloc, heap, writer, path, id, view.part, &none, depth)
+        }
+    }
 }
 
 /// Writes an object.
@@ -316,10 +467,24 @@ fn push_object(
             )
         }
         Some(Object::Dict(_)) if is_open(path.as_slice(), id) => writer.push("{...}"),
-        Some(Object::Dict(dict)) => push_dict(alloc, heap, writer, path, id, dict, depth),
+        Some(Object::Dict(dict)) => {
+            push_dict(
+                alloc,
+                heap,
+                writer,
+                path,
+                id,
+                dict,
+                depth,
+                EntryForm::Colon,
+                "{",
+                "}",
+            )
+        }
         Some(Object::Set(set)) if set.len() == 0 => writer.push("set()"),
         Some(Object::Set(set)) => push_set(alloc, heap, writer, path, id, set, depth),
-        Some(Object::View(_)) => Err(Failure::Refused(WriteErr::Feature)),
+        Some(Object::View(_)) if is_open(path.as_slice(), id) => writer.push("..."),
+        Some(Object::View(view)) => push_view(alloc, heap, writer, path, id, *view, depth),
         Some(Object::Slice(_)) => Err(Failure::Refused(WriteErr::Feature)),
         Some(Object::Error(_)) if is_open(path.as_slice(), id) => writer.push("..."),
         Some(Object::Error(error)) => {

@@ -42,7 +42,7 @@ fn asked(helper: Helper) -> Content
 }
 
 /// What is answered where a text can't be written.
-fn unwritten(alloc: Global, error: WriteErr) -> Result<Content, Memory>
+pub fn unwritten(alloc: Global, error: WriteErr) -> Result<Content, Memory>
     ensures { IfOk result
         (λ content. (make : List ℕ → Content) → content ≡ by_text make (Err error)) }
 {
@@ -53,7 +53,8 @@ fn unwritten(alloc: Global, error: WriteErr) -> Result<Content, Memory>
     }
 }
 
-fn repr_text(alloc: Global, heap: &Heap, value: Value) -> Result<Content, Memory>
+/// `repr` of a value that needs no methods of a script. Errors as those of `repr`.
+pub fn repr_text(alloc: Global, heap: &Heap, value: Value) -> Result<Content, Memory>
     ensures { IfOk result (λ content. content ≡ text_content (repr_pieces heap.now value)) }
 {
     let mut writer = Writer::new(alloc, LENGTH_LIMIT);

@@ -97,7 +97,24 @@ fn write_cursor(line: &mut String, row: Row, cursor: Cursor, depth: u32) -> Resu
     Ok(())
 }
 
-/// Writes what a container, a range or an iterator holds.
+/// Writes a method by the value that it is bound to.
+#[cycle(items)]
+fn write_method(
+    line: &mut String,
+    row: Row,
+    receiver: Option<Value>,
+    depth: u32,
+) -> Result<(), NoRow> {
+    let Some(receiver) = receiver else {
+        return Err(NoRow);
+    };
+    line.push_str("method(")?;
+    write_item(line, row, receiver, depth)?;
+    line.push_str(")")?;
+    Ok(())
+}
+
+/// Writes what a container, a range or an iterator holds, or a method.
 #[cycle(items)]
 fn write_made(line: &mut String, row: Row, id: ObjId, depth: u32) -> Result<(), NoRow> {
     match object_at(row.heap, id) {
@@ -119,11 +136,9 @@ fn write_made(line: &mut String, row: Row, id: ObjId, depth: u32) -> Result<(), 
         Some(Object::Range(range)) => {
             write!(line, "range({},{},{})", range.start, range.stop, range.step)?;
         }
-        Some(Object::Cursor(cursor)) => {
-            if depth == 0 {
-                return Err(NoRow);
-            }
-            write_cursor(line, row, *cursor, depth - 1)?;
+        Some(Object::Cursor(cursor)) if depth > 0 => write_cursor(line, row, *cursor, depth - 1)?,
+        Some(Object::Builtin(builtin)) if depth > 0 => {
+            write_method(line, row, builtin.receiver, depth - 1)?;
         }
         _ => return Err(NoRow),
     }

@@ -3,7 +3,7 @@ use Rattle.std.proofs.lemmas.List.{at_drop_more, nil_from_length}
 use Rattle.pt_heap.specs.declared.value.Value.TheVariants as value
 use Rattle.pt_heap.specs.Entries.{entry}
 use Rattle.pt_reprs.specs.Pieces.{with_pieces, Writes}
-use Rattle.pt_reprs.specs.Reprs.{behind_commas, between_commas, entry_pieces, item_pieces, value_pieces}
+use Rattle.pt_reprs.specs.Reprs.{behind_commas, between_commas, both_pieces, entry_pieces, item_pieces, value_pieces}
 use Rattle.pt_reprs.proofs.PieceLemmas.{left-stops, still-left, written-more, writes-more, writes-stop, written-two}
 use Rattle.pt_reprs.proofs.TextLemmas.{entries-between, first-entry, first-item, items-between, items-deep}
 use Rattle.pt_reprs.proofs.repr.+reprs.Goals as goal
@@ -109,68 +109,81 @@ push_items-returns-in-empty-clause-writes t c =
 pub push_dict-returns-in_err-push_entries-clause-writes : goal.push_dict-returns-in_err-push_entries-clause-writes
 push_dict-returns-in_err-push_entries-clause-writes t c =
     let es = c.args.dict.now in
-    let entries = item_pieces c.args.heap.now c.args.depth (c.args.path.now ++ c.args.id.0 ∷ []) (inr es) in
+    let entries = item_pieces c.args.heap.now c.args.depth (c.args.path.now ++ c.args.id.0 ∷ []) (inr (c.args.form, es)) in
     let e = c.in_err-push_entries.field-0.0 in
     let w : Writes c.push.new.self c.push_entries.new.writer (Err e) entries =
-    subst (λ l. Writes c.push.new.self c.push_entries.new.writer (Err e) (item_pieces c.args.heap.now c.args.depth l (inr es))) c.in_ok-push-2.ensures.ok c.in_err-push_entries.ensures.writes in
-    writes-stop c.args.writer.now c.push_entries.new.writer c.push_entries.new.writer c.from_residual-in_err-push_entries.result e (Ok (codes "{") ∷ entries) (Ok (codes "}") ∷ []) c.from_residual-in_err-push_entries.ensures
-    (writes-more c.args.writer.now c.push.new.self c.push_entries.new.writer (Err e) (Ok (codes "{") ∷ []) entries c.in_ok-push.ensures w)
+    subst (λ l. Writes c.push.new.self c.push_entries.new.writer (Err e) (item_pieces c.args.heap.now c.args.depth l (inr (c.args.form, es)))) c.in_ok-push-2.ensures.ok c.in_err-push_entries.ensures.writes in
+    writes-stop c.args.writer.now c.push_entries.new.writer c.push_entries.new.writer c.from_residual-in_err-push_entries.result e (Ok c.args.before.now ∷ entries) (Ok c.args.behind.now ∷ []) c.from_residual-in_err-push_entries.ensures
+    (writes-more c.args.writer.now c.push.new.self c.push_entries.new.writer (Err e) (Ok c.args.before.now ∷ []) entries c.in_ok-push.ensures w)
 
 pub push_dict-returns-clause-writes : goal.push_dict-returns-clause-writes
 push_dict-returns-clause-writes t c =
     let es = c.args.dict.now in
-    let entries = item_pieces c.args.heap.now c.args.depth (c.args.path.now ++ c.args.id.0 ∷ []) (inr es) in
+    let entries = item_pieces c.args.heap.now c.args.depth (c.args.path.now ++ c.args.id.0 ∷ []) (inr (c.args.form, es)) in
     let w : with_pieces entries c.push.new.self ≡ Ok c.push_entries.new.writer =
-    subst (λ l. with_pieces (item_pieces c.args.heap.now c.args.depth l (inr es)) c.push.new.self ≡ Ok c.push_entries.new.writer) c.in_ok-push-2.ensures.ok c.in_ok-push_entries.ensures.writes in
-    writes-more c.args.writer.now c.push_entries.new.writer c.push-3.new.self c.push-3.result (Ok (codes "{") ∷ entries) (Ok (codes "}") ∷ [])
-    (written-two (Ok (codes "{") ∷ []) entries c.args.writer.now c.push.new.self c.push_entries.new.writer c.in_ok-push.ensures w) c.push-3.ensures
+    subst (λ l. with_pieces (item_pieces c.args.heap.now c.args.depth l (inr (c.args.form, es))) c.push.new.self ≡ Ok c.push_entries.new.writer) c.in_ok-push-2.ensures.ok c.in_ok-push_entries.ensures.writes in
+    writes-more c.args.writer.now c.push_entries.new.writer c.push-3.new.self c.push-3.result (Ok c.args.before.now ∷ entries) (Ok c.args.behind.now ∷ [])
+    (written-two (Ok c.args.before.now ∷ []) entries c.args.writer.now c.push.new.self c.push_entries.new.writer c.in_ok-push.ensures w) c.push-3.ensures
 
-pub push_entry-returns-in_err-push_value-clause-writes : goal.push_entry-returns-in_err-push_value-clause-writes
-push_entry-returns-in_err-push_value-clause-writes t c =
+pub push_both-returns-in_err-push_value-clause-writes : goal.push_both-returns-in_err-push_value-clause-writes
+push_both-returns-in_err-push_value-clause-writes t c =
     let h = c.args.heap.now in
     let f = value_pieces (item_pieces h c.args.depth) h c.args.path.now in
-    writes-stop c.args.writer.now c.push_value.new.writer c.push_value.new.writer c.from_residual.result c.in_err-push_value.field-0.0 (f c.args.first) (Ok (codes ": ") ∷ f c.args.value)
+    writes-stop c.args.writer.now c.push_value.new.writer c.push_value.new.writer c.from_residual.result c.in_err-push_value.field-0.0 (f c.args.first) (Ok c.args.between.now ∷ f c.args.value)
     c.from_residual.ensures c.in_err-push_value.ensures.writes
 
-pub push_entry-returns-in_err-push-clause-writes : goal.push_entry-returns-in_err-push-clause-writes
-push_entry-returns-in_err-push-clause-writes t c =
+pub push_both-returns-in_err-push-clause-writes : goal.push_both-returns-in_err-push-clause-writes
+push_both-returns-in_err-push-clause-writes t c =
     let h = c.args.heap.now in
     let f = value_pieces (item_pieces h c.args.depth) h c.args.path.now in
     let r = c.from_residual-in_err-push.result in
-    writes-more c.args.writer.now c.push_value.new.writer c.push.new.self r (f c.args.first) (Ok (codes ": ") ∷ f c.args.value) c.in_ok-push_value.ensures.writes
-    (writes-stop c.push_value.new.writer c.push.new.self c.push.new.self r c.in_err-push.field-0.0 (Ok (codes ": ") ∷ []) (f c.args.value) c.from_residual-in_err-push.ensures c.in_err-push.ensures)
+    writes-more c.args.writer.now c.push_value.new.writer c.push.new.self r (f c.args.first) (Ok c.args.between.now ∷ f c.args.value) c.in_ok-push_value.ensures.writes
+    (writes-stop c.push_value.new.writer c.push.new.self c.push.new.self r c.in_err-push.field-0.0 (Ok c.args.between.now ∷ []) (f c.args.value) c.from_residual-in_err-push.ensures c.in_err-push.ensures)
 
-pub push_entry-returns-clause-writes : goal.push_entry-returns-clause-writes
-push_entry-returns-clause-writes t c =
+pub push_both-returns-clause-writes : goal.push_both-returns-clause-writes
+push_both-returns-clause-writes t c =
     let h = c.args.heap.now in
     let f = value_pieces (item_pieces h c.args.depth) h c.args.path.now in
     let new = c.push_value-2.new.writer in
     let r = c.push_value-2.result in
     let w : Writes c.push.new.self new r (f c.args.value) =
     subst (λ l. Writes c.push.new.self new r (value_pieces (item_pieces h c.args.depth) h l c.args.value)) c.in_ok-push_value.ensures.path c.push_value-2.ensures.writes in
-    writes-more c.args.writer.now c.push_value.new.writer new r (f c.args.first) (Ok (codes ": ") ∷ f c.args.value) c.in_ok-push_value.ensures.writes
-    (writes-more c.push_value.new.writer c.push.new.self new r (Ok (codes ": ") ∷ []) (f c.args.value) c.in_ok-push.ensures w)
+    writes-more c.args.writer.now c.push_value.new.writer new r (f c.args.first) (Ok c.args.between.now ∷ f c.args.value) c.in_ok-push_value.ensures.writes
+    (writes-more c.push_value.new.writer c.push.new.self new r (Ok c.args.between.now ∷ []) (f c.args.value) c.in_ok-push.ensures w)
+
+pub push_pair-returns-in_err-push_both-clause-writes : goal.push_pair-returns-in_err-push_both-clause-writes
+push_pair-returns-in_err-push_both-clause-writes t c =
+    let both = both_pieces (value_pieces (item_pieces c.args.heap.now c.args.depth) c.args.heap.now c.args.path.now) (codes ", ") c.args.first c.args.value in
+    let e = c.in_err-push_both.field-0.0 in
+    writes-stop c.args.writer.now c.push_both.new.writer c.push_both.new.writer c.from_residual-in_err-push_both.result e (Ok (codes "(") ∷ both) (Ok (codes ")") ∷ []) c.from_residual-in_err-push_both.ensures
+    (writes-more c.args.writer.now c.push.new.self c.push_both.new.writer (Err e) (Ok (codes "(") ∷ []) both c.in_ok-push.ensures c.in_err-push_both.ensures.writes)
+
+pub push_pair-returns-clause-writes : goal.push_pair-returns-clause-writes
+push_pair-returns-clause-writes t c =
+    let both = both_pieces (value_pieces (item_pieces c.args.heap.now c.args.depth) c.args.heap.now c.args.path.now) (codes ", ") c.args.first c.args.value in
+    writes-more c.args.writer.now c.push_both.new.writer c.push-2.new.self c.push-2.result (Ok (codes "(") ∷ both) (Ok (codes ")") ∷ [])
+    (written-two (Ok (codes "(") ∷ []) both c.args.writer.now c.push.new.self c.push_both.new.writer c.in_ok-push.ensures c.in_ok-push_both.ensures.writes) c.push-2.ensures
 
 pub push_entries-returns-then-depth-eq0-clause-writes : goal.push_entries-returns-then-depth-eq0-clause-writes
 push_entries-returns-then-depth-eq0-clause-writes t c =
-    ap (λ d. with_pieces (item_pieces c.args.heap.now d c.args.path.now (inr c.args.dict.now)) c.args.writer.now) c.if-depth-eq0.true ∙ items-deep c.args.heap.now c.args.path.now (inr c.args.dict.now) c.args.writer.now
+    ap (λ d. with_pieces (item_pieces c.args.heap.now d c.args.path.now (inr (c.args.form, c.args.dict.now))) c.args.writer.now) c.if-depth-eq0.true ∙ items-deep c.args.heap.now c.args.path.now (inr (c.args.form, c.args.dict.now)) c.args.writer.now
 
 pub push_entries-returns-in_default-clause-writes : goal.push_entries-returns-in_default-clause-writes
 push_entries-returns-in_default-clause-writes t c =
     let h = c.args.heap.now in
-    let f = entry_pieces (value_pieces (item_pieces h (c.args.depth - 1)) h c.args.path.now) in
+    let f = entry_pieces c.args.form (value_pieces (item_pieces h (c.args.depth - 1)) h c.args.path.now) in
     let none : c.args.dict.now ≡ [] = sym c.entries-left.ensures.rest ∙ c.in_default.ensures.end in
-    let whole = entries-between h c.args.depth c.args.path.now c.args.dict.now (omega (arith, c.if-depth-eq0.false)) ∙ ap (between_commas f) none in
+    let whole = entries-between h c.args.depth c.args.path.now c.args.form c.args.dict.now (omega (arith, c.if-depth-eq0.false)) ∙ ap (between_commas f) none in
     ap (λ ps. with_pieces ps c.args.writer.now) whole
 
 pub push_entries-returns-in_err-push_entry-clause-writes : goal.push_entries-returns-in_err-push_entry-clause-writes
 push_entries-returns-in_err-push_entry-clause-writes t c =
     let h = c.args.heap.now in
-    let f = entry_pieces (value_pieces (item_pieces h (c.args.depth - 1)) h c.args.path.now) in
+    let f = entry_pieces c.args.form (value_pieces (item_pieces h (c.args.depth - 1)) h c.args.path.now) in
     let e = entry c.in-Some.first.key.now c.in-Some.first.first c.in-Some.first.value in
     let rest = c.next.new.self in
     let split : c.args.dict.now ≡ e ∷ rest = sym c.entries-left.ensures.rest ∙ c.in-Some.ensures.first in
-    let whole = first-entry h c.args.depth c.args.path.now c.args.dict.now rest e (omega (arith, c.if-depth-eq0.false)) split in
+    let whole = first-entry h c.args.depth c.args.path.now c.args.form c.args.dict.now rest e (omega (arith, c.if-depth-eq0.false)) split in
     subst (λ ps. Writes c.args.writer.now c.push_entry.new.writer c.from_residual.result ps) (sym whole)
     (writes-stop c.args.writer.now c.push_entry.new.writer c.push_entry.new.writer c.from_residual.result c.in_err-push_entry.field-0.0 (f e) (behind_commas f rest)
     c.from_residual.ensures c.in_err-push_entry.ensures.writes)
@@ -178,11 +191,11 @@ push_entries-returns-in_err-push_entry-clause-writes t c =
 pub push_entries-loop-entry-init : goal.push_entries-loop-entry-init
 push_entries-loop-entry-init t c =
     let h = c.args.heap.now in
-    let f = entry_pieces (value_pieces (item_pieces h (c.args.depth - 1)) h c.args.path.now) in
+    let f = entry_pieces c.args.form (value_pieces (item_pieces h (c.args.depth - 1)) h c.args.path.now) in
     let e = entry c.in-Some.first.key.now c.in-Some.first.first c.in-Some.first.value in
     let rest = c.next.new.self in
     let split : c.args.dict.now ≡ e ∷ rest = sym c.entries-left.ensures.rest ∙ c.in-Some.ensures.first in
-    let whole = first-entry h c.args.depth c.args.path.now c.args.dict.now rest e (omega (arith, c.if-depth-eq0.false)) split in
+    let whole = first-entry h c.args.depth c.args.path.now c.args.form c.args.dict.now rest e (omega (arith, c.if-depth-eq0.false)) split in
     record {
       writes = ap (λ ps. with_pieces ps c.args.writer.now) whole ∙ written-more (f e) (behind_commas f rest) c.args.writer.now c.push_entry.new.writer c.in_ok-push_entry.ensures.writes;
       path = c.in_ok-push_entry.ensures.path;
@@ -191,15 +204,15 @@ push_entries-loop-entry-init t c =
 pub push_entries-loop-entry-preserved : goal.push_entries-loop-entry-preserved
 push_entries-loop-entry-preserved t c =
     let h = c.args.heap.now in
-    let f = entry_pieces (value_pieces (item_pieces h (c.args.depth - 1)) h c.args.path.now) in
+    let f = entry_pieces c.args.form (value_pieces (item_pieces h (c.args.depth - 1)) h c.args.path.now) in
     let e = entry c.in-Some-next.entry.key.now c.in-Some-next.entry.first c.in-Some-next.entry.value in
     let left = c.loop-entry.left in
     let rest = c.next-in-loop-entry.new.self in
     let new = c.push_entry-in-Some-next.new.writer in
     let w : with_pieces (f e) c.push.new.self ≡ Ok new =
-    subst (λ l. with_pieces (entry_pieces (value_pieces (item_pieces h (c.args.depth - 1)) h l) e) c.push.new.self ≡ Ok new) c.loop-entry.invariant.path c.in_ok-push_entry-2.ensures.writes in
+    subst (λ l. with_pieces (entry_pieces c.args.form (value_pieces (item_pieces h (c.args.depth - 1)) h l) e) c.push.new.self ≡ Ok new) c.loop-entry.invariant.path c.in_ok-push_entry-2.ensures.writes in
     record {
-      writes = still-left (item_pieces h c.args.depth c.args.path.now (inr c.args.dict.now)) (behind_commas f left) (Ok (codes ", ") ∷ f e) (behind_commas f rest) c.args.writer.now c.loop-entry.writer new
+      writes = still-left (item_pieces h c.args.depth c.args.path.now (inr (c.args.form, c.args.dict.now))) (behind_commas f left) (Ok (codes ", ") ∷ f e) (behind_commas f rest) c.args.writer.now c.loop-entry.writer new
           c.loop-entry.invariant.writes (ap (behind_commas f) c.in-Some-next.ensures.first)
           (written-two (Ok (codes ", ") ∷ []) (f e) c.loop-entry.writer c.push.new.self new c.in_ok-push.ensures w);
       path = c.in_ok-push_entry-2.ensures.path ∙ c.loop-entry.invariant.path;
@@ -208,15 +221,15 @@ push_entries-loop-entry-preserved t c =
 pub push_entries-returns-in_err-push_entry-2-clause-writes : goal.push_entries-returns-in_err-push_entry-2-clause-writes
 push_entries-returns-in_err-push_entry-2-clause-writes t c =
     let h = c.args.heap.now in
-    let f = entry_pieces (value_pieces (item_pieces h (c.args.depth - 1)) h c.args.path.now) in
+    let f = entry_pieces c.args.form (value_pieces (item_pieces h (c.args.depth - 1)) h c.args.path.now) in
     let e = entry c.in-Some-next.entry.key.now c.in-Some-next.entry.first c.in-Some-next.entry.value in
     let left = c.loop-entry.left in
     let rest = c.next-in-loop-entry.new.self in
     let new = c.push_entry-in-Some-next.new.writer in
     let x = c.in_err-push_entry-2.field-0.0 in
     let w : Writes c.push.new.self new (Err x) (f e) =
-    subst (λ l. Writes c.push.new.self new (Err x) (entry_pieces (value_pieces (item_pieces h (c.args.depth - 1)) h l) e)) c.loop-entry.invariant.path c.in_err-push_entry-2.ensures.writes in
+    subst (λ l. Writes c.push.new.self new (Err x) (entry_pieces c.args.form (value_pieces (item_pieces h (c.args.depth - 1)) h l) e)) c.loop-entry.invariant.path c.in_err-push_entry-2.ensures.writes in
     left-stops c.args.writer.now c.loop-entry.writer new new c.from_residual-in_err-push_entry-2.result x
-    (item_pieces h c.args.depth c.args.path.now (inr c.args.dict.now)) (behind_commas f left) (Ok (codes ", ") ∷ f e) (behind_commas f rest)
+    (item_pieces h c.args.depth c.args.path.now (inr (c.args.form, c.args.dict.now))) (behind_commas f left) (Ok (codes ", ") ∷ f e) (behind_commas f rest)
     c.loop-entry.invariant.writes (ap (behind_commas f) c.in-Some-next.ensures.first) c.from_residual-in_err-push_entry-2.ensures
     (writes-more c.loop-entry.writer c.push.new.self new (Err x) (Ok (codes ", ") ∷ []) (f e) c.in_ok-push.ensures w)

@@ -7,6 +7,9 @@ decreases-write_item l = 4 * l.depth + 3
 abbrev pub decreases-write_cursor : goal.decreases-write_cursor
 decreases-write_cursor l = 4 * l.depth + 3
 
+abbrev pub decreases-write_method : goal.decreases-write_method
+decreases-write_method l = 4 * l.depth + 4
+
 abbrev pub decreases-write_object : goal.decreases-write_object
 decreases-write_object l = 4 * l.depth + 2
 
