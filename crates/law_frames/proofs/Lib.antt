@@ -1,5 +1,6 @@
 pub mod Stores
 pub mod StarredCells
+pub mod ObjectNames
 pub mod Answers
 pub mod Turns
 pub mod Strides

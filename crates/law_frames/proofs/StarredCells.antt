@@ -1,5 +1,5 @@
 -- What `*NAME` and `**NAME` are given makes no function.
-use Rattle.std.proofs.Common.{Bool, true, false, List, [], ◌∷◌, ◌++◌, length, Option, nat_eq, if◌then◌else◌}
+use Rattle.std.proofs.Common.{Bool, true, false, List, [], ◌∷◌, length, Option, nat_eq, if◌then◌else◌}
 use Rattle.pt_base.specs.declared.what.What.TheVariants.{Length}
 use Rattle.pt_heap.specs.Entries.{Entry, put}
 use Rattle.pt_heap.specs.Limits.{entry_limit}

@@ -1,7 +1,7 @@
 -- Names that are written keep their places, and functions their cells.
-use Rattle.std.proofs.Common.{◌≡◌, ◌∙◌, ◌<◌, ℕ, zero, suc, Bool, true, false, List, [], ◌∷◌, ◌++◌, length, Option, Some, refl, sym, ap, subst, arith, if◌then◌else◌, nat_eq}
-use Rattle.std.specs.Prelude.{slice_get, slice_set, slice_index_or}
-use Rattle.std.specs.List.{AllByRecursion}
+use Rattle.std.proofs.Common.{◌≡◌, ◌∙◌, ◌<◌, ℕ, zero, suc, Bool, true, false, List, [], ◌∷◌, ◌++◌, length, Option, Some, refl, sym, ap, subst, arith, if◌then◌else◌, nat_eq, append_assoc, inl, inr}
+use Rattle.std.specs.Prelude.{◌⊎◌, ◌||◌, slice_get, slice_set, slice_index_or}
+use Rattle.std.specs.List.{AllByRecursion, list_any}
 use Rattle.std.specs.Map.{keys_of}
 use Rattle.std.specs.Str.{bytes_eq}
 use Rattle.std.proofs.lemmas.Bool.{false≢true}
@@ -14,12 +14,13 @@ use Rattle.pt_heap.specs.Limits.{object_limit}
 use Rattle.pt_heap.specs.declared.value.Value.{Value}
 use Rattle.pt_heap.specs.declared.object.Object.{Object}
 use Rattle.pt_heap.specs.declared.object.Object.TheVariants as object
+use Rattle.pt_bind.specs.NameSets.{is_among}
 use Rattle.pt_content.specs.Changes.{next_object}
 use Rattle.sem_run.specs.run.Machine.{BlockId}
 use Rattle.sem_run.specs.run.Host.{made, beyond}
-use Rattle.sem_rows.specs.pt_host.World.{Stores, Program, Allotted, allot, allot_then, with_objects}
+use Rattle.sem_rows.specs.pt_host.World.{Names, Stores, CodeFacts, Program, Allotted, allot, allot_then, with_objects}
 use Rattle.sem_rows.specs.pt_host.Errors.{error, error_saying}
-use Rattle.law_frames.specs.RunNames.{TakesCells, AllTakeCells, StoresHaveNames}
+use Rattle.law_frames.specs.RunNames.{HasItsNames, TakesCells, AllTakeCells, StoresHaveNames}
 
 -- a name of a list
 abbrev pub IsOneOf : List Name → Name → Type 0
@@ -50,9 +51,50 @@ module _ {A : Type 0} where
       subst (λ y. keys_of (insert_entry bytes_eq es y v) ≡ xs) (ap (λ ks. slice_index_or ks i.0 []) e ∙ sym i.1.1)
       (put-at es i.0 v (subst (λ ks. i.0 < length ks) (sym e) i.1.0) ∙ e)
 
+  -- what is put at any name stands there, or behind the others if that is none of them
+  abbrev pub StandsBehind : (es : List (Name × A)) → Name → A → Type 0
+  StandsBehind es x v = (keys_of (insert_entry bytes_eq es x v) ≡ keys_of es)
+      ⊎ ((is_among (keys_of es) x ≡ false) × (keys_of (insert_entry bytes_eq es x v) ≡ keys_of es ++ x ∷ []))
+
+  pub put-behind : (es : List (Name × A)) (x : Name) (v : A) → StandsBehind es x v
+  put-behind [] x v = inr (refl, refl)
+  put-behind (e ∷ es) x v = by (put-behind es x v) (bytes_eq x e.0)
+    where
+      by : StandsBehind es x v → (b : Bool) → (keys_of (if b then (e.0, v) ∷ es else e ∷ insert_entry bytes_eq es x v) ≡ e.0 ∷ keys_of es)
+          ⊎ (((b || is_among (keys_of es) x) ≡ false) × (keys_of (if b then (e.0, v) ∷ es else e ∷ insert_entry bytes_eq es x v) ≡ (e.0 ∷ keys_of es) ++ x ∷ []))
+      by r true = inl refl
+      by (inl same) false = inl (ap (λ ks. e.0 ∷ ks) same)
+      by (inr new) false = inr (new.0, ap (λ ks. e.0 ∷ ks) new.1)
+
+none-first : (p : Name → Bool) (xs ys : List Name) → list_any p (xs ++ ys) ≡ false → list_any p xs ≡ false
+none-first p [] ys e = refl
+none-first p (x ∷ xs) ys e = by (p x) e (none-first p xs ys)
+  where
+    by : (c : Bool) → (c || list_any p (xs ++ ys)) ≡ false → (list_any p (xs ++ ys) ≡ false → list_any p xs ≡ false) → (c || list_any p xs) ≡ false
+    by true e f = e
+    by false e f = f e
+
 pub all-both : {A : Type 0} (P : A → Type 0) (xs ys : List A) → AllByRecursion P xs → AllByRecursion P ys → AllByRecursion P (xs ++ ys)
 all-both P [] ys all more = more
 all-both P (x ∷ xs) ys all more = (all.0, all-both P xs ys all.1 more)
+
+-- whatever name is bound, those of the block keep their places
+module _ (facts : CodeFacts) (ns : Names) (x : Name) (v : Option Value) (has : HasItsNames facts ns) where
+  abbrev bound : Names
+  bound = record ns { values = insert_entry bytes_eq ns.values x v }
+
+  pub bound-names : HasItsNames facts bound
+  bound-names = by (put-behind ns.values x v)
+    where
+      by : StandsBehind ns.values x v → HasItsNames facts bound
+      by (inl same) = record { of_class = has.of_class; values = same ∙ has.values; apart = has.apart; cells = has.cells }
+      by (inr new) = record {
+        of_class = has.of_class ++ x ∷ [];
+        values = new.1 ∙ (ap (λ ks. ks ++ x ∷ []) has.values ∙ append_assoc facts.locals has.of_class (x ∷ []));
+        apart = all-both (λ y. is_among facts.locals y ≡ false) has.of_class (x ∷ []) has.apart
+            (none-first (bytes_eq x) facts.locals has.of_class (subst (λ ks. is_among ks x ≡ false) has.values new.0), tt);
+        cells = has.cells;
+      }
 
 pub all-set : {A : Type 0} (P : A → Type 0) (xs : List A) (i : ℕ) (x : A) → AllByRecursion P xs → P x → AllByRecursion P (slice_set xs i x)
 all-set P [] i x all p = tt

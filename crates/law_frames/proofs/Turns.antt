@@ -7,9 +7,10 @@ use Rattle.pt_tree.specs.Syntax.{Name}
 use Rattle.pt_instr.specs.declared.Instr.{Instr}
 use Rattle.pt_instr.specs.declared.Instr.TheVariants as instr
 use Rattle.pt_heap.specs.declared.value.Value.{Value}
+use Rattle.pt_heap.specs.declared.value.Value.TheVariants as value
 use Rattle.pt_code.specs.View.{Ins}
 use Rattle.sem_control.specs.control.Turn as T
-use Rattle.sem_control.specs.control.Turn.{Operation, Scope, Turn, Variable}
+use Rattle.sem_control.specs.control.Turn.{Operation, Turn, Variable}
 use Rattle.sem_code.specs.slots.Slots as S
 use Rattle.sem_code.specs.slots.Slots.{Slots, State}
 use Rattle.sem_code.specs.slots.CodeObject.{CodeObject}
@@ -26,8 +27,7 @@ use Rattle.sem_rows.specs.heap_rows.Leads.{LeavesFeature}
 use Rattle.sem_rows.specs.sem_code_machine.code_machine.CodeBlocks.{CodeBlocks}
 use Rattle.sem_rows.specs.variables.Numbers.{cell_name}
 use Rattle.law_frames.specs.Operands.{OperandsName, CodeNamesItsBlocks}
-use Rattle.law_frames.proofs.Stores.{IsOneOf}
-use Rattle.law_frames.proofs.Answers.{IsOwn, IsMadeAnew, NamesInAsk, NamesInOperation}
+use Rattle.law_frames.proofs.Answers.{IsMadeAnew, NamesInAsk, NamesInOperation}
 
 -- what holds of a stuck turn and of what goes on, whatever is popped, holds of popping
 module _ {V : Type 0} (P : Turn (State V) V → Type 0) (p : P T.stuck) where
@@ -87,7 +87,7 @@ module _ {V : Type 0} (P : Turn (State V) V → Type 0) (p : P T.stuck) where
   if-value-below (suc zero) (s ∷ ss) next f = p
   if-value-below (suc (suc n)) (s ∷ ss) next f = if-value-below (suc n) ss next f
 
--- an operation that leaves the profile makes no function
+-- an operation that leaves the profile makes neither a function nor a class
 module _ (program : Program) (b : BlockId) where
   empty : Stores
   empty = record { names = no_names; world = record { heap = []; globals = []; cells = [] } }
@@ -99,6 +99,8 @@ module _ (program : Program) (b : BlockId) where
   unfolding empty
   no-function (T.function n xs) vs leaves = let e : operate program
       (T.function n xs) [] somewhere empty ≡ leave Feature = leaves program [] somewhere empty in absurd (cc)
+  no-function (T.class n) vs leaves = let e : operate program
+      (T.class n) (value.None ∷ []) somewhere empty ≡ leave Feature = leaves program (value.None ∷ []) somewhere empty in absurd (cc)
   no-function o vs leaves = tt
 
 -- a turn that asks names what its block has
@@ -116,25 +118,12 @@ module _ (program : Program) (code : CodeBlocks Value) (known : CodeNamesItsBloc
   abbrev P : Turn (State Value) Value → Type 0
   P t = NamesInTurn program b t
 
-  own-local : (n : ℕ) → n < length facts.locals → IsOneOf facts.locals (object.pool.local n)
-  own-local n h = (n, (h, (known.names b).local n))
-
-  cell-own : (n : ℕ) (c : Bool) → IsOwn program b (if c then T.cell else T.free) (cell_name facts n)
-  cell-own n true = tt
-  cell-own n false = tt
-
-  own-cell : (n : ℕ) → IsOwn program b (object.pool.cell n).scope (object.pool.cell n).name
-  own-cell n = subst (λ (x : Variable). IsOwn program b x.scope x.name) (sym ((known.names b).cell n)) (cell-own n (nat_lt n (length facts.cells)))
-
   cell-anew : (n : ℕ) (c : Bool) → n < length (facts.cells ++ facts.frees) → IsMadeAnew program b (if c then T.cell else T.free) (cell_name facts n)
   cell-anew n true h = (n, (h, refl))
   cell-anew n false h = tt
 
   anew-cell : (n : ℕ) → n < length (facts.cells ++ facts.frees) → IsMadeAnew program b (object.pool.cell n).scope (object.pool.cell n).name
   anew-cell n h = subst (λ (x : Variable). IsMadeAnew program b x.scope x.name) (sym ((known.names b).cell n)) (cell-anew n (nat_lt n (length facts.cells)) h)
-
-  global-own : (x : Name) → IsOwn program b object.pool.name_scope x
-  global-own x = subst (λ s. IsOwn program b s x) (sym (known.scopes b)) tt
 
   module _ (pc : ℕ) (i : Ins) where
     unmarked-names : (m : Option ActMark) (s : State Value) (t : Turn (State Value) Value) → P t → P (unmarked m s t)
@@ -160,24 +149,28 @@ module _ (program : Program) (code : CodeBlocks Value) (known : CodeNamesItsBloc
         → NamesInOperation program b (T.function k xs) vs
     function-names n k xs cs vs e h g = omega (arith, e, h, g, known.captures b k)
 
+    -- a class the base, and the cells
+    class-names : (k : ℕ) (v : Value) (cs : List Value) → length cs ≡ object.pool.captures k + 0 → NamesInOperation program b (T.class k) (v ∷ cs)
+    class-names k v cs g = omega (arith, g, known.captures b k)
+
     by-instruction : (j : Instr) (ss : Slots Value) → OperandsName facts object.pool j → P (perform object pc i j ss)
     by-instruction instr.Nop ss h = unmarked-names i.mark _ _ tt
     by-instruction (instr.Const k) ss h = known-names (object.pool.constant k.0) _ ss
     by-instruction (instr.Local x) ss h = tt
-    by-instruction (instr.DelLocal x) ss h = own-local x.0 h
-    by-instruction (instr.FreshLocal x) ss h = own-local x.0 h
+    by-instruction (instr.DelLocal x) ss h = tt
+    by-instruction (instr.FreshLocal x) ss h = tt
     by-instruction (instr.Cell x) ss h = tt
-    by-instruction (instr.DelCell x) ss h = own-cell x.0
+    by-instruction (instr.DelCell x) ss h = tt
     by-instruction (instr.FreshCell x) ss h = anew-cell x.0 h
     by-instruction (instr.PushCell x) ss h = tt
     by-instruction (instr.Global x) ss h = tt
     by-instruction (instr.DelGlobal x) ss h = tt
     by-instruction (instr.Name x) ss h = tt
-    by-instruction (instr.DelName x) ss h = global-own (object.pool.text x.0)
-    by-instruction (instr.SetLocal x) ss h = if-one P tt ss _ (λ v below. own-local x.0 h)
-    by-instruction (instr.SetCell x) ss h = if-one P tt ss _ (λ v below. own-cell x.0)
+    by-instruction (instr.DelName x) ss h = tt
+    by-instruction (instr.SetLocal x) ss h = if-one P tt ss _ (λ v below. tt)
+    by-instruction (instr.SetCell x) ss h = if-one P tt ss _ (λ v below. tt)
     by-instruction (instr.SetGlobal x) ss h = if-one P tt ss _ (λ v below. tt)
-    by-instruction (instr.SetName x) ss h = if-one P tt ss _ (λ v below. global-own (object.pool.text x.0))
+    by-instruction (instr.SetName x) ss h = if-one P tt ss _ (λ v below. tt)
     by-instruction instr.Pop ss h = if-one P tt ss _ (λ v below. unmarked-names i.mark _ _ tt)
     by-instruction instr.Copy ss h = if-one P tt ss _ (λ v below. unmarked-names i.mark _ _ tt)
     by-instruction instr.Copy2 ss h = if-two P tt ss _ (λ a c below. unmarked-names i.mark _ _ tt)
@@ -217,7 +210,7 @@ module _ (program : Program) (code : CodeBlocks Value) (known : CodeNamesItsBloc
     by-instruction (instr.MakeFunction k n l) ss h =
         if-cells P tt (object.pool.captures k.0) [] ss _ (λ cs below g. if-values P tt n cs below _
         (λ vs under e. function-names n k.0 (object.pool.texts l.0) cs vs h g e))
-    by-instruction (instr.MakeClass k) ss h = if-cells P tt (object.pool.captures k.0) [] ss _ (λ cs below g. if-one P tt below _ (λ v under. tt))
+    by-instruction (instr.MakeClass k) ss h = if-cells P tt (object.pool.captures k.0) [] ss _ (λ cs below g. if-one P tt below _ (λ v under. class-names k.0 v cs g))
     by-instruction (instr.MakeGenerator k) ss h = if-cells P tt (object.pool.captures k.0) [] ss _ (λ cs below g. if-iterator P tt below _ (λ v under. tt))
     by-instruction instr.Iter ss h = if-one P tt ss _ (λ v below. tt)
     by-instruction (instr.Next t) ss h = if-iterator P tt ss _ (λ v below. tt)

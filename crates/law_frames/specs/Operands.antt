@@ -4,7 +4,6 @@ use Rattle.pt_instr.specs.declared.Instr.{Instr}
 use Rattle.pt_instr.specs.declared.Instr.TheVariants as instr
 use Rattle.pt_heap.specs.declared.value.Value.{Value}
 use Rattle.pt_code.specs.View.{Ins}
-use Rattle.sem_control.specs.control.Turn as T
 use Rattle.sem_code.specs.slots.CodeObject.{Pool}
 use Rattle.sem_run.specs.run.Machine.{BlockId}
 use Rattle.sem_rows.specs.pt_host.World.{CodeFacts, Program}
@@ -29,11 +28,10 @@ OperandsNameIn locals cells defaults i = Unit {0}
 abbrev pub OperandsName : CodeFacts → Pool → Instr → Type 0
 OperandsName facts pool i = OperandsNameIn (length facts.locals) (length (facts.cells ++ facts.frees)) (λ l. length (pool.texts l)) i
 
--- the operands of each block's code name what the block has, no block is the body of a class, and a function of a block takes along as many cells as the
--- block has free names; what isn't supported leaves the profile
+-- the operands of each block's code name what the block has, and what is made of a block takes along as many cells as the block has free names; what isn't
+-- supported leaves the profile
 pub record CodeNamesItsBlocks (program : Program) (code : CodeBlocks Value) : Type 0 where
   pub operands : (b : BlockId) (pc : ℕ) (i : Ins) → (code.object b).at pc ≡ Some i → OperandsName (program.facts b) (code.object b).pool i.instr
   pub names : (b : BlockId) → KnowsNames (code.object b) (program.facts b)
   pub extras : (b : BlockId) → HasHeapExtras (code.object b)
-  pub scopes : (b : BlockId) → (code.object b).pool.name_scope ≡ T.global
   pub captures : (b : BlockId) (n : ℕ) → (code.object b).pool.captures n ≡ length (program.facts (record { hidden = b.hidden; number = n })).frees

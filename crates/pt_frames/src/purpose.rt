@@ -9,14 +9,18 @@ pub enum Purpose {
     Result,
     /// It is dropped.
     Discard,
-    /// A class is made of the names of the block.
+    /// A class is made of the names of the block, which stands in a cell of the block then.
     Class {
         base: Value,
+        cell: Option<u32>,
     },
-    /// The value of the call is the instance that `__init__` was called for.
+    /// The value of the call is this one: the instance that `__init__` was called for, or the list
+    /// that `+=` put items into.
     Init {
         made: Value,
     },
+    /// The value of the call is the opposite truth value.
+    Opposite,
     /// Its truth is asked for.
     Truth,
     /// It is formatted.
@@ -46,8 +50,12 @@ impl Dup for Purpose {
         match self {
             Purpose::Result => Ok(Purpose::Result),
             Purpose::Discard => Ok(Purpose::Discard),
-            Purpose::Class { base } => Ok(Purpose::Class { base: *base }),
+            Purpose::Class { base, cell } => Ok(Purpose::Class {
+                base: *base,
+                cell: *cell,
+            }),
             Purpose::Init { made } => Ok(Purpose::Init { made: *made }),
+            Purpose::Opposite => Ok(Purpose::Opposite),
             Purpose::Truth => Ok(Purpose::Truth),
             Purpose::Format { spec } => Ok(Purpose::Format { spec: *spec }),
             Purpose::Resume { generator } => Ok(Purpose::Resume {

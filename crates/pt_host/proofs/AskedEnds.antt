@@ -11,7 +11,7 @@ use Rattle.sem_run.specs.run.Host.{Here, answer, raise, print, leave, request, m
 use Rattle.pt_host.specs.World.{Stores, Allotted, allot, with_objects}
 use Rattle.pt_host.specs.Trees.{Tree, raise_with}
 use Rattle.pt_host.specs.Errors.{error}
-use Rattle.pt_host.specs.Primitives.{Awaited, answer_if, arguments_of, of_prim, asked}
+use Rattle.pt_host.specs.Primitives.{Awaited, answer_if, arguments_of, of_prim, prim_asked}
 
 -- nothing is requested, and this holds of the stores at each end
 abbrev pub Ends : {A : Type 0} → (Stores → Type 0) → Tree A → Type 0
@@ -50,6 +50,6 @@ module _ {A : Type 0} (S : Stores → Type 0) (w : Awaited A) (h : Here Value) w
 
   -- an operation's answer ends where this holds of the heap that it changed
   pub asked-ends : (o : Op) (vs : List Value) (st : Stores) → S (with_objects (prim_heap o vs st.world.heap) st) → RaisesIn S h (with_objects (prim_heap o vs st.world.heap) st)
-      → Ends S (asked w o vs h st)
-  unfolding asked
+      → Ends S (prim_asked w o vs h st)
+  unfolding prim_asked
   asked-ends o vs st s x = answered-ends (prim_answer o vs st.world.heap) (with_objects (prim_heap o vs st.world.heap) st) s x

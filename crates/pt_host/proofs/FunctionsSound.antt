@@ -20,6 +20,7 @@ use Rattle.pt_bind.specs.declared.arguments.BindErr.{BindErr}
 use Rattle.pt_bind.specs.declared.arguments.BindErr.TheVariants as refusal
 use Rattle.pt_bind.specs.declared.arguments.Locals.{Locals}
 use Rattle.pt_content.specs.declared.op.Op.{Op}
+use Rattle.pt_content.specs.declared.op.Op.TheVariants as op
 use Rattle.sem_run.specs.run.Host.{Here, made, beyond}
 use Rattle.pt_host.specs.declared.places.TheConstants.{TYPE_ERROR}
 use Rattle.pt_host.specs.World.{Stores, CodeFacts, Program, with_objects}
@@ -29,10 +30,11 @@ use Rattle.pt_host.specs.Sound.{IsWithinIf, AllWithin, CellsWithin, NamesWithin,
 use Rattle.pt_prims.proofs.ValueLists.{all-dropped}
 use Rattle.pt_host.proofs.ArgumentsSound.{below-bindings, filtered-within, BindingsWithin}
 use Rattle.pt_host.proofs.StarredSound.{values-sound, LocalsWithin, ValuesSound}
-use Rattle.pt_host.proofs.Within.{at-least, heap-grows, raise-text-sound}
+use Rattle.pt_host.proofs.TreesSound.{from-fewer, made-all-sound, then-keeps, FitFrom}
+use Rattle.pt_host.proofs.Within.{at-least, from-here, heap-grows, raise-text-sound, text-fits}
 use Rattle.pt_host.specs.Primitives.{one_value}
 use Rattle.pt_host.proofs.VariablesSound.{named-within, cells-both}
-use Rattle.std.specs.Prelude.{pos}
+use Rattle.std.specs.Prelude.{codes, pos}
 use Rattle.pt_content.specs.declared.answer.Helper.{Helper as Asked}
 use Rattle.pt_content.specs.declared.answer.Helper.TheVariants as asked
 use Rattle.pt_content.specs.declared.answer.PrimAns.{PrimAns}
@@ -42,9 +44,11 @@ use Rattle.pt_helper_objects.specs.pt_prelude.declared.kinds.Helper.{Helper}
 use Rattle.pt_helper_objects.specs.pt_prelude.Asked.{function_of}
 use Rattle.pt_prims.specs.Laws.{AnswerIsWithin}
 use Rattle.pt_prims.specs.Operations.{prim_answer, prim_heap}
-use Rattle.pt_prims.proofs.Places.{all-append}
-use Rattle.pt_host.specs.Calls.{call_hidden, call_at, ask, asked_in_place, by_prim_or_helper, helper_arguments}
-use Rattle.pt_host.proofs.PrimsWithin.{Operated, operated, answered, one-value-fits}
+use Rattle.pt_prims.proofs.Places.{all-append, all-grow, if-grows, values-below}
+use Rattle.pt_host.specs.Calls.{ask, ask_with, asked_in_place, behind_helper, by_prim_or_helper, call_at, call_hidden, helper_arguments, objects_for, opposite, or_usual, standing_for}
+use Rattle.pt_host.specs.Operators.{method_name, reflected_name, sign_of}
+use Rattle.pt_host.specs.Trees.{made_all}
+use Rattle.pt_host.proofs.PrimsWithin.{Operated, operated, answered, asked-sound, one-value-fits}
 
 -- what parameters are bound to
 pub value-within : (h : List Object) (x : Name) (bs : List Binding) → BindingsWithin h bs → IsWithinIf h (value_of x bs)
@@ -118,11 +122,11 @@ module _ (h : List Object) (facts : CodeFacts) (ps : Named) (w : NamesWithin h p
       by true = tt
       by false = named-within h x ps w
 
-  firsts-within : (xs : List Name) → NamesWithin h (map (λ x. (x, first_value facts ps x)) xs)
+  pub firsts-within : (xs : List Name) → NamesWithin h (map (λ x. (x, first_value facts ps x)) xs)
   firsts-within [] = tt
   firsts-within (x ∷ xs) = (first-within x, firsts-within xs)
 
-  new-within : (xs : List Name) → CellsWithin h (map (λ x. name_value x ps) xs)
+  pub new-within : (xs : List Name) → CellsWithin h (map (λ x. name_value x ps) xs)
   new-within [] = tt
   new-within (x ∷ xs) = (named-within h x ps w, new-within xs)
 
@@ -142,7 +146,7 @@ run-sound n st s facts f ps w =
         names = s.names;
       },
       firsts-within heap facts ps w facts.locals,
-      λ x st1 s1 e. end-sound n st1 x.end (at-least n (length heap) st1 s.objects s1) e,
+      λ x st1 s1 e. end-sound n st1 x.end (at-least n (length heap) st1 s.objects s1) e.0,
     )
 
 module _ (n : ℕ) (st : Stores) (r : Here Value) (s : IsSoundFrom n st) (active : IsWithinIf st.world.heap r.active) where
@@ -192,28 +196,76 @@ module _ (h : List Object) where
   abbrev ArgsWithin : Args → Type 0
   ArgsWithin args = AllWithin h args.plain × BindingsWithin h args.named
 
-  helper-arguments-within : (a : Asked) (vs : List Value) → AllWithin h vs → ArgsWithin (helper_arguments a vs)
-  helper-arguments-within asked.SortOf [] w = (w, tt)
-  helper-arguments-within asked.SortOf (l ∷ []) w = (w, tt)
-  helper-arguments-within asked.SortOf (l ∷ key ∷ []) w = (w, tt)
-  helper-arguments-within asked.SortOf (l ∷ key ∷ turned ∷ []) w = ((w.0, tt), (w.1.0, (w.1.1.0, tt)))
-  helper-arguments-within asked.SortOf (l ∷ key ∷ turned ∷ v ∷ vs) w = (w, tt)
-  helper-arguments-within (asked.TakeOf n) vs w = (all-append h vs (value.Int (pos n) ∷ []) w (tt, tt), tt)
-  helper-arguments-within a vs w = (w, tt)
+  or-usual-within : (u v : Value) → IsWithin h u → IsWithin h v → IsWithin h (or_usual u v)
+  or-usual-within u value.None w i = w
+  or-usual-within u v w i = i
 
-module _ (program : Program) (n : ℕ) (r : Here Value) where
-  in-place-sound : (a : PrimAns) (st : Stores) → IsSoundFrom n st → AnswerIsWithin st.world.heap a → IsWithinIf st.world.heap r.active
-      → KeepsSound IsWithin n (asked_in_place program a r st)
-  in-place-sound (prim.Help a vs false) st s w active =
-      let within = helper-arguments-within st.world.heap a vs w in
-      ask-sound n st r s active (helper_arguments a vs) within.0 within.1 program (function_of a)
-  in-place-sound (prim.Help a vs true) st s w active = tt
-  in-place-sound a st s w active = answered IsWithin n one_value one-value-fits a r st s w active
+  helper-arguments-within : (a : Asked) (vs ms : List Value) → AllWithin h vs → AllWithin h ms → ArgsWithin (helper_arguments a vs ms)
+  helper-arguments-within asked.SortOf (l ∷ key ∷ turned ∷ []) ms w m = ((w.0, tt), (w.1.0, (w.1.1.0, tt)))
+  helper-arguments-within asked.InOf (v ∷ x ∷ []) ms w m = ((w.1.0, (w.0, tt)), tt)
+  helper-arguments-within asked.PrintOf (separator ∷ end ∷ vs) (printed ∷ blank ∷ line ∷ []) w m =
+      ((m.0, (or-usual-within blank separator m.1.0 w.0, (or-usual-within line end m.1.1.0 w.1.0, tt))), tt)
+  helper-arguments-within asked.StrOf (v ∷ vs) ms w m = ((w.0, tt), tt)
+  helper-arguments-within asked.ReprOf (v ∷ vs) ms w m = ((w.0, tt), tt)
+  helper-arguments-within (asked.TakeOf n) vs ms w m = (all-append h vs (value.Int (pos n) ∷ []) w (tt, tt), tt)
+  helper-arguments-within a vs ms w m = (all-append h vs ms w m, tt)
 
-  pub prim-or-helper-sound : (o : Op) (vs : List Value) (st : Stores) → AllWithin st.world.heap vs → IsSoundFrom n st → IsWithinIf st.world.heap r.active
+  objects-fit : (a : Asked) (vs : List Value) → AllWithin h vs → FitFrom (length h) (objects_for a vs)
+  objects-fit (asked.BinaryOf o) vs w =
+      ((λ k l. text-fits k (method_name o)), ((λ k l. text-fits k (reflected_name o)), ((λ k l. text-fits k (sign_of o)), tt)))
+  objects-fit asked.PrintOf (separator ∷ end ∷ vs) w = (
+    (λ k l. record { places = values-below k vs (all-grow h k vs l w.1.1); classes = tt }),
+    ((λ k l. text-fits k (codes " ")), ((λ k l. text-fits k (10 ∷ [])), tt)),
+  )
+  objects-fit a vs w = tt
+
+  opposite-within : (v : Value) → IsWithin h v → IsWithin h (opposite v)
+  opposite-within (value.Bool b) w = tt
+  opposite-within v w = w
+
+  standing-within : (o : Op) (a : Asked) (vs : List Value) (inverted : Bool) (v : Value) → AllWithin h vs → IsWithin h v → IsWithin h (standing_for o a vs inverted v)
+  standing-within (op.InPlace o) asked.ExtendOf (l ∷ vs) inverted v w i = w.0
+  standing-within o a vs true v w i = opposite-within v i
+  standing-within o a vs false v w i = i
+
+module _ (program : Program) (r : Here Value) where
+  ask-with-sound : (n : ℕ) (a : Asked) (vs : List Value) (st : Stores) → IsSoundFrom n st → AllWithin st.world.heap vs → IsWithinIf st.world.heap r.active
+      → KeepsSound IsWithin n (ask_with program a vs r st)
+  ask-with-sound n a vs st s w active =
+      let heap : List Object = st.world.heap in
+      let m : ℕ = length heap in
+      let here : IsSoundFrom m st = from-here n st s in
+      from-fewer IsWithin n m s.objects (ask_with program a vs r st)
+      (then-keeps AllWithin IsWithin m (made_all (objects_for a vs) st) (λ ms st1. ask program (function_of a) (helper_arguments a vs ms) r st1)
+      (made-all-sound m (objects_for a vs) st here (objects-fit heap a vs w))
+      (λ ms st1 s1 i.
+      let k : List Object = st1.world.heap in
+      let within : ArgsWithin k (helper_arguments a vs ms) = helper-arguments-within k a vs ms (all-grow heap k vs s1.objects w) i in
+      ask-sound m st1 r s1 (if-grows heap k r.active s1.objects active) (helper_arguments a vs ms) within.0 within.1 program (function_of a)))
+
+  behind-sound : (n : ℕ) (o : Op) (a : Asked) (vs : List Value) (inverted : Bool) (v : Value) (st : Stores) → IsSoundFrom n st → AllWithin st.world.heap vs
+      → IsWithin st.world.heap v → IsWithinIf st.world.heap r.active → KeepsSound IsWithin n (behind_helper o a vs inverted v r st)
+  behind-sound n (op.Format c) a (x ∷ spec ∷ vs) inverted v st s w i active =
+      asked-sound IsWithin n one_value one-value-fits (op.Format None) (v ∷ spec ∷ []) r st (i, (w.1.0, tt)) s active
+  behind-sound n o a vs inverted v st s w i active = (s, standing-within st.world.heap o a vs inverted v w i)
+
+  in-place-sound : (n : ℕ) (o : Op) (a : PrimAns) (st : Stores) → IsSoundFrom n st → AnswerIsWithin st.world.heap a → IsWithinIf st.world.heap r.active
+      → KeepsSound IsWithin n (asked_in_place program o a r st)
+  in-place-sound n o (prim.Help a vs inverted) st s w active =
+      let heap : List Object = st.world.heap in
+      let m : ℕ = length heap in
+      from-fewer IsWithin n m s.objects (asked_in_place program o (prim.Help a vs inverted) r st)
+      (then-keeps IsWithin IsWithin m (ask_with program a vs r st) (λ v st1. behind_helper o a vs inverted v r st1)
+      (ask-with-sound m a vs st (from-here n st s) w active)
+      (λ v st1 s1 i.
+      let k : List Object = st1.world.heap in
+      behind-sound m o a vs inverted v st1 s1 (all-grow heap k vs s1.objects w) i (if-grows heap k r.active s1.objects active)))
+  in-place-sound n o a st s w active = answered IsWithin n one_value one-value-fits a r st s w active
+
+  pub prim-or-helper-sound : (n : ℕ) (o : Op) (vs : List Value) (st : Stores) → AllWithin st.world.heap vs → IsSoundFrom n st → IsWithinIf st.world.heap r.active
       → KeepsSound IsWithin n (by_prim_or_helper program o vs r st)
   unfolding by_prim_or_helper
-  prim-or-helper-sound o vs st all s active =
+  prim-or-helper-sound n o vs st all s active =
       let h : List Object = st.world.heap in
       let x : Operated n o vs r st = operated n o vs r st all s active in
-      in-place-sound (prim_answer o vs h) (with_objects (prim_heap o vs h) st) x.store x.answer x.active
+      in-place-sound n o (prim_answer o vs h) (with_objects (prim_heap o vs h) st) x.store x.answer x.active

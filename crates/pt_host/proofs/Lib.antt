@@ -2,10 +2,14 @@ pub mod Within
 pub mod AskedEnds
 pub mod PrimsWithin
 pub mod VariablesSound
+pub mod TreesSound
 pub mod StarredLemmas
+pub mod ClassLemmas
 pub mod ArgumentsSound
 pub mod StarredSound
 pub mod FunctionsSound
+pub mod AttributesSound
+pub mod ClassesSound
 pub mod CallsSound
 pub mod HeapSound
 pub mod EntriesSound

@@ -17,7 +17,7 @@ use Rattle.pt_prims.proofs.SoundLemmas.{heap-sound as grown-sound, answer-within
 use Rattle.pt_prims.proofs.WithinLemmas.{content-within}
 use Rattle.sem_run.specs.run.Host.{Here}
 use Rattle.pt_host.specs.World.{Stores, with_objects}
-use Rattle.pt_host.specs.Primitives.{Awaited, answer_if, arguments_of, of_prim, asked, one_value, done, a_truth, truth_in, row_from, so_many, item_or_end}
+use Rattle.pt_host.specs.Primitives.{Awaited, answer_if, arguments_of, of_prim, prim_asked, one_value, done, a_truth, truth_in, row_from, so_many, item_or_end}
 use Rattle.pt_host.specs.Sound.{IsWithinIf, AllWithin, IsSoundFrom, KeepsSound, ItemWithin, RowWithin}
 use Rattle.pt_prims.proofs.Places.{if-grows}
 use Rattle.pt_host.proofs.Within.{Anything, heap-grows, raise-sound}
@@ -117,8 +117,8 @@ module _ {A : Type 0} (P : List Object → A → Type 0) (n : ℕ) (w : Awaited 
   answered (prim.Outside what) r st s i active = tt
 
   pub asked-sound : (o : Op) (vs : List Value) (r : Here Value) (st : Stores) → AllWithin st.world.heap vs → IsSoundFrom n st → IsWithinIf st.world.heap r.active
-      → KeepsSound P n (asked w o vs r st)
-  unfolding asked
+      → KeepsSound P n (prim_asked w o vs r st)
+  unfolding prim_asked
   asked-sound o vs r st all s active =
       let h : List Object = st.world.heap in
       let x : Operated n o vs r st = operated n o vs r st all s active in

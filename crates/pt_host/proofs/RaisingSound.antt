@@ -3,6 +3,7 @@ use Rattle.std.proofs.Common.{◌≡◌, ◌<◌, ◌≤◌, ℕ, Bool, true, fa
 use Rattle.std.specs.Prelude.{codes}
 use Rattle.std.specs.List.{list_all, list_any}
 use Rattle.pt_base.specs.declared.numbers.ObjId.{ObjId}
+use Rattle.pt_base.specs.declared.what.What.TheVariants.{Feature}
 use Rattle.sem_control.specs.control.Turn as T
 use Rattle.sem_control.specs.control.Turn.{Throw}
 use Rattle.pt_heap.specs.declared.value.Value.{Value}
@@ -21,7 +22,8 @@ use Rattle.pt_host.specs.Primitives.{arguments_of}
 use Rattle.pt_host.specs.Errors.{arise_while, error, object_place, raise_saying}
 use Rattle.pt_prims.specs.Classes.{derives}
 use Rattle.pt_host.specs.Leaving.{error_at}
-use Rattle.pt_host.specs.Raising.{object_raisable, raisable, Standing, as_standing, standing, raise_object, raise_neither, with_cause, raise_caused, raise_from, raise_with_cause, raise_standing, raise_active, throws, handler_classes, is_exception_class, is_of_class, is_taken, matches}
+use Rattle.pt_host.specs.Calls.{initializer}
+use Rattle.pt_host.specs.Raising.{object_raisable, raisable, Standing, as_standing, is_found, standing, raise_object, raise_neither, with_cause, raise_caused, raise_from, raise_with_cause, raise_standing, raise_active, throws, handler_classes, is_exception_class, is_of_class, is_taken, matches}
 use Rattle.pt_host.specs.Sound.{AllWithin, AllotsSound, IsSoundFrom, IsWithinIf, KeepsSound, ThrowWithin}
 use Rattle.pt_prims.proofs.Places.{Below, if-grows, none-below, one-below, within-grows}
 use Rattle.pt_host.proofs.Within.{Anything, allot-sound, error-fits, heap-grows, raise-sound, raise-text-sound}
@@ -63,11 +65,18 @@ allotted-standing : (h : List Object) (a : Allotted) → AllotsSound h a → Sta
 allotted-standing h (made v k) s = value-standing h k v s.0 s.1 s.2
 allotted-standing h (beyond what) s = tt
 
+new-standing : (h : List Object) (id : ObjId) → IsSound start_objects h → IsClassAt h id.0 → StandsSound h (as_standing (allot (error id [] None None) h))
+new-standing h id s w =
+    allotted-standing h (allot (error id [] None None) h) (allot-sound h (error id [] None None) s (error-fits h id [] None None w tt tt tt))
+
 standing-sound : (h : List Object) (r : Raisable) → IsSound start_objects h → RaisableWithin h r → StandsSound h (standing r h)
 standing-sound h (Exception id) s w = (omega arith, s, w)
-standing-sound h (Class id true) s w = tt
-standing-sound h (Class id false) s w =
-    allotted-standing h (allot (error id [] None None) h) (allot-sound h (error id [] None None) s (error-fits h id [] None None w tt tt tt))
+standing-sound h (Class id false) s w = new-standing h id s w
+standing-sound h (Class id true) s w = by (is_found (initializer h id))
+  where
+    by : (b : Bool) → StandsSound h (if b then beyond Feature else as_standing (allot (error id [] None None) h))
+    by true = tt
+    by false = new-standing h id s w
 standing-sound h Neither s w = (omega arith, s)
 
 module _ {A : Type 0} (P : List Object → A → Type 0) (n : ℕ) (st : Stores) (r : Here Value) (s : IsSoundFrom n st) (active : IsWithinIf st.world.heap r.active) where

@@ -66,7 +66,7 @@ beyond_stays : (what : What) (bs : List Binding) → entries_from (beyond what) 
 beyond_stays what [] = refl
 beyond_stays what (b ∷ bs) = refl
 
-past : (xs : List Binding) (at : ℕ) → length xs ≤ at → drop at xs ≡ []
+pub past : (xs : List Binding) (at : ℕ) → length xs ≤ at → drop at xs ≡ []
 past [] zero l = refl
 past [] (suc at) l = refl
 past (x ∷ xs) zero l = absurd (omega (arith, l))

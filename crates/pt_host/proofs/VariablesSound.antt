@@ -19,11 +19,12 @@ use Rattle.pt_builtin_objects.specs.Start.{start_rows, start_objects}
 use Rattle.pt_names.specs.Names.{Named, name_value}
 use Rattle.pt_bind.specs.NameSets.{is_among}
 use Rattle.pt_helper_objects.specs.Objects.{hidden_place, helper_rows}
-use Rattle.sem_run.specs.run.Host.{Here}
+use Rattle.pt_base.specs.declared.what.What.TheVariants.{Special}
+use Rattle.sem_run.specs.run.Host.{Here, answer, leave}
 use Rattle.pt_host.specs.World.{Stores}
 use Rattle.pt_host.specs.Texts.{unbound_text, unbound_class}
 use Rattle.pt_host.specs.Builtins.{Builtin, is, unavailable, no_builtin, at_place, start_object, written_names, written_function, builtin, hidden_builtin, meaning}
-use Rattle.pt_host.specs.Variables.{cell_number, cell_value, variable_value, global_value, readable_value, raise_unbound, by_builtin, unless_bound, load_by, load, with_cell, put, store, delete_by, delete, make_anew, number_value, cell_of}
+use Rattle.pt_host.specs.Variables.{cell_number, free_number, number_in, is_no_method, cell_value, variable_value, global_value, readable_value, raise_unbound, by_builtin, unless_bound, load_by, load, with_cell, put, store, delete_by, delete, make_anew, number_value, cell_of}
 use Rattle.pt_host.specs.Sound.{IsWithinIf, CellsWithin, NamesWithin, IsSoundFrom, KeepsSound}
 use Rattle.pt_host.proofs.Within.{Anything, raise-text-sound}
 
@@ -135,14 +136,14 @@ module _ (n : ℕ) (st : Stores) (s : IsSoundFrom n st) where
   abbrev heap : List Object
   heap = st.world.heap
 
-  cell-there : (o : Option ℕ) → IsWithinIf heap (cell_value o st.world)
+  pub cell-there : (o : Option ℕ) → IsWithinIf heap (cell_value o st.world)
   cell-there None = tt
   cell-there (Some k) = cell-within heap k st.world.cells s.cells
 
   bound-within : (c : Scope) (x : Name) → IsWithinIf heap (variable_value c x st)
   bound-within T.local x = named-within heap x st.names.values s.names
   bound-within T.cell x = cell-there (cell_number x st.names)
-  bound-within T.free x = cell-there (cell_number x st.names)
+  bound-within T.free x = cell-there (free_number x st.names)
   bound-within T.global x = named-within heap x st.world.globals s.globals
   bound-within T.of_class x = named-within heap x st.names.values s.names
 
@@ -158,19 +159,23 @@ module _ (n : ℕ) (st : Stores) (s : IsSoundFrom n st) where
   readable-within hidden T.of_class x =
       or-within heap (variable_value T.of_class x st) (global_value hidden x st) (bound-within T.of_class x) (global-within hidden x)
 
-  cell-put : (o : Option ℕ) (v : Option Value) → IsWithinIf heap v → IsSoundFrom n (with_cell o v st)
+  pub cell-put : (o : Option ℕ) (v : Option Value) → IsWithinIf heap v → IsSoundFrom n (with_cell o v st)
   cell-put None v w = s
   cell-put (Some k) v w = record { objects = s.objects; heap = s.heap; globals = s.globals; cells = set-within heap k v st.world.cells s.cells w; names = s.names }
 
   put-sound : (c : Scope) (x : Name) (v : Option Value) → IsWithinIf heap v → IsSoundFrom n (put c x v st)
   put-sound T.local x v w = record { objects = s.objects; heap = s.heap; globals = s.globals; cells = s.cells; names = put-within heap x v st.names.values s.names w }
   put-sound T.cell x v w = cell-put (cell_number x st.names) v w
-  put-sound T.free x v w = cell-put (cell_number x st.names) v w
+  put-sound T.free x v w = cell-put (free_number x st.names) v w
   put-sound T.global x v w = record { objects = s.objects; heap = s.heap; globals = put-within heap x v st.world.globals s.globals w; cells = s.cells; names = s.names }
   put-sound T.of_class x v w = record { objects = s.objects; heap = s.heap; globals = s.globals; cells = s.cells; names = put-within heap x v st.names.values s.names w }
 
   pub store-sound : (x : Variable) (v : Value) → IsWithin heap v → KeepsSound Anything n (store x v st)
-  store-sound x v w = (put-sound x.scope x.name (Some v) w, tt)
+  store-sound x v w = by (is_no_method x.scope x.name)
+    where
+      by : (b : Bool) → KeepsSound {A = Unit {0}} Anything n (if b then leave Special else answer tt (put x.scope x.name (Some v) st))
+      by true = tt
+      by false = (put-sound x.scope x.name (Some v) w, tt)
 
   anew-sound : (c : Scope) (x : Name) → IsSoundFrom n (make_anew c x st)
   anew-sound T.cell x = record { objects = s.objects; heap = s.heap; globals = s.globals; cells = cells-both heap st.world.cells (None ∷ []) s.cells (tt, tt); names = s.names }
@@ -187,7 +192,7 @@ module _ (n : ℕ) (st : Stores) (s : IsSoundFrom n st) where
   number-within (Some k) = tt
 
   pub cell-of-sound : (x : Variable) → KeepsSound IsWithin n (cell_of x st)
-  cell-of-sound x = (s, number-within (cell_number x.name st.names))
+  cell-of-sound x = (s, number-within (number_in x.scope x.name st.names))
 
   module _ (r : Here Value) (active : IsWithinIf heap r.active) where
     unbound-sound : {A : Type 0} (P : List Object → A → Type 0) (c : Scope) (x : Name) → KeepsSound P n (raise_unbound c x r st)

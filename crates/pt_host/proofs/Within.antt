@@ -82,7 +82,7 @@ below-value h value.NotImplemented b = tt
 below-value h (value.Obj id) b = b id.0 (0, omega arith, refl)
 
 -- the classes of the start stand where they stood
-class-stays : (h : List Object) (p : ℕ) → IsSound start_objects h → IsClassAt start_objects p → IsClassAt h p
+pub class-stays : (h : List Object) (p : ℕ) → IsSound start_objects h → IsClassAt start_objects p → IsClassAt h p
 class-stays h p s c = (c.0, of-take (length start_objects) h p (Class c.0) (ap (λ l. slice_get l p) s.begins ∙ c.1))
 
 pub error-fits : (h : List Object) (c : ObjId) (args : List Value) (cause active : Option Value) → IsClassAt h c.0 → AllWithin h args → IsWithinIf h cause → IsWithinIf h active

@@ -1,7 +1,9 @@
 -- What each ask of control answers (Language Reference 6, 7). An ask of a form that isn't supported
 -- yet leaves the profile.
-use Rattle.std.specs.Prelude.{ℕ, suc, ◌+◌, ◌-◌, Bool, List, [], ◌∷◌, length, Option, Some, None, position}
+use Rattle.std.specs.Prelude.{ℕ, suc, ◌+◌, ◌-◌, Bool, List, [], ◌∷◌, length, codes, Option, Some, None, position}
 use Rattle.std.specs.Str.{bytes_eq}
+use Rattle.pt_heap.specs.declared.object.Object.{Object}
+use Rattle.pt_content.specs.pt_attrs.declared.look.Found.{Found}
 use Rattle.pt_base.specs.declared.what.What.TheVariants.{Feature}
 use Rattle.pt_tree.specs.declared.expression.Constant.{Constant}
 use Rattle.pt_tree.specs.declared.expression.Constant.TheVariants as constant
@@ -17,14 +19,17 @@ use Rattle.sem_run.specs.run.Host.{Here, Finding, Item, answer, leave}
 use Rattle.pt_host.specs.World.{Stores, Program}
 use Rattle.pt_host.specs.Trees.{Tree}
 use Rattle.pt_host.specs.Variables.{load, store, delete, make_anew, cell_of}
-use Rattle.pt_host.specs.Primitives.{asked, by_prim, done, a_truth, item_or_end, so_many}
-use Rattle.pt_host.specs.Calls.{make_function, call}
-use Rattle.pt_host.specs.Attributes.{attribute}
+use Rattle.pt_host.specs.Primitives.{by_prim, done, a_truth, item_or_end, prim_asked, so_many}
+use Rattle.pt_host.specs.Operators.{unary_name}
+use Rattle.pt_host.specs.Calls.{by_prim_or_helper, call, call_special, make_function}
+use Rattle.pt_prims.specs.pt_special_methods.Instances.{method_of}
+use Rattle.pt_host.specs.Attributes.{attribute, delete_attribute, set_attribute}
+use Rattle.pt_host.specs.Classes.{make_class}
 use Rattle.pt_host.specs.Imports.{import_module, import_name}
 use Rattle.pt_host.specs.Raising.{matches, throws}
 
 abbrev pub branch : Value → Here Value → Stores → Tree Bool
-branch v h st = asked a_truth op.Truth (v ∷ []) h st
+branch v h st = prim_asked a_truth op.Truth (v ∷ []) h st
 
 -- what is done by an operation on values, with the operands in the order in which they are evaluated
 abbrev pub change_of : Deed Value → Option (Op × List Value)
@@ -36,13 +41,15 @@ change_of (T.add_to_dict made k v) = Some (op.DictAdd, made ∷ k ∷ v ∷ [])
 change_of d = None
 
 abbrev pub by_change : Option (Op × List Value) → Here Value → Stores → Tree (Unit {0})
-by_change (Some p) h st = asked done p.0 p.1 h st
+by_change (Some p) h st = prim_asked done p.0 p.1 h st
 by_change None h st = leave Feature
 
 abbrev pub deeds : Deed Value → Here Value → Stores → Tree (Unit {0})
 deeds (T.store x v) h st = store x v st
 deeds (T.delete x) h st = delete x h st
 deeds (T.discard v) h st = answer tt st
+deeds (T.set_attribute x a v) h st = set_attribute x a v h st
+deeds (T.delete_attribute x a) h st = delete_attribute x a h st
 deeds (T.fresh x) h st = answer tt (make_anew x.scope x.name st)
 deeds T.nothing h st = answer tt st
 deeds d h st = by_change (change_of d) h st
@@ -52,7 +59,7 @@ abbrev pub iterator_of : Value → Here Value → Stores → Tree Value
 iterator_of v h st = by_prim op.Iter (v ∷ []) h st
 
 abbrev pub next_item : (iterator : Value) → Here Value → Stores → Tree (Item Value)
-next_item v h st = asked item_or_end op.Next (v ∷ []) h st
+next_item v h st = prim_asked item_or_end op.Next (v ∷ []) h st
 
 abbrev pub unpacking : (targets : ℕ) → (star : Option ℕ) → Op
 unpacking n None = op.Unpack n
@@ -60,7 +67,7 @@ unpacking n (Some before) = op.UnpackStar before (n - suc before)
 
 abbrev pub unpacked : Value → (n : ℕ) → (star : Option ℕ) → Here Value → Stores →
     Tree (Row Value n)
-unpacked v n star h st = asked (so_many n) (unpacking n star) (v ∷ []) h st
+unpacked v n star h st = prim_asked (so_many n) (unpacking n star) (v ∷ []) h st
 
 -- the operation on values that an operation of control is, if it is one that is there
 abbrev pub operation_of : Operation → Option Op
@@ -81,11 +88,31 @@ operation_of T.spread_out = Some op.SpreadOut
 operation_of T.spread_named_out = Some op.SpreadNamed
 operation_of o = None
 
-abbrev pub by_operation : Option Op → List Value → Here Value → Stores → Tree Value
-by_operation (Some o) vs h st = by_prim o vs h st
-by_operation None vs h st = leave Feature
+-- the special method of an operation with one operand or with an item (3.3.7, 3.3.8)
+abbrev pub special_name : Op → Option (List ℕ)
+special_name (op.Unary o) = Some (unary_name o)
+special_name op.Item = Some (codes "__getitem__")
+special_name o = None
+
+abbrev pub named_method : List Object → Option (List ℕ) → Value → Option Found
+named_method h (Some name) v = method_of h v name
+named_method h None v = None
 
 module _ (program : Program) where
+  -- an instance is asked for the method of an operation; what has none is operated on
+  abbrev pub special_or : (receiver : Value) → List Value → Op → List Value → Here Value → Stores → Tree Value
+  special_or v rest o vs h st =
+      call_special program (named_method st.world.heap (special_name o) v) v rest (by_prim_or_helper program o vs h st) h st
+
+  abbrev pub operate_by : Op → List Value → Here Value → Stores → Tree Value
+  operate_by (op.Unary u) (v ∷ []) h st = special_or v [] (op.Unary u) (v ∷ []) h st
+  operate_by op.Item (a ∷ i ∷ []) h st = special_or a (i ∷ []) op.Item (a ∷ i ∷ []) h st
+  operate_by o vs h st = by_prim_or_helper program o vs h st
+
+  abbrev pub by_operation : Option Op → List Value → Here Value → Stores → Tree Value
+  by_operation (Some o) vs h st = operate_by o vs h st
+  by_operation None vs h st = leave Feature
+
   -- the object of a constant's text
   abbrev pub text_object : Option ℕ → Value
   text_object (Some i) = value.Obj (record { 0 = length start_rows + length helper_rows + i })
@@ -101,9 +128,10 @@ module _ (program : Program) where
   abbrev pub operate : Operation → List Value → Here Value → Stores → Tree Value
   operate (T.call rs) (f ∷ vs) h st = call program rs f vs h st
   operate (T.function b xs) vs h st = make_function b xs vs h st
-  operate (T.get x) (v ∷ []) h st = attribute x v h st
+  operate (T.class b) vs h st = make_class program b vs h st
+  operate (T.get x) (v ∷ []) h st = attribute program x v h st
   operate (T.import x) [] h st = import_module x h st
-  operate (T.import_name x) (m ∷ []) h st = import_name x m h st
+  operate (T.import_name x) (m ∷ []) h st = import_name program x m h st
   operate o vs h st = by_operation (operation_of o) vs h st
 
   abbrev pub seeks : Seek Value → Here Value → Stores → Tree Value

@@ -1,5 +1,5 @@
 -- How functions are made and called (Language Reference 6.3.4, 6.14, 8.7).
-use Rattle.std.specs.Prelude.{ℕ, ◌+◌, pos, Bool, true, false, not, ◌&&◌, ◌||◌, List, [], ◌∷◌, ◌++◌, map, drop}
+use Rattle.std.specs.Prelude.{ℕ, zero, suc, ◌+◌, pos, Bool, true, false, not, ◌&&◌, ◌||◌, List, [], ◌∷◌, ◌++◌, map, drop}
 use Rattle.std.specs.Prelude.{nat_eq, length, codes, Option, Some, None, option_map, Result, Ok, Err, slice_get}
 use Rattle.std.specs.Prelude.{if◌then◌else◌}
 use Rattle.std.specs.Str.{bytes_eq}
@@ -7,7 +7,6 @@ use Rattle.pt_base.specs.declared.numbers.ObjId.{ObjId}
 use Rattle.pt_base.specs.declared.what.What.TheVariants.{Feature}
 use Rattle.pt_base.specs.declared.what.What.TheVariants as what
 use Rattle.pt_tree.specs.Syntax.{Name}
-use Rattle.sem_control.specs.control.Turn as T
 use Rattle.sem_control.specs.control.Turn.{Role, End, gave, left_by}
 use Rattle.pt_heap.specs.declared.value.Value.{Value}
 use Rattle.pt_heap.specs.declared.value.Value.TheVariants as value
@@ -18,6 +17,7 @@ use Rattle.pt_heap.specs.declared.object.Function.{Function}
 use Rattle.pt_heap.specs.declared.object.Object.{Object}
 use Rattle.pt_heap.specs.declared.object.Object.TheVariants as object
 use Rattle.pt_names.specs.Names.{Named, name_value}
+use Rattle.pt_bind.specs.declared.arguments.Params.{Params}
 use Rattle.pt_bind.specs.NameSets.{is_among}
 use Rattle.pt_bind.specs.Binding.{value_of, binding_with}
 use Rattle.pt_bind.specs.declared.arguments.Args.{Args}
@@ -25,7 +25,12 @@ use Rattle.pt_bind.specs.declared.arguments.BindErr.{BindErr}
 use Rattle.pt_bind.specs.declared.arguments.Locals.{Locals}
 use Rattle.pt_content.specs.Classes.{class_name}
 use Rattle.pt_content.specs.Functions.{of_class, of_function}
-use Rattle.pt_content.specs.Operands.{operand_of}
+use Rattle.pt_content.specs.Operands.{text_of}
+use Rattle.pt_content.specs.pt_attrs.Look.{as_method, object_of}
+use Rattle.pt_content.specs.pt_attrs.declared.look.Found.{Found}
+use Rattle.pt_content.specs.pt_attrs.declared.look.Found.TheVariants as found
+use Rattle.pt_content.specs.pt_attrs.pt_dicts.Chain.{class_value}
+use Rattle.pt_content.specs.pt_attrs.pt_dicts.Keys.{name_codes}
 use Rattle.pt_content.specs.declared.function.Function.{Function as Builtin}
 use Rattle.pt_content.specs.declared.function.Function.TheVariants as builtin
 use Rattle.pt_content.specs.declared.method_name.MethodName.{MethodName}
@@ -36,16 +41,19 @@ use Rattle.pt_content.specs.declared.answer.PrimAns.{PrimAns}
 use Rattle.pt_content.specs.declared.answer.PrimAns.TheVariants as prim
 use Rattle.pt_content.specs.declared.op.Op.{Op}
 use Rattle.pt_content.specs.declared.op.Op.TheVariants as op
-use Rattle.pt_content.specs.declared.operand.Operand.{Operand}
-use Rattle.pt_content.specs.declared.operand.Operand.TheVariants as operand
 use Rattle.pt_prims.specs.pt_methods.Names.{of_method_number}
 use Rattle.sem_run.specs.run.Machine.{BlockId}
 use Rattle.sem_run.specs.run.Host.{Here, Opening, answer, raise, leave, request, opens, made, beyond}
-use Rattle.pt_host.specs.declared.places.TheConstants.{BASE_EXCEPTION, TYPE_ERROR}
+use Rattle.pt_host.specs.declared.places.TheConstants.{BASE_EXCEPTION, OBJECT, RECURSION_ERROR, TYPE_ERROR}
 use Rattle.pt_host.specs.World.{Names, World, Stores, CodeFacts, Program, start_world, in_world, with_objects, allot}
-use Rattle.pt_host.specs.Trees.{Tree, answer_with}
+use Rattle.pt_host.specs.Trees.{Tree, answer_with, made_all, then_with}
+use Rattle.pt_host.specs.Primitives.{of_prim, one_value}
+use Rattle.pt_host.specs.Operators.{method_name, reflected_name, sign_of}
+use Rattle.pt_prims.specs.pt_special_methods.Instances.{method_of}
 use Rattle.pt_host.specs.Texts.{binding_text, not_callable_text}
 use Rattle.pt_host.specs.Errors.{error, raise_saying}
+use Rattle.pt_host.specs.Attributes.{set_named}
+use Rattle.pt_host.specs.Supers.{make_super}
 use Rattle.pt_prims.specs.Classes.{derives}
 use Rattle.pt_prims.specs.Operations.{prim_answer, prim_heap}
 use Rattle.pt_helper_objects.specs.Objects.{helper_place}
@@ -54,7 +62,7 @@ use Rattle.pt_helper_objects.specs.pt_prelude.declared.kinds.Helper.TheVariants 
 use Rattle.pt_helper_objects.specs.pt_prelude.Asked.{function_of}
 pub use Rattle.pt_host.specs.Arguments.{are_arguments, arguments}
 pub use Rattle.pt_host.specs.Starred.{Values, values_given}
-pub use Rattle.pt_host.specs.Primitives.{by_prim, of_prim, one_value, arguments_of}
+pub use Rattle.pt_host.specs.Primitives.{by_prim, arguments_of}
 
 -- a function of a block, with the values of defaults and then the numbers of cells
 abbrev pub defaults_of : List Name → List Value → List Binding
@@ -219,11 +227,42 @@ method_operands m args = unnamed_operands args.named args.plain
 abbrev pub named_argument : List ℕ → Value → Binding
 named_argument x v = record { name = x; value = v }
 
-abbrev pub helper_arguments : Asked → List Value → Args
-helper_arguments asked.SortOf (l ∷ key ∷ turned ∷ []) =
+-- objects that are made for it: the names of an operator's methods and its sign; the tuple of what is printed, and the usual texts between and behind
+abbrev pub objects_for : Asked → List Value → List Object
+objects_for (asked.BinaryOf o) vs = object.Str (method_name o) ∷ object.Str (reflected_name o) ∷ object.Str (sign_of o) ∷ []
+objects_for asked.PrintOf (separator ∷ end ∷ vs) = object.Tuple vs ∷ object.Str (codes " ") ∷ object.Str (10 ∷ []) ∷ []
+objects_for a vs = []
+
+abbrev pub or_usual : (usual given : Value) → Value
+or_usual u value.None = u
+or_usual u v = v
+
+abbrev pub helper_arguments : Asked → List Value → (made : List Value) → Args
+helper_arguments asked.SortOf (l ∷ key ∷ turned ∷ []) ms =
     record { plain = l ∷ []; named = named_argument (codes "key") key ∷ named_argument (codes "reverse") turned ∷ [] }
-helper_arguments (asked.TakeOf n) vs = record { plain = vs ++ value.Int (pos n) ∷ []; named = [] }
-helper_arguments a vs = record { plain = vs; named = [] }
+helper_arguments asked.InOf (v ∷ x ∷ []) ms = record { plain = x ∷ v ∷ []; named = [] }
+helper_arguments asked.PrintOf (separator ∷ end ∷ vs) (printed ∷ blank ∷ line ∷ []) =
+    record { plain = printed ∷ or_usual blank separator ∷ or_usual line end ∷ []; named = [] }
+helper_arguments asked.StrOf (v ∷ vs) ms = record { plain = v ∷ []; named = [] }
+helper_arguments asked.ReprOf (v ∷ vs) ms = record { plain = v ∷ []; named = [] }
+helper_arguments (asked.TakeOf n) vs ms = record { plain = vs ++ value.Int (pos n) ∷ []; named = [] }
+helper_arguments a vs ms = record { plain = vs ++ ms; named = [] }
+
+-- what stands for the value that such a function gives, if that isn't the operation's own: the opposite where it is asked that it isn't
+-- so (6.10.2), and the list that `+=` changed (7.2.1)
+abbrev pub opposite : Value → Value
+opposite (value.Bool b) = value.Bool (not b)
+opposite v = v
+
+abbrev pub standing_for : Op → Asked → List Value → (inverted : Bool) → Value → Value
+standing_for (op.InPlace o) asked.ExtendOf (l ∷ vs) inverted v = l
+standing_for o a vs true v = opposite v
+standing_for o a vs false v = v
+
+-- what is made of it: the text of a field is laid out (2.4.3)
+abbrev pub behind_helper : Op → Asked → List Value → (inverted : Bool) → (given : Value) → Here Value → Stores → Tree Value
+behind_helper (op.Format c) a (x ∷ spec ∷ vs) inverted v h st = by_prim (op.Format None) (v ∷ spec ∷ []) h st
+behind_helper o a vs inverted v h st = answer (standing_for o a vs inverted v) st
 
 -- the functions that calls of builtin classes ask, by the places of these
 abbrev pub class_helpers : List (ℕ × Helper)
@@ -250,29 +289,36 @@ module _ (program : Program) where
   abbrev pub ask : Helper → Args → Here Value → Stores → Tree Value
   ask f args h st = call_at (helper_place f) args h st
 
+  abbrev pub ask_with : Asked → List Value → Here Value → Stores → Tree Value
+  ask_with a vs h st =
+      then_with (made_all (objects_for a vs) st) (λ ms st1. ask (function_of a) (helper_arguments a vs ms) h st1)
+
   -- an operation on values, or the function that it asks in its place
-  abbrev pub asked_in_place : PrimAns → Here Value → Stores → Tree Value
-  asked_in_place (prim.Help a vs false) h st = ask (function_of a) (helper_arguments a vs) h st
-  asked_in_place p h st = of_prim one_value p h st
+  abbrev pub asked_in_place : Op → PrimAns → Here Value → Stores → Tree Value
+  asked_in_place o (prim.Help a vs inverted) h st =
+      then_with (ask_with a vs h st) (λ v st1. behind_helper o a vs inverted v h st1)
+  asked_in_place o p h st = of_prim one_value p h st
 
   unfoldable pub by_prim_or_helper : Op → List Value → Here Value → Stores → Tree Value
   by_prim_or_helper op vs h st =
-      asked_in_place (prim_answer op vs st.world.heap) h
+      asked_in_place op (prim_answer op vs st.world.heap) h
       (with_objects (prim_heap op vs st.world.heap) st)
 
   abbrev pub operate_or_ask : Op → Option (List Value) → Here Value → Stores → Tree Value
   operate_or_ask o (Some vs) h st = by_prim_or_helper o vs h st
   operate_or_ask o None h st = leave Feature
 
--- an operation on operands, if there are any
-abbrev pub operate_on : Op → Option (List Value) → Here Value → Stores → Tree Value
-operate_on o (Some vs) h st = by_prim o vs h st
-operate_on o None h st = leave Feature
+-- `setattr`, which takes three arguments
+abbrev pub call_setattr : Option (List Value) → Here Value → Stores → Tree Value
+call_setattr (Some (a ∷ name ∷ v ∷ [])) h st =
+    then_with (set_named (text_of st.world.heap name) a v h st) (λ u st1. answer value.None st1)
+call_setattr o h st = leave Feature
 
 -- what else functions of `sys` do isn't there yet
-abbrev pub call_builtin : Option Builtin → Args → Here Value → Stores → Tree Value
-call_builtin (Some f) args h st = operate_on (op.Call f) (operands_of f args) h st
-call_builtin None args h st = leave Feature
+abbrev pub call_builtin : Program → Option Builtin → Args → Here Value → Stores → Tree Value
+call_builtin p (Some builtin.Setattr) args h st = call_setattr (unnamed_operands args.named args.plain) h st
+call_builtin p (Some f) args h st = operate_or_ask p (op.Call f) (operands_of f args) h st
+call_builtin p None args h st = leave Feature
 
 -- a method of a builtin value, of its object
 abbrev pub call_method : Program → Option MethodName → (receiver : Value) → Args → Here Value → Stores → Tree Value
@@ -281,7 +327,7 @@ call_method p (Some m) r args h st =
 call_method p None r args h st = leave Feature
 
 abbrev pub call_builtin_object : Program → BuiltinObject → (receiver : Option Value) → Args → Here Value → Stores → Tree Value
-call_builtin_object p b None args h st = call_builtin (of_function b.number) args h st
+call_builtin_object p b None args h st = call_builtin p (of_function b.number) args h st
 call_builtin_object p b (Some r) args h st = call_method p (of_method_number b.number) r args h st
 
 -- the builtin class that a value is
@@ -301,39 +347,115 @@ make_exception (Some id) (Some vs) st =
     answer_with (allot (error id vs None None) st.world.heap) st
 make_exception o vs st = leave Feature
 
--- a list, a tuple, a set and a dictionary are made by functions that are written in Python; calls of classes of a script aren't there yet
+-- A call of a script's class makes an instance, for which `__init__` is called with the arguments, whatever that gives (3.3.1). An exception has those
+-- without names as its `args`, too.
+abbrev pub instance : (exception : Bool) → (class : ObjId) → List Value → Object
+instance true id vs = error id vs None None
+instance false id vs = object.Instance (record { class = id; names = [] })
+
+-- without `__init__` only an exception takes arguments
+abbrev pub parameters_without : (exception : Bool) → Params
+parameters_without e = record { plain = []; only = []; star = e; stars = false; defaults = [] }
+
+abbrev pub initializer : List Object → ObjId → Option Found
+initializer h id = as_method h (class_value h (name_codes (codes "__init__")) id)
+
+abbrev pub with_receiver : Value → Args → Args
+with_receiver v args = record args { plain = v ∷ args.plain }
+
+abbrev pub made_unless : Result Locals BindErr → ClassObject → Object → Here Value → Stores → Tree Value
+made_unless (Ok ls) c o h st = answer_with (allot o st.world.heap) st
+made_unless (Err e) c o h st = raise_saying TYPE_ERROR (binding_text c.name e) h st
+
+module _ (program : Program) where
+  abbrev pub call_function_at : Option Object → Args → Here Value → Stores → Tree Value
+  call_function_at (Some (object.Function f)) args h st = call_function (program.facts (block_of f)) f args h st
+  call_function_at o args h st = leave Feature
+
+  abbrev pub initialized : (function made : Value) → Args → Here Value → Stores → Tree Value
+  initialized f v args h st =
+      then_with (call_function_at (object_of st.world.heap f) (with_receiver v args) h st) (λ r st1. answer v st1)
+
+  -- what is no function isn't called yet
+  abbrev pub instance_by : (exception : Bool) → Option Found → ObjId → ClassObject → Args → Here Value → Stores → Tree Value
+  instance_by e None id c args h st =
+      made_unless (binding_with (parameters_without e) [] args) c (instance e id args.plain) h st
+  instance_by e (Some (found.Bound f)) id c args h st =
+      then_with (answer_with (allot (instance e id args.plain) st.world.heap) st) (λ v st1. initialized f v args h st1)
+  instance_by e o id c args h st = leave Feature
+
+  abbrev pub make_instance : ObjId → ClassObject → Args → Here Value → Stores → Tree Value
+  make_instance id c args h st =
+      instance_by (derives st.world.heap BASE_EXCEPTION id) (initializer st.world.heap id) id c args h st
+
+-- a list, a tuple, a set and a dictionary are made by functions that are written in Python
 abbrev pub call_other_class : Program → Option Helper → ClassObject → (class : Value) → Args →
     Here Value → Stores → Tree Value
 call_other_class p (Some f) c v args h st = ask p f args h st
-call_other_class p None c v args h st =
-    make_exception (exception_class st.world.heap v c) (unnamed_operands args.named args.plain) st
+call_other_class p None c (value.Obj id) args h st =
+    if c.scripted then make_instance p id c args h st
+    else make_exception (exception_class st.world.heap (value.Obj id) c) (unnamed_operands args.named args.plain) st
+call_other_class p None c v args h st = leave Feature
+
+-- `object` and `super` take no arguments
+abbrev pub new_object : Option (List Value) → Stores → Tree Value
+new_object (Some []) st = answer_with (allot (instance false OBJECT []) st.world.heap) st
+new_object o st = leave Feature
+
+abbrev pub call_super : Program → Option (List Value) → Here Value → Stores → Tree Value
+call_super p (Some []) h st = make_super p h st
+call_super p o h st = leave Feature
 
 abbrev pub call_class : Program → Option Builtin → ClassObject → (class : Value) → Args →
     Here Value → Stores → Tree Value
-call_class p (Some f) c v args h st = operate_on (op.Call f) (operands_of f args) h st
+call_class p (Some builtin.Object) c v args h st = new_object (unnamed_operands args.named args.plain) st
+call_class p (Some builtin.Super) c v args h st = call_super p (unnamed_operands args.named args.plain) h st
+call_class p (Some f) c v args h st = operate_or_ask p (op.Call f) (operands_of f args) h st
 call_class p None c v args h st = call_other_class p (helper_of_class v) c v args h st
 
 abbrev pub not_callable : Value → Here Value → Stores → Tree Value
 not_callable v h st = raise_saying TYPE_ERROR (not_callable_text (class_name st.world.heap v)) h st
 
--- an instance of a script's class may have `__call__`, which isn't there yet
-abbrev pub call_other : Operand → Value → Here Value → Stores → Tree Value
-call_other operand.Instance v h st = leave Feature
-call_other k v h st = not_callable v h st
+-- so many instances may be called in turn
+abbrev pub call_limit : ℕ
+call_limit = 1000
+
+-- how values are called
+abbrev pub Called : Type 0
+Called = Value → Args → Here Value → Stores → Tree Value
 
 module _ (program : Program) where
-  abbrev pub call_object : Option Object → Value → Args → Here Value → Stores → Tree Value
-  call_object (Some (object.Function f)) v args h st =
+  -- an instance is called by its `__call__`, which may be an instance in turn
+  abbrev pub call_by : Called → Option Found → Value → Args → Here Value → Stores → Tree Value
+  call_by next (Some (found.Bound f)) v args h st =
+      call_function_at program (object_of st.world.heap f) (with_receiver v args) h st
+  call_by next (Some (found.Plain w)) v args h st = next w args h st
+  call_by next o v args h st = not_callable v h st
+
+  abbrev pub call_object : Called → Option Object → Value → Args → Here Value → Stores → Tree Value
+  call_object next (Some (object.Function f)) v args h st =
       call_function (program.facts (block_of f)) f args h st
-  call_object (Some (object.Builtin b)) v args h st = call_builtin_object program b b.receiver args h st
-  call_object (Some (object.Class c)) v args h st = call_class program (class_function v) c v args h st
-  call_object (Some (object.Method m)) v args h st = leave Feature
-  call_object o v args h st = call_other (operand_of st.world.heap v) v h st
+  call_object next (Some (object.Builtin b)) v args h st = call_builtin_object program b b.receiver args h st
+  call_object next (Some (object.Class c)) v args h st = call_class program (class_function v) c v args h st
+  call_object next (Some (object.Method m)) v args h st =
+      call_function_at program (object_of st.world.heap m.function) (with_receiver m.receiver args) h st
+  call_object next o v args h st = call_by next (method_of st.world.heap v (codes "__call__")) v args h st
+
+  unfoldable pub called_within : (instances : ℕ) → Value → Args → Here Value → Stores → Tree Value
+  called_within zero v args h st = raise_saying RECURSION_ERROR (codes "too many activations") h st
+  called_within (suc n) (value.Obj id) args h st =
+      call_object (called_within n) (slice_get st.world.heap id.0) (value.Obj id) args h st
+  called_within (suc n) v args h st = not_callable v h st
 
   abbrev pub call_value : Value → Args → Here Value → Stores → Tree Value
-  call_value (value.Obj id) args h st =
-      call_object (slice_get st.world.heap id.0) (value.Obj id) args h st
-  call_value v args h st = not_callable v h st
+  call_value v args h st = called_within (suc call_limit) v args h st
+
+  -- the special method of an instance is called with these arguments
+  abbrev pub call_special : Option Found → (receiver : Value) → List Value → (otherwise : Tree Value) → Here Value → Stores → Tree Value
+  call_special (Some (found.Bound f)) v vs otherwise h st =
+      call_function_at program (object_of st.world.heap f) (record { plain = v ∷ vs; named = [] }) h st
+  call_special (Some (found.Plain w)) v vs otherwise h st = call_value w (record { plain = vs; named = [] }) h st
+  call_special o v vs otherwise h st = otherwise
 
   abbrev pub call : List Role → (callee : Value) → List Value → Here Value → Stores → Tree Value
   call rs f vs h st =

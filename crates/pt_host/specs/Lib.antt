@@ -5,11 +5,14 @@ pub mod Texts
 pub mod Errors
 pub mod Builtins
 pub mod Variables
+pub mod Operators
 pub mod Primitives
 pub mod Arguments
 pub mod Starred
-pub mod Calls
 pub mod Attributes
+pub mod Supers
+pub mod Calls
+pub mod Classes
 pub mod Imports
 pub mod Answers
 pub mod Leaving

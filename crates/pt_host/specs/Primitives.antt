@@ -29,7 +29,7 @@ abbrev pub arguments_of : Option Value → List Value
 arguments_of (Some v) = v ∷ []
 arguments_of None = []
 
--- the helpers of the prelude aren't there yet
+-- a function of the prelude is asked by what awaits one value alone (`asked_in_place` of Calls)
 abbrev pub of_prim : {A : Type 0} → Awaited A → PrimAns → Here Value → Stores → Tree A
 of_prim w (prim.Value v) h st = answer_if (w.value v) st
 of_prim w (prim.Values vs) h st = answer_if (w.values vs) st
@@ -39,8 +39,9 @@ of_prim w (prim.Help helper vs inverted) h st = leave Helper
 of_prim w (prim.Print t) h st = print t (answer_if (w.value value.None) st)
 of_prim w (prim.Outside what) h st = leave what
 
-unfoldable pub asked : {A : Type 0} → Awaited A → Op → List Value → Here Value → Stores → Tree A
-asked w op vs h st =
+-- an operation that asks none
+unfoldable pub prim_asked : {A : Type 0} → Awaited A → Op → List Value → Here Value → Stores → Tree A
+prim_asked w op vs h st =
     of_prim w (prim_answer op vs st.world.heap) h
     (with_objects (prim_heap op vs st.world.heap) st)
 
@@ -48,7 +49,7 @@ abbrev pub one_value : Awaited Value
 one_value = record { value = λ v. Some v; values = λ vs. None; end = None }
 
 abbrev pub by_prim : Op → List Value → Here Value → Stores → Tree Value
-by_prim op vs h st = asked one_value op vs h st
+by_prim op vs h st = prim_asked one_value op vs h st
 
 -- that something is done, whatever its value
 abbrev pub done : Awaited (Unit {0})

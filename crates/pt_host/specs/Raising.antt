@@ -11,6 +11,8 @@ use Rattle.pt_heap.specs.declared.object.Error.{Error as ErrorObject}
 use Rattle.pt_heap.specs.declared.object.Object.{Object}
 use Rattle.pt_heap.specs.declared.object.Object.TheVariants as object
 use Rattle.pt_content.specs.pt_attrs.Look.{object_of}
+use Rattle.pt_content.specs.pt_attrs.declared.look.Found.{Found}
+use Rattle.pt_host.specs.Calls.{initializer}
 use Rattle.sem_control.specs.control.Turn as T
 use Rattle.sem_control.specs.control.Turn.{Throw}
 use Rattle.sem_run.specs.run.Host.{Here, Made, made, beyond, answer, raise, leave}
@@ -37,7 +39,7 @@ raisable h (value.Obj id) = object_raisable h id (slice_get h id.0)
 raisable h v = Neither
 
 -- the exception that it stands for, if it stands for one, and the heap then: a class is called
--- without arguments. One of a script isn't called yet
+-- without arguments. That calls no `__init__` yet
 abbrev pub Standing : Type 0
 Standing = Made (Option ObjId) (List Object)
 
@@ -45,10 +47,15 @@ abbrev pub as_standing : Allotted → Standing
 as_standing (made v h) = made (object_place (Some v)) h
 as_standing (beyond what) = beyond what
 
+abbrev pub is_found : Option Found → Bool
+is_found (Some f) = true
+is_found None = false
+
 abbrev pub standing : Raisable → List Object → Standing
 standing (Exception id) h = made (Some id) h
 standing (Class id false) h = as_standing (allot (error id [] None None) h)
-standing (Class id true) h = beyond Feature
+standing (Class id true) h =
+    if is_found (initializer h id) then beyond Feature else as_standing (allot (error id [] None None) h)
 standing Neither h = made None h
 
 -- an exception arises in the context of the one that is active

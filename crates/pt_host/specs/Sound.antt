@@ -46,7 +46,7 @@ EndWithin h (left_by v) = IsWithin h v
 
 abbrev pub IsSoundResponse : List Object → (r : Request Names Value) → Response Names Value r →
     Type 0
-IsSoundResponse h (opens o) x = EndWithin h x.end
+IsSoundResponse h (opens o) x = EndWithin h x.end × NamesWithin h x.names.values
 IsSoundResponse h r x = Unit {0}
 
 -- an answer in the making gives a sound store with no fewer objects, and what it gives fits that;
@@ -76,6 +76,8 @@ ChangeWithin h None = Unit {0}
 
 abbrev pub DeedWithin : List Object → Deed Value → Type 0
 DeedWithin h (T.store x v) = IsWithin h v
+DeedWithin h (T.set_attribute x a v) = IsWithin h a × IsWithin h v
+DeedWithin h (T.delete_attribute x a) = IsWithin h a
 DeedWithin h d = ChangeWithin h (change_of d)
 
 abbrev pub ThrowWithin : List Object → Throw Value → Type 0

@@ -1,17 +1,20 @@
 -- How a variable is read, bound and unbound (Language Reference 4.2.2, 7.2, 7.5).
-use Rattle.std.specs.Prelude.{ℕ, pos, [], ◌∷◌, ◌++◌, Option, Some, None, length, slice_get}
-use Rattle.std.specs.Prelude.{slice_set, Bool, if◌then◌else◌}
+use Rattle.std.specs.Prelude.{ℕ, pos, [], ◌∷◌, ◌++◌, Option, Some, None, length, reverse, slice_get}
+use Rattle.std.specs.Prelude.{slice_set, Bool, false, not, ◌&&◌, if◌then◌else◌}
 use Rattle.std.specs.Map.{lookup}
 use Rattle.std.specs.Option.{option_flatten, option_or}
 use Rattle.std.specs.Str.{bytes_eq}
 use Rattle.indexmap.specs.IndexMap.{insert_entry}
-use Rattle.pt_base.specs.declared.what.What.TheVariants.{Feature}
+use Rattle.pt_base.specs.declared.what.What.TheVariants.{Feature, Special}
+use Rattle.pt_tables.specs.Names.{special_names}
 use Rattle.pt_tree.specs.Syntax.{Name}
 use Rattle.sem_control.specs.control.Turn as T
 use Rattle.sem_control.specs.control.Turn.{Scope, Variable}
 use Rattle.pt_heap.specs.declared.value.Value.{Value}
 use Rattle.pt_heap.specs.declared.value.Value.TheVariants as value
 use Rattle.pt_names.specs.Names.{name_value}
+use Rattle.pt_bind.specs.NameSets.{is_among}
+use Rattle.pt_content.specs.pt_attrs.Unbuilt.{is_special}
 use Rattle.sem_run.specs.run.Host.{Here, answer, leave}
 use Rattle.pt_host.specs.World.{Names, World, Stores, in_world}
 use Rattle.pt_host.specs.Trees.{Tree}
@@ -22,6 +25,15 @@ use Rattle.pt_host.specs.Builtins.{Builtin, is, unavailable, no_builtin, meaning
 abbrev pub cell_number : Name → Names → Option ℕ
 cell_number x ns = lookup (bytes_eq x) ns.cells
 
+-- One name may be a cell of a block and free in it, that of the class for `super` where a block of a class makes a class. Free names stand behind
+-- the cells.
+abbrev pub free_number : Name → Names → Option ℕ
+free_number x ns = lookup (bytes_eq x) (reverse ns.cells)
+
+abbrev pub number_in : Scope → Name → Names → Option ℕ
+number_in T.free x ns = free_number x ns
+number_in s x ns = cell_number x ns
+
 abbrev pub cell_value : Option ℕ → World → Option Value
 cell_value (Some n) w = option_flatten (slice_get w.cells n)
 cell_value None w = None
@@ -30,7 +42,7 @@ cell_value None w = None
 abbrev pub variable_value : Scope → Name → Stores → Option Value
 variable_value T.local x st = name_value x st.names.values
 variable_value T.cell x st = cell_value (cell_number x st.names) st.world
-variable_value T.free x st = cell_value (cell_number x st.names) st.world
+variable_value T.free x st = cell_value (free_number x st.names) st.world
 variable_value T.global x st = name_value x st.world.globals
 variable_value T.of_class x st = name_value x st.names.values
 
@@ -82,12 +94,21 @@ with_cell None v st = st
 abbrev pub put : Scope → Name → Option Value → Stores → Stores
 put T.local x v st = with_own x v st
 put T.cell x v st = with_cell (cell_number x st.names) v st
-put T.free x v st = with_cell (cell_number x st.names) v st
+put T.free x v st = with_cell (free_number x st.names) v st
 put T.global x v st = with_global x v st
 put T.of_class x v st = with_own x v st
 
+-- a name between double underscores that is none of a special method (3.3), which a class doesn't bind
+abbrev pub is_left_out : Name → Bool
+is_left_out x = is_special x && not (is_among special_names x)
+
+abbrev pub is_no_method : Scope → Name → Bool
+is_no_method T.of_class x = is_left_out x
+is_no_method s x = false
+
 abbrev pub store : Variable → Value → Stores → Tree (Unit {0})
-store x v st = answer tt (put x.scope x.name (Some v) st)
+store x v st =
+    if is_no_method x.scope x.name then leave Special else answer tt (put x.scope x.name (Some v) st)
 
 abbrev pub delete_by : Option Value → Scope → Name → Here Value → Stores → Tree (Unit {0})
 delete_by (Some v) s x h st = answer tt (put s x None st)
@@ -116,4 +137,4 @@ number_value (Some n) = value.Int (pos n)
 number_value None = value.None
 
 abbrev pub cell_of : Variable → Stores → Tree Value
-cell_of x st = answer (number_value (cell_number x.name st.names)) st
+cell_of x st = answer (number_value (number_in x.scope x.name st.names)) st

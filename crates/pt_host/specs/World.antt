@@ -1,7 +1,7 @@
 -- What the asks of a run read and change: the names of an activation, and the objects, cells and
 -- global names of the run (Language Reference 3.1, 4.2).
 use Rattle.std.specs.Prelude.{◌≡◌, ℕ, List, [], ◌∷◌, ◌++◌, Bool, true, false, Option, Some, None, length, map}
-use Rattle.std.specs.Prelude.{nat_eq, slice_get, if◌then◌else◌}
+use Rattle.std.specs.Prelude.{nat_eq, slice_get, codes, if◌then◌else◌}
 use Rattle.std.specs.Option.{option_flatten}
 use Rattle.std.specs.Str.{bytes_eq}
 use Rattle.indexmap.specs.IndexMap.{insert_entry}
@@ -47,6 +47,10 @@ pub record CodeFacts : Type 0 where
   pub cells : List Name
   pub frees : List Name
   pub yields : Bool
+
+-- the name by which a block has the class that `super` is called for, if a class stands around it; no script has it
+abbrev pub class_variable : Name
+class_variable = codes ".class"
 
 -- the blocks, and the texts of constants, each once; the name of the file that it was read from
 -- (`co_filename`), and its text, from which tracebacks take their lines, if that is known

@@ -16,11 +16,12 @@ ghost use Rattle.pt_host.specs.Laws.{functions_asked, functions_by_name, hidden_
 ghost use Rattle.pt_host.specs.Laws.{names_in_prelude, names_with_suffix, start_function};
 ghost use Rattle.pt_host.specs.Laws.{start_name};
 ghost use Rattle.pt_host.specs.declared.places.TheConstants.{IMPORT_ERROR};
-ghost use Rattle.pt_host.specs.declared.places.TheConstants.{MODULE_NOT_FOUND_ERROR, SYS};
+ghost use Rattle.pt_host.specs.declared.places.TheConstants.{MODULE_NOT_FOUND_ERROR, OBJECT, SYS};
 ghost use Rattle.pt_host.specs.pt_methods.declared.attribute.TheConstants.{EXIT};
 
 /// The objects that the host speaks of stand at their places as a run starts.
 pub fn objects_stand_at_their_places()
+    ensures object { start_name OBJECT ≡ codes "object" }
     ensures base { start_name BASE_EXCEPTION ≡ codes "BaseException" }
     ensures exit { start_name SYSTEM_EXIT ≡ codes "SystemExit" }
     ensures closing { start_name GENERATOR_EXIT ≡ codes "GeneratorExit" }

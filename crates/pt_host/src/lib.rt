@@ -2,6 +2,7 @@
 //! and calls (Language Reference 4, 6, 8.7). It runs nothing.
 #![tactic(auto)]
 
+mod classes;
 mod contexts;
 mod errors;
 mod laws;
@@ -10,6 +11,7 @@ mod raising;
 mod starred;
 mod texts;
 
+pub use classes::{Base, base_of, class_object, initializer, instance, is_fixed, is_left_out};
 pub use contexts::arise_while;
 pub use errors::{allot, error, error_saying};
 pub use laws::{
@@ -18,10 +20,11 @@ pub use laws::{
 };
 pub use places::{
     ASSERTION_ERROR, ATTRIBUTE_ERROR, BASE_EXCEPTION, DISABLE, GENERATOR_EXIT, IMPORT_ERROR,
-    MISSING, MODULE_NOT_FOUND_ERROR, NAME_ERROR, RECURSION_ERROR, RUNTIME_ERROR, STOP_ITERATION,
-    SYS, SYSTEM_EXIT, TYPE_ERROR, UNBOUND_LOCAL_ERROR, VALUE_ERROR,
+    MISSING, MODULE_NOT_FOUND_ERROR, NAME_ERROR, OBJECT, RECURSION_ERROR, RUNTIME_ERROR,
+    STOP_ITERATION, SYS, SYSTEM_EXIT, TYPE_ERROR, UNBOUND_LOCAL_ERROR, VALUE_ERROR,
 };
-pub use pt_prims::{are_named, derives};
+pub use pt_content::{Found, NoAttr, Op, PrimAns, delete, store};
+pub use pt_prims::{are_named, class_of, derives, is_of, prim};
 pub use raising::{Raisable, raisable_of};
 pub use starred::values_given;
 pub use texts::{

@@ -2,6 +2,9 @@
 
 use pt_base::ObjId;
 
+/// The place of the class that each class of a script has behind all its bases.
+pub const OBJECT: ObjId = ObjId(0);
+
 /// The places of the classes of exceptions that a run makes.
 pub const BASE_EXCEPTION: ObjId = ObjId(26);
 

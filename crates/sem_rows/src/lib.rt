@@ -6,8 +6,10 @@ pub mod unsupported_rows;
 pub mod variables;
 
 pub use pt_host::{
-    ASSERTION_ERROR, ATTRIBUTE_ERROR, BASE_EXCEPTION, IMPORT_ERROR, MODULE_NOT_FOUND_ERROR,
-    RECURSION_ERROR, RUNTIME_ERROR, Raisable, SYS, SYSTEM_EXIT, TYPE_ERROR, allot, are_named,
-    arise_while, binding_text, derives, error, error_saying, missing_text, no_module_text,
-    no_name_text, not_callable_text, raisable_of, values_given,
+    ASSERTION_ERROR, ATTRIBUTE_ERROR, BASE_EXCEPTION, Base, Found, IMPORT_ERROR,
+    MODULE_NOT_FOUND_ERROR, NoAttr, OBJECT, Op, PrimAns, RECURSION_ERROR, RUNTIME_ERROR, Raisable,
+    SYS, SYSTEM_EXIT, TYPE_ERROR, allot, are_named, arise_while, base_of, binding_text,
+    class_object, class_of, delete, derives, error, error_saying, initializer, instance, is_fixed,
+    is_left_out, is_of, missing_text, no_module_text, no_name_text, not_callable_text, prim,
+    raisable_of, store, values_given,
 };

@@ -8,23 +8,23 @@ use Rattle.pt_instr.specs.declared.Instr.TheVariants as instr
 use Rattle.pt_heap.specs.declared.value.Value.{Value}
 use Rattle.pt_code.specs.View.{Ins}
 use Rattle.sem_control.specs.control.Turn as T
-use Rattle.sem_control.specs.control.Turn.{Ask, Answer, Deed, Operation, Turn, stuck}
+use Rattle.sem_control.specs.control.Turn.{Ask, Answer, Operation, Turn, stuck}
 use Rattle.sem_code.specs.slots.Slots as S
 use Rattle.sem_code.specs.slots.Slots.{Slots, State}
 use Rattle.sem_code.specs.slots.CodeObject.{CodeObject}
 use Rattle.sem_code.specs.slots.Instructions.{perform}
-use Rattle.sem_code.specs.slots.Pops.{Next, values, cells, one, two, an_iterator, a_completion, an_exit}
-use Rattle.sem_code.specs.slots.Steps.{mark_of, after, asks, gives, does, delegated, delegates}
+use Rattle.sem_code.specs.slots.Pops.{Next, values, cells, one, an_iterator, a_completion, an_exit}
+use Rattle.sem_code.specs.slots.Steps.{mark_of, after, asks, gives, delegated, delegates}
 use Rattle.sem_run.specs.run.Host as H
 use Rattle.sem_run.specs.run.Host.{Here}
 use Rattle.pt_host.specs.World.{Stores, Program}
-use Rattle.pt_host.specs.Answers.{answers, deeds, operate}
+use Rattle.pt_host.specs.Answers.{answers, operate}
 use Rattle.sem_run.specs.transitions.Successors.{outside}
 use Rattle.sem_rows.specs.declared.heap_rows.progress.Progress.TheVariants as progress
-use Rattle.sem_rows.specs.heap_rows.Leads.{HasHeapExtras, IsAnswered, IsStuck, by_tree, found, giving, behind}
+use Rattle.sem_rows.specs.heap_rows.Leads.{HasHeapExtras, IsAnswered, IsStuck, by_tree, found, giving}
 use Rattle.sem_rows.specs.heap_rows.Laws.{reached}
 use Rattle.sem_rows.specs.heap_rows.Views.{slots_view}
-use Rattle.sem_rows.proofs.heap_rows.RowLemmas.{asks_lead, operations_lead, deeds_lead}
+use Rattle.sem_rows.proofs.heap_rows.RowLemmas.{asks_lead, operations_lead}
 use Rattle.sem_rows.specs.unsupported_rows.Unsupported.{RowsOutside, is_supported}
 
 module _ (program : Program) (code : CodeObject Value) (i : Ins) (h : Here Value) (st : Stores) where
@@ -64,21 +64,6 @@ module _ (program : Program) (code : CodeObject Value) (i : Ins) (h : Here Value
   one-out (S.pending c ∷ ss) next f = inl tt
   one-out (S.exit v ∷ ss) next f = inl tt
 
-  two-out : (ss : Slots Value) (next : Value → Next Value Value) → ((v w : Value) (below : Slots Value) → Outside (next v w below)) → Outside (two ss next)
-  two-out [] next f = inl tt
-  two-out (S.value w ∷ []) next f = inl tt
-  two-out (S.value w ∷ S.value v ∷ ss) next f = f v w ss
-  two-out (S.value w ∷ S.cell v ∷ ss) next f = inl tt
-  two-out (S.value w ∷ S.iterator v ∷ ss) next f = inl tt
-  two-out (S.value w ∷ S.exception v ∷ ss) next f = inl tt
-  two-out (S.value w ∷ S.pending c ∷ ss) next f = inl tt
-  two-out (S.value w ∷ S.exit v ∷ ss) next f = inl tt
-  two-out (S.cell v ∷ ss) next f = inl tt
-  two-out (S.iterator v ∷ ss) next f = inl tt
-  two-out (S.exception v ∷ ss) next f = inl tt
-  two-out (S.pending c ∷ ss) next f = inl tt
-  two-out (S.exit v ∷ ss) next f = inl tt
-
   iterator-out : (ss : Slots Value) (next : Next Value Value) → ((v : Value) (below : Slots Value) → Outside (next v below)) → Outside (an_iterator ss next)
   iterator-out [] next f = inl tt
   iterator-out (S.value v ∷ ss) next f = inl tt
@@ -116,9 +101,6 @@ module _ (program : Program) (code : CodeObject Value) (i : Ins) (h : Here Value
       → Outside (values n [] ss (λ vs below. gives code i (T.operate o vs) below))
   operates-out o n ss e = values-out n [] ss _ (λ vs below. gives-out o vs below (e vs))
 
-  does-out : (d : Deed Value) (ss : Slots Value) → deeds d h st ≡ H.leave Feature → Outside (does code i d ss)
-  does-out d ss e = inr (sym (deeds_lead program code i h st d ss ∙ ap (by_tree code i (behind code i ss) ss) e))
-
   -- an ask that the host doesn't answer yet
   asks-out : (a : Ask Value) (ss : Slots Value) (next : Answer Value a → State Value) → IsAnswered a → answers program a h st ≡ H.leave Feature
       → Outside (asks code i a ss next)
@@ -140,15 +122,14 @@ module _ (program : Program) (code : CodeObject Value) (i : Ins) (h : Here Value
 
   performs-out : (pc : ℕ) (j : Instr) (ss : Slots Value) → HasHeapExtras code → is_supported j ≡ false → Outside (perform code pc i j ss)
   performs-out pc (instr.Attr t) ss x e = absurd (cc)
-  performs-out pc (instr.SetAttr t) ss x e = two-out ss _ (λ v a below. does-out _ below refl)
-  performs-out pc (instr.DelAttr t) ss x e = one-out ss _ (λ a below. does-out _ below refl)
+  performs-out pc (instr.SetAttr t) ss x e = absurd (cc)
+  performs-out pc (instr.DelAttr t) ss x e = absurd (cc)
   performs-out pc instr.TupleJoin ss x e = operates-out _ 2 ss (λ vs. x.tuple_join program vs h st)
   performs-out pc instr.DictMerge ss x e = operates-out _ 2 ss (λ vs. x.dict_merge program vs h st)
   performs-out pc instr.Spread ss x e = absurd (cc)
   performs-out pc instr.SpreadMap ss x e = absurd (cc)
   performs-out pc instr.Super ss x e = operates-out _ 2 ss (λ vs. x.super program vs h st)
-  performs-out pc (instr.MakeClass b) ss x e = cells-out (code.pool.captures b.0) [] ss _
-      (λ cs below. one-out below _ (λ base under. gives-out _ (base ∷ cs) under refl))
+  performs-out pc (instr.MakeClass b) ss x e = absurd (cc)
   performs-out pc (instr.MakeGenerator b) ss x e = cells-out (code.pool.captures b.0) [] ss _
       (λ cs below. iterator-out below _ (λ it under. gives-out _ (it ∷ cs) under refl))
   performs-out pc instr.Yield ss x e = one-out ss _ (λ v below. yields-out v below)

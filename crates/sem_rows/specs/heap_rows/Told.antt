@@ -1,10 +1,11 @@
 -- What code answers of an instruction, as where it leads.
-use Rattle.std.specs.Prelude.{◌≡◌, List, [], Bool, None}
+use Rattle.std.specs.Prelude.{◌≡◌, List, [], ◌∷◌, Bool, None}
 use Rattle.pt_base.specs.declared.numbers.BlockId.{BlockId}
 use Rattle.pt_heap.specs.declared.value.Value.{Value}
 use Rattle.pt_heap.specs.declared.completion.Completion.{Completion}
 use Rattle.pt_heap.specs.declared.completion.Completion.TheVariants.{Normal, Raise, Return, Leave}
 use Rattle.pt_bind.specs.declared.arguments.Locals.{Locals}
+use Rattle.pt_content.specs.declared.op.Op.TheVariants as op
 use Rattle.pt_frames.specs.declared.slot.Slot.{Slot}
 use Rattle.pt_frames.specs.Slots.{active_in}
 use Rattle.pt_code.specs.View.{Ins}
@@ -13,11 +14,15 @@ use Rattle.sem_code.specs.slots.Slots.{Slots, State, on, reraises}
 use Rattle.sem_code.specs.slots.CodeObject.{CodeObject}
 use Rattle.sem_code.specs.slots.Landing.{land}
 use Rattle.sem_run.specs.run.Machine as M
-use Rattle.sem_run.specs.run.Host.{Here, Opening, opens}
-use Rattle.pt_host.specs.World.{Names, Stores, Program}
+use Rattle.sem_run.specs.run.Host.{Here, Opening, BlockResult, answer, opens}
+use Rattle.pt_frames.specs.declared.purpose.Purpose.{Purpose}
+use Rattle.pt_frames.specs.declared.purpose.Purpose.TheVariants.{Init, Class, Opposite, Format}
+use Rattle.pt_host.specs.World.{Names, Stores, Program, CodeFacts}
+use Rattle.pt_host.specs.Trees.{Tree, then_with}
+use Rattle.pt_host.specs.Classes.{class_by}
 use Rattle.pt_host.specs.Errors.{raise_error, raise_saying}
 use Rattle.pt_host.specs.Primitives.{arguments_of}
-use Rattle.pt_host.specs.Calls.{result_of}
+use Rattle.pt_host.specs.Calls.{by_prim, opposite, result_of}
 use Rattle.pt_host.specs.Raising.{raise_active, raise_object}
 use Rattle.sem_run.specs.transitions.Successors.{to, behind_print, behind_request, outside, none}
 use Rattle.sem_rows.specs.declared.heap_rows.progress.Progress.{Progress}
@@ -33,6 +38,15 @@ block_id b hidden = record { hidden = hidden; number = b.0 }
 abbrev pub opening_of : Program → M.BlockId → Locals → Opening Names Value
 opening_of program b ls = record { block = b; iterator = None; names = names_in (program.facts b) ls.values ls.cells [] }
 
+-- what a block was run for: the value of the call, its opposite (6.10.2), an instance whose `__init__` it is (3.3.1), a text that is laid out
+-- (2.4.3), a class, which is made of its names (8.8)
+abbrev pub taken : CodeFacts → Purpose → BlockResult Names Value → Here Value → Stores → Tree Value
+taken facts (Init made) r h st = then_with (result_of r.end st) (λ v st1. answer made st1)
+taken facts Opposite r h st = then_with (result_of r.end st) (λ v st1. answer (opposite v) st1)
+taken facts (Format spec) r h st = then_with (result_of r.end st) (λ v st1. by_prim (op.Format None) (v ∷ spec ∷ []) h st1)
+taken facts (Class base cell) r h st = class_by r.end base facts cell r.names.values h st
+taken facts why r h st = result_of r.end st
+
 module _ (program : Program) (code : CodeObject Value) (i : Ins) where
   -- what leaves the place goes on where it lands
   abbrev pub behind_leave : Completion → Slots Value → State Value
@@ -47,8 +61,9 @@ module _ (program : Program) (code : CodeObject Value) (i : Ins) where
   told h (progress.Leaves how) ss st = to (behind_leave how ss) st
   told h (progress.Reraises e) ss st = to (reraises e i.rows ss) st
   told h (progress.Print t) ss st = behind_print t (to (on i.next ss) st)
-  told h (progress.Calls block hidden ls) ss st =
-      behind_request (opens (opening_of program (block_id block hidden) ls)) st (λ r st1. by_tree code i (giving code i ss) ss (result_of r.end st1))
+  told h (progress.Calls block hidden ls why) ss st =
+      behind_request (opens (opening_of program (block_id block hidden) ls)) st
+      (λ r st1. by_tree code i (giving code i ss) ss (taken (program.facts (block_id block hidden)) why r h st1))
   told h (progress.Raises e) ss st = by_tree code i (giving code i ss) ss (raise_object e st.world.heap h st)
   told h progress.RaisesAgain ss st = by_tree code i (giving code i ss) ss (raise_active h.active h st)
   told h (progress.Fails class arg) ss st = by_tree code i (giving code i ss) ss (raise_error class (arguments_of arg) h st)
@@ -62,7 +77,7 @@ IfActive (progress.Raises e) A = A
 IfActive progress.RaisesAgain A = A
 IfActive (progress.Fails class arg) A = A
 IfActive (progress.FailsSaying class t) A = A
-IfActive (progress.Calls block hidden ls) A = A
+IfActive (progress.Calls block hidden ls why) A = A
 IfActive p A = Unit {0}
 
 abbrev pub KeepsActive : Progress → (old new : List Slot) → Type 0

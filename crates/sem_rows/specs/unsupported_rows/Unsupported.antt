@@ -16,14 +16,10 @@ use Rattle.sem_rows.specs.heap_rows.Told.{told}
 use Rattle.sem_rows.specs.heap_rows.Views.{slots_view}
 
 abbrev pub is_supported : Instr → Bool
--- targets that are attributes (7.2, 7.5)
-is_supported (instr.SetAttr t) = false
-is_supported (instr.DelAttr t) = false
--- what no script asks for, classes (8.8) and generators (6.2.8, 6.2.9)
+-- what no script asks for, and generators (6.2.8, 6.2.9)
 is_supported instr.TupleJoin = false
 is_supported instr.DictMerge = false
 is_supported instr.Super = false
-is_supported (instr.MakeClass b) = false
 is_supported (instr.MakeGenerator b) = false
 is_supported instr.Yield = false
 is_supported instr.Delegate = false

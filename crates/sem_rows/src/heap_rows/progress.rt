@@ -1,5 +1,6 @@
 use pt_base::{BlockId, ObjId, Pc, Text, What};
 use pt_bind::Locals;
+use pt_frames::Purpose;
 use pt_heap::{Completion, Value};
 
 /// What an instruction comes to.
@@ -23,12 +24,13 @@ pub enum Progress {
     Print {
         text: Text,
     },
-    /// A block runs in an activation of its own, with these names; its value is given, or what
-    /// leaves it arises.
+    /// A block runs in an activation of its own, with these names; what its value is for is done,
+    /// or what leaves it arises.
     Calls {
         block: BlockId,
         hidden: bool,
         locals: Locals,
+        why: Purpose,
     },
     /// An exception that is there already arises.
     Raises {
