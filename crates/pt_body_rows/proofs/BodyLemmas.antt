@@ -2,6 +2,7 @@
 use Rattle.std.proofs.Common.{◌≡◌, ◌∙◌, ℕ, Bool, true, false, List, ◌∷◌, Option, Some, None, refl, sym, ap, subst}
 use Rattle.std.specs.Prelude.{drop, if◌then◌else◌}
 use Rattle.std.specs.Option.{option_or}
+use Rattle.pt_base.specs.declared.what.What.TheVariants.{Special}
 use Rattle.pt_tree.specs.Syntax.{Name}
 use Rattle.sem_control.specs.control.Turn as T
 use Rattle.sem_control.specs.control.Turn.{Scope}
@@ -18,7 +19,7 @@ use Rattle.sem_code.specs.slots.Pops.{one}
 use Rattle.sem_run.specs.run.Host.{Here}
 use Rattle.pt_name_rows.specs.pt_builtins.pt_host.World.{World, Stores}
 use Rattle.pt_name_rows.specs.pt_builtins.pt_host.Trees.{Tree}
-use Rattle.pt_name_rows.specs.pt_builtins.pt_host.Variables.{load_by, by_builtin, global_value, put}
+use Rattle.pt_name_rows.specs.pt_builtins.pt_host.Variables.{load_by, by_builtin, global_value, is_left_out, put}
 use Rattle.pt_name_rows.specs.pt_builtins.pt_host.Builtins as builtins
 use Rattle.pt_name_rows.specs.pt_builtins.pt_host.Builtins.{Builtin, meaning}
 use Rattle.pt_name_rows.specs.pt_moves.sem_rows.declared.heap_rows.progress.Progress.{Progress}
@@ -37,7 +38,7 @@ use Rattle.pt_name_rows.specs.pt_moves.Operands.{one_value}
 use Rattle.pt_name_rows.proofs.pt_moves.TakeLemmas.{one_on}
 use Rattle.pt_name_rows.proofs.pt_moves.MoveLemmas.{lacks_one, stuck_row}
 use Rattle.pt_name_rows.specs.Names.{RowsGlobal, RowsLoadGlobal, global_unbound}
-use Rattle.pt_name_rows.proofs.AskLemmas.{goes_to, loads, stores, deletes, deletes_none}
+use Rattle.pt_name_rows.proofs.AskLemmas.{goes_to, loads, stores, left_out, deletes, deletes_none}
 use Rattle.pt_body_rows.specs.Bodies.{place_in, own_value, body_value, locals_with, names_with, RowsName, RowsRead, RowsLoadName, with_globals}
 use Rattle.pt_body_rows.proofs.OwnLemmas.{own_reads, own_writes}
 
@@ -104,14 +105,22 @@ module _ (x : Name) (facts : BlockFacts) (t : TextNo) (locals : List (Option Val
         (ap (λ o. option_or o (global_value s.here.block.hidden (s.code.pool.text t.0) (st cells w))) (reads cells w _ knows.name.text ∙ e))
         ∙ ap (λ k. reached s.program s.code i s.here (st cells w) (gives s.code i (T.load (named k (s.code.pool.text t.0))) (slots_view old))) (sym knows.name.scope)
 
-    stored_of : (v : Value) → RowsName x true facts (instr.SetName t) t.0 (slot.Value v ∷ old) locals own globals progress.Next old
+    stored_of : (v : Value) → is_left_out x ≡ false → RowsName x true facts (instr.SetName t) t.0 (slot.Value v ∷ old) locals own globals progress.Next old
         (locals_with (place_in x facts.locals locals) (Some v) locals) (names_with (place_in x facts.locals locals) x (Some v) own) globals
     unfolding RowsName RowsIn
-    stored_of v cells w s pc i truths knows =
+    stored_of v binds cells w s pc i truths knows =
         ap (λ (c : Stores). goes_to (on i.next (slots_view old)) c) (sym (writes cells w _ (Some v) knows.text))
-        ∙ (stores s.program s.code i s.here (st cells w) (slots_view old) (named T.of_class (s.code.pool.text t.0)) v
+        ∙ (stores s.program s.code i s.here (st cells w) (slots_view old) (named T.of_class (s.code.pool.text t.0)) v (ap (λ y. is_left_out y) knows.text ∙ binds)
         ∙ ap (λ k. reached s.program s.code i s.here (st cells w) (does s.code i (T.store (named k (s.code.pool.text t.0)) v) (slots_view old)))
         (sym knows.scope))
+
+    left_out_of : (v : Value) → is_left_out x ≡ true
+        → RowsName x true facts (instr.SetName t) t.0 (slot.Value v ∷ old) locals own globals (progress.Outside Special) old locals own globals
+    unfolding RowsName RowsIn
+    left_out_of v is cells w s pc i truths knows =
+        left_out s.program s.code i s.here (st cells w) (slots_view old) (named T.of_class (s.code.pool.text t.0)) v (ap (λ y. is_left_out y) knows.text ∙ is)
+        ∙ ap (λ k. reached s.program s.code i s.here (st cells w) (does s.code i (T.store (named k (s.code.pool.text t.0)) v) (slots_view old)))
+        (sym knows.scope)
 
     deleted_of : (v : Value) → own_value facts.locals x locals own ≡ Some v
         → RowsName x true facts (instr.DelName t) t.0 old locals own globals progress.Next old
@@ -171,10 +180,10 @@ module _ (x : Name) (c : Bool) (facts : BlockFacts) (t : TextNo) (old : List Slo
       ∙ ap (λ k. reached s.program s.code i s.here (stores_in (facts_view facts) locals cells own (with_globals globals w))
       (does s.code i (T.delete (named k (s.code.pool.text t.0))) (slots_view old))) (sym (knows.scope ∙ ap (λ b. if b then T.of_class else T.global) is))
 
-  pub stored : (new : List Slot) (changed : List (Option Value)) (changed_own : Named) (v : Value) → c ≡ true → one_value old ≡ Some v → new ≡ drop 1 old
+  pub stored : (new : List Slot) (changed : List (Option Value)) (changed_own : Named) (v : Value) → c ≡ true → is_left_out x ≡ false → one_value old ≡ Some v → new ≡ drop 1 old
       → changed ≡ locals_with (place_in x facts.locals locals) (Some v) locals → changed_own ≡ names_with (place_in x facts.locals locals) x (Some v) own
       → RowsName x c facts (instr.SetName t) t.0 old locals own globals progress.Next new changed changed_own globals
-  stored new changed changed_own v is e f g k =
+  stored new changed changed_own v is binds e f g k =
       subst (λ d. RowsName x d facts (instr.SetName t) t.0 old locals own globals progress.Next new changed changed_own globals) (sym is)
       (subst (λ n. RowsName x true facts (instr.SetName t) t.0 old locals own globals progress.Next n changed changed_own globals) (sym f)
       (subst (λ l. RowsName x true facts (instr.SetName t) t.0 old locals own globals progress.Next (drop 1 old) l changed_own globals) (sym g)
@@ -183,7 +192,15 @@ module _ (x : Name) (c : Bool) (facts : BlockFacts) (t : TextNo) (old : List Slo
       (subst (λ o. RowsName x true facts (instr.SetName t) t.0 o locals own globals progress.Next (drop 1 old)
       (locals_with (place_in x facts.locals locals) (Some v) locals)
       (names_with (place_in x facts.locals locals) x (Some v) own) globals) (sym (one_on old v e))
-      (stored_of x facts t locals own globals (drop 1 old) v)))))
+      (stored_of x facts t locals own globals (drop 1 old) v binds)))))
+
+  pub unbindable : (new : List Slot) (v : Value) → c ≡ true → is_left_out x ≡ true → one_value old ≡ Some v → new ≡ drop 1 old
+      → RowsName x c facts (instr.SetName t) t.0 old locals own globals (progress.Outside Special) new locals own globals
+  unbindable new v is out e f =
+      subst (λ d. RowsName x d facts (instr.SetName t) t.0 old locals own globals (progress.Outside Special) new locals own globals) (sym is)
+      (subst (λ n. RowsName x true facts (instr.SetName t) t.0 old locals own globals (progress.Outside Special) n locals own globals) (sym f)
+      (subst (λ o. RowsName x true facts (instr.SetName t) t.0 o locals own globals (progress.Outside Special) (drop 1 old) locals own globals) (sym (one_on old v e))
+      (left_out_of x facts t locals own globals (drop 1 old) v out)))
 
   pub store_lacks : (new : List Slot) (changed : List (Option Value)) (changed_own changed_globals : Named) → one_value old ≡ None
       → RowsName x c facts (instr.SetName t) t.0 old locals own globals progress.Lacks new changed changed_own changed_globals

@@ -1,17 +1,17 @@
 //! Names of the bodies of the module and of classes (Language Reference 4.2.2): the body of a class
 //! reads a name of the module that it doesn't bind.
-ghost use Rattle.std.specs.Prelude.{◌≡◌, false, IfOk, OnOk};
+ghost use Rattle.std.specs.Prelude.{◌≡◌, length, IfOk, OnOk};
 ghost use Rattle.pt_body_rows.specs.Bodies.{RowsLoadName, RowsName};
 ghost use Rattle.pt_frames.specs.Slots.{active_in};
 ghost use Rattle.pt_instr.specs.declared.Instr.TheVariants as instr;
 
 use crate::own::{body_value, own_value, put_own};
-use pt_base::{Memory, Seq};
+use pt_base::{Memory, Seq, What};
 use pt_frames::{Slot, Slots};
 use pt_heap::Value;
 use pt_instr::TextNo;
 use pt_name_rows::{
-    BlockFacts, BuiltinLookup, Progress, delete_global, global, set_global, take_one,
+    BlockFacts, BuiltinLookup, Progress, delete_global, global, is_left_out, set_global, take_one,
     unbound_global,
 };
 use pt_names::Names;
@@ -47,7 +47,7 @@ pub fn name(
 }
 
 /// Binds a name of a body.
-#[tactic(auto, using(crate::proofs::BodyLemmas::stored, crate::proofs::BodyLemmas::store_lacks, crate::proofs::BodyLemmas::stored_global))]
+#[tactic(auto, using(crate::proofs::BodyLemmas::stored, crate::proofs::BodyLemmas::unbindable, crate::proofs::BodyLemmas::store_lacks, crate::proofs::BodyLemmas::stored_global))]
 pub fn set_name(
     alloc: Global,
     in_class: bool,
@@ -63,18 +63,21 @@ pub fn set_name(
         (λ p. RowsName name.now in_class facts.now (instr.SetName text) text.0 slots.old
         locals.old own.old globals.old p slots.new locals.new own.new globals.new) }
     ensures active { OnOk result (active_in slots.new ≡ active_in slots.old) }
-    ensures of_class { in_class ≡ false → own.new ≡ own.old }
+    ensures places { OnOk result (length locals.new ≡ length locals.old) }
 {
     if !in_class {
         return set_global(alloc, text, name, globals, slots);
     }
-    match take_one(slots) {
-        Some(value) => {
-            put_own(alloc, facts, locals, own, name, Some(value))?;
-            Ok(Progress::Next)
-        }
-        None => Ok(Progress::Lacks),
+    let Some(value) = take_one(slots) else {
+        return Ok(Progress::Lacks);
+    };
+    if is_left_out(name) {
+        return Ok(Progress::Outside {
+            what: What::Special,
+        });
     }
+    put_own(alloc, facts, locals, own, name, Some(value))?;
+    Ok(Progress::Next)
 }
 
 /// Unbinds a name of a body.
@@ -93,7 +96,7 @@ pub fn delete_name(
         (λ p. (slots : _)
         → RowsName name.now in_class facts.now (instr.DelName text) text.0 slots locals.old
         own.old globals.old p slots locals.new own.new globals.new) }
-    ensures of_class { in_class ≡ false → own.new ≡ own.old }
+    ensures places { OnOk result (length locals.new ≡ length locals.old) }
 {
     if !in_class {
         return delete_global(alloc, text, name, globals);

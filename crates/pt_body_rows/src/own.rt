@@ -1,5 +1,5 @@
 //! Names that the body of a class binds itself (Language Reference 4.2.2).
-ghost use Rattle.std.specs.Prelude.{◌≡◌, IfOk, OnOk};
+ghost use Rattle.std.specs.Prelude.{◌≡◌, length, IfOk, OnOk};
 ghost use Rattle.pt_body_rows.specs.Bodies.{body_value, locals_with, names_with, own_value, place_in};
 
 use pt_base::{Memory, Seq, Text};
@@ -69,6 +69,7 @@ pub fn put_own(
         ≡ locals_with (place_in name.now facts.now.locals locals.old) value locals.old) }
     ensures own { OnOk result (own.new
         ≡ names_with (place_in name.now facts.now.locals locals.old) name.now value own.old) }
+    ensures places { OnOk result (length locals.new ≡ length locals.old) }
 {
     match place_in(facts.locals.as_slice(), locals.as_slice(), name) {
         Some(place) => {

@@ -1,6 +1,9 @@
-mod AskLemmas
 mod CallLemmas
+mod ValueLemmas
+mod MethodLemmas
 mod RowLemmas
 mod RoleLemmas
 pub mod OperandLemmas
-pub mod ExceptionLemmas
+mod ExceptionLemmas
+pub use Rattle.pt_block_calls.proofs.pt_operators as pt_operators
+pub use Rattle.pt_block_calls.proofs.pt_function_rows as pt_function_rows

@@ -11,7 +11,7 @@ use Rattle.pt_content.specs.declared.function.Function.TheVariants as function
 use Rattle.pt_content.specs.declared.method_name.MethodName.{MethodName}
 use Rattle.pt_content.specs.declared.method_name.MethodName.TheVariants as method
 use Rattle.pt_tree.specs.Syntax.{Name}
-use Rattle.pt_operators.specs.pt_moves.sem_rows.pt_host.Calls.{are_either, are_sort_names, is_either, method_operands, or_none, sort_operands, operands_of, unnamed_operands}
+use Rattle.pt_block_calls.specs.pt_operators.pt_moves.sem_rows.pt_host.Calls.{are_either, are_print_names, are_sort_names, is_either, method_operands, or_none, print_operands, sort_operands, operands_of, unnamed_operands}
 use Rattle.pt_call_rows.specs.CallRows.{is_print, is_sort}
 
 -- by the count of names
@@ -71,6 +71,19 @@ unnamed_of function.IsOf args e = refl
 unnamed_of function.JoinItems args e = refl
 unnamed_of function.SortItems args e = refl
 unnamed_of function.Refill args e = refl
+unnamed_of function.HasName args e = refl
+unnamed_of function.GetName args e = refl
+unnamed_of function.Refuse args e = refl
+unnamed_of function.IsError args e = refl
+unnamed_of function.HoldsInstance args e = refl
+unnamed_of function.PlainRepr args e = refl
+unnamed_of function.Dots args e = refl
+unnamed_of function.Parts args e = refl
+unnamed_of function.Wrap args e = refl
+unnamed_of function.TextGiven args e = refl
+unnamed_of function.TruthGiven args e = refl
+unnamed_of function.LengthGiven args e = refl
+unnamed_of function.Write args e = refl
 
 pub print_is : (f : Function) → is_print f ≡ true → f ≡ function.Print
 print_is function.Print e = refl
@@ -102,6 +115,39 @@ print_is function.IsOf e = absurd (cc)
 print_is function.JoinItems e = absurd (cc)
 print_is function.SortItems e = absurd (cc)
 print_is function.Refill e = absurd (cc)
+print_is function.HasName e = absurd (cc)
+print_is function.GetName e = absurd (cc)
+print_is function.Refuse e = absurd (cc)
+print_is function.IsError e = absurd (cc)
+print_is function.HoldsInstance e = absurd (cc)
+print_is function.PlainRepr e = absurd (cc)
+print_is function.Dots e = absurd (cc)
+print_is function.Parts e = absurd (cc)
+print_is function.Wrap e = absurd (cc)
+print_is function.TextGiven e = absurd (cc)
+print_is function.TruthGiven e = absurd (cc)
+print_is function.LengthGiven e = absurd (cc)
+print_is function.Write e = absurd (cc)
+
+module _ (args : Args) where
+  pub printed : (vs : List Value) → are_print_names args.named ≡ true → vs ≡ print_operands args → Some vs ≡ operands_of function.Print args
+  printed vs e is = ap (λ l. Some l) is ∙ sym (ap (λ b. if b then Some (print_operands args) else None) e)
+
+  pub misnamed : are_print_names args.named ≡ false → None ≡ operands_of function.Print args
+  misnamed e = sym (ap (λ b. if b then Some (print_operands args) else None) e)
+
+  pub print_operands_of : (f : Function) (o : Option (List Value)) → is_print f ≡ true → o ≡ operands_of function.Print args → o ≡ operands_of f args
+  print_operands_of f o e is = is ∙ ap (λ k. operands_of k args) (sym (print_is f e))
+
+  pub plain_operands_of : (f : Function) (vs : List Value) → is_print f ≡ false → args.named ≡ [] → vs ≡ args.plain → Some vs ≡ operands_of f args
+  plain_operands_of f vs e n is = ap (λ l. Some l) is ∙ sym (unnamed_of f args e ∙ ap (λ bs. unnamed_operands bs args.plain) n)
+
+  pub named_operands_of : (f : Function) → is_print f ≡ false → (args.named ≡ [] → ⊥) → None ≡ operands_of f args
+  named_operands_of f e n = by args.named n ∙ sym (unnamed_of f args e)
+    where
+      by : (bs : List Binding) → (bs ≡ [] → ⊥) → None ≡ unnamed_operands bs args.plain
+      by [] n = absurd (n refl)
+      by (b ∷ bs) n = refl
 
 -- all methods but `sort` do
 

@@ -12,7 +12,7 @@ use Rattle.pt_heap.specs.Entries.{Entry}
 use Rattle.pt_bind.specs.declared.arguments.Args.{Args}
 use Rattle.pt_content.specs.pt_attrs.Look.{object_of}
 use Rattle.sem_code.specs.slots.Instructions.{role_of}
-use Rattle.pt_operators.specs.pt_moves.sem_rows.pt_host.Arguments.{are_arguments, arguments, entry_argument, is_argument, is_named_dict, is_tuple, items_in, named_argument, named_arguments, named_in, plain_argument, plain_arguments}
+use Rattle.pt_block_calls.specs.pt_operators.pt_moves.sem_rows.pt_host.Arguments.{are_arguments, arguments, entry_argument, is_argument, is_named_dict, is_tuple, items_in, named_argument, named_arguments, named_in, plain_argument, plain_arguments}
 use Rattle.pt_call_rows.specs.declared.roles.Role.{Role}
 use Rattle.pt_call_rows.specs.declared.roles.Role.TheVariants as role
 use Rattle.pt_call_rows.specs.Roles.{as_role}

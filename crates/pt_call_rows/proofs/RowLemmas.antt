@@ -17,23 +17,24 @@ use Rattle.sem_code.specs.slots.Instructions.{all_positional, last_named, role_o
 use Rattle.sem_code.specs.slots.Steps.{gives}
 use Rattle.sem_code.specs.slots.Pops as P
 use Rattle.sem_run.specs.run.Host.{Here, leave}
-use Rattle.pt_operators.specs.pt_moves.sem_rows.pt_host.World.{Stores, Program}
-use Rattle.pt_operators.specs.pt_moves.sem_rows.pt_host.Calls.{are_arguments, arguments, call_value}
-use Rattle.pt_operators.specs.pt_moves.sem_rows.declared.heap_rows.progress.Progress.{Progress}
-use Rattle.pt_operators.specs.pt_moves.sem_rows.declared.heap_rows.progress.Progress.TheVariants as progress
-use Rattle.pt_operators.specs.pt_moves.sem_rows.heap_rows.Laws.{reached}
-use Rattle.pt_operators.specs.pt_moves.sem_rows.heap_rows.Leads.{by_tree, giving}
-use Rattle.pt_operators.specs.pt_moves.sem_rows.heap_rows.RowsIn.{RowsIn}
-use Rattle.pt_operators.specs.pt_moves.sem_rows.heap_rows.Views.{slots_view}
-use Rattle.pt_operators.proofs.pt_moves.sem_rows.heap_rows.RowLemmas.{asks_lead}
-use Rattle.pt_function_rows.specs.pt_code_facts.declared.facts.Blocks.{Blocks}
-use Rattle.pt_operators.specs.pt_moves.Operands.{one_value}
-use Rattle.pt_operators.proofs.pt_moves.MoveLemmas.{stuck_row}
-use Rattle.pt_function_rows.specs.Operands.{many_values}
-use Rattle.pt_function_rows.specs.Arguments.{named_last}
-use Rattle.pt_call_rows.specs.CallRows.{Calls, CallsValue, RowsCall, RowsNamedCall, with_parts}
-use Rattle.pt_function_rows.proofs.ArgumentLemmas.{all_are_given, last_are_given, all_plain_is, named_last_is}
-use Rattle.pt_function_rows.proofs.TakeLemmas.{one_more, value_below, none_below, still_none, length_taken, values_taken, values_missing}
+use Rattle.pt_block_calls.specs.pt_operators.pt_moves.sem_rows.pt_host.World.{Stores, Program}
+use Rattle.pt_block_calls.specs.pt_operators.pt_moves.sem_rows.pt_host.Calls.{are_arguments, arguments, call_value}
+use Rattle.pt_block_calls.specs.pt_operators.pt_moves.sem_rows.declared.heap_rows.progress.Progress.{Progress}
+use Rattle.pt_block_calls.specs.pt_operators.pt_moves.sem_rows.declared.heap_rows.progress.Progress.TheVariants as progress
+use Rattle.pt_block_calls.specs.pt_operators.pt_moves.sem_rows.heap_rows.Laws.{reached}
+use Rattle.pt_block_calls.specs.pt_operators.pt_moves.sem_rows.heap_rows.Leads.{by_tree, giving}
+use Rattle.pt_block_calls.specs.pt_operators.pt_moves.sem_rows.heap_rows.RowsIn.{RowsIn}
+use Rattle.pt_block_calls.specs.pt_operators.pt_moves.sem_rows.heap_rows.Views.{slots_view}
+use Rattle.pt_block_calls.proofs.pt_operators.pt_moves.sem_rows.heap_rows.RowLemmas.{asks_lead}
+use Rattle.pt_block_calls.specs.pt_function_rows.pt_code_facts.declared.facts.Blocks.{Blocks}
+use Rattle.pt_block_calls.specs.pt_operators.pt_moves.Operands.{one_value}
+use Rattle.pt_block_calls.proofs.pt_operators.pt_moves.MoveLemmas.{stuck_row}
+use Rattle.pt_block_calls.specs.pt_function_rows.Operands.{many_values}
+use Rattle.pt_block_calls.specs.pt_function_rows.Arguments.{named_last}
+use Rattle.pt_block_calls.specs.pt_class_rows.Calls.{Calls, Running, with_parts}
+use Rattle.pt_call_rows.specs.CallRows.{CallsValue, RowsCall, RowsNamedCall}
+use Rattle.pt_block_calls.proofs.pt_function_rows.ArgumentLemmas.{all_are_given, last_are_given, all_plain_is, named_last_is}
+use Rattle.pt_block_calls.proofs.pt_function_rows.TakeLemmas.{one_more, value_below, none_below, still_none, length_taken, values_taken, values_missing}
 
 -- a call whose arguments aren't spread leads where the call of the value does
 module _ (program : Program) (code : CodeObject Value) (i : Ins) (h : Here Value) (st : Stores) (below : List Slot) (rs : List Role) (f : Value)
@@ -58,12 +59,12 @@ module _ (n : ℕ) (old : List Slot) (vs : List Value) (f : Value) (e : many_val
   count : length vs ≡ n
   count = omega (arith, length_taken n [] old vs e)
 
-module _ (blocks : Blocks) (n : ℕ) (old : List Slot) (cells : List (Option Value)) (heap : List Object) (new : List Slot) (changed : List (Option Value))
+module _ (blocks : Blocks) (r : Running) (n : ℕ) (old : List Slot) (cells : List (Option Value)) (heap : List Object) (new : List Slot) (changed : List (Option Value))
     (grown : List Object) where
   pub call_row : (p : Progress) (vs : List Value) (f : Value) (below : List Slot) (args : Args) → many_values n old ≡ Some vs → one_value (drop n old)
       ≡ Some f → below ≡ drop 1 (drop n old)
-      → args ≡ record { plain = vs; named = [] } → CallsValue blocks f args below cells heap p new changed grown
-      → RowsCall blocks (instr.Call n) old cells heap p new changed grown
+      → args ≡ record { plain = vs; named = [] } → CallsValue blocks r f args below cells heap p new changed grown
+      → RowsCall blocks r (instr.Call n) old cells heap p new changed grown
   unfolding RowsCall RowsIn CallsValue Calls
   call_row p vs f below args e g b a done st s pc i truths knows =
       done s.program s.code i s.here st knows
@@ -73,20 +74,20 @@ module _ (blocks : Blocks) (n : ℕ) (old : List Slot) (cells : List (Option Val
       (gives s.code i (T.operate (T.call (all_positional n)) (f ∷ vs)) (slots_view ss))) b
       ∙ ap (λ t. reached s.program s.code i s.here (with_parts cells heap st) t) (sym (turned n old vs f e g s.code i (all_positional n)))))
 
-  pub call_lacks_arguments : many_values n old ≡ None → RowsCall blocks (instr.Call n) old cells heap progress.Lacks new changed grown
+  pub call_lacks_arguments : many_values n old ≡ None → RowsCall blocks r (instr.Call n) old cells heap progress.Lacks new changed grown
   unfolding RowsCall RowsIn
   call_lacks_arguments e st s pc i truths knows = stuck_row s.program s.here _ _ (values_missing (suc n) [] old _ (still_none n [] old e))
 
   pub call_lacks_callee : (vs : List Value) → many_values n old ≡ Some vs → one_value (drop n old) ≡ None
-      → RowsCall blocks (instr.Call n) old cells heap progress.Lacks new changed grown
+      → RowsCall blocks r (instr.Call n) old cells heap progress.Lacks new changed grown
   unfolding RowsCall RowsIn
   call_lacks_callee vs e g st s pc i truths knows = stuck_row s.program s.here _ _ (values_missing (suc n) [] old _ (none_below n [] old g))
 
   module _ (xs : List Name) (l : ListNo) where
     pub named_call_row : (p : Progress) (vs : List Value) (f : Value) (below : List Slot) (args : Args) → many_values n old ≡ Some vs
         → one_value (drop n old) ≡ Some f → below ≡ drop 1 (drop n old)
-        → args ≡ named_last xs vs → CallsValue blocks f args below cells heap p new changed grown
-        → RowsNamedCall xs l.0 blocks (instr.CallKw n l) old cells heap p new changed grown
+        → args ≡ named_last xs vs → CallsValue blocks r f args below cells heap p new changed grown
+        → RowsNamedCall xs l.0 blocks r (instr.CallKw n l) old cells heap p new changed grown
     unfolding RowsNamedCall RowsIn CallsValue Calls
     named_call_row p vs f below args e g b a done st s pc i truths knows =
         done s.program s.code i s.here st knows.0
@@ -99,12 +100,12 @@ module _ (blocks : Blocks) (n : ℕ) (old : List Slot) (cells : List (Option Val
         ∙ ap (λ t. reached s.program s.code i s.here (with_parts cells heap st) t)
         (sym (turned n old vs f e g s.code i (last_named n (s.code.pool.texts l.0))))))
 
-    pub named_call_lacks_arguments : many_values n old ≡ None → RowsNamedCall xs l.0 blocks (instr.CallKw n l) old cells heap progress.Lacks new changed grown
+    pub named_call_lacks_arguments : many_values n old ≡ None → RowsNamedCall xs l.0 blocks r (instr.CallKw n l) old cells heap progress.Lacks new changed grown
     unfolding RowsNamedCall RowsIn
     named_call_lacks_arguments e st s pc i truths knows = stuck_row s.program s.here _ _ (values_missing (suc n) [] old _ (still_none n [] old e))
 
     pub named_call_lacks_callee : (vs : List Value) → many_values n old ≡ Some vs → one_value (drop n old) ≡ None
-        → RowsNamedCall xs l.0 blocks (instr.CallKw n l) old cells heap progress.Lacks new changed grown
+        → RowsNamedCall xs l.0 blocks r (instr.CallKw n l) old cells heap progress.Lacks new changed grown
     unfolding RowsNamedCall RowsIn
     named_call_lacks_callee vs e g st s pc i truths knows = stuck_row s.program s.here _ _ (values_missing (suc n) [] old _ (none_below n [] old g))
 
@@ -112,8 +113,8 @@ module _ (blocks : Blocks) (n : ℕ) (old : List Slot) (cells : List (Option Val
     module _ (vs : List Value) (f : Value) (below : List Slot) (args : Args) (e : many_values n old ≡ Some vs) (g : one_value (drop n old) ≡ Some f)
         (b : below ≡ drop 1 (drop n old)) where
       pub role_call_row : (p : Progress) → are_arguments heap (map role_of xs) vs ≡ true → args ≡ arguments heap (map role_of xs) vs
-          → CallsValue blocks f args below cells heap p new changed grown
-          → RowsNamedCall xs l.0 blocks (instr.CallSpread n l) old cells heap p new changed grown
+          → CallsValue blocks r f args below cells heap p new changed grown
+          → RowsNamedCall xs l.0 blocks r (instr.CallSpread n l) old cells heap p new changed grown
       unfolding RowsNamedCall RowsIn CallsValue Calls
       role_call_row p are a done st s pc i truths knows =
           done s.program s.code i s.here st knows.0
@@ -126,7 +127,7 @@ module _ (blocks : Blocks) (n : ℕ) (old : List Slot) (cells : List (Option Val
 
     pub role_call_misspread : (vs : List Value) (f : Value) → many_values n old ≡ Some vs → one_value (drop n old) ≡ Some f
         → are_arguments heap (map role_of xs) vs ≡ false
-        → RowsNamedCall xs l.0 blocks (instr.CallSpread n l) old cells heap (progress.Outside Feature) new changed grown
+        → RowsNamedCall xs l.0 blocks r (instr.CallSpread n l) old cells heap (progress.Outside Feature) new changed grown
     unfolding RowsNamedCall RowsIn
     role_call_misspread vs f e g are st s pc i truths knows =
         sym (ap (λ t. reached s.program s.code i s.here (with_parts cells heap st) t) (turned n old vs f e g s.code i (map role_of (s.code.pool.texts l.0)))
@@ -137,11 +138,11 @@ module _ (blocks : Blocks) (n : ℕ) (old : List Slot) (cells : List (Option Val
         (ap (λ ys. are_arguments heap (map role_of ys) vs) knows.1 ∙ are)))
 
     pub role_call_lacks_arguments : many_values n old ≡ None
-        → RowsNamedCall xs l.0 blocks (instr.CallSpread n l) old cells heap progress.Lacks new changed grown
+        → RowsNamedCall xs l.0 blocks r (instr.CallSpread n l) old cells heap progress.Lacks new changed grown
     unfolding RowsNamedCall RowsIn
     role_call_lacks_arguments e st s pc i truths knows = stuck_row s.program s.here _ _ (values_missing (suc n) [] old _ (still_none n [] old e))
 
     pub role_call_lacks_callee : (vs : List Value) → many_values n old ≡ Some vs → one_value (drop n old) ≡ None
-        → RowsNamedCall xs l.0 blocks (instr.CallSpread n l) old cells heap progress.Lacks new changed grown
+        → RowsNamedCall xs l.0 blocks r (instr.CallSpread n l) old cells heap progress.Lacks new changed grown
     unfolding RowsNamedCall RowsIn
     role_call_lacks_callee vs e g st s pc i truths knows = stuck_row s.program s.here _ _ (values_missing (suc n) [] old _ (none_below n [] old g))

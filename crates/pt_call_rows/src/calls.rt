@@ -1,39 +1,36 @@
 //! Calls (Language Reference 6.3.4).
-ghost use Rattle.std.specs.Prelude.{◌≡◌, false, slice_get, List, None, Some, Ok};
-ghost use Rattle.std.specs.Prelude.{IfOk, IfErr, OnOk};
-ghost use Rattle.std.specs.Option.{option_copied};
-ghost use Rattle.pt_bind.specs.Binding.{binding_with, IsTold};
+ghost use Rattle.std.specs.Prelude.{◌≡◌, slice_get, None, IfOk, OnOk};
+ghost use Rattle.pt_block_calls.specs.BlockCalls.{function_of};
+ghost use Rattle.pt_call_rows.specs.CallRows.{CallsAnyClass, CallsBuiltin, CallsMethod, CallsOnce};
+ghost use Rattle.pt_call_rows.specs.CallRows.{CallsOperation, CallsOtherClass, CallsScripted, CallsValue};
+ghost use Rattle.pt_call_rows.specs.CallRows.{MakesException, RowsCall, RowsNamedCall};
+ghost use Rattle.pt_call_rows.specs.CallRows.{bound_of, builtin_of, class_id_of, exception_at};
+ghost use Rattle.pt_call_rows.specs.CallRows.{function_by, is_setattr, last_callee};
+ghost use Rattle.pt_call_rows.specs.CallRows.{method_by, method_of, next_callee, not_callable, too_deep};
+ghost use Rattle.pt_block_calls.specs.pt_class_rows.Calls.{running};
 ghost use Rattle.pt_content.specs.pt_attrs.Store.{is_scripted};
-ghost use Rattle.pt_call_rows.specs.CallRows.{AsksHelper, CallsAnswered, IsPlaceOf};
-ghost use Rattle.pt_call_rows.specs.CallRows.{CallsBound, CallsBuiltin, CallsMethod, CallsValue, without_defaults};
-ghost use Rattle.pt_frames.specs.declared.slot.Slot.{Slot};
-ghost use Rattle.pt_call_rows.specs.CallRows.{RowsCall, RowsNamedCall, builtin_of, function_by, function_of};
-ghost use Rattle.pt_call_rows.specs.CallRows.{is_memory, is_print, is_unsupported, method_by, method_of};
-ghost use Rattle.pt_call_rows.specs.CallRows.{exception_of, misfit, not_callable, MakesException};
-ghost use Rattle.pt_content.specs.declared.function.Function.TheVariants as builtin;
 ghost use Rattle.pt_content.specs.pt_attrs.pt_dicts.Chain.{class_in};
 ghost use Rattle.pt_frames.specs.Slots.{active_in};
 ghost use Rattle.pt_instr.specs.declared.Instr.TheVariants as instr;
 
-use crate::helpers::{helper_arguments, helper_of};
-use crate::operands::{are_print_names, method_operands, print_operands};
+use crate::helpers::helper_of_class;
+use crate::operands::{method_operands, operands_of};
 use crate::roles::{are_arguments, arguments};
-use pt_base::{Dup, Memory, ObjId, Seq, Text, What};
-use pt_bind::{Args, BindErr, Locals, bind_with};
+use pt_base::{Memory, ObjId, Seq, Text, What};
+use pt_bind::Args;
+use pt_block_calls::{
+    BASE_EXCEPTION, BlockFacts, Blocks, Given, Instance, Names, Progress, TYPE_ERROR, ask,
+    call_function, call_setattr, derives, error, function_of, make_instance, make_object,
+    make_super, method_of as special_of, named_last, not_callable_text, of_method_number,
+    operate_or_ask, place, take_one, take_values, with_receiver,
+};
 use pt_content::{
-    Function as Builtin, MethodName, Op, PrimAns, class_at, class_name, object_at, of_class,
-    of_function,
+    Found, Function as Builtin, MethodName, Op, RECURSION_ERROR, class_at, class_name, object_at,
+    of_class, of_function,
 };
-use pt_frames::{Slot, Slots};
-use pt_function_rows::{BlockFacts, Blocks, named_last, open, take_values};
-use pt_heap::{Function, Heap, Object, Value};
-use pt_helper_objects::helper_place;
+use pt_frames::Slots;
+use pt_heap::{Heap, Method, Object, Value};
 use pt_instr::ListNo;
-use pt_operators::{
-    BASE_EXCEPTION, Progress, TYPE_ERROR, allot, answered, binding_text, derives, error,
-    not_callable_text, of_method_number, operation, prim, take_one, values_given,
-};
-use pt_prelude::{Helper, function_of as function_asked};
 use std::alloc::Global;
 
 /// It is no function.
@@ -57,19 +54,6 @@ fn is_scripted(heap: &Heap, class: ObjId) -> bool
     }
 }
 
-/// The function that a value is, if it is one.
-fn function_of(heap: &Heap, value: Value) -> Option<&Function>
-    ensures { option_copied result ≡ function_of heap.now value }
-{
-    match value {
-        Value::Obj(id) => match object_at(heap, id) {
-            Some(Object::Function(function)) => Some(function),
-            _ => None,
-        },
-        _ => None,
-    }
-}
-
 /// The function of this number, if it is no method of a value.
 fn function_by(number: u32, receiver: Option<Value>) -> Option<Option<Builtin>>
     ensures { result ≡ function_by number receiver }
@@ -80,15 +64,40 @@ fn function_by(number: u32, receiver: Option<Value>) -> Option<Option<Builtin>>
     }
 }
 
-/// What a value does where it is called, if it is a builtin function or a class: an operation on
-/// values, or None where it is none.
+/// What a value does where it is called, if it is a builtin function: an operation on values, or None
+/// where it is none.
 fn builtin_of(heap: &Heap, value: Value) -> Option<Option<Builtin>>
     ensures { result ≡ builtin_of heap.now value }
 {
     match value {
         Value::Obj(id) => match object_at(heap, id) {
             Some(Object::Builtin(builtin)) => function_by(builtin.number, builtin.receiver),
-            Some(Object::Class(_)) => Some(of_class(id)),
+            _ => None,
+        },
+        _ => None,
+    }
+}
+
+/// The place of the class that a value is, if it is one.
+fn class_id_of(heap: &Heap, value: Value) -> Option<ObjId>
+    ensures { result ≡ class_id_of heap.now value }
+{
+    match value {
+        Value::Obj(id) => match object_at(heap, id) {
+            Some(Object::Class(_)) => Some(id),
+            _ => None,
+        },
+        _ => None,
+    }
+}
+
+/// The method of an instance that a value is, if it is one.
+fn bound_of(heap: &Heap, value: Value) -> Option<Method>
+    ensures { result ≡ bound_of heap.now value }
+{
+    match value {
+        Value::Obj(id) => match object_at(heap, id) {
+            Some(Object::Method(method)) => Some(*method),
             _ => None,
         },
         _ => None,
@@ -118,151 +127,55 @@ fn method_of(heap: &Heap, value: Value) -> Option<(Option<MethodName>, Value)>
     }
 }
 
-/// Whether calls of a value aren't supported yet: of a method of a script, or of an instance of a
-/// script's class.
-fn is_unsupported(heap: &Heap, value: Value) -> bool
-    ensures { result ≡ is_unsupported heap.now value }
-{
-    match value {
-        Value::Obj(id) => match object_at(heap, id) {
-            Some(Object::Method(_)) => true,
-            Some(Object::Error(error)) => is_scripted(heap, error.class),
-            Some(Object::Instance(instance)) => is_scripted(heap, instance.class),
-            _ => false,
-        },
-        _ => false,
-    }
-}
-
-fn is_memory(error: &BindErr) -> bool
-    ensures { result ≡ is_memory error.now }
-{
-    match error {
-        BindErr::Memory => true,
-        _ => false,
-    }
-}
-
-/// The arguments don't fit the parameters. Those that a function written in Python doesn't take leave
-/// the profile.
-fn refused(
+/// Calls a builtin by its operands, which but for `print` takes arguments without names.
+#[tactic(auto, using(crate::proofs::CallLemmas::operated, crate::proofs::CallLemmas::misnamed))]
+fn operate(
     alloc: Global,
-    facts: &BlockFacts,
-    hidden: bool,
-    error: BindErr,
-) -> Result<Progress, Memory>
-    ensures { IfOk result (λ p. (is_memory error ≡ false) × (p ≡ misfit facts.now hidden error)) }
-{
-    if is_memory(&error) {
-        return Err(Memory);
-    }
-    if hidden {
-        return Ok(Progress::Outside {
-            what: What::Feature,
-        });
-    }
-    let text = binding_text(alloc, facts.name.as_str(), &error)?;
-    Ok(Progress::FailsSaying {
-        class: TYPE_ERROR,
-        text,
-    })
-}
-
-/// Calls a block with these facts, whose parameters are bound so.
-#[tactic(auto, using(crate::proofs::CallLemmas::unsupported_block, crate::proofs::CallLemmas::opened, crate::proofs::CallLemmas::no_room, crate::proofs::CallLemmas::misfits))]
-fn call_block(
-    alloc: Global,
-    facts: &BlockFacts,
-    function: &Function,
-    bound: Result<Locals, BindErr>,
-    cells: &mut Seq<Option<Value>>,
-    heap: &mut Heap,
-) -> Result<Progress, Memory>
-    ensures { IfOk result (λ p. (slots : List Slot)
-        → CallsBound facts.now function.now bound slots cells.old heap.old p cells.new heap.new) }
-{
-    if facts.yields {
-        return Ok(Progress::Outside {
-            what: What::Feature,
-        });
-    }
-    match bound {
-        Ok(bound) => match values_given(alloc, &facts.params, bound, heap)? {
-            Ok(values) => {
-                let values = values.as_slice();
-                let locals = open(alloc, facts, values, function.cells.as_slice(), cells)?;
-                Ok(Progress::Calls {
-                    block: function.block,
-                    hidden: function.hidden,
-                    locals,
-                })
-            }
-            Err(what) => Ok(Progress::Outside { what }),
-        },
-        Err(error) => refused(alloc, facts, function.hidden, error),
-    }
-}
-
-/// A function without its defaults, which have done their part once its arguments are bound.
-fn without_defaults(alloc: Global, function: &Function) -> Result<Function, Memory>
-    ensures { IfOk result (λ f. f ≡ without_defaults function.now) }
-{
-    Ok(Function {
-        block: function.block,
-        hidden: function.hidden,
-        defaults: Seq::new(alloc),
-        cells: function.cells.dup(alloc)?,
-    })
-}
-
-/// Calls `print`, which takes `sep` and `end` by name.
-#[tactic(auto, using(crate::proofs::CallLemmas::printed, crate::proofs::CallLemmas::misnamed))]
-fn call_print(
-    alloc: Global,
+    function: Builtin,
     args: &Args,
+    blocks: &Blocks,
+    cells: &mut Seq<Option<Value>>,
     slots: &mut Slots,
     heap: &mut Heap,
 ) -> Result<Progress, Memory>
     ensures row { IfOk result
-        (λ p. CallsBuiltin (Some builtin.Print) args.now slots.old heap.old p slots.new heap.new) }
+        (λ p. CallsOperation function args.now blocks.now slots.old cells.old heap.old p slots.new
+        cells.new heap.new) }
     ensures active { OnOk result (active_in slots.new ≡ active_in slots.old) }
 {
-    if !are_print_names(args.named.as_slice()) {
+    let Some(operands) = operands_of(alloc, function, args)? else {
         return Ok(Progress::Outside {
             what: What::Feature,
         });
-    }
-    let operands = print_operands(alloc, args)?;
-    operation(
-        alloc,
-        Op::Call(Builtin::Print),
-        operands.as_slice(),
-        slots,
-        heap,
-    )
+    };
+    let op = Op::Call(function);
+    operate_or_ask(alloc, op, operands.as_slice(), blocks, cells, slots, heap)
 }
 
-/// Whether it is `print`, which takes arguments by names.
-fn is_print(function: Builtin) -> bool
-    ensures { result ≡ is_print function }
+/// Whether it is `setattr`, which is no operation on values.
+fn is_setattr(function: Builtin) -> bool
+    ensures { result ≡ is_setattr function }
 {
     match function {
-        Builtin::Print => true,
+        Builtin::Setattr => true,
         _ => false,
     }
 }
 
-/// Calls a builtin function or class, which but for `print` takes arguments without names.
-#[tactic(auto, using(crate::proofs::CallLemmas::operated, crate::proofs::CallLemmas::print_called, crate::proofs::CallLemmas::named, crate::proofs::CallLemmas::no_operation))]
+/// Calls a builtin function.
+#[tactic(auto, using(crate::proofs::CallLemmas::function_operated, crate::proofs::CallLemmas::attribute_set, crate::proofs::CallLemmas::no_operation))]
 fn call_builtin(
     alloc: Global,
     function: Option<Builtin>,
     args: &Args,
+    blocks: &Blocks,
+    cells: &mut Seq<Option<Value>>,
     slots: &mut Slots,
     heap: &mut Heap,
 ) -> Result<Progress, Memory>
     ensures row { IfOk result
-        (λ p. CallsBuiltin function args.now slots.old heap.old p slots.new heap.new) }
+        (λ p. CallsBuiltin function args.now blocks.now slots.old cells.old heap.old p slots.new
+        cells.new heap.new) }
     ensures active { OnOk result (active_in slots.new ≡ active_in slots.old) }
 {
     let Some(function) = function else {
@@ -270,107 +183,14 @@ fn call_builtin(
             what: What::Feature,
         });
     };
-    if is_print(function) {
-        return call_print(alloc, args, slots, heap);
+    if is_setattr(function) {
+        return call_setattr(alloc, args, slots, heap);
     }
-    if !args.named.is_empty() {
-        return Ok(Progress::Outside {
-            what: What::Feature,
-        });
-    }
-    operation(
-        alloc,
-        Op::Call(function),
-        args.plain.as_slice(),
-        slots,
-        heap,
-    )
-}
-
-/// Gives each parameter of a function its argument (Language Reference 6.3.4).
-fn bind(
-    alloc: Global,
-    facts: &BlockFacts,
-    function: &Function,
-    args: &Args,
-) -> Result<Locals, BindErr>
-    ensures ok { IfOk result
-        (λ locals. binding_with facts.now.params function.now.defaults args.now ≡ Ok locals) }
-    ensures err { IfErr result
-        (IsTold (binding_with facts.now.params function.now.defaults args.now)) }
-{
-    bind_with(alloc, &facts.params, function.defaults.as_slice(), args)
-}
-
-/// The place of a function of the prelude, if the text has it.
-#[tactic(auto, unfolding(crate::specs::CallRows::IsPlaceOf))]
-fn place_of(helper: Helper) -> Option<ObjId>
-    ensures { IsPlaceOf helper result }
-{
-    helper_place(helper)
-}
-
-/// Calls a function of the prelude, if a run has it.
-#[tactic(auto, using(crate::proofs::AskLemmas::nowhere_asked, crate::proofs::AskLemmas::none_asked))]
-fn ask(
-    alloc: Global,
-    helper: Helper,
-    args: &Args,
-    blocks: &Blocks,
-    cells: &mut Seq<Option<Value>>,
-    heap: &mut Heap,
-) -> Result<Progress, Memory>
-    ensures { IfOk result (λ p. (slots : List Slot)
-        → AsksHelper helper blocks.now args.now slots cells.old heap.old p cells.new heap.new) }
-{
-    let Some(place) = place_of(helper) else {
-        return Ok(Progress::Outside { what: What::Helper });
-    };
-    match function_of(heap, Value::Obj(place)) {
-        Some(function) => {
-            let bare = without_defaults(alloc, function)?;
-            let facts = blocks.get(bare.block, bare.hidden);
-            let bound = bind(alloc, facts, function, args);
-            call_block(alloc, facts, &bare, bound, cells, heap)
-        }
-        None => Ok(Progress::Outside { what: What::Helper }),
-    }
-}
-
-/// What the answer of an operation comes to where a value is awaited: a function of the prelude that
-/// it asks in place of the operation is called.
-#[tactic(auto, using(crate::proofs::AskLemmas::inverted_answered, crate::proofs::AskLemmas::value_answered))]
-fn answer_or_ask(
-    alloc: Global,
-    answer: PrimAns,
-    blocks: &Blocks,
-    cells: &mut Seq<Option<Value>>,
-    slots: &mut Slots,
-    heap: &mut Heap,
-) -> Result<Progress, Memory>
-    ensures row { IfOk result
-        (λ p. CallsAnswered blocks.now answer slots.old cells.old heap.old p slots.new cells.new
-        heap.new) }
-    ensures active { OnOk result (active_in slots.new ≡ active_in slots.old) }
-{
-    match answer {
-        PrimAns::Help {
-            helper,
-            operands,
-            inverted,
-        } => {
-            if inverted {
-                return Ok(Progress::Outside { what: What::Helper });
-            }
-            let args = helper_arguments(alloc, helper, operands.as_slice())?;
-            ask(alloc, function_asked(helper), &args, blocks, cells, heap)
-        }
-        answer => answered(answer, slots),
-    }
+    operate(alloc, function, args, blocks, cells, slots, heap)
 }
 
 /// Calls a method of a builtin value, which but for `sort` takes arguments without names.
-#[tactic(auto, using(crate::proofs::AskLemmas::method_answered, crate::proofs::AskLemmas::method_misnamed, crate::proofs::AskLemmas::no_method))]
+#[tactic(auto, using(crate::proofs::MethodLemmas::method_operated, crate::proofs::MethodLemmas::method_misnamed, crate::proofs::MethodLemmas::no_method))]
 fn call_method(
     alloc: Global,
     method: Option<MethodName>,
@@ -397,26 +217,23 @@ fn call_method(
         });
     };
     let op = Op::CallMethod(method);
-    let answer = prim(alloc, op, operands.as_slice(), heap)?;
-    answer_or_ask(alloc, answer, blocks, cells, slots, heap)
+    operate_or_ask(alloc, op, operands.as_slice(), blocks, cells, slots, heap)
 }
 
-/// The class of exceptions that a value is, if it is a builtin one.
-fn exception_of(heap: &Heap, value: Value) -> Option<ObjId>
-    ensures { result ≡ exception_of heap.now value }
+/// A class, if it is one of exceptions.
+fn exception_at(heap: &Heap, class: ObjId) -> Option<ObjId>
+    ensures { result ≡ exception_at heap.now class }
 {
-    match value {
-        Value::Obj(id) => match class_at(heap, id) {
-            Some(class) if derives(heap, BASE_EXCEPTION, id) && !class.scripted => Some(id),
-            _ => None,
-        },
-        _ => None,
+    if derives(heap, BASE_EXCEPTION, class) {
+        Some(class)
+    } else {
+        None
     }
 }
 
 /// Makes an exception of a class, if there is one, of arguments without names (Library Reference,
 /// "Built-in Exceptions").
-#[tactic(auto, using(crate::proofs::ExceptionLemmas::made_one, crate::proofs::ExceptionLemmas::no_room, crate::proofs::ExceptionLemmas::no_class, crate::proofs::ExceptionLemmas::named, pt_moves::proofs::TakeLemmas::quiet_over))]
+#[tactic(auto, using(crate::proofs::ExceptionLemmas::made_one, crate::proofs::ExceptionLemmas::no_class, crate::proofs::ExceptionLemmas::named))]
 fn make_exception(
     alloc: Global,
     class: Option<ObjId>,
@@ -440,96 +257,275 @@ fn make_exception(
     }
     let values = Seq::from_slice(alloc, args.plain.as_slice())?;
     let exception = error(alloc, heap, class, values, None, None);
-    match allot(heap, exception)? {
-        Some(value) => {
-            slots.push(Slot::Value(value))?;
-            Ok(Progress::Next)
-        }
-        None => Ok(Progress::Outside { what: What::Heap }),
-    }
+    place(exception, slots, heap)
 }
 
-/// Calls a builtin function or a class: one that is no operation on values may ask a function of the
-/// prelude, or be a class of exceptions.
-#[tactic(auto, using(crate::proofs::CallLemmas::builtin_called, crate::proofs::CallLemmas::exception_made))]
-fn call_builtin_value(
+/// Calls a class of a script: an instance is made, for which `__init__` is called (Language Reference
+/// 3.3.1).
+#[tactic(auto, using(crate::proofs::MethodLemmas::scripted_done))]
+fn call_scripted(
     alloc: Global,
-    callee: Value,
-    function: Option<Builtin>,
+    class: ObjId,
     args: &Args,
     blocks: &Blocks,
     cells: &mut Seq<Option<Value>>,
     slots: &mut Slots,
     heap: &mut Heap,
 ) -> Result<Progress, Memory>
-    requires { builtin_of heap.old callee ≡ Some function }
     ensures row { IfOk result
-        (λ p. CallsValue blocks.now callee args.now slots.old cells.old heap.old p slots.new
+        (λ p. CallsScripted blocks.now class args.now slots.old cells.old heap.old p slots.new
         cells.new heap.new) }
     ensures active { OnOk result (active_in slots.new ≡ active_in slots.old) }
 {
-    match function {
-        Some(_) => call_builtin(alloc, function, args, slots, heap),
-        None => match helper_of(heap, callee) {
-            Some(helper) => ask(alloc, helper, args, blocks, cells, heap),
-            None => make_exception(alloc, exception_of(heap, callee), args, slots, heap),
-        },
+    match make_instance(alloc, class, args, slots, heap)? {
+        Instance::Done(progress) => Ok(progress),
+        Instance::Initialized { function, made } => {
+            let args = with_receiver(alloc, made, args)?;
+            let given = Given::Made { made };
+            call_function(alloc, function, &args, given, blocks, cells, heap)
+        }
     }
 }
 
-/// Calls a value that is no function of a script or of the prelude.
-#[tactic(auto, using(crate::proofs::CallLemmas::method_called, crate::proofs::CallLemmas::unsupported_called, crate::proofs::CallLemmas::other_called))]
+/// Calls a class that is none of those which an operation makes instances of: it may ask a function
+/// of the prelude, be a script's, or be a class of exceptions.
+#[tactic(auto, using(crate::proofs::MethodLemmas::scripted_called, crate::proofs::MethodLemmas::exception_called))]
+fn call_other_class(
+    alloc: Global,
+    class: ObjId,
+    args: &Args,
+    blocks: &Blocks,
+    cells: &mut Seq<Option<Value>>,
+    slots: &mut Slots,
+    heap: &mut Heap,
+) -> Result<Progress, Memory>
+    ensures row { IfOk result
+        (λ p. CallsOtherClass blocks.now class args.now slots.old cells.old heap.old p slots.new
+        cells.new heap.new) }
+    ensures active { OnOk result (active_in slots.new ≡ active_in slots.old) }
+{
+    match helper_of_class(class) {
+        Some(helper) => ask(alloc, helper, args, Given::Itself, blocks, cells, heap),
+        None => {
+            if is_scripted(heap, class) {
+                return call_scripted(alloc, class, args, blocks, cells, slots, heap);
+            }
+            make_exception(alloc, exception_at(heap, class), args, slots, heap)
+        }
+    }
+}
+
+/// Calls a class.
+#[tactic(auto, using(crate::proofs::MethodLemmas::object_called, crate::proofs::MethodLemmas::super_called, crate::proofs::MethodLemmas::class_operated, crate::proofs::MethodLemmas::other_class_called))]
+fn call_class(
+    alloc: Global,
+    class: ObjId,
+    args: &Args,
+    blocks: &Blocks,
+    facts: &BlockFacts,
+    locals: &Seq<Option<Value>>,
+    numbers: &Seq<u32>,
+    own: &Names,
+    cells: &mut Seq<Option<Value>>,
+    slots: &mut Slots,
+    heap: &mut Heap,
+) -> Result<Progress, Memory>
+    ensures row { IfOk result
+        (λ p. CallsAnyClass blocks.now (running facts.now locals.now numbers.now own.now) class
+        args.now slots.old cells.old heap.old p slots.new cells.new heap.new) }
+    ensures active { OnOk result (active_in slots.new ≡ active_in slots.old) }
+{
+    match of_class(class) {
+        Some(Builtin::Object) => make_object(alloc, args, slots, heap),
+        Some(Builtin::Super) => {
+            make_super(alloc, args, facts, locals, numbers, own, cells, slots, heap)
+        }
+        Some(function) => operate(alloc, function, args, blocks, cells, slots, heap),
+        None => call_other_class(alloc, class, args, blocks, cells, slots, heap),
+    }
+}
+
+/// Calls a value that is no function, no class and no method: an instance by its `__call__`, which is
+/// one of a script.
+#[tactic(auto, using(crate::proofs::ValueLemmas::none_called))]
+fn call_instance(
+    alloc: Global,
+    callee: Value,
+    args: &Args,
+    blocks: &Blocks,
+    facts: &BlockFacts,
+    locals: &Seq<Option<Value>>,
+    numbers: &Seq<u32>,
+    own: &Names,
+    cells: &mut Seq<Option<Value>>,
+    slots: &mut Slots,
+    heap: &mut Heap,
+) -> Result<Progress, Memory>
+    requires function { function_of heap.old callee ≡ None }
+    requires bound { bound_of heap.old callee ≡ None }
+    requires builtin { builtin_of heap.old callee ≡ None }
+    requires method { method_of heap.old callee ≡ None }
+    requires class { class_id_of heap.old callee ≡ None }
+    ensures row { IfOk result
+        (λ p. CallsOnce blocks.now (running facts.now locals.now numbers.now own.now) callee
+        args.now slots.old cells.old heap.old p slots.new cells.new heap.new) }
+    ensures active { OnOk result (active_in slots.new ≡ active_in slots.old) }
+{
+    match special_of(alloc, heap, callee, "__call__")? {
+        Some(Found::Bound(function)) => {
+            let args = with_receiver(alloc, callee, args)?;
+            call_function(alloc, function, &args, Given::Itself, blocks, cells, heap)
+        }
+        _ => not_callable(alloc, heap, callee),
+    }
+}
+
+/// Calls a value that is no function of a script or of the prelude, and no method of an instance.
+#[tactic(auto, using(crate::proofs::ValueLemmas::builtin_called, crate::proofs::ValueLemmas::method_called, crate::proofs::ValueLemmas::class_called))]
 fn call_other(
     alloc: Global,
     callee: Value,
     args: &Args,
     blocks: &Blocks,
+    facts: &BlockFacts,
+    locals: &Seq<Option<Value>>,
+    numbers: &Seq<u32>,
+    own: &Names,
     cells: &mut Seq<Option<Value>>,
     slots: &mut Slots,
     heap: &mut Heap,
 ) -> Result<Progress, Memory>
-    requires { function_of heap.old callee ≡ None }
+    requires function { function_of heap.old callee ≡ None }
+    requires bound { bound_of heap.old callee ≡ None }
     ensures row { IfOk result
-        (λ p. CallsValue blocks.now callee args.now slots.old cells.old heap.old p slots.new
-        cells.new heap.new) }
+        (λ p. CallsOnce blocks.now (running facts.now locals.now numbers.now own.now) callee
+        args.now slots.old cells.old heap.old p slots.new cells.new heap.new) }
     ensures active { OnOk result (active_in slots.new ≡ active_in slots.old) }
 {
     if let Some(builtin) = builtin_of(heap, callee) {
-        return call_builtin_value(alloc, callee, builtin, args, blocks, cells, slots, heap);
+        return call_builtin(alloc, builtin, args, blocks, cells, slots, heap);
     }
     if let Some((method, receiver)) = method_of(heap, callee) {
         return call_method(alloc, method, receiver, args, blocks, cells, slots, heap);
     }
-    if is_unsupported(heap, callee) {
-        return Ok(Progress::Outside {
-            what: What::Feature,
-        });
+    if let Some(class) = class_id_of(heap, callee) {
+        return call_class(
+            alloc, class, args, blocks, facts, locals, numbers, own, cells, slots, heap,
+        );
     }
-    not_callable(alloc, heap, callee)
+    call_instance(
+        alloc, callee, args, blocks, facts, locals, numbers, own, cells, slots, heap,
+    )
 }
 
-/// Calls a value.
-fn call_value(
+/// Calls a value in the block with these names. It is no instance for which another value is called.
+fn call_once(
     alloc: Global,
     callee: Value,
     args: &Args,
     blocks: &Blocks,
+    facts: &BlockFacts,
+    locals: &Seq<Option<Value>>,
+    numbers: &Seq<u32>,
+    own: &Names,
     cells: &mut Seq<Option<Value>>,
     slots: &mut Slots,
     heap: &mut Heap,
 ) -> Result<Progress, Memory>
     ensures row { IfOk result
-        (λ p. CallsValue blocks.now callee args.now slots.old cells.old heap.old p slots.new
-        cells.new heap.new) }
+        (λ p. CallsOnce blocks.now (running facts.now locals.now numbers.now own.now) callee
+        args.now slots.old cells.old heap.old p slots.new cells.new heap.new) }
     ensures active { OnOk result (active_in slots.new ≡ active_in slots.old) }
 {
-    if let Some(function) = function_of(heap, callee) {
-        let bare = without_defaults(alloc, function)?;
-        let facts = blocks.get(bare.block, bare.hidden);
-        let bound = bind(alloc, facts, function, args);
-        return call_block(alloc, facts, &bare, bound, cells, heap);
+    if function_of(heap, callee).is_some() {
+        return call_function(alloc, callee, args, Given::Itself, blocks, cells, heap);
     }
-    call_other(alloc, callee, args, blocks, cells, slots, heap)
+    if let Some(method) = bound_of(heap, callee) {
+        let args = with_receiver(alloc, method.receiver, args)?;
+        return call_function(
+            alloc,
+            method.function,
+            &args,
+            Given::Itself,
+            blocks,
+            cells,
+            heap,
+        );
+    }
+    call_other(
+        alloc, callee, args, blocks, facts, locals, numbers, own, cells, slots, heap,
+    )
+}
+
+/// The value that is called for an instance whose `__call__` is no function of a script.
+fn next_callee(alloc: Global, heap: &Heap, callee: Value) -> Result<Option<Value>, Memory>
+    ensures { IfOk result (λ next. next ≡ next_callee heap.now callee) }
+{
+    match special_of(alloc, heap, callee, "__call__")? {
+        Some(Found::Plain(next)) => Ok(Some(next)),
+        _ => Ok(None),
+    }
+}
+
+/// The value that is called in the end, if no more than so many are called in turn.
+#[tactic(auto, using(crate::proofs::ValueLemmas::none_left, crate::proofs::ValueLemmas::one_less, crate::proofs::ValueLemmas::last_here))]
+fn last_callee(
+    alloc: Global,
+    heap: &Heap,
+    callee: Value,
+    left: u32,
+) -> Result<Option<Value>, Memory>
+    ensures { IfOk result (λ last. last ≡ last_callee left heap.now callee) }
+{
+    if left == 0 {
+        return Ok(None);
+    }
+    match next_callee(alloc, heap, callee)? {
+        Some(next) => last_callee(alloc, heap, next, left - 1),
+        None => Ok(Some(callee)),
+    }
+}
+
+/// More instances are called in turn than may be.
+fn too_deep(alloc: Global) -> Result<Progress, Memory>
+    ensures { IfOk result (λ p. p ≡ too_deep) }
+{
+    let text = Text::from_str(alloc, "too many activations")?;
+    Ok(Progress::FailsSaying {
+        class: RECURSION_ERROR,
+        text,
+    })
+}
+
+/// So many values may be called in turn.
+const CALL_LIMIT: u32 = 1_001;
+
+/// Calls a value in the block with these names.
+#[tactic(auto, using(crate::proofs::ValueLemmas::last_called, crate::proofs::ValueLemmas::too_deep_called))]
+pub fn call_value(
+    alloc: Global,
+    callee: Value,
+    args: &Args,
+    blocks: &Blocks,
+    facts: &BlockFacts,
+    locals: &Seq<Option<Value>>,
+    numbers: &Seq<u32>,
+    own: &Names,
+    cells: &mut Seq<Option<Value>>,
+    slots: &mut Slots,
+    heap: &mut Heap,
+) -> Result<Progress, Memory>
+    ensures row { IfOk result
+        (λ p. CallsValue blocks.now (running facts.now locals.now numbers.now own.now) callee
+        args.now slots.old cells.old heap.old p slots.new cells.new heap.new) }
+    ensures active { OnOk result (active_in slots.new ≡ active_in slots.old) }
+{
+    match last_callee(alloc, heap, callee, CALL_LIMIT)? {
+        Some(callee) => call_once(
+            alloc, callee, args, blocks, facts, locals, numbers, own, cells, slots, heap,
+        ),
+        None => too_deep(alloc),
+    }
 }
 
 /// Calls what lies below so many arguments, up to the run of its block.
@@ -538,13 +534,17 @@ pub fn call(
     alloc: Global,
     count: u32,
     blocks: &Blocks,
+    facts: &BlockFacts,
+    locals: &Seq<Option<Value>>,
+    numbers: &Seq<u32>,
+    own: &Names,
     cells: &mut Seq<Option<Value>>,
     slots: &mut Slots,
     heap: &mut Heap,
 ) -> Result<Progress, Memory>
     ensures row { IfOk result
-        (λ p. RowsCall blocks.now (instr.Call count) slots.old cells.old heap.old p slots.new
-        cells.new heap.new) }
+        (λ p. RowsCall blocks.now (running facts.now locals.now numbers.now own.now)
+        (instr.Call count) slots.old cells.old heap.old p slots.new cells.new heap.new) }
     ensures active { OnOk result (active_in slots.new ≡ active_in slots.old) }
 {
     let Some(plain) = take_values(alloc, count as usize, slots)? else {
@@ -557,7 +557,9 @@ pub fn call(
         plain,
         named: Seq::new(alloc),
     };
-    call_value(alloc, callee, &args, blocks, cells, slots, heap)
+    call_value(
+        alloc, callee, &args, blocks, facts, locals, numbers, own, cells, slots, heap,
+    )
 }
 
 /// The same where the last arguments have these names.
@@ -568,12 +570,17 @@ pub fn call_with_names(
     list: ListNo,
     names: &[Text],
     blocks: &Blocks,
+    facts: &BlockFacts,
+    locals: &Seq<Option<Value>>,
+    numbers: &Seq<u32>,
+    own: &Names,
     cells: &mut Seq<Option<Value>>,
     slots: &mut Slots,
     heap: &mut Heap,
 ) -> Result<Progress, Memory>
     ensures row { IfOk result
-        (λ p. RowsNamedCall names.now list.0 blocks.now (instr.CallKw count list) slots.old
+        (λ p. RowsNamedCall names.now list.0 blocks.now
+        (running facts.now locals.now numbers.now own.now) (instr.CallKw count list) slots.old
         cells.old heap.old p slots.new cells.new heap.new) }
     ensures active { OnOk result (active_in slots.new ≡ active_in slots.old) }
 {
@@ -584,7 +591,9 @@ pub fn call_with_names(
         return Ok(Progress::Lacks);
     };
     let args = named_last(alloc, names, values)?;
-    call_value(alloc, callee, &args, blocks, cells, slots, heap)
+    call_value(
+        alloc, callee, &args, blocks, facts, locals, numbers, own, cells, slots, heap,
+    )
 }
 
 /// The same where each argument has its role by a text: none, a name, or that it is spread.
@@ -595,12 +604,17 @@ pub fn call_with_roles(
     list: ListNo,
     names: &[Text],
     blocks: &Blocks,
+    facts: &BlockFacts,
+    locals: &Seq<Option<Value>>,
+    numbers: &Seq<u32>,
+    own: &Names,
     cells: &mut Seq<Option<Value>>,
     slots: &mut Slots,
     heap: &mut Heap,
 ) -> Result<Progress, Memory>
     ensures row { IfOk result
-        (λ p. RowsNamedCall names.now list.0 blocks.now (instr.CallSpread count list) slots.old
+        (λ p. RowsNamedCall names.now list.0 blocks.now
+        (running facts.now locals.now numbers.now own.now) (instr.CallSpread count list) slots.old
         cells.old heap.old p slots.new cells.new heap.new) }
     ensures active { OnOk result (active_in slots.new ≡ active_in slots.old) }
 {
@@ -616,5 +630,7 @@ pub fn call_with_roles(
         });
     }
     let args = arguments(alloc, heap, names, values.as_slice())?;
-    call_value(alloc, callee, &args, blocks, cells, slots, heap)
+    call_value(
+        alloc, callee, &args, blocks, facts, locals, numbers, own, cells, slots, heap,
+    )
 }

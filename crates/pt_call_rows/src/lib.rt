@@ -6,6 +6,8 @@ mod helpers;
 mod operands;
 mod roles;
 
-pub use calls::{call, call_with_names, call_with_roles};
-pub use pt_function_rows::make_function;
-pub use pt_operators::{binary, compare, in_place, not, unary};
+pub use calls::{call, call_value, call_with_names, call_with_roles};
+pub use pt_block_calls::{
+    BlockFacts, Blocks, Given, Names, Progress, append, call_function, make_class, make_function,
+    method_of, operate_or_ask, take_one, take_two, take_values, with_receiver,
+};

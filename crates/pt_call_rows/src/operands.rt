@@ -1,14 +1,16 @@
 //! The operands of builtin functions and of methods that are called (Library Reference, "Built-in
 //! Functions", "Built-in Types").
-ghost use Rattle.std.specs.Prelude.{◌≡◌, ◌∷◌, ◌++◌, IfOk, OnOk, option_map};
-ghost use Rattle.pt_call_rows.specs.CallRows.{is_sort};
+ghost use Rattle.std.specs.Prelude.{◌≡◌, ◌∷◌, IfOk, option_map};
+ghost use Rattle.pt_call_rows.specs.CallRows.{is_print, is_sort};
 ghost use Rattle.pt_bind.specs.Binding.{value_of};
-ghost use Rattle.pt_operators.specs.pt_moves.sem_rows.pt_host.Calls.{are_either, are_print_names, are_sort_names, is_either};
-ghost use Rattle.pt_operators.specs.pt_moves.sem_rows.pt_host.Calls.{method_operands, or_none, print_operands, sort_operands};
+ghost use Rattle.pt_block_calls.specs.pt_operators.pt_moves.sem_rows.pt_host.Calls.{are_either, are_print_names, are_sort_names, is_either};
+ghost use Rattle.pt_block_calls.specs.pt_operators.pt_moves.sem_rows.pt_host.Calls.{method_operands, operands_of, or_none, print_operands, sort_operands};
+ghost use Rattle.pt_content.specs.declared.function.Function.TheVariants as builtin;
 
 use pt_base::{Memory, Seq};
 use pt_bind::Args;
-use pt_content::MethodName;
+use pt_block_calls::append;
+use pt_content::{Function, MethodName};
 use pt_heap::{Binding, Value};
 use std::alloc::Global;
 
@@ -41,7 +43,7 @@ fn are_either(x: &str, y: &str, named: &[Binding]) -> bool
 }
 
 /// Whether `print` takes arguments of these names, each once.
-pub fn are_print_names(named: &[Binding]) -> bool
+fn are_print_names(named: &[Binding]) -> bool
     ensures { result ≡ are_print_names named.now }
 {
     are_either("sep", "end", named)
@@ -75,18 +77,8 @@ fn or_none(value: Option<Value>) -> Value
     }
 }
 
-/// Puts values behind values.
-pub fn append(values: &mut Seq<Value>, others: &[Value]) -> Result<(), Memory>
-    ensures { OnOk result (values.new ≡ values.old ++ others.now) }
-{
-    for value in others {
-        values.push(*value)?;
-    }
-    Ok(())
-}
-
 /// The values of `sep` and `end`, None where they aren't given, and then of what is printed.
-pub fn print_operands(alloc: Global, args: &Args) -> Result<Seq<Value>, Memory>
+fn print_operands(alloc: Global, args: &Args) -> Result<Seq<Value>, Memory>
     ensures { IfOk result (λ operands. operands ≡ print_operands args.now) }
 {
     let named = args.named.as_slice();
@@ -148,4 +140,43 @@ pub fn method_operands(
     operands.push(receiver)?;
     append(&mut operands, args.plain.as_slice())?;
     Ok(Some(operands))
+}
+
+/// Whether it is `print`, which takes arguments by names.
+fn is_print(function: Function) -> bool
+    ensures { result ≡ is_print function }
+{
+    match function {
+        Function::Print => true,
+        _ => false,
+    }
+}
+
+/// The operands of `print`, if it takes arguments of these names.
+#[tactic(auto, using(crate::proofs::OperandLemmas::printed, crate::proofs::OperandLemmas::misnamed))]
+fn printed_operands(alloc: Global, args: &Args) -> Result<Option<Seq<Value>>, Memory>
+    ensures { IfOk result (λ operands. operands ≡ operands_of builtin.Print args.now) }
+{
+    if !are_print_names(args.named.as_slice()) {
+        return Ok(None);
+    }
+    Ok(Some(print_operands(alloc, args)?))
+}
+
+/// The operands of a builtin function, if it takes these arguments.
+#[tactic(auto, using(crate::proofs::OperandLemmas::print_operands_of, crate::proofs::OperandLemmas::plain_operands_of, crate::proofs::OperandLemmas::named_operands_of))]
+pub fn operands_of(
+    alloc: Global,
+    function: Function,
+    args: &Args,
+) -> Result<Option<Seq<Value>>, Memory>
+    ensures { IfOk result (λ operands. operands ≡ operands_of function args.now) }
+{
+    if is_print(function) {
+        return printed_operands(alloc, args);
+    }
+    if args.named.is_empty() {
+        return Ok(Some(Seq::from_slice(alloc, args.plain.as_slice())?));
+    }
+    Ok(None)
 }

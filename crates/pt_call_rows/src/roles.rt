@@ -3,18 +3,17 @@ ghost use Rattle.std.specs.Prelude.{◌≡◌, ◌++◌, map, IfOk, OnOk};
 ghost use Rattle.pt_call_rows.specs.Roles.{as_role};
 ghost use Rattle.pt_content.specs.pt_attrs.Look.{object_of};
 ghost use Rattle.pt_content.specs.Operands.{text_of};
-ghost use Rattle.pt_operators.specs.pt_moves.sem_rows.pt_host.Arguments.{are_arguments, arguments, entry_argument};
-ghost use Rattle.pt_operators.specs.pt_moves.sem_rows.pt_host.Arguments.{is_argument, is_named_dict, is_tuple};
-ghost use Rattle.pt_operators.specs.pt_moves.sem_rows.pt_host.Arguments.{items_in, named_argument, named_arguments};
-ghost use Rattle.pt_operators.specs.pt_moves.sem_rows.pt_host.Arguments.{named_in, plain_argument, plain_arguments, text_or_none};
+ghost use Rattle.pt_block_calls.specs.pt_operators.pt_moves.sem_rows.pt_host.Arguments.{are_arguments, arguments, entry_argument};
+ghost use Rattle.pt_block_calls.specs.pt_operators.pt_moves.sem_rows.pt_host.Arguments.{is_argument, is_named_dict, is_tuple};
+ghost use Rattle.pt_block_calls.specs.pt_operators.pt_moves.sem_rows.pt_host.Arguments.{items_in, named_argument, named_arguments};
+ghost use Rattle.pt_block_calls.specs.pt_operators.pt_moves.sem_rows.pt_host.Arguments.{named_in, plain_argument, plain_arguments, text_or_none};
 ghost use Rattle.sem_code.specs.slots.Instructions.{role_of};
 
-use crate::operands::append;
 use pt_base::{Dup, Memory, Seq, Text};
 use pt_bind::Args;
+use pt_block_calls::{append, are_named};
 use pt_content::{object_of, text_of};
 use pt_heap::{Binding, Dict, Heap, Object, Value};
-use pt_operators::are_named;
 use std::alloc::Global;
 
 /// How an argument is given.

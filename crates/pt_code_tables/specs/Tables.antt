@@ -1,5 +1,5 @@
 -- When tables are those of a program and its code (Library Reference, "inspect": code objects).
-use Rattle.std.specs.Prelude.{◌≡◌, ℕ, List, [], ◌++◌, Bool, false, if◌then◌else◌, slice_index_or}
+use Rattle.std.specs.Prelude.{◌≡◌, ℕ, List, [], Bool, false, if◌then◌else◌, slice_index_or}
 use Rattle.std.specs.List.{IsDistinct}
 use Rattle.std.specs.Str.{bytes_eq}
 use Rattle.pt_tree.specs.Syntax.{Name}
@@ -14,7 +14,7 @@ use Rattle.pt_builtins.specs.pt_host.Answers.{constant_value}
 use Rattle.pt_builtins.specs.pt_host.Builtins.{meaning}
 use Rattle.sem_code_machine.specs.code_machine.CodeBlocks.{CodeBlocks}
 use Rattle.pt_machine_state.specs.pt_code_facts.sem_rows.heap_rows.Leads.{HasHeapExtras}
-use Rattle.pt_machine_state.specs.pt_code_facts.sem_rows.variables.Numbers.{KnowsNames}
+use Rattle.pt_machine_state.specs.pt_code_facts.sem_rows.variables.Numbers.{KnowsNames, HasDifferentCells}
 use Rattle.pt_machine_state.specs.pt_code_facts.Facts.{KnowsBlocks}
 use Rattle.pt_builtins.specs.declared.BuiltinLookup.{BuiltinLookup}
 use Rattle.pt_builtins.specs.declared.BuiltinLookup.TheVariants as lookup
@@ -58,10 +58,10 @@ pub record IsPoolIn (program : Program) (tables : PoolTables) (pool : Pool) : Ty
   pub lists : (l : ℕ) → pool.texts l ≡ list_in tables l
   pub captures : (b : ℕ) → pool.captures b ≡ capture_in tables b
 
--- the local names of a block are different, and so are its cell and free names (4.2.2)
+-- the local names of a block are different, and so are its cell names, and its free ones (4.2.2)
 pub record HasDifferentNames (facts : CodeFacts) : Type 0 where
   pub locals : IsDistinct bytes_eq facts.locals
-  pub cells : IsDistinct bytes_eq (facts.cells ++ facts.frees)
+  pub cells : HasDifferentCells facts
 
 pub record AreTablesOf (program : Program) (code : CodeBlocks Value) (tables : CodeTables) : Type 0 where
   pub blocks : AreBlocksOf program code tables.blocks

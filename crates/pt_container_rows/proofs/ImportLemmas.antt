@@ -17,7 +17,7 @@ use Rattle.pt_prims.specs.pt_methods.declared.attribute.Attribute.{Attribute}
 use Rattle.pt_prims.specs.pt_methods.declared.attribute.Attribute.TheVariants as attribute
 use Rattle.pt_prims.specs.pt_methods.Attributes.{attribute_of}
 use Rattle.sem_rows.specs.pt_host.declared.places.TheConstants.{MODULE_NOT_FOUND_ERROR, SYS}
-use Rattle.sem_rows.specs.pt_host.World.{Stores, with_objects}
+use Rattle.sem_rows.specs.pt_host.World.{Stores, Program, with_objects}
 use Rattle.sem_rows.specs.pt_host.HeapHost.{heap_host}
 use Rattle.sem_rows.specs.sem_code_machine.rows.Rows.{row_of}
 use Rattle.sem_rows.specs.pt_host.Texts.{no_module_text}
@@ -34,6 +34,7 @@ use Rattle.sem_rows.proofs.heap_rows.RowLemmas.{asks_lead, operations_lead}
 use Rattle.pt_operators.specs.pt_moves.Operands.{one_value}
 use Rattle.pt_operators.proofs.pt_moves.TakeLemmas.{one_on}
 use Rattle.pt_operators.proofs.pt_moves.MoveLemmas.{lacks_one, stuck_row}
+use Rattle.pt_function_rows.specs.pt_code_facts.declared.facts.Blocks.{Blocks}
 use Rattle.pt_container_rows.specs.Attributes.{Gives}
 use Rattle.pt_container_rows.specs.Imports.{RowsImport, RowsImportName, is_missing, no_module, no_name}
 
@@ -63,25 +64,32 @@ module _ (x : Name) (t : TextNo) (old : List Slot) where
       ∙ (ap (Imports s i st) (sym is) ∙ leads s pc i st knows)
 
 -- their names
-kept_name : (x : Name) (m : Value) (a : Attribute) (h : Here Value) (st : Stores) → is_missing a ≡ false → by_attribute x m a h st ≡ by_imported x m a h st
-kept_name x m attribute.Missing h st e = absurd (cc)
-kept_name x m (attribute.Method n) h st e = refl
-kept_name x m (attribute.Held v) h st e = refl
-kept_name x m attribute.Unbuilt h st e = refl
+kept_name : (program : Program) (x : Name) (m : Value) (a : Attribute) (h : Here Value) (st : Stores) → is_missing a ≡ false
+    → by_attribute program x m a h st ≡ by_imported program x m a h st
+kept_name program x m attribute.Missing h st e = absurd (cc)
+kept_name program x m (attribute.Method n) h st e = refl
+kept_name program x m (attribute.Held v) h st e = refl
+kept_name program x m (attribute.Bound f) h st e = refl
+kept_name program x m attribute.NameOf h st e = refl
+kept_name program x m attribute.Arguments h st e = refl
+kept_name program x m attribute.Unbuilt h st e = refl
 
 lost_name : (a : Attribute) → is_missing a ≡ true → a ≡ attribute.Missing
 lost_name attribute.Missing e = refl
 lost_name (attribute.Method n) e = absurd (cc)
 lost_name (attribute.Held v) e = absurd (cc)
+lost_name (attribute.Bound f) e = absurd (cc)
+lost_name attribute.NameOf e = absurd (cc)
+lost_name attribute.Arguments e = absurd (cc)
 lost_name attribute.Unbuilt e = absurd (cc)
 
 -- with the module on top
-module _ (x : Name) (t : TextNo) (m : Value) (below : List Slot) (heap : List Object) where
+module _ (blocks : Blocks) (x : Name) (t : TextNo) (m : Value) (below : List Slot) (heap : List Object) where
   abbrev over : List Slot
   over = slot.Value m ∷ below
 
   abbrev by_name : Standpoint → Ins → Stores → Name → Attribute → HeapSuccessor
-  by_name s i st y a = by_tree s.code i (giving s.code i (slots_view over)) (slots_view over) (by_imported y m a s.here (with_objects heap st))
+  by_name s i st y a = by_tree s.code i (giving s.code i (slots_view over)) (slots_view over) (by_imported s.program y m a s.here (with_objects heap st))
 
   names_lead : (s : Standpoint) (pc : ℕ) (i : Ins) (st : Stores) → s.code.pool.text t.0 ≡ x
       → by_name s i st x (attribute_of heap m x) ≡ row_of (heap_host s.program) s.code pc i (ImportName t) (slots_view over) s.here (with_objects heap st)
@@ -90,30 +98,30 @@ module _ (x : Name) (t : TextNo) (m : Value) (below : List Slot) (heap : List Ob
       ∙ sym (asks_lead s.program s.code i s.here (with_objects heap st) (T.seek (T.operate (T.import_name (s.code.pool.text t.0)) (m ∷ [])))
       (giving s.code i (slots_view over)) (slots_view over) tt)
 
-  name_of : (a : Attribute) (p : Progress) (new : List Slot) (grown : List Object) → is_missing a ≡ false → a ≡ attribute_of heap m x → Gives x m a over heap p new grown
-      → RowsImportName x t over heap p new grown
+  name_of : (a : Attribute) (p : Progress) (new : List Slot) (grown : List Object) → is_missing a ≡ false → a ≡ attribute_of heap m x → Gives blocks x m a over heap p new grown
+      → RowsImportName blocks x t over heap p new grown
   unfolding Gives RowsImportName RowsIn
-  name_of a p new grown kept is done st s pc i truths knows =
-      done s i st
-      ∙ (ap (λ y. by_tree s.code i (giving s.code i (slots_view over)) (slots_view over) y) (kept_name x m a s.here (with_objects heap st) kept)
-      ∙ (ap (λ b. by_name s i st x b) is ∙ names_lead s pc i st knows))
+  name_of a p new grown kept is done st s pc i truths (knows, text) =
+      done s i st knows
+      ∙ (ap (λ y. by_tree s.code i (giving s.code i (slots_view over)) (slots_view over) y) (kept_name s.program x m a s.here (with_objects heap st) kept)
+      ∙ (ap (λ b. by_name s i st x b) is ∙ names_lead s pc i st text))
 
-  no_name_of : attribute_of heap m x ≡ attribute.Missing → RowsImportName x t over heap (no_name x) over heap
+  no_name_of : attribute_of heap m x ≡ attribute.Missing → RowsImportName blocks x t over heap (no_name x) over heap
   unfolding RowsImportName RowsIn
-  no_name_of is st s pc i truths knows = ap (λ b. by_name s i st x b) (sym is) ∙ names_lead s pc i st knows
+  no_name_of is st s pc i truths (knows, text) = ap (λ b. by_name s i st x b) (sym is) ∙ names_lead s pc i st text
 
-module _ (x : Name) (t : TextNo) (old : List Slot) (heap : List Object) (m : Value) (p : Progress) (a : Attribute) (on : one_value old ≡ Some m) (is : a ≡ attribute_of heap m x) where
-  pub name_row : (new : List Slot) (grown : List Object) → is_missing a ≡ false → Gives x m a old heap p new grown → RowsImportName x t old heap p new grown
+module _ (blocks : Blocks) (x : Name) (t : TextNo) (old : List Slot) (heap : List Object) (m : Value) (p : Progress) (a : Attribute) (on : one_value old ≡ Some m) (is : a ≡ attribute_of heap m x) where
+  pub name_row : (new : List Slot) (grown : List Object) → is_missing a ≡ false → Gives blocks x m a old heap p new grown → RowsImportName blocks x t old heap p new grown
   name_row new grown kept done =
-      subst (λ ss. RowsImportName x t ss heap p new grown) (sym (one_on old m on))
-      (name_of x t m (drop 1 old) heap a p new grown kept is (subst (λ ss. Gives x m a ss heap p new grown) (one_on old m on) done))
+      subst (λ ss. RowsImportName blocks x t ss heap p new grown) (sym (one_on old m on))
+      (name_of blocks x t m (drop 1 old) heap a p new grown kept is (subst (λ ss. Gives blocks x m a ss heap p new grown) (one_on old m on) done))
 
-  pub no_name_row : is_missing a ≡ true → p ≡ no_name x → RowsImportName x t old heap p old heap
+  pub no_name_row : is_missing a ≡ true → p ≡ no_name x → RowsImportName blocks x t old heap p old heap
   no_name_row lost done =
-      subst (λ q. RowsImportName x t old heap q old heap) (sym done)
-      (subst (λ ss. RowsImportName x t ss heap (no_name x) ss heap) (sym (one_on old m on))
-      (no_name_of x t m (drop 1 old) heap (sym is ∙ lost_name a lost)))
+      subst (λ q. RowsImportName blocks x t old heap q old heap) (sym done)
+      (subst (λ ss. RowsImportName blocks x t ss heap (no_name x) ss heap) (sym (one_on old m on))
+      (no_name_of blocks x t m (drop 1 old) heap (sym is ∙ lost_name a lost)))
 
-pub name_lacks : (x : Name) (t : TextNo) (old new : List Slot) (heap grown : List Object) → one_value old ≡ None → RowsImportName x t old heap progress.Lacks new grown
+pub name_lacks : (blocks : Blocks) (x : Name) (t : TextNo) (old new : List Slot) (heap grown : List Object) → one_value old ≡ None → RowsImportName blocks x t old heap progress.Lacks new grown
 unfolding RowsImportName RowsIn
-name_lacks x t old new heap grown e st s pc i truths knows = stuck_row s.program s.here (with_objects heap st) _ (lacks_one old e _)
+name_lacks blocks x t old new heap grown e st s pc i truths knows = stuck_row s.program s.here (with_objects heap st) _ (lacks_one old e _)

@@ -1,6 +1,4 @@
 pub mod TakeLemmas
-pub mod DisplayLemmas
-pub mod ItemLemmas
 pub mod ChangeLemmas
 pub mod IteratorLemmas
 pub mod UnpackLemmas

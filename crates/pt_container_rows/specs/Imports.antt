@@ -13,15 +13,17 @@ use Rattle.sem_rows.specs.pt_host.declared.places.TheConstants.{IMPORT_ERROR, MO
 use Rattle.sem_rows.specs.declared.heap_rows.progress.Progress.{Progress}
 use Rattle.sem_rows.specs.declared.heap_rows.progress.Progress.TheVariants as progress
 use Rattle.sem_rows.specs.heap_rows.RowsIn.{RowsIn}
+use Rattle.pt_function_rows.specs.pt_code_facts.declared.facts.Blocks.{Blocks}
+use Rattle.pt_container_rows.specs.Attributes.{Knows}
 
 -- what code did is the row of the instruction of a module, whose operand names this name
 unfoldable pub RowsImport : Name → TextNo → (old : List Slot) → Progress → (new : List Slot) → Type 0
 RowsImport x t old p new = (st : Stores) → RowsIn (λ s. s.code.pool.text t.0 ≡ x) (Import t) old st p new st
 
 -- the same of the instruction of a module's name
-unfoldable pub RowsImportName : Name → TextNo → (old : List Slot) (heap : List Object) → Progress → (new : List Slot) (grown : List Object) → Type 0
-RowsImportName x t old heap p new grown =
-    (st : Stores) → RowsIn (λ s. s.code.pool.text t.0 ≡ x) (ImportName t) old (with_objects heap st) p new (with_objects grown st)
+unfoldable pub RowsImportName : Blocks → Name → TextNo → (old : List Slot) (heap : List Object) → Progress → (new : List Slot) (grown : List Object) → Type 0
+RowsImportName blocks x t old heap p new grown =
+    (st : Stores) → RowsIn (λ s. Knows s blocks × (s.code.pool.text t.0 ≡ x)) (ImportName t) old (with_objects heap st) p new (with_objects grown st)
 
 abbrev pub is_missing : Attribute → Bool
 is_missing Missing = true

@@ -8,6 +8,7 @@ ghost use Rattle.pt_frames.specs.Slots.{active_in};
 use crate::attributes::give;
 use pt_base::Memory;
 use pt_frames::{Slot, Slots};
+use pt_function_rows::Blocks;
 use pt_heap::{Heap, Value};
 use pt_instr::TextNo;
 use pt_moves::top_value;
@@ -79,11 +80,12 @@ pub fn import_name(
     alloc: Global,
     text: TextNo,
     name: &str,
+    blocks: &Blocks,
     slots: &mut Slots,
     heap: &mut Heap,
 ) -> Result<Progress, Memory>
     ensures row { IfOk result
-        (λ p. RowsImportName name.now text slots.old heap.old p slots.new heap.new) }
+        (λ p. RowsImportName blocks.now name.now text slots.old heap.old p slots.new heap.new) }
     ensures active { OnOk result (active_in slots.new ≡ active_in slots.old) }
 {
     let Some(module) = top_value(slots) else {
@@ -93,5 +95,5 @@ pub fn import_name(
     if is_missing(attribute) {
         return no_name(alloc, name);
     }
-    give(alloc, attribute, module, name, slots, heap)
+    give(alloc, attribute, module, name, blocks, slots, heap)
 }

@@ -21,7 +21,8 @@ use Rattle.pt_content.specs.declared.content.Content.TheVariants as content
 use Rattle.pt_prims.specs.Arithmetic.{integer_content}
 use Rattle.pt_comparisons.specs.Comparisons.{comparison_content}
 use Rattle.pt_prims.specs.InPlace.{in_place_content}
-use Rattle.pt_prims.specs.Operations.{content_of, placed, grown}
+use Rattle.pt_prims.specs.Operations.{content_of, placed, grown, prim_answer}
+use Rattle.pt_content.specs.declared.answer.PrimAns.TheVariants as prim
 use Rattle.pt_operators.specs.pt_moves.sem_rows.declared.heap_rows.progress.Progress.TheVariants as progress
 use Rattle.pt_operators.specs.pt_moves.Operands.{two_values}
 use Rattle.pt_operators.proofs.pt_moves.TakeLemmas.{two_on, two_off}
@@ -83,25 +84,29 @@ module _ (a b : ℤ) (old new : List Slot) (x : Value) (two : two_values old ≡
       (ap (λ c. value_given (placed c (value.Int a ∷ value.Int b ∷ []) heap)) (sym e)) (ap (λ c. grown c heap) (sym e))
       (ap (λ c. progress_of (placed c (value.Int a ∷ value.Int b ∷ []) heap)) (sym e)) is
 
+  given_value : (o : Op) (heap : List Object) → content_of o (value.Int a ∷ value.Int b ∷ []) heap ≡ content.Value x
+      → prim_answer o (value.Int a ∷ value.Int b ∷ []) heap ≡ prim.Value x
+  given_value o heap e = ap (λ c. placed c (value.Int a ∷ value.Int b ∷ []) heap) e
+
   row_of_compare : (o : CompareOp) → ((heap : List Object) → comparison_content o heap (value.Int a) (value.Int b) ≡ content.Value x)
       → FastRow (instr.Compare o) progress.Next old new
   row_of_compare o e = (
-    λ heap. compare_values old (drop 2 old) heap progress.Next new heap o (value.Int a) (value.Int b) two refl
-        (gives_value (op.Compare o) heap (e heap)),
+    λ heap. compare_values old (drop 2 old) heap progress.Next new heap (value.Int a) (value.Int b) x two refl o
+        (given_value (op.Compare o) heap (e heap)) (gives_value (op.Compare o) heap (e heap)),
     quiet_two old _ _ two x new is,
   )
 
   row_of_binary : (o : BinOp) → integer_content (binary_answer o a b) ≡ content.Value x → FastRow (instr.Binary o) progress.Next old new
   row_of_binary o e = (
-    λ heap. binary_values old (drop 2 old) heap progress.Next new heap o (value.Int a) (value.Int b) two refl
-        (gives_value (op.Binary o) heap e),
+    λ heap. binary_values old (drop 2 old) heap progress.Next new heap (value.Int a) (value.Int b) x two refl o
+        (given_value (op.Binary o) heap e) (gives_value (op.Binary o) heap e),
     quiet_two old _ _ two x new is,
   )
 
   row_of_in_place : (o : BinOp) → integer_content (binary_answer o a b) ≡ content.Value x → FastRow (instr.InPlace o) progress.Next old new
   row_of_in_place o e = (
-    λ heap. in_place_values old (drop 2 old) heap progress.Next new heap o (value.Int a) (value.Int b) two refl
-        (gives_value (op.InPlace o) heap (integers_in_place o a b heap ∙ e)),
+    λ heap. in_place_values old (drop 2 old) heap progress.Next new heap (value.Int a) (value.Int b) x two refl o
+        (given_value (op.InPlace o) heap (integers_in_place o a b heap ∙ e)) (gives_value (op.InPlace o) heap (integers_in_place o a b heap ∙ e)),
     quiet_two old _ _ two x new is,
   )
 

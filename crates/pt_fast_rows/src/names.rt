@@ -1,5 +1,5 @@
 //! Local names and names of the module that are bound (Language Reference 4.2.2, 7.2).
-ghost use Rattle.std.specs.Prelude.{◌≡◌, IfOk};
+ghost use Rattle.std.specs.Prelude.{◌≡◌, length, IfOk};
 ghost use Rattle.pt_fast_rows.specs.FastPaths.{FastGlobal, FastLoad, FastLocal, Leads};
 ghost use Rattle.pt_instr.specs.declared.Instr.TheVariants as instr;
 
@@ -41,9 +41,10 @@ pub fn fast_set_local(
     locals: &mut Seq<Option<Value>>,
     slots: &mut Slots,
 ) -> Option<Pc>
-    ensures { Leads next result
+    ensures leads { Leads next result
         (λ p. FastLocal (instr.SetLocal slot) slot.0 p slots.old locals.old slots.new locals.new)
         ((slots.new ≡ slots.old) × (locals.new ≡ locals.old)) }
+    ensures places { length locals.new ≡ length locals.old }
 {
     match take_value(slots) {
         Some(value) => {

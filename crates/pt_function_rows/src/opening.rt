@@ -16,7 +16,7 @@ use std::alloc::Global;
 const CELL_LIMIT: usize = 4_294_967_295;
 
 /// Whether a name is one of a list.
-fn is_among(names: &[Text], name: &str) -> bool
+pub fn is_among(names: &[Text], name: &str) -> bool
     ensures { result ≡ is_among names.now name.now }
 {
     for listed in names {

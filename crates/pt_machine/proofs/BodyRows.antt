@@ -1,5 +1,5 @@
 -- What was done with names of a body is what the machine did.
-use Rattle.std.proofs.Common.{◌≡◌, ◌∙◌, ℕ, List, Bool, false, Option, refl, ap, subst}
+use Rattle.std.proofs.Common.{◌≡◌, ◌∙◌, ℕ, List, Bool, Option, length, refl, ap, subst}
 use Rattle.pt_tree.specs.Syntax.{Name}
 use Rattle.pt_instr.specs.declared.Instr.{Instr}
 use Rattle.pt_heap.specs.declared.value.Value.{Value}
@@ -41,23 +41,23 @@ module _ (tables : CodeTables) (j : Instr) (p : Progress) (m : Machine) (f : Blo
         (row m.here.cells (world_view m.frames m.heap) (stands tables j p m program code h) m.here.pc.0 i (known.blocks (block_of m.here)).truths (named program code known h))
 
     pub set_name : RowsName (text_in (pool_in tables m.here.hidden) t) in_class f j t m.here.slots m.here.locals m.here.names m.frames.globals p slots locals own globals
-        → active_in slots ≡ active_in m.here.slots → (in_class ≡ false → own ≡ m.here.names) → Performs tables j p m (with_names slots locals own globals)
-    set_name row same kept =
-        record { rest = refl; active = keeps p same; row = told_row tables j p m (with_names slots locals own globals) (name-told row); names = kept }
+        → active_in slots ≡ active_in m.here.slots → length locals ≡ length m.here.locals → Performs tables j p m (with_names slots locals own globals)
+    set_name row same counted =
+        record { rest = refl; active = keeps p same; row = told_row tables j p m (with_names slots locals own globals) (name-told row); places = counted }
 
   deleted_name : (locals : List (Option Value)) (own globals : Named)
       → ((slots : List Slot) → RowsName (text_in (pool_in tables m.here.hidden) t) in_class f j t slots m.here.locals m.here.names m.frames.globals p slots locals own globals)
-      → (in_class ≡ false → own ≡ m.here.names)
+      → length locals ≡ length m.here.locals
       → Performs tables j p m (record m { here = record m.here { locals = locals; names = own }; frames = record m.frames { globals = globals } })
-  deleted_name locals own globals row kept = set_name m.here.slots locals own globals (row m.here.slots) refl kept
+  deleted_name locals own globals row counted = set_name m.here.slots locals own globals (row m.here.slots) refl counted
 
   pub deleted_by : (x : Name) (b : Bool) → x ≡ text_in (pool_in tables m.here.hidden) t → b ≡ in_class → (locals : List (Option Value)) (own globals : Named)
-      → ((slots : List Slot) → RowsName x b f j t slots m.here.locals m.here.names m.frames.globals p slots locals own globals) → (b ≡ false → own ≡ m.here.names)
+      → ((slots : List Slot) → RowsName x b f j t slots m.here.locals m.here.names m.frames.globals p slots locals own globals) → length locals ≡ length m.here.locals
       → Performs tables j p m (record m { here = record m.here { locals = locals; names = own }; frames = record m.frames { globals = globals } })
-  deleted_by x b is is_class locals own globals row kept =
+  deleted_by x b is is_class locals own globals row counted =
       deleted_name locals own globals (λ slots. subst (λ y. RowsName y in_class f j t slots m.here.locals m.here.names m.frames.globals p slots locals own globals) is
       (subst (λ d. RowsName x d f j t slots m.here.locals m.here.names m.frames.globals p slots locals own globals) is_class (row slots)))
-      (λ no. kept (is_class ∙ no))
+      counted
 
   load-told : (slots : List Slot) → RowsLoadName m.here.hidden (text_in (pool_in tables m.here.hidden) t) (builtin_in (pool_in tables m.here.hidden) t) in_class f j t m.here.slots m.here.locals m.here.names m.frames.globals p slots
       → IsTold tables j p m (with_names slots m.here.locals m.here.names m.frames.globals)
@@ -71,4 +71,4 @@ module _ (tables : CodeTables) (j : Instr) (p : Progress) (m : Machine) (f : Blo
   pub loaded_name : (slots : List Slot) → RowsLoadName m.here.hidden (text_in (pool_in tables m.here.hidden) t) (builtin_in (pool_in tables m.here.hidden) t) in_class f j t m.here.slots m.here.locals m.here.names m.frames.globals p slots
       → active_in slots ≡ active_in m.here.slots → Performs tables j p m (record m { here = record m.here { slots = slots } })
   loaded_name slots row same =
-      record { rest = refl; active = keeps p same; row = told_row tables j p m (with_names slots m.here.locals m.here.names m.frames.globals) (load-told slots row); names = λ no. refl }
+      record { rest = refl; active = keeps p same; row = told_row tables j p m (with_names slots m.here.locals m.here.names m.frames.globals) (load-told slots row); places = refl }

@@ -1,5 +1,5 @@
 -- What was done by a fast path is what the machine did.
-use Rattle.std.proofs.Common.{◌≡◌, ◌∙◌, ℕ, List, Option, Some, None, false, refl, sym, ap, subst}
+use Rattle.std.proofs.Common.{◌≡◌, ◌∙◌, ℕ, List, Option, Some, None, false, length, refl, sym, ap, subst}
 use Rattle.pt_base.specs.declared.numbers.Pc.{Pc}
 use Rattle.pt_tree.specs.Syntax.{Name}
 use Rattle.pt_instr.specs.declared.Instr.{Instr}
@@ -112,21 +112,21 @@ module _ (tables : CodeTables) (next : Pc) (m : Machine) where
           progress = led.progress;
           to = led.to;
           row =
-              of_instr is (local_row tables j led.progress m facts_here refl n slots m.here.locals named (led.row.0 facts_here) led.row.1);
+              of_instr is (local_row tables j led.progress m facts_here refl n slots m.here.locals named (led.row.0 facts_here) led.row.1 refl);
         }
     fast_local None slots left = ap with_slots left
 
     pub fast_set_local : (o : Option Pc) (slots : List Slot) (locals : List (Option Value))
         → Leads next o (λ p. FastLocal j n p m.here.slots m.here.locals slots locals) ((slots ≡ m.here.slots) × (locals ≡ m.here.locals))
-        → Fast k o (with_locals slots locals)
-    fast_set_local (Some pc) slots locals led =
+        → length locals ≡ length m.here.locals → Fast k o (with_locals slots locals)
+    fast_set_local (Some pc) slots locals led counted =
         record {
           progress = led.progress;
           to = led.to;
           row =
-              of_instr is (local_row tables j led.progress m facts_here refl n slots locals named (led.row.0 facts_here) led.row.1);
+              of_instr is (local_row tables j led.progress m facts_here refl n slots locals named (led.row.0 facts_here) led.row.1 counted);
         }
-    fast_set_local None slots locals left = ap (λ s. with_locals s locals) left.0 ∙ ap (λ ls. with_locals m.here.slots ls) left.1
+    fast_set_local None slots locals left counted = ap (λ s. with_locals s locals) left.0 ∙ ap (λ ls. with_locals m.here.slots ls) left.1
 
   abbrev with_cells : List Slot → List (Option Value) → Machine
   with_cells slots cells = record m { here = record m.here { slots = slots }; frames = record m.frames { cells = cells } }

@@ -22,7 +22,7 @@ use Rattle.pt_code_tables.specs.pt_machine_state.pt_code_facts.sem_rows.heap_row
 use Rattle.pt_code_tables.specs.pt_machine_state.pt_code_facts.sem_rows.variables.Numbers.{KnowsNames}
 use Rattle.pt_code_tables.specs.pt_machine_state.pt_code_facts.declared.facts.BlockFacts.{BlockFacts}
 use Rattle.pt_code_tables.specs.pt_machine_state.pt_code_facts.Facts.{facts_view, facts_at}
-use Rattle.pt_container_rows.specs.Attributes.{RowsAttribute}
+use Rattle.pt_container_rows.specs.Attributes.{RowsAttribute, RowsNamed}
 use Rattle.pt_container_rows.specs.Imports.{RowsImport, RowsImportName}
 use Rattle.pt_body_rows.specs.pt_name_rows.Names.{RowsLocal, RowsCell, RowsOwnCell, RowsGlobal, RowsLoadGlobal}
 use Rattle.pt_code_tables.specs.pt_machine_state.declared.machine.Machine.{Machine}
@@ -95,18 +95,22 @@ module _ (tables : CodeTables) (j : Instr) (p : Progress) (m : Machine) (f : Blo
         (row m.here.cells m.here.names (world_view m.frames m.heap) (record { are_different = (different program code known).locals; count = locals-counted program code known can.locals })
         (local-within program code known n (named _ _ _ can.operands)) (at program code known h) m.here.pc.0 i (known.blocks (block_of m.here)).truths (knows program code known))
 
-    pub local_row : RowsLocal f n j m.here.slots m.here.locals p slots locals → active_in slots ≡ active_in m.here.slots → Performs tables j p m (with_locals slots locals)
-    local_row row same = record { rest = refl; active = keeps p same; row = told_row tables j p m (with_locals slots locals) (local-told row); names = λ no. refl }
+    pub local_row : RowsLocal f n j m.here.slots m.here.locals p slots locals → active_in slots ≡ active_in m.here.slots → length locals ≡ length m.here.locals
+        → Performs tables j p m (with_locals slots locals)
+    local_row row same counted = record { rest = refl; active = keeps p same; row = told_row tables j p m (with_locals slots locals) (local-told row); places = counted }
 
-    pub set_local : ((g : BlockFacts) → RowsLocal g n j m.here.slots m.here.locals p slots locals) → active_in slots ≡ active_in m.here.slots → Performs tables j p m (with_locals slots locals)
-    set_local row same = local_row (row f) same
+    pub set_local : ((g : BlockFacts) → RowsLocal g n j m.here.slots m.here.locals p slots locals) → active_in slots ≡ active_in m.here.slots → length locals ≡ length m.here.locals
+        → Performs tables j p m (with_locals slots locals)
+    set_local row same counted = local_row (row f) same counted
 
   module _ (n : ℕ) (locals : List (Option Value)) (named : NamesLocal j n) where
-    pub deleted_local : ((slots : List Slot) → RowsLocal f n j slots m.here.locals p slots locals) → Performs tables j p m (with_locals m.here.slots locals)
-    deleted_local row = local_row n m.here.slots locals named (row m.here.slots) refl
+    pub deleted_local : ((slots : List Slot) → RowsLocal f n j slots m.here.locals p slots locals) → length locals ≡ length m.here.locals
+        → Performs tables j p m (with_locals m.here.slots locals)
+    deleted_local row counted = local_row n m.here.slots locals named (row m.here.slots) refl counted
 
-    pub fresh_local : ((g : BlockFacts) (slots : List Slot) → RowsLocal g n j slots m.here.locals p slots locals) → Performs tables j p m (with_locals m.here.slots locals)
-    fresh_local row = local_row n m.here.slots locals named (row f m.here.slots) refl
+    pub fresh_local : ((g : BlockFacts) (slots : List Slot) → RowsLocal g n j slots m.here.locals p slots locals) → length locals ≡ length m.here.locals
+        → Performs tables j p m (with_locals m.here.slots locals)
+    fresh_local row counted = local_row n m.here.slots locals named (row f m.here.slots) refl counted
 
   -- cells
 
@@ -125,7 +129,7 @@ module _ (tables : CodeTables) (j : Instr) (p : Progress) (m : Machine) (f : Blo
           (at program code known h) m.here.pc.0 i (known.blocks (block_of m.here)).truths (knows program code known))
 
       pub cell_row : RowsCell f m.here.cells n j m.here.slots m.frames.cells p slots cells → active_in slots ≡ active_in m.here.slots → Performs tables j p m (with_cells slots m.here.cells cells)
-      cell_row row same = record { rest = refl; active = keeps p same; row = told_row tables j p m (with_cells slots m.here.cells cells) (cell-told row); names = λ no. refl }
+      cell_row row same = record { rest = refl; active = keeps p same; row = told_row tables j p m (with_cells slots m.here.cells cells) (cell-told row); places = refl }
 
       pub set_cell : ((g : BlockFacts) → RowsCell g m.here.cells n j m.here.slots m.frames.cells p slots cells) → active_in slots ≡ active_in m.here.slots
           → Performs tables j p m (with_cells slots m.here.cells cells)
@@ -154,7 +158,7 @@ module _ (tables : CodeTables) (j : Instr) (p : Progress) (m : Machine) (f : Blo
 
     pub fresh_cell : (own : List ℕ) (cells : List (Option Value)) → RowsOwnCell f n j m.here.cells m.frames.cells p own cells
         → Performs tables j p m (record m { here = record m.here { cells = own }; frames = record m.frames { cells = cells } })
-    fresh_cell own cells row = record { rest = refl; active = keeps p refl; row = told_row tables j p m (with_cells m.here.slots own cells) (own-told own cells row); names = λ no. refl }
+    fresh_cell own cells row = record { rest = refl; active = keeps p refl; row = told_row tables j p m (with_cells m.here.slots own cells) (own-told own cells row); places = refl }
 
 -- names of the module
 
@@ -173,7 +177,7 @@ module _ (tables : CodeTables) (j : Instr) (p : Progress) (m : Machine) where
 
     pub global_row : (slots : List Slot) (globals : Named) → RowsGlobal (text_in (pool_in tables m.here.hidden) t) j t m.here.slots m.frames.globals p slots globals
         → active_in slots ≡ active_in m.here.slots → Performs tables j p m (with_globals slots globals)
-    global_row slots globals row same = record { rest = refl; active = keeps p same; row = told_row tables j p m (with_globals slots globals) (global-told slots globals row); names = λ no. refl }
+    global_row slots globals row same = record { rest = refl; active = keeps p same; row = told_row tables j p m (with_globals slots globals) (global-told slots globals row); places = refl }
 
     deleted_global : (globals : Named) → ((slots : List Slot) → RowsGlobal (text_in (pool_in tables m.here.hidden) t) j t slots m.frames.globals p slots globals)
         → Performs tables j p m (record m { frames = record m.frames { globals = globals } })
@@ -191,7 +195,7 @@ module _ (tables : CodeTables) (j : Instr) (p : Progress) (m : Machine) where
 
     pub load_row : (slots : List Slot) → RowsLoadGlobal m.here.hidden (text_in (pool_in tables m.here.hidden) t) (builtin_in (pool_in tables m.here.hidden) t) j t m.here.slots m.frames.globals p slots
         → active_in slots ≡ active_in m.here.slots → Performs tables j p m (record m { here = record m.here { slots = slots } })
-    load_row slots row same = record { rest = refl; active = keeps p same; row = told_row tables j p m (with_globals slots m.frames.globals) (load-told slots row); names = λ no. refl }
+    load_row slots row same = record { rest = refl; active = keeps p same; row = told_row tables j p m (with_globals slots m.frames.globals) (load-told slots row); places = refl }
 
 -- attributes
 
@@ -199,14 +203,25 @@ module _ (tables : CodeTables) (t : TextNo) (p : Progress) (m : Machine) (slots 
   abbrev with_heap : Machine
   with_heap = record m { here = record m.here { slots = slots }; heap = heap }
 
-  attribute-told : RowsAttribute (text_in (pool_in tables m.here.hidden) t.0) t m.here.slots m.heap p slots heap → IsTold tables (Attr t) p m with_heap
+  attribute-told : RowsAttribute tables.facts (text_in (pool_in tables m.here.hidden) t.0) t m.here.slots m.heap p slots heap → IsTold tables (Attr t) p m with_heap
   unfolding RowsAttribute RowsIn
   attribute-told row program code known can i h is =
-      row (stores_of program m) (stands tables (Attr t) p m program code h) m.here.pc.0 i (known.blocks (block_of m.here)).truths ((known.pools (block_of m.here)).texts t.0)
+      row (stores_of program m) (stands tables (Attr t) p m program code h) m.here.pc.0 i (known.blocks (block_of m.here)).truths
+      (known.facts, (known.pools (block_of m.here)).texts t.0)
 
-  pub attribute_row : RowsAttribute (text_in (pool_in tables m.here.hidden) t.0) t m.here.slots m.heap p slots heap → active_in slots ≡ active_in m.here.slots
+  pub attribute_row : RowsAttribute tables.facts (text_in (pool_in tables m.here.hidden) t.0) t m.here.slots m.heap p slots heap → active_in slots ≡ active_in m.here.slots
       → Performs tables (Attr t) p m with_heap
-  attribute_row row same = record { rest = refl; active = keeps p same; row = told_row tables (Attr t) p m with_heap (attribute-told row); names = λ no. refl }
+  attribute_row row same = record { rest = refl; active = keeps p same; row = told_row tables (Attr t) p m with_heap (attribute-told row); places = refl }
+
+  module _ (j : Instr) where
+    named-told : RowsNamed (text_in (pool_in tables m.here.hidden) t.0) t j m.here.slots m.heap p slots heap → IsTold tables j p m with_heap
+    unfolding RowsNamed RowsIn
+    named-told row program code known can i h is =
+        row (stores_of program m) (stands tables j p m program code h) m.here.pc.0 i (known.blocks (block_of m.here)).truths ((known.pools (block_of m.here)).texts t.0)
+
+    pub named_row : RowsNamed (text_in (pool_in tables m.here.hidden) t.0) t j m.here.slots m.heap p slots heap → active_in slots ≡ active_in m.here.slots
+        → Performs tables j p m with_heap
+    named_row row same = record { rest = refl; active = keeps p same; row = told_row tables j p m with_heap (named-told row); places = refl }
 
 -- modules and their names
 
@@ -220,15 +235,16 @@ module _ (tables : CodeTables) (t : TextNo) (p : Progress) (m : Machine) (slots 
       row (stores_of program m) (stands tables (Import t) p m program code h) m.here.pc.0 i (known.blocks (block_of m.here)).truths ((known.pools (block_of m.here)).texts t.0)
 
   pub import_row : RowsImport (text_in (pool_in tables m.here.hidden) t.0) t m.here.slots p slots → active_in slots ≡ active_in m.here.slots → Performs tables (Import t) p m with_slots
-  import_row row same = record { rest = refl; active = keeps p same; row = told_row tables (Import t) p m with_slots (import-told row); names = λ no. refl }
+  import_row row same = record { rest = refl; active = keeps p same; row = told_row tables (Import t) p m with_slots (import-told row); places = refl }
 
   module _ (heap : List Object) where
-    import-name-told : RowsImportName (text_in (pool_in tables m.here.hidden) t.0) t m.here.slots m.heap p slots heap → IsTold tables (ImportName t) p m (record with_slots { heap = heap })
+    import-name-told : RowsImportName tables.facts (text_in (pool_in tables m.here.hidden) t.0) t m.here.slots m.heap p slots heap → IsTold tables (ImportName t) p m (record with_slots { heap = heap })
     unfolding RowsImportName RowsIn
     import-name-told row program code known can i h is =
-        row (stores_of program m) (stands tables (ImportName t) p m program code h) m.here.pc.0 i (known.blocks (block_of m.here)).truths ((known.pools (block_of m.here)).texts t.0)
+        row (stores_of program m) (stands tables (ImportName t) p m program code h) m.here.pc.0 i (known.blocks (block_of m.here)).truths
+        (known.facts, (known.pools (block_of m.here)).texts t.0)
 
-    pub import_name_row : RowsImportName (text_in (pool_in tables m.here.hidden) t.0) t m.here.slots m.heap p slots heap → active_in slots ≡ active_in m.here.slots
+    pub import_name_row : RowsImportName tables.facts (text_in (pool_in tables m.here.hidden) t.0) t m.here.slots m.heap p slots heap → active_in slots ≡ active_in m.here.slots
         → Performs tables (ImportName t) p m (record m { here = record m.here { slots = slots }; heap = heap })
     import_name_row row same =
-        record { rest = refl; active = keeps p same; row = told_row tables (ImportName t) p m (record with_slots { heap = heap }) (import-name-told row); names = λ no. refl }
+        record { rest = refl; active = keeps p same; row = told_row tables (ImportName t) p m (record with_slots { heap = heap }) (import-name-told row); places = refl }

@@ -33,7 +33,7 @@ keeps (progress.Raises e) a = a
 keeps progress.RaisesAgain a = a
 keeps (progress.Fails class arg) a = a
 keeps (progress.FailsSaying class t) a = a
-keeps (progress.Calls b hidden ls) a = a
+keeps (progress.Calls b hidden ls why) a = a
 keeps progress.Next a = tt
 keeps (progress.Goto pc) a = tt
 keeps (progress.Leaves how) a = tt
@@ -69,7 +69,7 @@ module _ (tables : CodeTables) (j : Instr) (p : Progress) (m : Machine) where
     active = keeps p refl;
     row = told_row tables j p m m (λ program code known can i h at.
         row m.here.slots program (code.object (block_of m.here)) m.here.pc.0 i h (stores_of program m) (known.blocks (block_of m.here)).truths);
-    names = λ no. refl;
+    places = refl;
   }
 
   pub slots_row : (slots : List Slot) → RowsSlots j m.here.slots p slots → active_in slots ≡ active_in m.here.slots → Performs tables j p m (with_slots slots)
@@ -79,7 +79,7 @@ module _ (tables : CodeTables) (j : Instr) (p : Progress) (m : Machine) where
     active = keeps p same;
     row = told_row tables j p m (with_slots slots) (λ program code known can i h at.
         row program (code.object (block_of m.here)) m.here.pc.0 i h (stores_of program m) (known.blocks (block_of m.here)).truths);
-    names = λ no. refl;
+    places = refl;
   }
 
   -- a handler's exception may be taken off
@@ -90,7 +90,7 @@ module _ (tables : CodeTables) (j : Instr) (p : Progress) (m : Machine) where
     active = kept;
     row = told_row tables j p m (with_slots slots) (λ program code known can i h at.
         row program (code.object (block_of m.here)) m.here.pc.0 i h (stores_of program m) (known.blocks (block_of m.here)).truths);
-    names = λ no. refl;
+    places = refl;
   }
 
   pub heap_row : (slots : List Slot) (heap : List Object) → RowsHeap j m.here.slots m.heap p slots heap → active_in slots ≡ active_in m.here.slots → Performs tables j p m (with_heap slots heap)
@@ -100,7 +100,7 @@ module _ (tables : CodeTables) (j : Instr) (p : Progress) (m : Machine) where
     active = keeps p same;
     row = told_row tables j p m (with_heap slots heap) (λ program code known can i h at.
         row program (code.object (block_of m.here)) m.here.pc.0 i h (stores_of program m) (known.blocks (block_of m.here)).truths);
-    names = λ no. refl;
+    places = refl;
   }
 
 pub constant_row : (tables : CodeTables) (k : ConstNo) (p : Progress) (m : Machine) (slots : List Slot) → RowsConstant (constant_in (pool_in tables m.here.hidden) k.0) m.here.slots p slots
@@ -112,7 +112,7 @@ constant_row tables k p m slots row same =
       active = keeps p same;
       row = told_row tables (instr.Const k) p m (record m { here = record m.here { slots = slots } }) (λ program code known can i h at.
           row k program (code.object (block_of m.here)) m.here.pc.0 i h (stores_of program m) (known.blocks (block_of m.here)).truths ((known.pools (block_of m.here)).constants k.0));
-      names = λ no. refl;
+      places = refl;
     }
 
 -- what isn't supported leaves the profile, with all as it was
@@ -125,7 +125,7 @@ outside-is tables j p m row program code known can i same h at =
     (row program (code.object (block_of m.here)) m.here.pc.0 i h (stores_of program m) m.here.slots (known.extras (block_of m.here)))
 
 pub outside_row : (tables : CodeTables) (j : Instr) (p : Progress) (m : Machine) → ((k : Instr) → is_supported k ≡ false → RowsOutside k p) → is_supported j ≡ false → Performs tables j p m m
-outside_row tables j p m rows is = record { rest = refl; active = keeps p refl; row = outside-is tables j p m (rows j is); names = λ no. refl }
+outside_row tables j p m rows is = record { rest = refl; active = keeps p refl; row = outside-is tables j p m (rows j is); places = refl }
 
 -- of an answer, by what holds of its value
 

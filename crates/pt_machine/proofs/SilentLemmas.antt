@@ -72,7 +72,7 @@ begun_row tables j p (Some k) old new did = record {
   active = did.active;
   row = λ program code known names i is.
       did.row program code known (record { operands = names.operands; locals = names.locals; cells = names.cells }) i is;
-  names = did.names;
+  places = did.places;
 }
 
 return-other : (j : Instr) → j ≡ instr.Return → j ≡ instr.RaiseAgain → ⊥

@@ -1,24 +1,21 @@
 -- The machine did a stride where it did what stands at its place, or closed its block.
-use Rattle.std.proofs.Common.{inl, inr, ◌≡◌, ◌∙◌, ℕ, ◌≤◌, List, [], ◌∷◌, ◌++◌, Bool, true, false, Option, Some, None, length, drop, refl, sym, ap, subst, append-nil, arith}
+use Rattle.std.proofs.Common.{inl, inr, ◌≡◌, ◌∙◌, ℕ, ◌≤◌, true, false, Option, Some, None, length, refl, sym, ap, subst}
 use Rattle.std.specs.Prelude.{nat_lt}
 use Rattle.std.specs.Option.{option_map}
-use Rattle.std.specs.Map.{keys_of}
-use Rattle.pt_tree.specs.Syntax.{Name}
 use Rattle.pt_instr.specs.declared.Instr.TheVariants as instr
 use Rattle.pt_heap.specs.declared.value.Value.{Value}
 use Rattle.pt_ranges.specs.declared.lines.ActMark.{ActMark}
 use Rattle.pt_code.specs.View.{Ins}
-use Rattle.sem_control.specs.control.Turn as T
 use Rattle.sem_control.specs.control.Turn.{Turn}
 use Rattle.sem_code.specs.slots.Slots.{State, on}
 use Rattle.sem_code.specs.slots.Steps.{mark_of}
 use Rattle.sem_code.specs.slots.Machine as slots
 use Rattle.sem_code.specs.slots.Needs.{Begins}
 use Rattle.sem_code.proofs.slots.MarkLaw.{begins_at}
-use Rattle.pt_code_tables.specs.pt_machine_state.pt_code_facts.sem_rows.heap_rows.Views.{paired, slots_view}
+use Rattle.pt_code_tables.specs.pt_machine_state.pt_code_facts.sem_rows.heap_rows.Views.{slots_view}
 use Rattle.pt_places.specs.declared.places.Place.{Place}
 use Rattle.pt_places.specs.PlaceTable.{entry, place_at, place_of}
-use Rattle.pt_code_tables.specs.pt_builtins.pt_host.World.{CodeFacts, Program}
+use Rattle.pt_code_tables.specs.pt_builtins.pt_host.World.{Program}
 use Rattle.pt_code_tables.specs.pt_builtins.pt_host.HeapHost.{heap_host}
 use Rattle.pt_bare_runs.specs.Strides.{take_turn, stride as stride_of}
 use Rattle.sem_code_machine.specs.code_machine.CodeBlocks.{CodeBlocks, machine}
@@ -46,8 +43,9 @@ use Rattle.pt_code_tables.proofs.pt_machine_state.TurnLemmas.{spent}
 use Rattle.pt_code_tables.proofs.pt_machine_state.StrideLemmas.{unmarked_done, marked_done}
 use Rattle.pt_code_tables.proofs.pt_machine_state.AgainLemmas.{unmarked_again, marked_again}
 use Rattle.pt_code_tables.specs.declared.tables.CodeTables.{CodeTables}
-use Rattle.pt_code_tables.specs.Tables.{AreTablesOf, is_class_in, scope_by, pool_in}
+use Rattle.pt_code_tables.specs.Tables.{AreTablesOf}
 use Rattle.pt_machine.specs.Strides.{MachineHasNames, Strides}
+use Rattle.pt_machine.proofs.OwnNames.{cells-placed, has-own-names, locals-placed}
 use Rattle.pt_machine.specs.Performing.{Does, NamesPlaces, Performs, GoesOn, IsRowIn, row_done}
 
 -- the turn of a run at a place
@@ -77,43 +75,14 @@ spent-done program code n m x w i is there k is_mark none =
     (subst (λ o. Begins (option_map mark_of i.mark) (turned program code n m x (stride.Ends end.Spent) w m w o)) there
     (begins_at (code.object (block_of m.here)) m.here.pc.0 i (slots_view m.here.slots) there))) refl none)
 
--- names of an activation that are all there have places
-places-of : {A : Type 0} (xs : List Name) (vs : List A) → keys_of (paired xs vs) ≡ xs → length xs ≤ length vs
-places-of [] vs e = omega arith
-places-of (x ∷ xs) [] e = absurd (cc)
-places-of (x ∷ xs) (v ∷ vs) e =
-    let same : keys_of (paired xs vs) ≡ xs = ap (drop 1) e in
-    let rest : length xs ≤ length vs = places-of xs vs same in omega (arith, rest)
-
-scope-is : (b : Bool) → scope_by b ≡ T.global → b ≡ false
-scope-is false e = refl
-scope-is true e = absurd (cc)
-
-module _ (program : Program) (code : CodeBlocks Value) (m : Machine) (names : MachineHasNames program code m) where
-  abbrev facts : CodeFacts
-  facts = program.facts (block_of m.here)
-
-  locals-placed : length facts.locals ≤ length m.here.locals
-  locals-placed =
-      places-of facts.locals m.here.locals
-      (ap (λ es. keys_of es) (sym (append-nil (paired facts.locals m.here.locals)))
-      ∙ (ap (λ es. keys_of (paired facts.locals m.here.locals ++ es)) (sym names.no_names) ∙ names.here.values))
-
-  -- an instruction that stands at the place of the machine names places of its activation
-  names-places : (i : Ins) → (code.object (block_of m.here)).at m.here.pc.0 ≡ Some i → NamesPlaces program code i.instr m
-  names-places i there = record {
-    operands = names.names_blocks.operands (block_of m.here) m.here.pc.0 i there;
-    locals = locals-placed;
-    cells = places-of (facts.cells ++ facts.frees) m.here.cells names.here.cells;
-  }
-
-  -- and its block is no class
-  no-class : (tables : CodeTables) → AreTablesOf program code tables → is_class_in (pool_in tables m.here.hidden) m.here.block.0 ≡ false
-  no-class tables known =
-      scope-is (is_class_in (pool_in tables m.here.hidden) m.here.block.0) (sym (known.scopes (block_of m.here)) ∙ names.names_blocks.scopes (block_of m.here))
-
-named-act : (program : Program) (code : CodeBlocks Value) (m : Machine) (k : ActMark) → MachineHasNames program code m → MachineHasNames program code (at_act k m)
-named-act program code m k names = record { names_blocks = names.names_blocks; here = names.here; no_names = names.no_names }
+-- an instruction that stands at the place of the machine names places of its activation
+names-places : (program : Program) (code : CodeBlocks Value) (m : Machine) → MachineHasNames program code m → (i : Ins)
+    → (code.object (block_of m.here)).at m.here.pc.0 ≡ Some i → NamesPlaces program code i.instr m
+names-places program code m names i there = record {
+  operands = names.names_blocks.operands (block_of m.here) m.here.pc.0 i there;
+  locals = locals-placed program code m names;
+  cells = cells-placed program code m names;
+}
 
 -- what stands at the place of the machine
 record Found (code : CodeBlocks Value) (m : Machine) (place : Place) : Type 0 where
@@ -159,7 +128,7 @@ module _ (tables : CodeTables) (block : BlockCode) (place : Place) (m : Machine)
         next_is = ap (λ q. q.next.0) (sym f.is);
         other = λ e. other (ap (λ q. q.instr) f.is ∙ e);
         same_active = performs.active;
-        no_names = performs.names (no-class program code m names tables known) ∙ names.no_names;
+        placed = inr (subst (λ n. length (program.facts (block_of m.here)).locals ≤ n) (sym performs.places) (locals-placed program code m names));
         row = performs.row program code known (can program code known names) f.ins (ap (λ q. q.instr) (sym f.is));
       }) (ap (λ q. q.mark) (sym f.is) ∙ none) x waits r w w1 new
       (subst (λ o. Applied tables.blocks block place.next p r o w new w1) performs.rest applied)
@@ -179,7 +148,7 @@ module _ (tables : CodeTables) (block : BlockCode) (place : Place) (m : Machine)
         next_is = ap (λ q. q.next.0) (sym f.is);
         other = λ e. other (ap (λ q. q.instr) f.is ∙ e);
         same_active = performs.active;
-        no_names = performs.names (no-class program code m names tables known) ∙ names.no_names;
+        placed = inr (subst (λ n. length (program.facts (block_of m.here)).locals ≤ n) (sym performs.places) (locals-placed program code m names));
         row = performs.row program code known (can-act program code known names k) f.ins (ap (λ q. q.instr) (sym f.is));
       }) (ap (λ q. q.mark) (sym f.is) ∙ is_mark) left x waits r w w0 w1 new adds
       (subst (λ o. Applied tables.blocks block place.next p r o w0 new w1) performs.rest applied)
@@ -195,7 +164,7 @@ module _ (tables : CodeTables) (block : BlockCode) (place : Place) (m : Machine)
         at_place = at_place;
         there = f.there;
         next_is = ap (λ q. q.next.0) (sym f.is);
-        no_names = names.no_names;
+        placed = names.placed;
         again = ap (λ q. q.instr) (sym f.is) ∙ is;
       }
 
@@ -282,7 +251,7 @@ done_fast tables block place pc old mid w other led = record { progress = led.pr
     applied (progress.Leaves how) e = absurd (cc)
     applied (progress.Reraises v) e = absurd (cc)
     applied (progress.Print t) e = absurd (cc)
-    applied (progress.Calls b hidden ls) e = absurd (cc)
+    applied (progress.Calls b hidden ls why) e = absurd (cc)
     applied (progress.Raises id) e = absurd (cc)
     applied progress.RaisesAgain e = absurd (cc)
     applied (progress.Fails class arg) e = absurd (cc)
@@ -293,4 +262,4 @@ done_fast tables block place pc old mid w other led = record { progress = led.pr
 -- the block ended
 pub closed_stride : (tables : CodeTables) (m new : Machine) (w w1 : Writes) (r : Stride) (n : ℕ) → Closes tables.blocks r m w new w1 → Strides tables n r m w new w1
 unfolding Strides Closes
-closed_stride tables m new w w1 r n closes program code x known names waits = closes program code n x known.blocks waits
+closed_stride tables m new w w1 r n closes program code x known names waits = closes program code n x known.blocks (has-own-names program code m names) waits

@@ -59,9 +59,11 @@ uses_containers (instr.Next t) = true
 uses_containers j = false
 
 -- an attribute, whose name the operand names
-abbrev pub gets_attribute : Instr → Bool
-gets_attribute (instr.Attr t) = true
-gets_attribute j = false
+abbrev pub of_attributes : Instr → Bool
+of_attributes (instr.Attr t) = true
+of_attributes (instr.SetAttr t) = true
+of_attributes (instr.DelAttr t) = true
+of_attributes j = false
 
 -- a module, or what a name is in it, that the operand names
 abbrev pub imports : Instr → Bool
@@ -112,4 +114,5 @@ calls (instr.Call n) = true
 calls (instr.CallKw n l) = true
 calls (instr.CallSpread n l) = true
 calls (instr.MakeFunction b n l) = true
+calls (instr.MakeClass b) = true
 calls j = false

@@ -1,5 +1,5 @@
 -- When what the machine does at an instruction is the row of that.
-use Rattle.std.specs.Prelude.{◌≡◌, ◌≤◌, ◌⊎◌, ◌++◌, false, length}
+use Rattle.std.specs.Prelude.{◌≡◌, ◌≤◌, ◌⊎◌, ◌++◌, length}
 use Rattle.pt_instr.specs.declared.Instr.{Instr}
 use Rattle.pt_instr.specs.declared.Instr.TheVariants as instr
 use Rattle.pt_heap.specs.declared.value.Value.{Value}
@@ -17,7 +17,7 @@ use Rattle.pt_code_tables.specs.pt_machine_state.Views.{active_of, block_of}
 use Rattle.pt_places.specs.declared.places.Place.{Place}
 use Rattle.pt_code_tables.specs.pt_machine_state.Laws.{RowDone, again_of, behind_row, IsRow}
 use Rattle.pt_code_tables.specs.declared.tables.CodeTables.{CodeTables}
-use Rattle.pt_code_tables.specs.Tables.{AreTablesOf, is_class_in, pool_in}
+use Rattle.pt_code_tables.specs.Tables.{AreTablesOf}
 use Rattle.law_frames.specs.Operands.{OperandsName}
 
 -- what an instruction came to, with what is left of the machine
@@ -45,12 +45,12 @@ IsRowIn tables j p old new =
     (program : Program) (code : CodeBlocks Value) → AreTablesOf program code tables → NamesPlaces program code j old → (i : Ins) → i.instr ≡ j
     → IsRow program code i (row_done p new) old
 
--- the machine did the row of the instruction and nothing else; names of a class change in its body alone
+-- the machine did the row of the instruction and nothing else, and has as many places for local names as before
 pub record Performs (tables : CodeTables) (j : Instr) (p : Progress) (old new : Machine) : Type 0 where
   pub rest : new ≡ behind_row (row_done p new) old
   pub active : KeepsActive p old.here.slots new.here.slots
   pub row : IsRowIn tables j p old new
-  pub names : is_class_in (pool_in tables old.here.hidden) old.here.block.0 ≡ false → new.here.names ≡ old.here.names
+  pub places : length new.here.locals ≡ length old.here.locals
 
 -- what stands at a place was done: `raise` alone comes to the exception that is active, and changes nothing
 abbrev pub Does : CodeTables → Instr → Progress → (old new : Machine) → Type 0

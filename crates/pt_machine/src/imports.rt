@@ -22,9 +22,12 @@ pub fn perform_import(
     let alloc = machine.alloc;
     let slots = &mut machine.here.slots;
     let heap = &mut machine.heap;
+    let facts = &tables.facts;
     match instr {
         Instr::Import(text) => import(alloc, text, pool.text(text), slots),
-        Instr::ImportName(text) => import_name(alloc, text, pool.text(text), slots, heap),
+        Instr::ImportName(text) => {
+            import_name(alloc, text, pool.text(text), facts, slots, heap)
+        },
         _ => unreachable!(),
     }
 }

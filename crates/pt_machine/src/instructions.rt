@@ -73,7 +73,9 @@ pub fn perform(tables: &CodeTables, machine: &mut Machine, instr: Instr) -> Resu
         | Instr::SpreadMap
         | Instr::Iter
         | Instr::Next(_) => perform_container(tables, machine, instr),
-        Instr::Attr(_) => perform_attribute(tables, machine, instr),
+        Instr::Attr(_) | Instr::SetAttr(_) | Instr::DelAttr(_) => {
+            perform_attribute(tables, machine, instr)
+        }
         Instr::Import(_) | Instr::ImportName(_) => perform_import(tables, machine, instr),
         Instr::Global(_) | Instr::SetGlobal(_) | Instr::DelGlobal(_) => {
             perform_global(tables, machine, instr)
@@ -89,7 +91,8 @@ pub fn perform(tables: &CodeTables, machine: &mut Machine, instr: Instr) -> Resu
         Instr::Call(_)
         | Instr::CallKw(_, _)
         | Instr::CallSpread(_, _)
-        | Instr::MakeFunction(_, _, _) => perform_call(tables, machine, instr),
+        | Instr::MakeFunction(_, _, _)
+        | Instr::MakeClass(_) => perform_call(tables, machine, instr),
         Instr::Raise | Instr::RaiseFrom | Instr::RaiseAgain | Instr::AssertFail(_) | Instr::Match =>
             perform_raise(tables, machine, instr),
         _ => Ok(not_supported()),

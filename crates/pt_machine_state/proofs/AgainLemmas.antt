@@ -99,7 +99,7 @@ module _ (program : Program) (code : CodeBlocks Value) (obj : CodeObject Value) 
       ∙ again_by (found again (λ x. elim x [ ])) here.active refl
 
 module _ (program : Program) (code : CodeBlocks Value) (blocks : Blocks) (block : BlockCode) (next : Pc) (m : Machine) (i : Ins)
-    (at : AtAgain program code blocks block next i m) (x : Beside) (waits : AllWait program code m.frames.activations x.waiting) where
+    (at : AtAgain program code blocks block next i m) (x : Beside) (waits : AllWait program code (block_of m.here) m.frames.activations x.waiting) where
   abbrev obj : CodeObject Value
   obj = code.object (block_of m.here)
 
@@ -118,7 +118,7 @@ module _ (program : Program) (code : CodeBlocks Value) (blocks : Blocks) (block 
     at_place = at.at_place;
     plain = plain_deed T.nothing;
     waiting = waits;
-    no_names = at.no_names;
+    placed = at.placed;
   }
 
   -- where the turn leads the machine went
@@ -155,7 +155,7 @@ acts_again program code blocks block next m i k at = record {
   at_place = at.at_place;
   there = at.there;
   next_is = at.next_is;
-  no_names = at.no_names;
+  placed = at.placed;
   again = at.again;
 }
 

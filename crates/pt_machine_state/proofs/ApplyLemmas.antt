@@ -37,7 +37,7 @@ use Rattle.pt_machine_state.specs.declared.machine.Stride.TheVariants as stride
 use Rattle.pt_machine_state.specs.declared.writes.Writes.{Writes}
 use Rattle.pt_machine_state.specs.Writing.{Adds, print_piece, event_text}
 use Rattle.pt_machine_state.specs.Blocks.{IsBlockOf}
-use Rattle.pt_machine_state.specs.Views.{Bare, Beside, AllWait, block_of, state_of, run_in, run_of, stores_of}
+use Rattle.pt_machine_state.specs.Views.{Bare, Beside, AllWait, IsPlaced, block_of, state_of, run_in, run_of, stores_of}
 use Rattle.pt_machine_state.specs.Strode.{Strode}
 use Rattle.pt_machine_state.specs.Changes.{gone_to, landed, landed_at, left_place, line_of, entry_of, heap_with_entry, entered, raised_at, events_of, exception_events, raise_events}
 use Rattle.pt_machine_state.specs.Applies.{Asking, Stands, LedTo, Applied, object_of, run_at}
@@ -54,21 +54,18 @@ module _ (program : Program) (block : BlockCode) (m : Machine) (x : Beside) wher
   landed-run (completion.Return v) Out c = refl
   landed-run (completion.Leave t) Out c = refl
 
-landed-frames : (block : BlockCode) (m : Machine) (how : Completion) (l : Landing) → (landed_at block how l m).frames.activations ≡ m.frames.activations
-landed-frames block m how (Enter pc depth holds) = refl
-landed-frames block m how (Jump pc) = refl
-landed-frames block m completion.Normal Out = refl
-landed-frames block m (completion.Raise v) Out = refl
-landed-frames block m (completion.Return v) Out = refl
-landed-frames block m (completion.Leave t) Out = refl
+-- what waits below the machine, and that its local names have places
+abbrev pub Keeps : Program → CodeBlocks Value → Machine → Beside → Type 0
+Keeps program code m x = AllWait program code (block_of m.here) m.frames.activations x.waiting × IsPlaced program m.here
 
-landed-names : (block : BlockCode) (m : Machine) (how : Completion) (l : Landing) → (landed_at block how l m).here.names ≡ m.here.names
-landed-names block m how (Enter pc depth holds) = refl
-landed-names block m how (Jump pc) = refl
-landed-names block m completion.Normal Out = refl
-landed-names block m (completion.Raise v) Out = refl
-landed-names block m (completion.Return v) Out = refl
-landed-names block m (completion.Leave t) Out = refl
+landed-keeps : (program : Program) (code : CodeBlocks Value) (block : BlockCode) (m : Machine) (x : Beside) (how : Completion) (l : Landing)
+    → Keeps program code m x → Keeps program code (landed_at block how l m) x
+landed-keeps program code block m x how (Enter pc depth holds) k = k
+landed-keeps program code block m x how (Jump pc) k = k
+landed-keeps program code block m x completion.Normal Out k = k
+landed-keeps program code block m x (completion.Raise v) Out k = k
+landed-keeps program code block m x (completion.Return v) Out k = k
+landed-keeps program code block m x (completion.Leave t) Out k = k
 
 -- it goes on in a state of the newest activation, with nothing written
 
@@ -77,21 +74,20 @@ module _ (blocks : Blocks) (block : BlockCode) (next : Pc) (m : Machine) where
   abbrev IsIn : Asking → Machine → State Value → Type 0
   IsIn q new c = run_of q.program new q.beside ≡ run_in q.program c m q.beside
 
-  pub to_state : (q : Asking) → Stands blocks block next m q → (w : Writes) (new : Machine) (c : State Value) → IsIn q new c → new.frames.activations ≡ m.frames.activations
-      → new.here.names ≡ m.here.names → LedTo (leads.to c (stores_of q.program m)) q stride.Goes m w new w
-  to_state q stands w new c is_in same names s stored = (
-    refl,
-    (
-      adds_none w,
-      (
-        q.beside,
-        (
-          inl (ap (λ t. in_state c t) stored ∙ sym is_in),
-          (subst (λ os. AllWait q.program q.code os q.beside.waiting) (sym same) stands.waiting, names ∙ stands.no_names),
-        ),
-      ),
-    ),
-  )
+  abbrev StillKeeps : Asking → Machine → Type 0
+  StillKeeps q new = Keeps q.program q.code new q.beside
+
+  keeps-here : (q : Asking) → Stands blocks block next m q → StillKeeps q m
+  keeps-here q stands = (stands.waiting, stands.placed)
+
+  pub to_state : (q : Asking) (w : Writes) (new : Machine) (c : State Value) → IsIn q new c → StillKeeps q new
+      → LedTo (leads.to c (stores_of q.program m)) q stride.Goes m w new w
+  to_state q w new c is_in keeps s stored = (refl, (adds_none w, (q.beside, (inl (ap (λ t. in_state c t) stored ∙ sym is_in), keeps))))
+
+  -- with a text printed
+  pub printed_to_state : (q : Asking) (w w1 : Writes) (new : Machine) (c : State Value) (t : List ℕ) → Adds w w1 (print_piece t ∷ []) → IsIn q new c → StillKeeps q new
+      → LedTo (leads.behind_print t (leads.to c (stores_of q.program m))) q stride.Goes m w new w1
+  printed_to_state q w w1 new c t adds is_in keeps s stored = (refl, (adds, (q.beside, (inl (ap (λ s1. in_state c s1) stored ∙ sym is_in), keeps))))
 
   gone-in : (q : Asking) → Stands blocks block next m q → (pc : Pc) → IsIn q (gone_to pc m) (on pc.0 (slots_view m.here.slots))
   gone-in q stands pc = ap (λ s. run_in q.program (state_of s (gone_to pc m).here) m q.beside) stands.at_place
@@ -107,22 +103,21 @@ module _ (blocks : Blocks) (block : BlockCode) (next : Pc) (m : Machine) where
   landed-to : (q : Asking) → Stands blocks block next m q → (w : Writes) (a : S.Abrupt Value)
       → LedTo (leads.to (land (object_of q m) q.ins.rows a (slots_view m.here.slots)) (stores_of q.program m)) q stride.Goes m w (landed block (completion_of a) m) w
   landed-to q stands w a =
-      to_state q stands w (landed block (completion_of a) m) (land (object_of q m) q.ins.rows a (slots_view m.here.slots)) (landed-in q stands a)
-      (landed-frames block m (completion_of a) (landing_of block.handlers m.here.pc (completion_of a)))
-      (landed-names block m (completion_of a) (landing_of block.handlers m.here.pc (completion_of a)))
+      to_state q w (landed block (completion_of a) m) (land (object_of q m) q.ins.rows a (slots_view m.here.slots)) (landed-in q stands a)
+      (landed-keeps q.program q.code block m q.beside (completion_of a) (landing_of block.handlers m.here.pc (completion_of a)) (keeps-here q stands))
 
   module _ (w : Writes) where
     pub applied_next : Applied blocks block next progress.Next stride.Goes m w (gone_to next m) w
     unfolding Applied
-    applied_next q stands active = to_state q stands w (gone_to next m) (on q.ins.next (slots_view m.here.slots)) (gone-next q stands) refl refl
+    applied_next q stands active = to_state q w (gone_to next m) (on q.ins.next (slots_view m.here.slots)) (gone-next q stands) (keeps-here q stands)
 
     pub applied_goto : (pc : Pc) → Applied blocks block next (progress.Goto pc) stride.Goes m w (gone_to pc m) w
     unfolding Applied
-    applied_goto pc q stands active = to_state q stands w (gone_to pc m) (on pc.0 (slots_view m.here.slots)) (gone-in q stands pc) refl refl
+    applied_goto pc q stands active = to_state q w (gone_to pc m) (on pc.0 (slots_view m.here.slots)) (gone-in q stands pc) (keeps-here q stands)
 
     pub applied_leaves : (how : Completion) → Applied blocks block next (progress.Leaves how) stride.Goes m w (left_place block next how m) w
     unfolding Applied
-    applied_leaves completion.Normal q stands active = to_state q stands w (gone_to next m) (on q.ins.next (slots_view m.here.slots)) (gone-next q stands) refl refl
+    applied_leaves completion.Normal q stands active = to_state q w (gone_to next m) (on q.ins.next (slots_view m.here.slots)) (gone-next q stands) (keeps-here q stands)
     applied_leaves (completion.Raise v) q stands active = landed-to q stands w (S.raise v)
     applied_leaves (completion.Return v) q stands active = landed-to q stands w (S.return v)
     applied_leaves (completion.Leave t) q stands active = landed-to q stands w (S.jump_to t.0)
@@ -143,11 +138,7 @@ module _ (blocks : Blocks) (block : BlockCode) (next : Pc) (m : Machine) where
                   (v, q.ins.rows, slots_view m.here.slots, refl),
                   (λ n. ap (λ t. stride_of (machine q.code) (heap_host q.program) n (in_state (reraises v q.ins.rows (slots_view m.here.slots)) t)) stored ∙ ap (λ t. goes [] t) is_landed),
                 ),
-                (
-                  subst (λ os. AllWait q.program q.code os q.beside.waiting)
-                      (sym (landed-frames block m (completion.Raise v) (landing_of block.handlers m.here.pc (completion.Raise v)))) stands.waiting,
-                  landed-names block m (completion.Raise v) (landing_of block.handlers m.here.pc (completion.Raise v)) ∙ stands.no_names,
-                ),
+                landed-keeps q.program q.code block m q.beside (completion.Raise v) (landing_of block.handlers m.here.pc (completion.Raise v)) (keeps-here q stands),
               ),
             ),
           ),
@@ -159,8 +150,8 @@ module _ (blocks : Blocks) (block : BlockCode) (next : Pc) (m : Machine) where
 
     pub applied_print : (t : List ℕ) (w1 : Writes) → Adds w w1 (print_piece t ∷ []) → Applied blocks block next (progress.Print t) stride.Goes m w (gone_to next m) w1
     unfolding Applied
-    applied_print t w1 adds q stands active s stored =
-        (refl, (adds, (q.beside, (inl (ap (λ s1. in_state (on q.ins.next (slots_view m.here.slots)) s1) stored ∙ sym (gone-next q stands)), (stands.waiting, stands.no_names)))))
+    applied_print t w1 adds q stands active =
+        printed_to_state q w w1 (gone_to next m) (on q.ins.next (slots_view m.here.slots)) t adds (gone-next q stands) (keeps-here q stands)
 
 -- what is told of an event, and the line of the frame
 
@@ -227,7 +218,7 @@ module _ (blocks : Blocks) (block : BlockCode) (next : Pc) (m : Machine) (w : Wr
     at_place = stands.at_place;
     plain = stands.plain;
     waiting = stands.waiting;
-    no_names = stands.no_names;
+    placed = stands.placed;
   }
 
   module _ (v : Value) (w1 : Writes) (q : Asking) (stands : Stands blocks block next m q) where
@@ -247,15 +238,12 @@ module _ (blocks : Blocks) (block : BlockCode) (next : Pc) (m : Machine) (w : Wr
     goes-to : in_state landing (raise_here (machine q.code) (heap_host q.program) v (run_at q m)) ≡ run_of q.program (raised_at block v m) q.beside
     goes-to = ap (λ t. in_state landing t) here ∙ sym (landed-in blocks block next (entered block v m) q (stands-entered v q stands) (S.raise v))
 
-    all-wait : AllWait q.program q.code (raised_at block v m).frames.activations q.beside.waiting
-    all-wait = subst (λ os. AllWait q.program q.code os q.beside.waiting)
-        (sym (landed-frames block (entered block v m) (completion.Raise v) (landing_of block.handlers m.here.pc (completion.Raise v)))) stands.waiting
-
-    no-names : (raised_at block v m).here.names ≡ []
-    no-names = landed-names block (entered block v m) (completion.Raise v) (landing_of block.handlers m.here.pc (completion.Raise v)) ∙ stands.no_names
+    keeps-raised : Keeps q.program q.code (raised_at block v m) q.beside
+    keeps-raised = landed-keeps q.program q.code block (entered block v m) q.beside (completion.Raise v) (landing_of block.handlers m.here.pc (completion.Raise v))
+        (stands.waiting, stands.placed)
 
     pub raise-led : Adds w w1 (raise_events v block m) → LedTo (leads.arises v landing (stores_of q.program m)) q stride.Goes m w (raised_at block v m) w1
     raise-led adds s stored =
         subst (λ t. Done (arise (machine q.code) (heap_host q.program) (E.arisen (here_of (machine q.code) (heap_host q.program) t).active q.ask v) landing t)) (sym stored)
         (subst (λ e. Done (arise (machine q.code) (heap_host q.program) e landing (run_at q m))) (sym (stands.plain (here_of (machine q.code) (heap_host q.program) (run_at q m)).active v))
-        (refl, (subst (λ ws. Adds w w1 ws) (sym written) adds, (q.beside, (inl goes-to, (all-wait, no-names))))))
+        (refl, (subst (λ ws. Adds w w1 ws) (sym written) adds, (q.beside, (inl goes-to, keeps-raised)))))

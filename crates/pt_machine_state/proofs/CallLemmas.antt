@@ -13,7 +13,9 @@ use Rattle.sem_code.specs.comp_expr.Law.{active_at}
 use Rattle.pt_heap.specs.declared.object.Object.{Object}
 use Rattle.pt_bind.specs.declared.arguments.Locals.{Locals}
 use Rattle.pt_frames.specs.declared.activations.OpenActivation.{OpenActivation}
-use Rattle.pt_frames.specs.declared.purpose.Purpose.TheVariants.{Result}
+use Rattle.pt_frames.specs.declared.purpose.Purpose.{Purpose}
+use Rattle.pt_frames.specs.declared.purpose.Purpose.TheVariants as purpose
+use Rattle.sem_control.specs.control.Turn.{left_by}
 use Rattle.sem_code.specs.slots.Slots.{State, on, iterator}
 use Rattle.sem_code.specs.slots.Machine as slots
 use Rattle.sem_run.specs.run.Machine as M
@@ -22,7 +24,8 @@ use Rattle.sem_run.specs.run.Source.{or_null}
 use Rattle.sem_run.specs.run.Events as Told
 use Rattle.sem_run.specs.run.Host as H
 use Rattle.sem_run.specs.run.Host.{Opening, BlockResult, Store, Made, made, beyond}
-use Rattle.pt_code_facts.specs.sem_rows.pt_host.World.{Names, World, Program, Allotted, IsAllotted}
+use Rattle.pt_code_facts.specs.sem_rows.pt_host.World.{Names, World, Stores, CodeFacts, Program, Allotted, IsAllotted}
+use Rattle.pt_code_facts.specs.sem_rows.pt_host.Trees.{then_with}
 use Rattle.pt_code_facts.specs.sem_rows.pt_host.Errors.{error_saying, in_heap_of}
 use Rattle.pt_code_facts.specs.sem_rows.pt_host.HeapHost.{heap_host}
 use Rattle.pt_code_facts.specs.sem_rows.pt_host.declared.places.TheConstants.{RECURSION_ERROR}
@@ -31,8 +34,8 @@ use Rattle.pt_bare_runs.specs.Strides as bare
 use Rattle.pt_bare_runs.specs.Strides.{logged, open_above, open_or_fail, fail_opening, is_full, store, lead}
 use Rattle.sem_code_machine.specs.code_machine.CodeBlocks.{CodeBlocks, machine, start_of}
 use Rattle.pt_code_facts.specs.sem_rows.declared.heap_rows.progress.Progress.TheVariants as progress
-use Rattle.pt_code_facts.specs.sem_rows.heap_rows.Leads.{HasHeapTruths}
-use Rattle.pt_code_facts.specs.sem_rows.heap_rows.Told.{block_id, opening_of}
+use Rattle.pt_code_facts.specs.sem_rows.heap_rows.Leads.{HasHeapTruths, by_tree, giving}
+use Rattle.pt_code_facts.specs.sem_rows.heap_rows.Told.{block_id, opening_of, taken}
 use Rattle.pt_code_facts.specs.sem_rows.heap_rows.Views.{slots_view, world_view}
 use Rattle.pt_machine_state.specs.declared.blocks.BlockCode.{BlockCode}
 use Rattle.pt_machine_state.specs.declared.blocks.Blocks.{Blocks}
@@ -51,9 +54,23 @@ use Rattle.pt_machine_state.proofs.ApplyLemmas.{logged-start, raise-led}
 use Rattle.pt_machine_state.proofs.FailLemmas.{active-here, saying-heap, grown, stands-grown}
 use Rattle.pt_machine_state.proofs.LineLemmas.{outside-led}
 
-pub count-waiting : (program : Program) (code : CodeBlocks Value) (os : List OpenActivation) (ws : List Waits) → AllWait program code os ws → length ws ≡ length os
-count-waiting program code _ _ none = refl
-count-waiting program code _ _ (more o w os ws waits rest) = ap suc (count-waiting program code os ws rest)
+pub count-waiting : (program : Program) (code : CodeBlocks Value) (above : M.BlockId) (os : List OpenActivation) (ws : List Waits) → AllWait program code above os ws → length ws ≡ length os
+count-waiting program code _ _ _ (none b) = refl
+count-waiting program code _ _ _ (more b o w os ws waits rest) = ap suc (count-waiting program code (block_of o.activation) os ws rest)
+
+-- an exception that left the block arises, whatever its value was for
+pub taken-left : (facts : CodeFacts) (why : Purpose) (v : Value) (ns : Names) (h : H.Here Value) (st : Stores)
+    → taken facts why (record { end = left_by v; names = ns }) h st ≡ H.raise v st
+unfolding then_with
+taken-left facts purpose.Result v ns h st = refl
+taken-left facts purpose.Discard v ns h st = refl
+taken-left facts (purpose.Class base cell) v ns h st = refl
+taken-left facts (purpose.Init new) v ns h st = refl
+taken-left facts purpose.Opposite v ns h st = refl
+taken-left facts purpose.Truth v ns h st = refl
+taken-left facts (purpose.Format spec) v ns h st = refl
+taken-left facts (purpose.Resume generator) v ns h st = refl
+taken-left facts (purpose.Answer hook event block act args pending) v ns h st = refl
 
 -- a block begins where its code does
 
@@ -64,16 +81,16 @@ start-is code b it e truths = ap (λ x. if x then slots.start_generator (or_null
     by true = ap (λ v. on 0 (iterator v ∷ [])) truths.null
     by false = refl
 
-module _ (blocks : Blocks) (block : BlockCode) (next : Pc) (m : Machine) (w : Writes) (b : BlockId) (hidden : Bool) (ls : Locals) where
+module _ (blocks : Blocks) (block : BlockCode) (next : Pc) (m : Machine) (w : Writes) (b : BlockId) (hidden : Bool) (ls : Locals) (why : Purpose) where
   abbrev callee : BlockCode
   callee = block_at blocks (block_id b hidden)
 
   abbrev above : Machine
-  above = opened callee.iterates b hidden ls m
+  above = opened callee.iterates b hidden ls why m
 
   module _ (q : Asking) (stands : Stands blocks block next m q) where
     abbrev rest : BlockResult Names Value → Store Names World → Successor (State Value) Names Value World
-    rest r st = led_to q.program q.code (block_of m.here) q.ins (slots_view m.here.slots) r st
+    rest r st = led_to q.program q.code (block_id b hidden) why (here_at q m) (q.code.object (block_of m.here)) q.ins (slots_view m.here.slots) r st
 
     abbrev o : Opening Names Value
     o = opening_of q.program (block_id b hidden) ls
@@ -90,8 +107,11 @@ module _ (blocks : Blocks) (block : BlockCode) (next : Pc) (m : Machine) (w : Wr
     callee-known : IsBlockOf q.program q.code (block_id b hidden) callee
     callee-known = stands.blocks_known (block_id b hidden)
 
-    waits-here : active_at q.before ≡ active_in m.here.slots → WaitsFor q.program q.code m.here the_waiting
-    waits-here active = record { state = q.before; act = q.beside.act; seen = refl; active = active; ins = q.ins; there = stands.there; leads = refl; plain = stands.plain; no_names = stands.no_names }
+    abbrev the_open : OpenActivation
+    the_open = record { activation = m.here; why = why }
+
+    waits-here : active_at q.before ≡ active_in m.here.slots → WaitsFor q.program q.code (block_id b hidden) the_open the_waiting q.beside.waiting
+    waits-here active = record { state = q.before; act = q.beside.act; seen = refl; active = active; ins = q.ins; there = stands.there; leads = refl; plain = stands.plain; placed = stands.placed }
 
     opens-above : open_above (machine q.code) (heap_host q.program) q.ask rest o (run_at q m) ≡ run_of q.program above beside
     opens-above =
@@ -99,7 +119,7 @@ module _ (blocks : Blocks) (block : BlockCode) (next : Pc) (m : Machine) (w : Wr
         ∙ ap (λ s. state_of s above.here) (sym stands.at_place))
 
     is-room : length m.frames.activations + 1 < most_activations → is_full (run_at q m) ≡ false
-    is-room room = grind (arith, nat_tests, count-waiting q.program q.code m.frames.activations q.beside.waiting stands.waiting)
+    is-room room = grind (arith, nat_tests, count-waiting q.program q.code (block_of m.here) m.frames.activations q.beside.waiting stands.waiting)
 
     abbrev Done : Stride → Machine → Writes → bare.Stride (State Value) Names Value World → Type 0
     Done r new w1 d = Strode q.program q.code d r w new w1
@@ -111,12 +131,12 @@ module _ (blocks : Blocks) (block : BlockCode) (next : Pc) (m : Machine) (w : Wr
       refl,
       (
         subst (λ ws. Adds w w1 ws) (sym (logged-start q.program q.code callee above beside (state_of above.standing above.here) callee-known)) adds,
-        (beside, (inl refl, (more (record { activation = m.here; why = Result }) the_waiting m.frames.activations q.beside.waiting (waits-here active) stands.waiting, refl))),
+        (beside, (inl refl, (more (block_id b hidden) the_open the_waiting m.frames.activations q.beside.waiting (waits-here active) stands.waiting, inl refl))),
       ),
     )
 
   pub applied_calls : (w1 : Writes) → length m.frames.activations + 1 < most_activations → Adds w w1 (events_of (codes "call") [] callee above)
-      → Applied blocks block next (progress.Calls b hidden ls) stride.Goes m w above w1
+      → Applied blocks block next (progress.Calls b hidden ls why) stride.Goes m w above w1
   unfolding Applied
   applied_calls w1 room adds q stands active s stored =
       subst (λ t. Done q stands stride.Goes above w1 (open_or_fail (machine q.code) (heap_host q.program) q.ask (rest q stands) (on_with q stands) (o q stands) t)) (sym stored)
@@ -128,7 +148,7 @@ module _ (blocks : Blocks) (block : BlockCode) (next : Pc) (m : Machine) (w : Wr
   -- one too many is a RecursionError at the call
   module _ (q : Asking) (stands : Stands blocks block next m q) where
     is-full : most_activations ≤ length m.frames.activations + 1 → is_full (run_at q m) ≡ true
-    is-full full = grind (arith, nat_tests, count-waiting q.program q.code m.frames.activations q.beside.waiting stands.waiting)
+    is-full full = grind (arith, nat_tests, count-waiting q.program q.code (block_of m.here) m.frames.activations q.beside.waiting stands.waiting)
 
     abbrev too_many : Option Value → Allotted
     too_many active = error_saying RECURSION_ERROR (codes "too many activations") None active m.heap
@@ -142,7 +162,10 @@ module _ (blocks : Blocks) (block : BlockCode) (next : Pc) (m : Machine) (w : Wr
         let same : u ≡ v = cc in
         subst (λ x. Strode q.program q.code (fails (made x (world_view m.frames k))) stride.Goes w (raised_at block v (grown blocks block next m w h)) w1) (sym same)
         (subst (λ j. Strode q.program q.code (fails (made v (world_view m.frames j))) stride.Goes w (raised_at block v (grown blocks block next m w h)) w1) f
-        (raise-led blocks block next (grown blocks block next m w h) w v w1 q (stands-grown blocks block next m w h q stands) adds (run_at q (grown blocks block next m w h)) refl))
+        (subst (λ t. Strode q.program q.code (lead (machine q.code) (heap_host q.program) q.ask (by_tree (q.code.object (block_of m.here)) q.ins (giving (q.code.object (block_of m.here)) q.ins (slots_view m.here.slots)) (slots_view m.here.slots) t)
+        (run_at q (grown blocks block next m w h))) stride.Goes w (raised_at block v (grown blocks block next m w h)) w1)
+        (sym (taken-left (q.program.facts (block_id b hidden)) why v (o q stands).names (here_at q m) (store (run_at q (grown blocks block next m w h)))))
+        (raise-led blocks block next (grown blocks block next m w h) w v w1 q (stands-grown blocks block next m w h q stands) adds (run_at q (grown blocks block next m w h)) refl)))
     fails-made (beyond what) v h w1 e adds = absurd (cc)
 
     fails-full : (t : Allotted) (h : List Object) (new : Machine) (line : Line) → IsAllotted t None h → ((what : What) → t ≡ beyond what → what ≡ Heap) → new.units ≡ m.units
@@ -155,7 +178,7 @@ module _ (blocks : Blocks) (block : BlockCode) (next : Pc) (m : Machine) (w : Wr
   pub fails_to_open : (v : Value) (h : List Object) (w1 : Writes) → most_activations ≤ length m.frames.activations + 1
       → IsAllotted (error_saying RECURSION_ERROR (codes "too many activations") None (active_of m) m.heap) (Some v) h
       → Adds w w1 (raise_events v block (grown blocks block next m w h))
-      → Applied blocks block next (progress.Calls b hidden ls) stride.Goes m w (raised_at block v (grown blocks block next m w h)) w1
+      → Applied blocks block next (progress.Calls b hidden ls why) stride.Goes m w (raised_at block v (grown blocks block next m w h)) w1
   unfolding Applied
   fails_to_open v h w1 full given adds q stands active s stored =
       subst (λ t. Done q stands stride.Goes (raised_at block v (grown blocks block next m w h)) w1 (open_or_fail (machine q.code) (heap_host q.program) q.ask (rest q stands) (on_with q stands) (o q stands) t)) (sym stored)
@@ -167,7 +190,7 @@ module _ (blocks : Blocks) (block : BlockCode) (next : Pc) (m : Machine) (w : Wr
 
   pub no_room_to_fail : (h : List Object) (new : Machine) (line : Line) → most_activations ≤ length m.frames.activations + 1
       → IsAllotted (error_saying RECURSION_ERROR (codes "too many activations") None (active_of m) m.heap) None h → new.units ≡ m.units → line.0 ≡ visible_line blocks m
-      → Applied blocks block next (progress.Calls b hidden ls) (stride.Ends (end.Outside Heap line)) m w new w
+      → Applied blocks block next (progress.Calls b hidden ls why) (stride.Ends (end.Outside Heap line)) m w new w
   unfolding Applied
   no_room_to_fail h new line full given same is q stands active s stored =
       subst (λ t. Done q stands (stride.Ends (end.Outside Heap line)) new w (open_or_fail (machine q.code) (heap_host q.program) q.ask (rest q stands) (on_with q stands) (o q stands) t)) (sym stored)

@@ -19,6 +19,7 @@ use Rattle.sem_control.specs.control.Bases as bases
 use Rattle.sem_code.specs.slots.Slots as S
 use Rattle.sem_code.specs.slots.Landing.{land}
 use Rattle.sem_code.specs.comp_expr.Law.{active_at}
+use Rattle.sem_run.specs.run.Machine.{BlockId}
 use Rattle.sem_run.specs.run.Host.{made, beyond}
 use Rattle.pt_code_facts.specs.sem_rows.pt_host.World.{Program, Allotted, allot, allot_then, IsAllotted}
 use Rattle.pt_code_facts.specs.sem_rows.pt_host.Errors.{arise_while, error, error_saying, object_place}
@@ -42,7 +43,7 @@ use Rattle.pt_machine_state.specs.declared.machine.Stride.{Stride}
 use Rattle.pt_machine_state.specs.declared.machine.Stride.TheVariants as stride
 use Rattle.pt_machine_state.specs.declared.writes.Writes.{Writes}
 use Rattle.pt_machine_state.specs.Writing.{Adds}
-use Rattle.pt_machine_state.specs.Views.{Waits, AllWait, none, more, active_of, stores_of}
+use Rattle.pt_machine_state.specs.Views.{Waits, AllWait, none, more, active_of, block_of, stores_of}
 use Rattle.pt_machine_state.specs.Changes.{raised_at, raise_events, visible_line}
 use Rattle.pt_machine_state.specs.Applies.{Asking, Stands, LedTo, Applied, object_of, here_at}
 use Rattle.pt_machine_state.proofs.ApplyLemmas.{raise-led}
@@ -54,24 +55,24 @@ or-is : (o p : Option Value) → bases.or_else o p ≡ option_or o p
 or-is None p = refl
 or-is (Some v) p = refl
 
-active-waiting : (program : Program) (code : CodeBlocks Value) (os : List OpenActivation) (ws : List Waits) → AllWait program code os ws
+active-waiting : (program : Program) (code : CodeBlocks Value) (above : BlockId) (os : List OpenActivation) (ws : List Waits) → AllWait program code above os ws
     → active_among (machine code) (heap_host program) ws ≡ active_exception os
-active-waiting program code _ _ none = refl
-active-waiting program code _ _ (more o w os ws waits rest) =
+active-waiting program code _ _ _ (none b) = refl
+active-waiting program code _ _ _ (more b o w os ws waits rest) =
     ap (λ v. bases.or_else v (active_among (machine code) (heap_host program) ws)) (ap (λ a. active_at a.state) waits.seen ∙ waits.active)
-    ∙ ap (λ v. bases.or_else (active_in o.activation.slots) v) (active-waiting program code os ws rest)
+    ∙ ap (λ v. bases.or_else (active_in o.activation.slots) v) (active-waiting program code (block_of o.activation) os ws rest)
     ∙ or-is (active_in o.activation.slots) (active_exception os)
 
 module _ (blocks : Blocks) (block : BlockCode) (next : Pc) (m : Machine) (q : Asking) (stands : Stands blocks block next m q) (is_active : active_at q.before ≡ active_in m.here.slots) where
   pub active-here : (here_at q m).active ≡ active_of m
   active-here =
       ap (λ v. bases.or_else v (active_among (machine q.code) (heap_host q.program) q.beside.waiting)) is_active
-      ∙ ap (λ v. bases.or_else (active_in m.here.slots) v) (active-waiting q.program q.code m.frames.activations q.beside.waiting stands.waiting)
+      ∙ ap (λ v. bases.or_else (active_in m.here.slots) v) (active-waiting q.program q.code (block_of m.here) m.frames.activations q.beside.waiting stands.waiting)
       ∙ or-is (active_in m.here.slots) (active_exception m.frames.activations)
 
 -- what is too much for a heap leaves the profile
 
-beyond-heap : (o : Object) (h : List Object) (what : What) → allot o h ≡ beyond what → what ≡ Heap
+pub beyond-heap : (o : Object) (h : List Object) (what : What) → allot o h ≡ beyond what → what ≡ Heap
 beyond-heap o h what e = by (nat_eq (length h) object_limit) (next_object h) (h ++ o ∷ []) e
   where
     by : (b : Bool) (v : Value) (k : List Object) → ◌≡◌ {A = Allotted} (if b then beyond Heap else made v k) (beyond what) → what ≡ Heap
@@ -100,7 +101,7 @@ module _ (blocks : Blocks) (block : BlockCode) (next : Pc) (m : Machine) (w : Wr
     at_place = stands.at_place;
     plain = stands.plain;
     waiting = stands.waiting;
-    no_names = stands.no_names;
+    placed = stands.placed;
   }
 
   -- with an exception that was made
@@ -109,7 +110,7 @@ module _ (blocks : Blocks) (block : BlockCode) (next : Pc) (m : Machine) (w : Wr
   raised-made v h w1 q stands adds s stored =
       raise-led blocks block next (grown h) w v w1 q (stands-grown h q stands) adds s (ap (λ t. with_store (stores_of q.program (grown h)) t) stored)
 
-  made-led : (t : Allotted) (v : Value) (h : List Object) (w1 : Writes) (q : Asking) → Stands blocks block next m q → IsAllotted t (Some v) h → Adds w w1 (raise_events v block (grown h))
+  pub made-led : (t : Allotted) (v : Value) (h : List Object) (w1 : Writes) (q : Asking) → Stands blocks block next m q → IsAllotted t (Some v) h → Adds w w1 (raise_events v block (grown h))
       → LedTo (by_tree (object_of q m) q.ins (giving (object_of q m) q.ins (slots_view m.here.slots)) (slots_view m.here.slots) (raise_with t (stores_of q.program m))) q stride.Goes m w (raised_at block v (grown h)) w1
   made-led (made u k) v h w1 q stands (e, f) adds =
       let same : u ≡ v = cc in

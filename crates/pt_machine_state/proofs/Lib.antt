@@ -7,6 +7,8 @@ pub mod LineLemmas
 pub mod FailLemmas
 pub mod CallLemmas
 pub mod CloseLemmas
+pub mod TakeLemmas
+pub mod LaidLemmas
 pub mod StrideLemmas
 pub mod AgainLemmas
 pub use Rattle.pt_code_facts.proofs as pt_code_facts

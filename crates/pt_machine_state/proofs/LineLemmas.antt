@@ -38,12 +38,12 @@ module _ (program : Program) (code : CodeBlocks Value) (blocks : Blocks) (known 
   line-is : (a : Activation) → views.line_of first (frame_of program a) ≡ line_in blocks a
   line-is a = ap (λ l. line_or l (option_map (λ k. k.0) a.line)) (sym (known (block_of a)).first_line)
 
-  waiting-line : (f : Frame Names Value) (os : List OpenActivation) (ws : List Waits) → AllWait program code os ws
+  waiting-line : (f : Frame Names Value) (above : BlockId) (os : List OpenActivation) (ws : List Waits) → AllWait program code above os ws
       → line_of_first first f (visible (frames_in ws)) ≡ first_visible blocks (views.line_of first f) os
-  waiting-line f _ _ none = refl
-  waiting-line f _ _ (more o w os ws waits rest) =
+  waiting-line f _ _ _ (none b) = refl
+  waiting-line f _ _ _ (more b o w os ws waits rest) =
       ap (λ a. line_of_first first f (if a.frame.block.hidden then visible (frames_in ws) else a.frame ∷ visible (frames_in ws))) waits.seen
-      ∙ by o.activation.hidden (waiting-line f os ws rest)
+      ∙ by o.activation.hidden (waiting-line f (block_of o.activation) os ws rest)
     where
       by : (b : Bool) → line_of_first first f (visible (frames_in ws)) ≡ first_visible blocks (views.line_of first f) os
           → line_of_first first f (if b then visible (frames_in ws) else frame_of program o.activation ∷ visible (frames_in ws))
@@ -51,13 +51,13 @@ module _ (program : Program) (code : CodeBlocks Value) (blocks : Blocks) (known 
       by true e = e
       by false e = line-is o.activation
 
-  pub visible-line : (m : Machine) (x : Beside) (c : State Value) → AllWait program code m.frames.activations x.waiting
+  pub visible-line : (m : Machine) (x : Beside) (c : State Value) → AllWait program code (block_of m.here) m.frames.activations x.waiting
       → bare.visible_line (machine code) (heap_host program) (run_in program c m x) ≡ visible_line blocks m
   visible-line m x c waiting = by m.here.hidden
     where
       by : (b : Bool) → line_of_first first (frame_of program m.here) (if b then visible (frames_in x.waiting) else frame_of program m.here ∷ visible (frames_in x.waiting))
           ≡ (if b then first_visible blocks (line_in blocks m.here) m.frames.activations else line_in blocks m.here)
-      by true = waiting-line (frame_of program m.here) m.frames.activations x.waiting waiting
+      by true = waiting-line (frame_of program m.here) (block_of m.here) m.frames.activations x.waiting waiting
           ∙ ap (λ l. first_visible blocks l m.frames.activations) (line-is m.here)
       by false = line-is m.here
 

@@ -109,7 +109,7 @@ if-active (progress.Raises e) f a = f a
 if-active progress.RaisesAgain f a = f a
 if-active (progress.Fails class arg) f a = f a
 if-active (progress.FailsSaying class t) f a = f a
-if-active (progress.Calls b hidden ls) f a = f a
+if-active (progress.Calls b hidden ls why) f a = f a
 if-active progress.Next f a = tt
 if-active (progress.Goto pc) f a = tt
 if-active (progress.Leaves how) f a = tt
@@ -119,7 +119,7 @@ if-active (progress.Outside what) f a = tt
 if-active progress.Lacks f a = tt
 
 module _ (program : Program) (code : CodeBlocks Value) (blocks : Blocks) (block : BlockCode) (next : Pc) (m : Machine) (i : Ins) (d : RowDone)
-    (at : AtRow program code blocks block next i d m m) (x : Beside) (waits : AllWait program code m.frames.activations x.waiting) where
+    (at : AtRow program code blocks block next i d m m) (x : Beside) (waits : AllWait program code (block_of m.here) m.frames.activations x.waiting) where
   abbrev at_instruction : Bare
   at_instruction = run_in program (on m.here.pc.0 (slots_view m.here.slots)) m x
 
@@ -135,7 +135,7 @@ module _ (program : Program) (code : CodeBlocks Value) (blocks : Blocks) (block 
     at_place = at.at_place;
     plain = plain;
     waiting = waits;
-    no_names = at.no_names;
+    placed = at.placed;
   }
 
   -- what it needs to know of the active exception
@@ -187,7 +187,7 @@ at-act program code blocks block next m i d k at = record {
   next_is = at.next_is;
   other = at.other;
   same_active = at.same_active;
-  no_names = at.no_names;
+  placed = at.placed;
   row = at.row;
 }
 

@@ -1,5 +1,5 @@
 -- How the machine changes: it goes to a place, a completion lands, an exception gets an entry of its traceback (Language Reference 8.4, 7.6, 7.8).
-use Rattle.std.specs.Prelude.{ℕ, suc, ◌-◌, List, [], ◌∷◌, length, drop, Bool, true, false, Option, Some, slice_get, codes, if◌then◌else◌}
+use Rattle.std.specs.Prelude.{ℕ, suc, ◌-◌, List, [], ◌∷◌, length, drop, Bool, true, false, Option, Some, None, slice_get, slice_set, codes, if◌then◌else◌}
 use Rattle.std.specs.Option.{option_map}
 use Rattle.pt_base.specs.declared.numbers.Pc.{Pc}
 use Rattle.pt_heap.specs.declared.value.Value.{Value}
@@ -12,7 +12,6 @@ use Rattle.pt_bind.specs.declared.arguments.Locals.{Locals}
 use Rattle.pt_frames.specs.declared.activation.Activation.{Activation}
 use Rattle.pt_frames.specs.declared.activations.OpenActivation.{OpenActivation}
 use Rattle.pt_frames.specs.declared.purpose.Purpose.{Purpose}
-use Rattle.pt_frames.specs.declared.purpose.Purpose.TheVariants.{Result}
 use Rattle.pt_frames.specs.Activations.{next_activation, with_activation, with_next_number}
 use Rattle.pt_frames.specs.declared.slot.Slot.{Slot}
 use Rattle.pt_frames.specs.declared.slot.Slot.TheVariants as slot
@@ -125,15 +124,20 @@ slots_at_start false = []
 abbrev pub with_slots : List Slot → Activation → Activation
 with_slots slots a = record a { slots = slots }
 
-abbrev pub opened : (iterates : Bool) → BlockId → (hidden : Bool) → Locals → Machine → Machine
-opened iterates b hidden ls m = record m {
+abbrev pub opened : (iterates : Bool) → BlockId → (hidden : Bool) → Locals → Purpose → Machine → Machine
+opened iterates b hidden ls why m = record m {
   here = with_slots (slots_at_start iterates) (next_activation m.frames b hidden ls);
-  frames = with_activation m.here Result (with_next_number m.frames);
+  frames = with_activation m.here why (with_next_number m.frames);
 }
 
 -- the activation that waits above this one, before it closed
 abbrev pub suspended : Activation → Standing → Purpose → Machine → Machine
 suspended a s why m = record m { here = a; standing = s; frames = with_activation m.here why m.frames }
+
+-- a class stands in its cell, if it has one
+abbrev pub with_class : (cell : Option ℕ) → Value → Machine → Machine
+with_class None v m = m
+with_class (Some c) v m = record m { frames = record m.frames { cells = slice_set m.frames.cells c (Some v) } }
 
 -- the newest activation goes on behind its call with the value
 abbrev pub given_back : (next : Pc) → Value → Machine → Machine

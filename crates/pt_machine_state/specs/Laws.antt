@@ -1,5 +1,5 @@
 -- That the machine does strides of runs over code.
-use Rattle.std.specs.Prelude.{◌≡◌, ◌⊎◌, ℕ, List, [], true, Option, Some, None, codes, nat_lt}
+use Rattle.std.specs.Prelude.{◌≡◌, ◌⊎◌, ℕ, List, true, Option, Some, None, codes, nat_lt}
 use Rattle.pt_base.specs.declared.numbers.Pc.{Pc}
 use Rattle.pt_instr.specs.declared.Instr.TheVariants as instr
 use Rattle.pt_heap.specs.declared.value.Value.{Value}
@@ -29,7 +29,7 @@ use Rattle.pt_machine_state.specs.declared.machine.Stride.{Stride}
 use Rattle.pt_machine_state.specs.declared.writes.Writes.{Writes}
 use Rattle.pt_machine_state.specs.Writing.{Adds}
 use Rattle.pt_machine_state.specs.Blocks.{AreBlocksOf, block_at}
-use Rattle.pt_machine_state.specs.Views.{Beside, AllWait, active_of, block_of, run_of, stores_of}
+use Rattle.pt_machine_state.specs.Views.{Beside, AllWait, ArePlaced, IsPlaced, active_of, block_of, run_of, stores_of}
 use Rattle.pt_machine_state.specs.Strode.{Strode}
 use Rattle.pt_machine_state.specs.Changes.{at_act, changed, line_events}
 use Rattle.pt_machine_state.specs.Applies.{Applied}
@@ -67,7 +67,7 @@ module _ (program : Program) (code : CodeBlocks Value) where
     pub next_is : i.next ≡ next.0
     pub other : i.instr ≡ instr.RaiseAgain → ⊥
     pub same_active : KeepsActive d.progress m.here.slots d.slots
-    pub no_names : d.names ≡ []
+    pub placed : ArePlaced (program.facts (block_of m.here)) d.names d.locals
     pub row : IsRow i d before_row
 
 -- what `raise` alone comes to: the exception that is active lands again, of which nothing is told, or a RuntimeError arises (7.8)
@@ -82,19 +82,19 @@ pub record AtAgain (program : Program) (code : CodeBlocks Value) (blocks : Block
   pub at_place : m.standing ≡ standing.AtPlace
   pub there : (code.object (block_of m.here)).at m.here.pc.0 ≡ Some i
   pub next_is : i.next ≡ next.0
-  pub no_names : m.here.names ≡ []
+  pub placed : IsPlaced program m.here
   pub again : i.instr ≡ instr.RaiseAgain
 
 -- the machine does a stride where what comes behind the row is applied; with a mark behind its unit and its line
 unfoldable pub UnmarkedStrides : Type 0
 UnmarkedStrides = (program : Program) (code : CodeBlocks Value) (blocks : Blocks) (block : BlockCode) (next : Pc) (n : ℕ) (m : Machine) (i : Ins) (d : RowDone)
-    → AtRow program code blocks block next i d m m → i.mark ≡ None → (x : Beside) → AllWait program code m.frames.activations x.waiting
+    → AtRow program code blocks block next i d m m → i.mark ≡ None → (x : Beside) → AllWait program code (block_of m.here) m.frames.activations x.waiting
     → (r : Stride) (w w1 : Writes) (new : Machine) → Applied blocks block next d.progress r (behind_row d m) w new w1
     → Strode program code (stride_of (machine code) (heap_host program) n (run_of program m x)) r w new w1
 
 unfoldable pub MarkedStrides : Type 0
 MarkedStrides = (program : Program) (code : CodeBlocks Value) (blocks : Blocks) (block : BlockCode) (next : Pc) (n : ℕ) (m : Machine) (i : Ins) (d : RowDone) (k : ActMark)
-    → AtRow program code blocks block next i d m (at_act k m) → i.mark ≡ Some k → nat_lt m.units n ≡ true → (x : Beside) → AllWait program code m.frames.activations x.waiting
+    → AtRow program code blocks block next i d m (at_act k m) → i.mark ≡ Some k → nat_lt m.units n ≡ true → (x : Beside) → AllWait program code (block_of m.here) m.frames.activations x.waiting
     → (r : Stride) (w w0 w1 : Writes) (new : Machine) → Adds w w0 (line_events k block m)
     → Applied blocks block next d.progress r (behind_row d (at_act k m)) w0 new w1
     → Strode program code (stride_of (machine code) (heap_host program) n (run_of program m x)) r w new w1
@@ -102,13 +102,13 @@ MarkedStrides = (program : Program) (code : CodeBlocks Value) (blocks : Blocks) 
 -- the same of `raise` alone
 unfoldable pub UnmarkedAgain : Type 0
 UnmarkedAgain = (program : Program) (code : CodeBlocks Value) (blocks : Blocks) (block : BlockCode) (next : Pc) (n : ℕ) (m : Machine) (i : Ins)
-    → AtAgain program code blocks block next i m → i.mark ≡ None → (x : Beside) → AllWait program code m.frames.activations x.waiting
+    → AtAgain program code blocks block next i m → i.mark ≡ None → (x : Beside) → AllWait program code (block_of m.here) m.frames.activations x.waiting
     → (r : Stride) (w w1 : Writes) (new : Machine) → Applied blocks block next (again_of (active_of m)) r m w new w1
     → Strode program code (stride_of (machine code) (heap_host program) n (run_of program m x)) r w new w1
 
 unfoldable pub MarkedAgain : Type 0
 MarkedAgain = (program : Program) (code : CodeBlocks Value) (blocks : Blocks) (block : BlockCode) (next : Pc) (n : ℕ) (m : Machine) (i : Ins) (k : ActMark)
-    → AtAgain program code blocks block next i m → i.mark ≡ Some k → nat_lt m.units n ≡ true → (x : Beside) → AllWait program code m.frames.activations x.waiting
+    → AtAgain program code blocks block next i m → i.mark ≡ Some k → nat_lt m.units n ≡ true → (x : Beside) → AllWait program code (block_of m.here) m.frames.activations x.waiting
     → (r : Stride) (w w0 w1 : Writes) (new : Machine) → Adds w w0 (line_events k block m)
     → Applied blocks block next (again_of (active_of m)) r (at_act k m) w0 new w1
     → Strode program code (stride_of (machine code) (heap_host program) n (run_of program m x)) r w new w1

@@ -20,7 +20,7 @@ use Rattle.pt_machine_state.specs.declared.machine.Stride.{Stride}
 use Rattle.pt_machine_state.specs.declared.machine.Stride.TheVariants as stride
 use Rattle.pt_machine_state.specs.declared.writes.Writes.{Writes}
 use Rattle.pt_machine_state.specs.Writing.{Adds}
-use Rattle.pt_machine_state.specs.Views.{Bare, Beside, run_of, AllWait}
+use Rattle.pt_machine_state.specs.Views.{Bare, Beside, run_of, block_of, AllWait, IsPlaced}
 
 abbrev pub Ending : Type 0
 Ending = bare.Ending Value World
@@ -46,10 +46,10 @@ module _ (program : Program) (code : CodeBlocks Value) where
   abbrev pub ComesTo : Bare → Bare → Type 0
   ComesTo s t = (s ≡ t) ⊎ (GoesOnRaising s × ((n : ℕ) → stride_of (machine code) (heap_host program) n s ≡ goes [] t))
 
-  -- the run goes on as the machine does, which may do another stride of it beside this and has no names of a class, or ends as it says; of a run that
-  -- is stuck nothing is said
+  -- the run goes on as the machine does, which may do another stride of it beside this and has places for its local names, or ends as it says; of a
+  -- run that is stuck nothing is said
   abbrev pub Strode : bare.Stride (State Value) Names Value World → Stride → (old : Writes) → Machine → (new : Writes) → Type 0
   Strode (goes ws s) r old m new =
-      (r ≡ stride.Goes) × (Adds old new ws × ((x : Beside) × (ComesTo s (run_of program m x) × (AllWait program code m.frames.activations x.waiting × (m.here.names ≡ [])))))
+      (r ≡ stride.Goes) × (Adds old new ws × ((x : Beside) × (ComesTo s (run_of program m x) × (AllWait program code (block_of m.here) m.frames.activations x.waiting × IsPlaced program m.here))))
   Strode (ends ws u e) r old m new = (x : MachineEnd) × ((r ≡ stride.Ends x) × (Adds old new ws × ((u ≡ m.units) × (e ≡ ending_of x m))))
   Strode is_stuck r old m new = Unit {0}

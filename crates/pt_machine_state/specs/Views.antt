@@ -1,29 +1,34 @@
 -- The machine of code as a run sees it (Language Reference 4.1, 3.2.13.2).
-use Rattle.std.specs.Prelude.{◌≡◌, ℕ, List, [], ◌∷◌, true, false, Option, None, Some}
+use Rattle.std.specs.Prelude.{◌≡◌, ◌⊎◌, ◌≤◌, ℕ, List, [], ◌∷◌, length, true, false, Option, None, Some}
 use Rattle.std.specs.Option.{option_map, option_or}
 use Rattle.pt_heap.specs.declared.value.Value.{Value}
 use Rattle.pt_code.specs.View.{Ins}
 use Rattle.sem_control.specs.control.Turn.{Ask, gave, left_by}
+use Rattle.sem_control.specs.control.Bases.{or_else}
 use Rattle.sem_control.specs.control.Events as E
+use Rattle.pt_names.specs.Names.{Named}
 use Rattle.pt_frames.specs.declared.activation.Activation.{Activation}
 use Rattle.pt_frames.specs.declared.activations.OpenActivation.{OpenActivation}
+use Rattle.pt_frames.specs.declared.purpose.Purpose.{Purpose}
 use Rattle.pt_frames.specs.Activations.{active_exception}
 use Rattle.pt_frames.specs.Slots.{active_in}
 use Rattle.sem_code.specs.slots.Slots as S
 use Rattle.sem_code.specs.slots.Slots.{State, on, off}
+use Rattle.sem_code.specs.slots.CodeObject.{CodeObject}
 use Rattle.sem_code.specs.comp_expr.Law.{active_at}
 use Rattle.sem_run.specs.run.Machine.{BlockId}
-use Rattle.sem_run.specs.run.Host.{Frame, Store, BlockResult}
+use Rattle.sem_run.specs.run.Host.{Here, Frame, Store, BlockResult}
 use Rattle.sem_run.specs.run.State as run
-use Rattle.pt_code_facts.specs.sem_rows.pt_host.World.{Names, World, Stores, Program}
-use Rattle.pt_code_facts.specs.sem_rows.pt_host.Calls.{result_of}
+use Rattle.pt_code_facts.specs.sem_rows.pt_host.World.{Names, World, Stores, CodeFacts, Program}
+use Rattle.pt_code_facts.specs.sem_rows.pt_host.Classes.{own_names}
+use Rattle.pt_code_facts.specs.sem_rows.pt_host.HeapHost.{heap_host}
 use Rattle.sem_run.specs.transitions.Successors.{Successor}
 use Rattle.pt_bare_runs.specs.Strides as bare
-use Rattle.pt_bare_runs.specs.Strides.{Waiting}
-use Rattle.sem_code_machine.specs.code_machine.CodeBlocks.{CodeBlocks}
+use Rattle.pt_bare_runs.specs.Strides.{Waiting, active_in as active_among}
+use Rattle.sem_code_machine.specs.code_machine.CodeBlocks.{CodeBlocks, machine}
 use Rattle.pt_code_facts.specs.sem_rows.heap_rows.Views.{slots_view, names_view, world_view, stores_view}
 use Rattle.pt_code_facts.specs.sem_rows.heap_rows.Leads.{by_tree, giving}
-use Rattle.pt_code_facts.specs.sem_rows.heap_rows.Told.{block_id}
+use Rattle.pt_code_facts.specs.sem_rows.heap_rows.Told.{block_id, taken}
 use Rattle.pt_machine_state.specs.declared.machine.Machine.{Machine}
 use Rattle.pt_machine_state.specs.declared.machine.Standing.{Standing}
 use Rattle.pt_machine_state.specs.declared.machine.Standing.TheVariants as standing
@@ -51,7 +56,18 @@ state_of (standing.Raises v) a = off (left_by v)
 abbrev pub active_of : Machine → Option Value
 active_of m = option_or (active_in m.here.slots) (active_exception m.frames.activations)
 
+-- local names of a block have their places, also where there are names of a class behind them
+abbrev pub ArePlaced : CodeFacts → (names : Named) → (locals : List (Option Value)) → Type 0
+ArePlaced facts names locals = (names ≡ []) ⊎ (length facts.locals ≤ length locals)
+
 module _ (program : Program) where
+  abbrev pub IsPlaced : Activation → Type 0
+  IsPlaced a = ArePlaced (program.facts (block_of a)) a.names a.locals
+
+  -- those of a class are what stands there by text
+  abbrev pub HasOwnNames : Activation → Type 0
+  HasOwnNames a = own_names (program.facts (block_of a)).locals (names_view (program.facts (block_of a)) a).values ≡ a.names
+
   abbrev pub frame_of : Activation → Frame Names Value
   frame_of a = record {
     number = a.frame.0;
@@ -87,22 +103,34 @@ abbrev pub IsPlain : Ask Value → Type 0
 IsPlain a = (active : Option Value) (v : Value) → E.arisen active a v ≡ E.raises v
 
 module _ (program : Program) (code : CodeBlocks Value) where
-  abbrev pub led_to : BlockId → Ins → S.Slots Value → BlockResult Names Value → Store Names World → Successor (State Value) Names Value World
-  led_to b i ss r st = by_tree (code.object b) i (giving (code.object b) i ss) ss (result_of r.end st)
+  -- what a host knows of an activation that asks something above others that wait
+  abbrev pub here_above : Activation → State Value → List Waits → Here Value
+  here_above a c ws = record {
+    frame = a.frame.0;
+    block = block_of a;
+    active = or_else (active_at c) (active_among (machine code) (heap_host program) ws);
+  }
 
-  -- an activation without names of a class waits at a call for what a run says that waits: it goes on behind the call with the value, or where its
-  -- exception lands
-  pub record WaitsFor (a : Activation) (w : Waits) : Type 0 where
+  -- where the result of a block leads, by what it is for
+  abbrev pub led_to : (closed : BlockId) → Purpose → Here Value → CodeObject Value → Ins → S.Slots Value → BlockResult Names Value → Store Names World
+      → Successor (State Value) Names Value World
+  led_to closed why h object i ss r st = by_tree object i (giving object i ss) ss (taken (program.facts closed) why r h st)
+
+  -- an activation waits at a call, below the block above and above what waits below, for what a run says that waits: what the block gives is taken for
+  -- its purpose, and it goes on behind the call with the value, or where an exception lands
+  pub record WaitsFor (above : BlockId) (o : OpenActivation) (w : Waits) (below : List Waits) : Type 0 where
     pub state : State Value
     pub act : ℕ
-    pub seen : w.activation ≡ activation_of program a state act
-    pub active : active_at state ≡ active_in a.slots
+    pub seen : w.activation ≡ activation_of program o.activation state act
+    pub active : active_at state ≡ active_in o.activation.slots
     pub ins : Ins
-    pub there : (code.object (block_of a)).at a.pc.0 ≡ Some ins
-    pub leads : w.leads ≡ led_to (block_of a) ins (slots_view a.slots)
+    pub there : (code.object (block_of o.activation)).at o.activation.pc.0 ≡ Some ins
+    pub leads : w.leads ≡ led_to above o.why (here_above o.activation state below) (code.object (block_of o.activation)) ins (slots_view o.activation.slots)
     pub plain : IsPlain w.ask
-    pub no_names : a.names ≡ []
+    pub placed : IsPlaced program o.activation
 
-  pub data AllWait : List OpenActivation → List Waits → Type 0 where
-    none : AllWait [] []
-    more : (o : OpenActivation) (w : Waits) (os : List OpenActivation) (ws : List Waits) → WaitsFor o.activation w → AllWait os ws → AllWait (o ∷ os) (w ∷ ws)
+  -- below the block above
+  pub data AllWait : (above : BlockId) → List OpenActivation → List Waits → Type 0 where
+    none : (b : BlockId) → AllWait b [] []
+    more : (b : BlockId) (o : OpenActivation) (w : Waits) (os : List OpenActivation) (ws : List Waits) → WaitsFor b o w ws
+        → AllWait (block_of o.activation) os ws → AllWait b (o ∷ os) (w ∷ ws)

@@ -6,10 +6,11 @@ ghost use Rattle.pt_base.specs.declared.numbers.BlockId.{BlockId};
 ghost use Rattle.pt_base.specs.declared.numbers.Line.{Line};
 ghost use Rattle.pt_base.specs.declared.numbers.ObjId.{ObjId};
 ghost use Rattle.pt_base.specs.declared.numbers.Pc.{Pc};
-ghost use Rattle.pt_base.specs.declared.what.What.TheVariants.{Heap};
+ghost use Rattle.pt_base.specs.declared.what.What.TheVariants.{Feature, Heap};
 ghost use Rattle.pt_base.specs.declared.what.What.{What};
 ghost use Rattle.pt_bind.specs.declared.arguments.Locals.{Locals};
 ghost use Rattle.pt_frames.specs.declared.activation.Activation.{Activation};
+ghost use Rattle.pt_frames.specs.declared.purpose.Purpose.TheVariants as purpose;
 ghost use Rattle.pt_frames.specs.declared.purpose.Purpose.{Purpose};
 ghost use Rattle.pt_heap.specs.declared.completion.Completion.TheVariants as completion;
 ghost use Rattle.pt_heap.specs.declared.completion.Completion.{Completion};
@@ -19,12 +20,14 @@ ghost use Rattle.pt_code_facts.specs.sem_rows.heap_rows.Told.{block_id};
 ghost use Rattle.pt_code_facts.specs.sem_rows.declared.heap_rows.progress.Progress.TheVariants as progress;
 ghost use Rattle.pt_code_facts.specs.sem_rows.pt_host.Calls.{arguments_of};
 ghost use Rattle.pt_heap.specs.declared.value.Value.TheVariants.{Obj};
+ghost use Rattle.pt_code_facts.specs.sem_rows.pt_host.Classes.{base_of};
+ghost use Rattle.pt_code_facts.specs.sem_rows.pt_host.declared.classes.Base.TheVariants as bases;
 ghost use Rattle.pt_code_facts.specs.sem_rows.pt_host.Errors.{arise_while, error, error_saying, object_place};
 ghost use Rattle.pt_code_facts.specs.sem_rows.pt_host.World.{IsAllotted, allot};
-ghost use Rattle.pt_code_facts.specs.sem_rows.pt_host.declared.places.TheConstants.{RECURSION_ERROR};
-ghost use Rattle.pt_machine_state.specs.Applies.{Applied, Closes};
+ghost use Rattle.pt_code_facts.specs.sem_rows.pt_host.declared.places.TheConstants.{RECURSION_ERROR, TYPE_ERROR};
+ghost use Rattle.pt_machine_state.specs.Applies.{Applied, Closes, IsGiven, Takes, class_of};
 ghost use Rattle.pt_machine_state.specs.Blocks.{block_at};
-ghost use Rattle.pt_machine_state.specs.Changes.{events_of, given_back, gone_to, landed, left_place};
+ghost use Rattle.pt_machine_state.specs.Changes.{events_of, given_back, gone_to, landed, left_place, with_class};
 ghost use Rattle.pt_machine_state.specs.Changes.{opened};
 ghost use Rattle.pt_machine_state.specs.Changes.{raise_events, raised_at, suspended, visible_line};
 ghost use Rattle.pt_machine_state.specs.Laws.{MarkedAgain, MarkedStrides, UnmarkedAgain};
@@ -116,30 +119,31 @@ pub fn exceptions_arise_as_in_a_run()
 #[tactic(auto, using(crate::proofs::CallLemmas::applied_calls, crate::proofs::CallLemmas::fails_to_open, crate::proofs::CallLemmas::no_room_to_fail))]
 pub fn blocks_open_as_in_a_run()
     ensures opens { (blocks : Blocks) (block : BlockCode) (next : Pc) (m : Machine) (w : Writes)
-        (b : BlockId) (hidden : Bool) (ls : Locals) (w1 : Writes)
+        (b : BlockId) (hidden : Bool) (ls : Locals) (why : Purpose) (w1 : Writes)
         → length m.frames.activations + 1 < most_activations
         → Adds w w1 (events_of (codes "call") [] (block_at blocks (block_id b hidden))
-        (opened (block_at blocks (block_id b hidden)).iterates b hidden ls m))
-        → Applied blocks block next (progress.Calls b hidden ls) stride.Goes m w
-        (opened (block_at blocks (block_id b hidden)).iterates b hidden ls m) w1 }
+        (opened (block_at blocks (block_id b hidden)).iterates b hidden ls why m))
+        → Applied blocks block next (progress.Calls b hidden ls why) stride.Goes m w
+        (opened (block_at blocks (block_id b hidden)).iterates b hidden ls why m) w1 }
     ensures too_deep { (blocks : Blocks) (block : BlockCode) (next : Pc) (m : Machine)
-        (w : Writes) (b : BlockId) (hidden : Bool) (ls : Locals) (v : Value) (h : List Object)
-        (w1 : Writes) → most_activations ≤ length m.frames.activations + 1
+        (w : Writes) (b : BlockId) (hidden : Bool) (ls : Locals) (why : Purpose) (v : Value)
+        (h : List Object) (w1 : Writes) → most_activations ≤ length m.frames.activations + 1
         → IsAllotted (error_saying RECURSION_ERROR (codes "too many activations") None (active_of m)
         m.heap) (Some v) h → Adds w w1 (raise_events v block (record m { heap = h }))
-        → Applied blocks block next (progress.Calls b hidden ls) stride.Goes m w
+        → Applied blocks block next (progress.Calls b hidden ls why) stride.Goes m w
         (raised_at block v (record m { heap = h })) w1 }
     ensures no_room { (blocks : Blocks) (block : BlockCode) (next : Pc) (m : Machine) (w : Writes)
-        (b : BlockId) (hidden : Bool) (ls : Locals) (h : List Object) (new : Machine) (line : Line)
-        → most_activations ≤ length m.frames.activations + 1
+        (b : BlockId) (hidden : Bool) (ls : Locals) (why : Purpose) (h : List Object)
+        (new : Machine) (line : Line) → most_activations ≤ length m.frames.activations + 1
         → IsAllotted (error_saying RECURSION_ERROR (codes "too many activations") None (active_of m)
         m.heap) None h → new.units ≡ m.units → line.0 ≡ visible_line blocks m
-        → Applied blocks block next (progress.Calls b hidden ls)
+        → Applied blocks block next (progress.Calls b hidden ls why)
         (stride.Ends (ending.Outside Heap line)) m w new w }
 {}
 
-/// A block ends as in a run: its result goes to the activation that waits for it, behind its call or
-/// where the exception lands, and the end of the module is that of the run.
+/// A block ends as in a run: what it gave is taken for its purpose behind the call of the
+/// activation that waits for it, or an exception lands there, and the end of the module is that of
+/// the run.
 #[tactic(auto, using(crate::proofs::CloseLemmas::module_returns, crate::proofs::CloseLemmas::module_raises, crate::proofs::CloseLemmas::block_returns, crate::proofs::CloseLemmas::block_raises))]
 pub fn blocks_end_as_in_a_run()
     ensures module_returns { (blocks : Blocks) (m : Machine) (w w1 : Writes)
@@ -154,12 +158,13 @@ pub fn blocks_end_as_in_a_run()
         → line.0 ≡ visible_line blocks m
         → Closes blocks (stride.Ends (ending.Left v line)) m w m w1 }
     ensures returns { (blocks : Blocks) (m : Machine) (a : Activation) (why : Purpose) (p : Place)
-        (w w1 : Writes) → m.standing ≡ standing.AtPlace
+        (w w0 w1 : Writes) → m.standing ≡ standing.AtPlace
         → entry (block_at blocks (block_of m.here)).places m.here.pc.0 ≡ Some p → (v : Value)
-        → Adds w w1 (events_of (codes "return") [] (block_at blocks (block_of a))
+        (r : Stride) (new : Machine)
+        → Adds w w0 (events_of (codes "return") [] (block_at blocks (block_of a))
         (suspended a (standing.Returns v) why m))
-        → Closes blocks stride.Goes (suspended a (standing.Returns v) why m) w
-        (given_back p.next v m) w1 }
+        → Takes blocks (block_at blocks (block_of m.here)) p.next a why v r m w0 new w1
+        → Closes blocks r (suspended a (standing.Returns v) why m) w new w1 }
     ensures raises { (blocks : Blocks) (m : Machine) (a : Activation) (why : Purpose) (p : Place)
         (w w0 w1 : Writes) → m.standing ≡ standing.AtPlace
         → entry (block_at blocks (block_of m.here)).places m.here.pc.0 ≡ Some p → (v : Value)
@@ -168,6 +173,46 @@ pub fn blocks_end_as_in_a_run()
         → Adds w0 w1 (raise_events v (block_at blocks (block_of m.here)) m)
         → Closes blocks stride.Goes (suspended a (standing.Raises v) why m) w
         (raised_at (block_at blocks (block_of m.here)) v m) w1 }
+{}
+
+/// What a block gave is taken as in a run: it is the value of the call, or the instance is that
+/// `__init__` was called for, or a class that is made of the block's names (Language Reference
+/// 3.3.1, 8.8).
+#[tactic(auto, using(crate::proofs::TakeLemmas::takes_given, crate::proofs::TakeLemmas::takes_instance, crate::proofs::TakeLemmas::takes_class, crate::proofs::TakeLemmas::takes_full, crate::proofs::TakeLemmas::takes_no_base, crate::proofs::TakeLemmas::takes_unavailable))]
+pub fn results_are_taken_as_in_a_run()
+    ensures given { (blocks : Blocks) (block : BlockCode) (next : Pc) (m : Machine) (w : Writes)
+        (a : Activation) (why : Purpose) → IsGiven why → (v : Value)
+        → Takes blocks block next a why v stride.Goes m w (given_back next v m) w }
+    ensures initialized { (blocks : Blocks) (block : BlockCode) (next : Pc) (m : Machine)
+        (w : Writes) (a : Activation) (new v : Value)
+        → Takes blocks block next a (purpose.Init new) v stride.Goes m w (given_back next new m)
+        w }
+    ensures class { (blocks : Blocks) (block : BlockCode) (next : Pc) (m : Machine) (w : Writes)
+        (a : Activation) (class : Value) (cell : Option ℕ) (b : ObjId)
+        → base_of m.heap class ≡ bases.On b → (v : Value) (h : List Object)
+        → IsAllotted (allot (class_of blocks a b) m.heap) (Some v) h
+        → (u : Value) → Takes blocks block next a (purpose.Class class cell) u stride.Goes m w
+        (given_back next v (with_class cell v (record m { heap = h }))) w }
+    ensures full { (blocks : Blocks) (block : BlockCode) (next : Pc) (m : Machine) (w : Writes)
+        (a : Activation) (class : Value) (cell : Option ℕ) (new : Machine)
+        → new.units ≡ m.units → (line : Line) → line.0 ≡ visible_line blocks m
+        → (b : ObjId) → base_of m.heap class ≡ bases.On b → (h : List Object)
+        → IsAllotted (allot (class_of blocks a b) m.heap) None h
+        → (u : Value) → Takes blocks block next a (purpose.Class class cell) u
+        (stride.Ends (ending.Outside Heap line)) m w new w }
+    ensures no_base { (blocks : Blocks) (block : BlockCode) (next : Pc) (m : Machine) (w : Writes)
+        (a : Activation) (class : Value) (cell : Option ℕ)
+        → base_of m.heap class ≡ bases.NoBase → (v : Value) (h : List Object) (w1 : Writes)
+        → IsAllotted (error_saying TYPE_ERROR (codes "bad argument") None (active_of m) m.heap)
+        (Some v) h → Adds w w1 (raise_events v block (record m { heap = h }))
+        → (u : Value) → Takes blocks block next a (purpose.Class class cell) u stride.Goes m w
+        (raised_at block v (record m { heap = h })) w1 }
+    ensures unavailable { (blocks : Blocks) (block : BlockCode) (next : Pc) (m : Machine)
+        (w : Writes) (a : Activation) (class : Value) (cell : Option ℕ) (new : Machine)
+        → new.units ≡ m.units → (line : Line) → line.0 ≡ visible_line blocks m
+        → base_of m.heap class ≡ bases.Unavailable
+        → (u : Value) → Takes blocks block next a (purpose.Class class cell) u
+        (stride.Ends (ending.Outside Feature line)) m w new w }
 {}
 
 /// At an instruction the machine does a stride of a run over code where it does what the row of the

@@ -26,7 +26,7 @@ use Rattle.pt_prims.specs.Operations.{prim_answer, prim_heap, placed}
 use Rattle.pt_comparisons.specs.Truths.{truth_by}
 use Rattle.sem_rows.specs.pt_host.World.{Stores, Program, with_objects, allot}
 use Rattle.sem_rows.specs.pt_host.Answers.{branch as answered}
-use Rattle.sem_rows.specs.pt_host.Primitives.{a_truth, arguments_of, asked, of_prim}
+use Rattle.sem_rows.specs.pt_host.Primitives.{a_truth, arguments_of, prim_asked, of_prim}
 use Rattle.sem_rows.specs.pt_host.Errors.{error}
 use Rattle.sem_run.specs.transitions.Successors.{to}
 use Rattle.sem_rows.specs.declared.heap_rows.progress.Progress.{Progress}
@@ -95,7 +95,7 @@ module _ (program : Program) (code : CodeObject Value) (i : Ins) (h : Here Value
 
   module _ (v : Value) (heap : List Object) (st : Stores) where
     answer_leads : by_tree code i next ss (answered v h (with_objects heap st)) ≡ led (truth v heap) (with_objects (tested v heap) st)
-    unfolding truth tested asked
+    unfolding truth tested prim_asked
     answer_leads = by_answer (prim_answer Truth (v ∷ []) heap) (with_objects (prim_heap Truth (v ∷ []) heap) st) (λ t e. silent heap (v ∷ []) v (operand_of heap v) t e)
 
     asks_truth : reached program code i h (with_objects heap st) (ask_in code i (T.test (T.branch v)) ss next) ≡ led (truth v heap) (with_objects (tested v heap) st)

@@ -1,6 +1,7 @@
 -- Rows of cell and free names.
 use Rattle.std.proofs.Common.{◌≡◌, ◌∙◌, ◌<◌, ◌≤◌, ℕ, zero, suc, Bool, true, false, List, [], ◌∷◌, ◌++◌, length, Option, Some, None, refl, sym, ap, subst, arith}
 use Rattle.std.specs.Prelude.{drop, nat_lt, slice_get, slice_set, if◌then◌else◌}
+use Rattle.std.proofs.lemmas.Bool.Decides.{nat_tests}
 use Rattle.pt_tree.specs.Syntax.{Name}
 use Rattle.sem_control.specs.control.Turn as T
 use Rattle.sem_control.specs.control.Turn.{Scope, Variable}
@@ -15,7 +16,7 @@ use Rattle.sem_code.specs.slots.Slots as S
 use Rattle.sem_code.specs.slots.Slots.{on}
 use Rattle.pt_builtins.specs.pt_host.World.{World, Stores}
 use Rattle.pt_builtins.specs.pt_host.Trees.{Tree}
-use Rattle.pt_builtins.specs.pt_host.Variables.{variable_value, readable_value, cell_number, cell_value, unless_bound, raise_unbound, put, with_cell, with_new_cell, make_anew, number_value}
+use Rattle.pt_builtins.specs.pt_host.Variables.{variable_value, readable_value, number_in, cell_value, is_no_method, unless_bound, raise_unbound, put, with_cell, with_new_cell, make_anew, number_value}
 use Rattle.pt_moves.specs.sem_rows.declared.heap_rows.progress.Progress.{Progress}
 use Rattle.pt_moves.specs.sem_rows.declared.heap_rows.progress.Progress.TheVariants as progress
 use Rattle.pt_moves.specs.sem_rows.heap_rows.Leads.{by_tree, giving}
@@ -38,17 +39,21 @@ use Rattle.pt_name_rows.proofs.AskLemmas.{goes_to, loads, loads_none, stores, de
 abbrev scope : Bool → Scope
 scope b = if b then T.cell else T.free
 
-read_alike : (b : Bool) (n : Name) (st : Stores) → variable_value (scope b) n st ≡ cell_value (cell_number n st.names) st.world
+read_alike : (b : Bool) (n : Name) (st : Stores) → variable_value (scope b) n st ≡ cell_value (number_in (scope b) n st.names) st.world
 read_alike true n st = refl
 read_alike false n st = refl
 
-readable_alike : (hidden b : Bool) (n : Name) (st : Stores) → readable_value hidden (scope b) n st ≡ cell_value (cell_number n st.names) st.world
+readable_alike : (hidden b : Bool) (n : Name) (st : Stores) → readable_value hidden (scope b) n st ≡ cell_value (number_in (scope b) n st.names) st.world
 readable_alike hidden true n st = refl
 readable_alike hidden false n st = refl
 
-put_alike : (b : Bool) (n : Name) (v : Option Value) (st : Stores) → put (scope b) n v st ≡ with_cell (cell_number n st.names) v st
+put_alike : (b : Bool) (n : Name) (v : Option Value) (st : Stores) → put (scope b) n v st ≡ with_cell (number_in (scope b) n st.names) v st
 put_alike true n v st = refl
 put_alike false n v st = refl
+
+binds_alike : (b : Bool) (n : Name) → is_no_method (scope b) n ≡ false
+binds_alike true n = refl
+binds_alike false n = refl
 
 unbound_alike : (b : Bool) (n : Name) (h : Here Value) (st : Stores) → ◌≡◌ {A = Tree Value} (raise_unbound (scope b) n h st) (unless_bound (scope b) n h st)
 unbound_alike true n h st = refl
@@ -70,14 +75,17 @@ module _ (facts : BlockFacts) (own : List ℕ) (x : SlotNo) (cells : List (Optio
   abbrev is_cell : Bool
   is_cell = nat_lt x.0 (length facts.cells)
 
+  binds : (y : Variable) → y ≡ variable_x → is_no_method y.scope y.name ≡ false
+  binds y e = ap (λ (z : Variable). is_no_method z.scope z.name) e ∙ binds_alike is_cell (cell_name (facts_view facts) x.0)
+
   module _ (locals : List (Option Value)) (of_class : Named) (w : World) (has : HasCells (facts_view facts) own) (within : x.0 < length (facts.cells ++ facts.frees)) where
     abbrev st : Stores
     st = stores_in (facts_view facts) locals own of_class (with_cells cells w)
 
-    number : cell_number (cell_name (facts_view facts) x.0) st.names ≡ slice_get own x.0
+    number : number_in (scope is_cell) (cell_name (facts_view facts) x.0) st.names ≡ slice_get own x.0
     number = (cells_stand (facts_view facts) locals own of_class x.0 has within).read
 
-    through : cell_value (cell_number (cell_name (facts_view facts) x.0) st.names) st.world ≡ value_through own cells x.0
+    through : cell_value (number_in (scope is_cell) (cell_name (facts_view facts) x.0) st.names) st.world ≡ value_through own cells x.0
     through = ap (λ c. cell_value c st.world) number ∙ value_in (slice_get own x.0) cells w
 
     reads : (y : Variable) → y ≡ variable_x → variable_value y.scope y.name st ≡ value_through own cells x.0
@@ -112,7 +120,7 @@ module _ (facts : BlockFacts) (own : List ℕ) (x : SlotNo) (cells : List (Optio
     unfolding RowsCell RowsIn
     stored_of v locals of_class w has within s pc i truths knows =
         ap (λ (c : Stores). goes_to (on i.next (slots_view old)) c) (sym (writes locals of_class w has within _ (Some v) (knows.cell x.0)))
-        ∙ stores s.program s.code i s.here (st locals of_class w has within) (slots_view old) (s.code.pool.cell x.0) v
+        ∙ stores s.program s.code i s.here (st locals of_class w has within) (slots_view old) (s.code.pool.cell x.0) v (binds _ (knows.cell x.0))
 
     deleted_of : (v : Value) → value_through own cells x.0 ≡ Some v → RowsCell facts own x.0 (instr.DelCell x) old cells progress.Next old (with_value (slice_get own x.0) None cells)
     unfolding RowsCell RowsIn
@@ -131,12 +139,15 @@ module _ (facts : BlockFacts) (own : List ℕ) (x : SlotNo) (cells : List (Optio
   pushed_of c old e locals of_class w has within s pc i truths knows =
       sym (cells_lead s.program s.code i s.here (st locals of_class w has within) (s.code.pool.cell x.0) (λ v. on i.next (S.cell v ∷ slots_view old)) (slots_view old)
       ∙ ap (λ (o : Option ℕ). goes_to (on i.next (S.cell (number_value o) ∷ slots_view old)) (st locals of_class w has within))
-      (ap (λ (y : Variable). cell_number y.name (st locals of_class w has within).names) (knows.cell x.0) ∙ (number locals of_class w has within ∙ e)))
+      (ap (λ (y : Variable). number_in y.scope y.name (st locals of_class w has within).names) (knows.cell x.0) ∙ (number locals of_class w has within ∙ e)))
 
   push_lacks_of : (old new : List Slot) → slice_get own x.0 ≡ None → RowsCell facts own x.0 (instr.PushCell x) old cells progress.Lacks new cells
   unfolding RowsCell RowsIn
   push_lacks_of old new e locals of_class w has within s pc i truths knows =
       absurd (let h : length own ≤ x.0 = past_end own x.0 e in let k : length (facts.cells ++ facts.frees) ≤ length own = has.count in omega (arith, h, k, within))
+
+below : (n m : ℕ) → nat_lt n m ≡ true → n < m
+below n m e = grind (arith, nat_tests)
 
 -- another cell for a cell name, and no value for a free one
 module _ (facts : BlockFacts) (x : SlotNo) (own : List ℕ) (cells : List (Option Value)) where
@@ -159,7 +170,7 @@ module _ (facts : BlockFacts) (x : SlotNo) (own : List ℕ) (cells : List (Optio
   unfolding RowsOwnCell RowsIn
   made_anew_of among slots locals of_class w has within s pc i truths knows =
       ap (λ (ns : List (Name × ℕ)). goes_to (on i.next (slots_view slots)) (with_numbers locals of_class w ns))
-      (sym ((cells_stand (facts_view facts) locals own of_class x.0 has within).written (length cells)))
+      (sym ((cells_stand (facts_view facts) locals own of_class x.0 has within).written (below _ _ among) (length cells)))
       ∙ (ap (λ (c : Stores). goes_to (on i.next (slots_view slots)) c) (sym (anew (is_cell facts own x cells) (cell_name (facts_view facts) x.0) (before locals of_class w) among))
       ∙ (ap (λ (y : Variable). goes_to (on i.next (slots_view slots)) (make_anew y.scope y.name (before locals of_class w))) (sym (knows.cell x.0))
       ∙ makes_anew s.program s.code i s.here (before locals of_class w) (slots_view slots) (s.code.pool.cell x.0)))

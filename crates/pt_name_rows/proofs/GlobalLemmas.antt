@@ -78,7 +78,7 @@ module _ (x : Name) (t : TextNo) (old : List Slot) (globals : Named) where
   stored_of : (v : Value) → RowsGlobal x (instr.SetGlobal t) t.0 (slot.Value v ∷ old) globals progress.Next old (insert_entry bytes_eq globals x (Some v))
   unfolding RowsGlobal RowsIn
   stored_of v st s pc i truths knows = ap (λ (c : Stores). goes_to (on i.next (slots_view old)) c) (sym (writes _ (Some v) st knows))
-      ∙ stores s.program s.code i s.here (with_globals globals st) (slots_view old) (global (s.code.pool.text t.0)) v
+      ∙ stores s.program s.code i s.here (with_globals globals st) (slots_view old) (global (s.code.pool.text t.0)) v refl
 
   deleted_of : (v : Value) → name_value x globals ≡ Some v → RowsGlobal x (instr.DelGlobal t) t.0 old globals progress.Next old (insert_entry bytes_eq globals x None)
   unfolding RowsGlobal RowsIn

@@ -1,5 +1,5 @@
 -- Rows of local names.
-use Rattle.std.proofs.Common.{◌≡◌, ◌∙◌, ◌<◌, ℕ, List, [], ◌∷◌, length, Option, Some, None, sym, ap, subst}
+use Rattle.std.proofs.Common.{◌≡◌, ◌∙◌, ◌<◌, ℕ, List, [], ◌∷◌, length, Option, Some, None, refl, sym, ap, subst}
 use Rattle.std.specs.Prelude.{drop, slice_get, slice_set, slice_index_or}
 use Rattle.std.specs.Option.{option_flatten}
 use Rattle.std.specs.Str.{bytes_eq}
@@ -64,7 +64,7 @@ module _ (facts : BlockFacts) (x : SlotNo) (locals : List (Option Value)) where
     unfolding RowsLocal RowsIn
     stored_of v own of_class w has within s pc i truths knows =
         ap (λ (c : Stores). goes_to (on i.next (slots_view old)) c) (sym (writes own of_class w has within _ (Some v) (knows.local x.0)))
-        ∙ stores s.program s.code i s.here (st own of_class w has within) (slots_view old) (local (s.code.pool.local x.0)) v
+        ∙ stores s.program s.code i s.here (st own of_class w has within) (slots_view old) (local (s.code.pool.local x.0)) v refl
 
     deleted_of : (v : Value) → option_flatten (slice_get locals x.0) ≡ Some v → RowsLocal facts x.0 (instr.DelLocal x) old locals progress.Next old (slice_set locals x.0 None)
     unfolding RowsLocal RowsIn

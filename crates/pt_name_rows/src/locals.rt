@@ -1,5 +1,5 @@
 //! Local names, by their numbers.
-ghost use Rattle.std.specs.Prelude.{◌≡◌, slice_get, slice_set, IfOk, OnOk};
+ghost use Rattle.std.specs.Prelude.{◌≡◌, length, slice_get, slice_set, IfOk, OnOk};
 ghost use Rattle.std.specs.Option.{option_flatten};
 ghost use Rattle.pt_frames.specs.Slots.{active_in};
 ghost use Rattle.pt_instr.specs.declared.Instr.TheVariants as instr;
@@ -63,6 +63,7 @@ pub fn set_local(slot: SlotNo, locals: &mut Seq<Option<Value>>, slots: &mut Slot
     ensures row { (facts : _) → RowsLocal facts slot.0 (instr.SetLocal slot) slots.old locals.old
         result slots.new locals.new }
     ensures active { active_in slots.new ≡ active_in slots.old }
+    ensures places { length locals.new ≡ length locals.old }
 {
     match take_one(slots) {
         Some(value) => {
@@ -81,10 +82,11 @@ pub fn delete_local(
     facts: &BlockFacts,
     locals: &mut Seq<Option<Value>>,
 ) -> Result<Progress, Memory>
-    ensures { IfOk result
+    ensures row { IfOk result
         (λ p. (slots : _)
         → RowsLocal facts.now slot.0 (instr.DelLocal slot) slots locals.old p slots
         locals.new) }
+    ensures places { OnOk result (length locals.new ≡ length locals.old) }
 {
     let number = slot.0 as usize;
     match value_at(locals, number) {
@@ -99,9 +101,10 @@ pub fn delete_local(
 /// Makes a local name anew, without a value (Language Reference 6.2.4).
 #[tactic(auto, using(crate::proofs::LocalLemmas::made_anew))]
 pub fn fresh_local(slot: SlotNo, locals: &mut Seq<Option<Value>>) -> Progress
-    ensures { (facts : _) → (slots : _)
+    ensures row { (facts : _) → (slots : _)
         → RowsLocal facts slot.0 (instr.FreshLocal slot) slots locals.old result slots
         locals.new }
+    ensures places { length locals.new ≡ length locals.old }
 {
     put_at(locals, slot.0 as usize, None);
     Progress::Next

@@ -6,6 +6,7 @@ use Rattle.pt_base.specs.declared.numbers.ObjId.{ObjId}
 use Rattle.pt_base.specs.declared.numbers.Pc.{Pc}
 use Rattle.pt_base.specs.declared.what.What.TheVariants.{Heap}
 use Rattle.pt_bind.specs.declared.arguments.Locals.{Locals}
+use Rattle.pt_frames.specs.declared.purpose.Purpose.{Purpose}
 use Rattle.pt_heap.specs.declared.value.Value.{Value}
 use Rattle.pt_heap.specs.declared.object.Object.{Object}
 use Rattle.sem_rows.specs.declared.heap_rows.progress.Progress.{Progress}
@@ -70,20 +71,20 @@ module _ (blocks : Blocks) (block : BlockCode) (next : Pc) (m : Machine) (w : Wr
 
     -- in place of a block too many
 
-    module _ (b : BlockId) (hidden : Bool) (ls : Locals) (full : most_activations ≤ length m.frames.activations + 1) where
+    module _ (b : BlockId) (hidden : Bool) (ls : Locals) (why : Purpose) (full : most_activations ≤ length m.frames.activations + 1) where
       too-deep-by : (o : Option Value) (h : List Object) → IsAllotted (error_saying RECURSION_ERROR (codes "too many activations") None (active_of m) m.heap) o h
-          → Arises blocks block o r (record m { heap = h }) w new w1 → Does (progress.Calls b hidden ls) r new w1
+          → Arises blocks block o r (record m { heap = h }) w new w1 → Does (progress.Calls b hidden ls why) r new w1
       too-deep-by (Some v) h given (goes, (is, adds)) =
-          subst (λ s. Does (progress.Calls b hidden ls) s new w1) (sym goes)
-          (subst (λ n. Does (progress.Calls b hidden ls) stride.Goes n w1) (sym is) (fails_to_open blocks block next m w b hidden ls v h w1 full given adds))
+          subst (λ s. Does (progress.Calls b hidden ls why) s new w1) (sym goes)
+          (subst (λ n. Does (progress.Calls b hidden ls why) stride.Goes n w1) (sym is) (fails_to_open blocks block next m w b hidden ls why v h w1 full given adds))
       too-deep-by None h given (line, (ends, (at, (is, same)))) =
-          subst (λ s. Does (progress.Calls b hidden ls) s new w1) (sym ends)
-          (subst (λ n. Does (progress.Calls b hidden ls) (stride.Ends (end.Outside Heap line)) n w1) (sym is)
-          (subst (λ y. Does (progress.Calls b hidden ls) (stride.Ends (end.Outside Heap line)) (record m { heap = h }) y) (sym same)
-          (no_room_to_fail blocks block next m w b hidden ls h (record m { heap = h }) line full given refl at)))
+          subst (λ s. Does (progress.Calls b hidden ls why) s new w1) (sym ends)
+          (subst (λ n. Does (progress.Calls b hidden ls why) (stride.Ends (end.Outside Heap line)) n w1) (sym is)
+          (subst (λ y. Does (progress.Calls b hidden ls why) (stride.Ends (end.Outside Heap line)) (record m { heap = h }) y) (sym same)
+          (no_room_to_fail blocks block next m w b hidden ls why h (record m { heap = h }) line full given refl at)))
 
       pub too_deep_arisen : ArisesOf (error_saying RECURSION_ERROR (codes "too many activations") None (active_of m) m.heap) blocks block r m w new w1
-          → Does (progress.Calls b hidden ls) r new w1
+          → Does (progress.Calls b hidden ls why) r new w1
       too_deep_arisen it = too-deep-by it.exception it.heap it.allotted it.arises
 
 -- in place of an exception that is active, by its text

@@ -1,2 +1,4 @@
 pub mod ArisenLemmas
 pub mod CallerLemmas
+pub mod ClassLemmas
+pub mod FormatLemmas

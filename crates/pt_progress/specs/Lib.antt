@@ -1,1 +1,2 @@
 pub mod Arising
+pub mod Making

@@ -7,6 +7,7 @@ ghost use Rattle.sem_rows.specs.declared.heap_rows.progress.Progress.TheVariants
 use crate::failing::{outside, raise_saying, raise_there, raise_with};
 use pt_base::{BlockId, Memory, Pc, Text};
 use pt_bind::Locals;
+use pt_frames::Purpose;
 use pt_heap::Completion;
 use pt_transfers::{
     BlockCode, Blocks, Machine, Stride, Writes, active, go_to, land, leave_place, open, print,
@@ -29,16 +30,17 @@ fn call(
     called: BlockId,
     hidden: bool,
     locals: Locals,
+    why: Purpose,
 ) -> Result<Stride, Memory>
     ensures { IfOk result (λ r. (next : Pc) → Applied blocks.now block.now next
-        (progress.Calls called hidden locals) r machine.old writes.old machine.new writes.new) }
+        (progress.Calls called hidden locals why) r machine.old writes.old machine.new writes.new) }
 {
     if machine.frames.depth() + 1 >= MOST_ACTIVATIONS {
         let text = Text::from_str(machine.alloc, "too many activations")?;
         return raise_saying(machine, writes, blocks, block, RECURSION_ERROR, text);
     }
     let callee = blocks.at(called, hidden);
-    open(machine, callee.iterates, called, hidden, locals)?;
+    open(machine, callee.iterates, called, hidden, locals, why)?;
     tell(machine, callee, "call", "", writes)?;
     Ok(Stride::Goes)
 }
@@ -106,7 +108,8 @@ pub fn apply(
             block: called,
             hidden,
             locals,
-        } => call(machine, writes, blocks, block, called, hidden, locals),
+            why,
+        } => call(machine, writes, blocks, block, called, hidden, locals, why),
         Progress::Raises { exception } => {
             raise_there(machine, writes, block, exception)?;
             Ok(Stride::Goes)

@@ -2,12 +2,13 @@
 use Rattle.std.proofs.Common.{◌≡◌, ◌∙◌, Bool, true, false, List, [], ◌∷◌, ◌++◌, length, nat_eq, slice_get, Option, Some, None, refl, sym, ap, subst, if◌then◌else◌}
 use Rattle.pt_base.specs.declared.numbers.ObjId.{ObjId}
 use Rattle.pt_base.specs.declared.what.What.{What}
-use Rattle.pt_base.specs.declared.what.What.TheVariants.{Heap}
+use Rattle.pt_base.specs.declared.what.What.TheVariants.{Feature, Heap}
 use Rattle.pt_heap.specs.declared.value.Value.{Value}
 use Rattle.pt_heap.specs.declared.value.Value.TheVariants as value
 use Rattle.pt_heap.specs.declared.object.Object.{Object}
 use Rattle.pt_heap.specs.Limits.{object_limit}
 use Rattle.pt_content.specs.Changes.{next_object}
+use Rattle.pt_content.specs.pt_attrs.declared.look.Found.{Found}
 use Rattle.pt_code.specs.View.{Ins}
 use Rattle.sem_code.specs.slots.CodeObject.{CodeObject}
 use Rattle.sem_code.specs.slots.Slots.{Slots}
@@ -15,8 +16,9 @@ use Rattle.sem_run.specs.run.Host.{Here, made, beyond}
 use Rattle.sem_run.specs.transitions.Successors.{outside}
 use Rattle.pt_moves.specs.sem_rows.pt_host.World.{Program, Stores, Allotted, IsAllotted, allot, with_objects}
 use Rattle.pt_moves.specs.sem_rows.pt_host.Trees.{Tree}
+use Rattle.pt_moves.specs.sem_rows.pt_host.Calls.{initializer}
 use Rattle.pt_moves.specs.sem_rows.pt_host.Errors.{error, object_place}
-use Rattle.pt_moves.specs.sem_rows.pt_host.Raising.{Standing as HostStanding, as_standing, raisable, standing, with_cause, raise_from, raise_standing, raise_with_cause}
+use Rattle.pt_moves.specs.sem_rows.pt_host.Raising.{Standing as HostStanding, as_standing, is_found, raisable, standing, with_cause, raise_from, raise_standing, raise_with_cause}
 use Rattle.pt_moves.specs.sem_rows.pt_host.declared.raising.Raisable.TheVariants.{Class}
 use Rattle.pt_moves.specs.sem_rows.declared.heap_rows.progress.Progress.{Progress}
 use Rattle.pt_moves.specs.sem_rows.declared.heap_rows.progress.Progress.TheVariants as progress
@@ -53,6 +55,16 @@ module _ (h k : List Object) (c : ObjId) where
       by : (a : Allotted) → IsAllotted a None k → ((what : What) → a ≡ beyond what → what ≡ Heap) → IsStanding (as_standing a) (standings.Outside Heap) k
       by (made v g) (e, f) only = absurd (cc)
       by (beyond what) e only = ap standings.Outside (sym (only what refl))
+
+  -- a script's class, by what begins its instances
+  abbrev standing_unless : Option Found → HostStanding
+  standing_unless f = if is_found f then beyond Feature else standing (Class c false) h
+
+  pub made_scripted : (f : Option Found) (s : Standing) → f ≡ initializer h c → f ≡ None → IsStanding (standing (Class c false) h) s k → IsStanding (standing (Class c true) h) s k
+  made_scripted f s is none stands = subst (λ t. IsStanding t s k) (ap standing_unless (sym none ∙ is)) stands
+
+  pub has_initializer : (f : Option Found) (g : Found) → f ≡ initializer h c → f ≡ Some g → IsStanding (standing (Class c true) h) (standings.Outside Feature) k
+  has_initializer f g is some = subst (λ t. IsStanding t (standings.Outside Feature) k) (ap standing_unless (sym some ∙ is)) refl
 
 -- where it leads, by what the host finds
 module _ (id : ObjId) (h k : List Object) where

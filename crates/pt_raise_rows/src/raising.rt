@@ -1,5 +1,5 @@
 //! What `raise` comes to (Language Reference 7.8).
-ghost use Rattle.std.specs.Prelude.{◌≡◌, false, IfOk};
+ghost use Rattle.std.specs.Prelude.{◌≡◌, false, true, IfOk};
 ghost use Rattle.pt_moves.specs.sem_rows.pt_host.Raising.{raisable, standing};
 ghost use Rattle.pt_moves.specs.sem_rows.pt_host.declared.raising.Raisable.TheVariants as Raisable;
 ghost use Rattle.pt_raise_rows.specs.Raised.{CausedBy, IsStanding, RaisedBy, neither_raised};
@@ -7,7 +7,7 @@ ghost use Rattle.pt_raise_rows.specs.Raised.{CausedBy, IsStanding, RaisedBy, nei
 use crate::causes::set_cause;
 use pt_base::{Memory, ObjId, Seq, Text, What};
 use pt_heap::{Heap, Value};
-use pt_moves::{Progress, Raisable, TYPE_ERROR, allot, error, raisable_of};
+use pt_moves::{Progress, Raisable, TYPE_ERROR, allot, error, initializer, raisable_of};
 use std::alloc::Global;
 
 /// What a value stands for where an exception is asked for.
@@ -32,6 +32,18 @@ fn make(alloc: Global, heap: &mut Heap, class: ObjId) -> Result<Standing, Memory
     }
 }
 
+/// The same of a script's class. One that begins its instances by code of its own isn't called yet.
+#[tactic(auto, using(crate::proofs::RaiseLemmas::made_scripted, crate::proofs::RaiseLemmas::has_initializer))]
+fn make_scripted(alloc: Global, heap: &mut Heap, class: ObjId) -> Result<Standing, Memory>
+    ensures { IfOk result (λ s. IsStanding (standing (Raisable.Class class true) heap.old) s
+        heap.new) }
+{
+    match initializer(alloc, heap, class)? {
+        Some(_) => Ok(Standing::Outside(What::Feature)),
+        None => make(alloc, heap, class),
+    }
+}
+
 /// The exception that a value stands for: a class of exceptions is called.
 fn standing_of(alloc: Global, heap: &mut Heap, value: Value) -> Result<Standing, Memory>
     ensures { IfOk result (λ s. IsStanding (standing (raisable heap.old value) heap.old) s
@@ -40,9 +52,9 @@ fn standing_of(alloc: Global, heap: &mut Heap, value: Value) -> Result<Standing,
     match raisable_of(heap, value) {
         Raisable::Exception(id) => Ok(Standing::Exception(id)),
         Raisable::Class {
-            class: _,
+            class,
             scripted: true,
-        } => Ok(Standing::Outside(What::Feature)),
+        } => make_scripted(alloc, heap, class),
         Raisable::Class {
             class,
             scripted: false,

@@ -116,14 +116,14 @@ module _ (tables : CodeTables) (n : ℕ) (old : Machine) (w : Writes) (empty : p
 
       went : (s : Bare) → stride_at n p old ≡ s → (s ≡ is_stuck → ⊥) → r ≡ stride.Goes → Turned s r new w1 → Took oo on lo ln (pieces_of w1)
           → WentOn n w.events p old new oo on lo ln
-      went (goes ws t) e some goes_on (is, (adds, (x, (comes, (waits, no_names))))) took = record {
+      went (goes ws t) e some goes_on (is, (adds, (x, (comes, (waits, placed))))) took = record {
         written = ws;
         state = t;
         goes_on = e;
         beside = x;
         comes = comes;
         waits = waits;
-        no_names = no_names;
+        placed = placed;
         took = subst (Took oo on lo ln) (all_new w w1 ws empty adds) took;
       }
       went (ends ws u f) e some goes_on (x, (is, rest)) took = let no : stride.Goes ≡ stride.Ends x = sym goes_on ∙ is in absurd cc

@@ -5,6 +5,7 @@ use Rattle.pt_base.specs.Taken.{Pieces}
 use Rattle.pt_heap.specs.declared.value.Value.{Value}
 use Rattle.sem_code.specs.slots.Slots.{State}
 use Rattle.pt_frames.specs.declared.activations.OpenActivation.{OpenActivation}
+use Rattle.sem_run.specs.run.Machine.{BlockId}
 use Rattle.sem_run.specs.run.Events.{starts}
 use Rattle.sem_run.specs.run.Run.{Write}
 use Rattle.sem_rows.specs.pt_host.World.{Names, World}
@@ -20,7 +21,7 @@ use Rattle.pt_sinks.proofs.WritingLemmas.{took_behind, front_behind, front_of_al
 use Rattle.sem_rows.specs.sem_code_machine.code_machine.CodeBlocks.{machine}
 use Rattle.pt_transfers.specs.pt_machine_state.declared.machine.Machine.{Machine}
 use Rattle.pt_transfers.specs.pt_machine_state.Blocks.{block_at}
-use Rattle.pt_transfers.specs.pt_machine_state.Views.{Bare, Beside, Waits, AllWait, none, block_of, state_of, run_of}
+use Rattle.pt_transfers.specs.pt_machine_state.Views.{Bare, Beside, Waits, AllWait, IsPlaced, none, block_of, state_of, run_of}
 use Rattle.pt_transfers.specs.pt_machine_state.Strode.{ComesTo, GoesOnRaising}
 use Rattle.pt_transfers.specs.pt_machine_state.Changes.{events_of}
 use Rattle.pt_transfers.specs.pt_machine_state.Writing.{kept}
@@ -61,16 +62,16 @@ module _ (r : ModuleRun) (n : ℕ) (events : Bool) where
   -- the run came to where the machine stands, what it wrote was taken, and the totals tell of what it did
   pub record Reached (m : Machine) (t : Totals) (oo on lo ln : Pieces → Pieces → Type 0) : Type 0 where
     pub beside : Beside
-    pub waits : AllWait r.program r.code m.frames.activations beside.waiting
-    pub no_names : m.here.names ≡ []
+    pub waits : AllWait r.program r.code (block_of m.here) m.frames.activations beside.waiting
+    pub placed : IsPlaced r.program m.here
     pub written : List Write
     pub work : Work
     pub goes : GoesTo (machine r.code) (heap_host r.program) n begun written (run_of r.program m beside) work
     pub tells : TellsOf t work
     pub took : Took oo on lo ln (kept events written)
 
-  none_waits : (os : List OpenActivation) (ws : List Waits) → os ≡ [] → ws ≡ [] → AllWait r.program r.code os ws
-  none_waits os ws e f = subst (λ l. AllWait r.program r.code l ws) (sym e) (subst (AllWait r.program r.code []) (sym f) none)
+  none_waits : (b : BlockId) (os : List OpenActivation) (ws : List Waits) → os ≡ [] → ws ≡ [] → AllWait r.program r.code b os ws
+  none_waits b os ws e f = subst (λ l. AllWait r.program r.code b l ws) (sym e) (subst (AllWait r.program r.code b []) (sym f) (none b))
 
   module _ (tables : CodeTables) (first : Machine) (ready : IsReady tables n first r) where
     abbrev start_events : List Write
@@ -87,8 +88,8 @@ module _ (r : ModuleRun) (n : ℕ) (events : Bool) where
       pub started : (t : Totals) → TellsOf t no_work → Took oo on lo ln (kept events start_events) → Reached first t oo on lo ln
       started t tells took = record {
         beside = ready.beside;
-        waits = none_waits first.frames.activations ready.beside.waiting ready.none_waits (ap (λ s. s.waiting) ready.starts);
-        no_names = ready.no_names;
+        waits = none_waits (block_of first.here) first.frames.activations ready.beside.waiting ready.none_waits (ap (λ s. s.waiting) ready.starts);
+        placed = inl ready.no_names;
         written = told;
         work = no_work;
         goes = subst (λ s. Goes told s no_work) (sym ready.starts) (there told first_state);
@@ -119,7 +120,7 @@ module _ (r : ModuleRun) (n : ℕ) (events : Bool) where
       stands : StandsAt tables n m point
       stands = record {
         tables_are = ready.tables_are;
-        names = record { names_blocks = ready.names_blocks; here = named.here; no_names = reached.no_names };
+        names = record { names_blocks = ready.names_blocks; here = named.here; placed = reached.placed };
         waits = reached.waits;
         not_stuck = ready.never_stuck state is_reached;
       }
@@ -169,7 +170,7 @@ module _ (r : ModuleRun) (n : ℕ) (events : Bool) where
         went new x = record {
           beside = x.beside;
           waits = x.waits;
-          no_names = x.no_names;
+          placed = x.placed;
           written = reached.written ++ x.written;
           work = both reached.work (stride_work state);
           goes = comes_to x.state (run_of r.program new x.beside) (reached.written ++ x.written) (both reached.work (stride_work state)) x.comes

@@ -1,5 +1,5 @@
 -- One stride of a run of code, with what it writes.
-use Rattle.std.specs.Prelude.{◌≡◌, ℕ, List, [], Bool, true, false, Option, Some, None, min, max, ◌+◌, ◌-◌, ◌^◌, length}
+use Rattle.std.specs.Prelude.{◌≡◌, ℕ, List, Bool, true, false, Option, Some, None, min, max, ◌+◌, ◌-◌, ◌^◌, length}
 use Rattle.pt_base.specs.Taken.{Pieces}
 use Rattle.pt_heap.specs.declared.value.Value.{Value}
 use Rattle.sem_code.specs.slots.Slots.{State}
@@ -16,7 +16,7 @@ use Rattle.pt_frames.specs.declared.activation.Activation.{Activation}
 use Rattle.pt_transfers.specs.pt_machine_state.declared.machine.Machine.{Machine}
 use Rattle.pt_transfers.specs.pt_machine_state.declared.machine.Standing.{Standing}
 use Rattle.pt_transfers.specs.pt_machine_state.declared.machine.Standing.TheVariants as standing
-use Rattle.pt_transfers.specs.pt_machine_state.Views.{Bare, Beside, AllWait, run_of}
+use Rattle.pt_transfers.specs.pt_machine_state.Views.{Bare, Beside, AllWait, IsPlaced, block_of, run_of}
 use Rattle.pt_transfers.specs.pt_machine_state.Strode.{ComesTo}
 use Rattle.pt_transfers.specs.pt_machine_state.Writing.{kept}
 use Rattle.pt_machine.specs.pt_code_tables.declared.tables.CodeTables.{CodeTables}
@@ -42,7 +42,7 @@ stride_at n p m = stride (machine p.code) (heap_host p.program) n (run_of p.prog
 pub record StandsAt (tables : CodeTables) (n : ℕ) (m : Machine) (p : Point) : Type 0 where
   pub tables_are : AreTablesOf p.program p.code tables
   pub names : MachineHasNames p.program p.code m
-  pub waits : AllWait p.program p.code m.frames.activations p.beside.waiting
+  pub waits : AllWait p.program p.code (block_of m.here) m.frames.activations p.beside.waiting
   pub not_stuck : stride_at n p m ≡ is_stuck → ⊥
 
 module _ (n : ℕ) (events : Bool) (p : Point) (old : Machine) where
@@ -54,8 +54,8 @@ module _ (n : ℕ) (events : Bool) (p : Point) (old : Machine) where
       pub goes_on : stride_at n p old ≡ goes written state
       pub beside : Beside
       pub comes : ComesTo p.program p.code state (run_of p.program new beside)
-      pub waits : AllWait p.program p.code new.frames.activations beside.waiting
-      pub no_names : new.here.names ≡ []
+      pub waits : AllWait p.program p.code (block_of new.here) new.frames.activations beside.waiting
+      pub placed : IsPlaced p.program new.here
       pub took : Took out_old out_new log_old log_new (kept events written)
 
     pub record CameToEnd (e : RunEnd) : Type 0 where

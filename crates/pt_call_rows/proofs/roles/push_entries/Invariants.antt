@@ -1,5 +1,5 @@
 use Rattle.std.proofs.Common.{◌≡◌, ◌++◌, length, map}
-use Rattle.pt_operators.specs.pt_moves.sem_rows.pt_host.Arguments.{entry_argument}
+use Rattle.pt_block_calls.specs.pt_operators.pt_moves.sem_rows.pt_host.Arguments.{entry_argument}
 use Rattle.pt_call_rows.proofs.roles.push_entries.Given as goal
 
 abbrev pub invariant-loop-entry : goal.invariant-loop-entry

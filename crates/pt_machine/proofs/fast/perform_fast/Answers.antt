@@ -66,7 +66,7 @@ pub returns-in-SetLocal : goal.returns-in-SetLocal
 returns-in-SetLocal c =
     fast_set_local c.args.tables.now c.args.next c.args.machine.now c.args.instr
     (instr.SetLocal c.in-SetLocal.slot) c.in-SetLocal.is c.in-SetLocal.slot.0 (λ locals cells defaults h. h)
-    c.fast_set_local.result c.fast_set_local.new.slots c.fast_set_local.new.locals c.fast_set_local.ensures
+    c.fast_set_local.result c.fast_set_local.new.slots c.fast_set_local.new.locals c.fast_set_local.ensures.leads c.fast_set_local.ensures.places
 
 pub returns-in-Cell : goal.returns-in-Cell
 returns-in-Cell c =

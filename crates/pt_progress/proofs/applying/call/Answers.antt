@@ -26,7 +26,7 @@ returns-then-depth-ge-MOST_ACTIVATIONS c =
     let said : c.in_ok-text.text ≡ codes "too many activations" = search rules in
     IfOk-weaker c.raise_saying.result _ _
     (λ r h next.
-    too_deep_arisen c.args.blocks.now c.args.block.now next m c.args.writes.now r c.raise_saying.new.machine c.raise_saying.new.writes c.args.called c.args.hidden c.args.locals full
+    too_deep_arisen c.args.blocks.now c.args.block.now next m c.args.writes.now r c.raise_saying.new.machine c.raise_saying.new.writes c.args.called c.args.hidden c.args.locals c.args.why full
     (subst (λ t. ArisesOf (error_saying RECURSION_ERROR t None (active_of m) m.heap) c.args.blocks.now c.args.block.now r m c.args.writes.now c.raise_saying.new.machine c.raise_saying.new.writes) said h))
     c.raise_saying.ensures
 
@@ -36,10 +36,10 @@ returns c next =
     let called = block_at c.args.blocks.now (block_id c.args.called c.args.hidden) in
     let callee : c.at-callee.result.now ≡ called = c.at-callee.ensures in
     let room : length m.frames.activations + 1 < most_activations = omega arith in
-    let above : c.open.new.machine ≡ opened called.iterates c.args.called c.args.hidden c.args.locals m =
-    c.in_ok-open.ensures ∙ ap (λ (b : BlockCode). opened b.iterates c.args.called c.args.hidden c.args.locals m) callee in
+    let above : c.open.new.machine ≡ opened called.iterates c.args.called c.args.hidden c.args.locals c.args.why m =
+    c.in_ok-open.ensures ∙ ap (λ (b : BlockCode). opened b.iterates c.args.called c.args.hidden c.args.locals c.args.why m) callee in
     let told : Adds c.args.writes.now c.tell.new.writes (events_of (codes "call") [] c.at-callee.result.now c.open.new.machine) = search rules in
-    subst (λ (n : Machine). Applied c.args.blocks.now c.args.block.now next (Calls c.args.called c.args.hidden c.args.locals) Goes m c.args.writes.now n c.tell.new.writes) (sym above)
-    (applied_calls c.args.blocks.now c.args.block.now next m c.args.writes.now c.args.called c.args.hidden c.args.locals c.tell.new.writes room
+    subst (λ (n : Machine). Applied c.args.blocks.now c.args.block.now next (Calls c.args.called c.args.hidden c.args.locals c.args.why) Goes m c.args.writes.now n c.tell.new.writes) (sym above)
+    (applied_calls c.args.blocks.now c.args.block.now next m c.args.writes.now c.args.called c.args.hidden c.args.locals c.args.why c.tell.new.writes room
     (subst (λ (n : Machine). Adds c.args.writes.now c.tell.new.writes (events_of (codes "call") [] called n)) above
     (subst (λ (b : BlockCode). Adds c.args.writes.now c.tell.new.writes (events_of (codes "call") [] b c.open.new.machine)) callee told)))

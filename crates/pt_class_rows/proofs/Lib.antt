@@ -1,0 +1,6 @@
+pub mod ObjectLemmas
+mod InstanceLemmas
+mod SettingLemmas
+mod NameLemmas
+mod SuperLemmas
+mod ClassLemmas

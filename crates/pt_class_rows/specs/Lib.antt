@@ -1,0 +1,5 @@
+pub mod Calls
+pub mod Instances
+pub mod Supers
+pub mod Classes
+pub use Rattle.pt_function_rows.specs as pt_function_rows

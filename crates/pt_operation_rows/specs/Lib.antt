@@ -1,0 +1,2 @@
+pub mod OperationRows
+pub use Rattle.pt_call_rows.specs as pt_call_rows
