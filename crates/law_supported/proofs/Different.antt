@@ -1,6 +1,7 @@
--- No name in a cell of a block is a free one of the block: a function has the one, or it begins with a dot, and only other functions the other.
+-- No name in a cell of a block is a free one of the block, but for that of a class: a function has the one, or it begins with a dot, and only other
+-- functions the other.
 use Rattle.std.proofs.Common.{if◌then◌else◌, ◌≡◌, ◌⊎◌, inl, inr, ℕ, zero, suc, Bool, true, false, not, cond, List, [], ◌∷◌, ◌++◌, map, filter, length, Option, Some, None, refl, sym, ap, ◌∙◌, subst, append-nil, eq-eqb, eqb-true, bytes_eq}
-use Rattle.std.specs.Prelude.{◌==◌, ◌&&◌, ◌||◌, slice_get}
+use Rattle.std.specs.Prelude.{◌==◌, ◌&&◌, ◌||◌, codes, slice_get}
 use Rattle.std.specs.List.{AllByRecursion, IsDistinct}
 use Rattle.std.proofs.lemmas.Slice.Eq.{bytes_eq-Decides}
 use Rattle.pt_tree.specs.Syntax.{Name, Stms}
@@ -17,22 +18,23 @@ use Rattle.pt_scopes.specs.Places.{Places}
 use Rattle.pt_scopes.specs.Scope.{bound_scope, facts, home_of, is_captured, meant, owner, owner_from, scope_at, scope_in, settled, unbound_scope, verdict, verdict_at}
 use Rattle.sem_control.specs.control.Turn.{Scope, Variable}
 use Rattle.sem_names.specs.Around.{names_at}
-use Rattle.sem_names.specs.BlockNames.{cell_names, class_if, distinct, free_names, has_class, is_cell, is_up_to, named_at, names_in, read_free, variables_of}
+use Rattle.sem_names.specs.BlockNames.{cell_names, class_if, class_name, distinct, free_names, has_class, is_cell, makes_class, named_at, names_in, read_free, variables_of}
 use Rattle.sem_names.specs.Naming.{as_control, dot, dotted, is_between, is_free_at, of_owner, own, owned, scope_or_global, seen, variable}
 use Rattle.sem_control.specs.control.Turn as T
-use Rattle.sem_names.specs.Regions.{before, class_of, further, is_among, outside}
+use Rattle.sem_names.specs.Regions.{before, further, is_among, outside}
 use Rattle.sem_names.specs.Script.{Naming, functions_of, naming_script}
 use Rattle.law_operands.proofs.law_files.code_files.Each.{both, mapped, weaken}
 use Rattle.law_operands.proofs.law_files.code_files.Sound.{Apart, Differs}
 use Rattle.pt_supported.specs.Built.{Built}
+use Rattle.law_operands.specs.free_names.FreeNames.{ClassNameIsUnused}
 use Rattle.law_operands.proofs.free_names.Distinct.{apart_behind, each_distinct, each_mention}
 use Rattle.law_operands.proofs.free_names.Outwards.{never}
-use Rattle.law_operands.proofs.free_names.Searches.{class_is, owner_found, seen_too}
-use Rattle.law_supported.specs.Laws.{BuiltCellsAreDifferent, NamesBeginWithoutDot}
-use Rattle.law_supported.proofs.Homes.{Owner, OwnerWithin, Standing, block_stands, function_stands, has_depth, home_is, is_plain, no_depth, owner_is}
-use Rattle.law_supported.proofs.Listed.{for_all}
-use Rattle.law_supported.proofs.Plain.{IsBlock, IsPlain}
-use Rattle.law_supported.proofs.Written.{makes_none, none_of}
+use Rattle.law_operands.proofs.free_names.Searches.{owner_found, seen_too}
+use Rattle.law_supported.specs.Laws.{BuiltCellsAreDifferent, CellsDiffer, NamesBeginWithoutDot}
+use Rattle.law_supported.proofs.Homes.{Owner, OwnerWithin, Standing, block_stands, function_stands, has_depth, home_is, no_depth, owner_is}
+use Rattle.law_supported.proofs.Listed.{for_all, together}
+use Rattle.law_supported.proofs.Plain.{IsBlock}
+use Rattle.law_supported.proofs.Written.{AllApart, cells_other, lists_apart}
 
 -- lists of which no item stands twice
 
@@ -79,7 +81,7 @@ cell_parts false false false c k None i e = never e
 cell_parts false false false c k (Some q) i e = never e
 cell_parts true false false c kind.Module o i e = never e
 cell_parts true false false c kind.Function o i e = (refl, refl)
-cell_parts true false false c kind.Class o i e = absurd i
+cell_parts true false false c kind.Class o i e = never e
 cell_parts true false false c kind.Comprehension o i e = absurd i
 
 -- no search from behind a function that owns the name goes on behind it
@@ -172,7 +174,7 @@ module _ (ss : Stms) (undotted : NamesBeginWithoutDot ss) (built : Built ss) whe
     by_home : (q r : ℕ) (x : Name) → home_of rs r ≡ h → owner_from rs (look x) r ≡ Some q → (c : Bool) → (home_of rs q == home_of rs r) ≡ c
         → is_cell (if c then owned p q x else variable T.free x).scope ≡ true → InCell (if c then owned p q x else variable T.free x).name
     by_home q r x home found true same e =
-        by_owner q x (eqb-true (home_of rs q) (home_of rs r) same ∙ home) (owner_is rs (is_plain ss built) (look x) q (length rs) r found)
+        by_owner q x (eqb-true (home_of rs q) (home_of rs r) same ∙ home) (owner_is rs (look x) q (length rs) r found)
     by_home q r x home found false same e = never e
 
     owner_seen : (r : ℕ) (x : Name) → home_of rs r ≡ h → (o : Option ℕ) → owner_from rs (look x) r ≡ o
@@ -234,31 +236,38 @@ module _ (ss : Stms) (undotted : NamesBeginWithoutDot ss) (built : Built ss) whe
         weaken InCell (λ x. Differs x (read_free p h))
         (λ x i. weaken Elsewhere (λ y. x ≡ y → ⊥) (λ y f. differs x y i f) (read_free p h) frees_elsewhere) (distinct own_cells) cells_owned
 
-    no_class_at : (f : ℕ) (o : Option ℕ) → class_of rs f ≡ o → is_up_to rs h o f ≡ false
-    no_class_at f None e = refl
-    no_class_at f (Some q) e = let c = class_is rs (length rs) f q e in absurd (subst IsPlain c.2 (is_plain ss built q c.0 c.1))
+    unused : ClassNameIsUnused ss
+    unused = undotted (codes "class")
 
-    has_none : has_class rs fs h ≡ false
-    has_none = none_of (λ f. is_up_to rs h (class_of rs f) f) fs (λ f. no_class_at f (class_of rs f) refl)
+    -- nor the name of a class
+    others_differ : (c : Bool) → AllByRecursion (λ x. Differs x (read_free p h ++ class_if c)) (distinct own_cells)
+    others_differ c =
+        weaken (λ x. Differs x (read_free p h) × (x ≡ class_name → ⊥)) (λ x. Differs x (read_free p h ++ class_if c)) (one c) (distinct own_cells)
+        (together (λ x. Differs x (read_free p h)) (λ x. x ≡ class_name → ⊥) (distinct own_cells) all_differ (cells_other ss unused built b h))
+      where
+        one : (b : Bool) (x : Name) → Differs x (read_free p h) × (x ≡ class_name → ⊥) → Differs x (read_free p h ++ class_if b)
+        one true x d = both (λ y. x ≡ y → ⊥) (read_free p h) (class_name ∷ []) d.0 (d.1, tt)
+        one false x d = subst (Differs x) (sym (append-nil (read_free p h))) d.0
 
-    cells_are : cell_names p fs b h ≡ distinct own_cells
-    cells_are = ap (λ b. distinct own_cells ++ class_if b) (makes_none ss built h) ∙ append-nil (distinct own_cells)
+    all_apart_in : Apart (free_names p fs h) → Apart (distinct own_cells ++ free_names p fs h)
+    all_apart_in frees = apart_both (distinct own_cells) (free_names p fs h) (apart_behind [] own_cells tt) frees (others_differ (has_class rs fs h))
 
-    frees_are : free_names p fs h ≡ read_free p h
-    frees_are = ap (λ b. read_free p h ++ class_if b) has_none ∙ append-nil (read_free p h)
+    cells_differ : (block : Block) → AllApart (names_at g b (Some block) (Some h)) → CellsDiffer (names_at g b (Some block) (Some h))
+    cells_differ block a = record {
+      others = distinct own_cells;
+      makes_class = makes_class p fs h;
+      cells_are = refl;
+      cells = are_different (cell_names p fs b h) a.cells;
+      frees = are_different (free_names p fs h) a.frees;
+      apart = are_different (distinct own_cells ++ free_names p fs h) (all_apart_in a.frees);
+    }
 
-    all_apart : Apart (cell_names p fs b h ++ free_names p fs h)
-    all_apart =
-        subst Apart (sym (ap (λ xs. xs ++ free_names p fs h) cells_are ∙ ap (λ ys. distinct own_cells ++ ys) frees_are))
-        (apart_both (distinct own_cells) (read_free p h) (apart_behind [] own_cells tt)
-        (apart_behind [] (map (λ (m : Mention). m.name) (filter (is_free_at p h) p.mentions)) tt) all_differ)
-
-  by_region : (n : ℕ) (k : Option Block) (r : Option ℕ) → slice_get p.blocks n ≡ r
-      → IsDistinct bytes_eq ((names_at g n k r).cells ++ (names_at g n k r).frees)
+  by_region : (n : ℕ) (k : Option Block) (r : Option ℕ) → slice_get p.blocks n ≡ r → AllApart (names_at g n k r) → CellsDiffer (names_at g n k r)
   unfolding IsDistinct
-  by_region n (Some k) (Some h) at = are_different (cell_names p fs n h ++ free_names p fs h) (all_apart n h at)
-  by_region n None r at = tt
-  by_region n (Some k) None at = tt
+  by_region n (Some k) (Some h) at a = cells_differ n h at k a
+  by_region n None r at a = record { others = []; makes_class = false; cells_are = refl; cells = tt; frees = tt; apart = tt }
+  by_region n (Some k) None at a = record { others = []; makes_class = false; cells_are = refl; cells = tt; frees = tt; apart = tt }
 
 pub cells_are_different : BuiltCellsAreDifferent
-cells_are_different ss undotted built n = by_region ss undotted built n (slice_get (blocks_script ss) n) (slice_get (places_script ss).blocks n) refl
+cells_are_different ss undotted built n =
+    by_region ss undotted built n (slice_get (blocks_script ss) n) (slice_get (places_script ss).blocks n) refl (lists_apart ss (undotted (codes "class")) built n)

@@ -1,5 +1,4 @@
--- Where there are no classes, a block is the block of its own region, a comprehension is none, and a name that a region has is a function's or a
--- comprehension's.
+-- A block is the block of its own region, a comprehension is none, and a name that a region has is a function's or a comprehension's.
 use Rattle.std.proofs.Common.{◌≡◌, ◌⊎◌, inl, inr, ℕ, zero, suc, ◌+◌, Bool, true, false, if◌then◌else◌, List, [], ◌∷◌, Option, Some, None, refl, sym, ap, ◌∙◌, subst, arith, eq-eqb, eqb-true}
 use Rattle.std.specs.Prelude.{◌==◌, ◌||◌, slice_get}
 use Rattle.std.specs.List.{AllByRecursion, list_any}
@@ -16,7 +15,7 @@ use Rattle.law_names.proofs.module_names.Homes.{OfKind, regions_have_homes}
 use Rattle.law_operands.proofs.law_files.code_files.Each.{each_at}
 use Rattle.pt_supported.specs.Built.{Built}
 use Rattle.law_operands.proofs.free_names.Outwards.{comprehension_of, never, nothing_is}
-use Rattle.law_supported.proofs.Plain.{IsBlock, IsPlain, Starts, blocks_start, built_is_plain}
+use Rattle.law_supported.proofs.Plain.{IsBlock, Starts, blocks_start}
 
 -- a name that a region has: a function's, or a comprehension's
 
@@ -32,7 +31,7 @@ pub record OwnerWithin (rs : List Region) (look : ℕ → Facts) (q : ℕ) : Typ
   pub is_comprehension : here.kind ≡ kind.Comprehension
   pub owns_it : owns (look q) ≡ true
 
-module _ (rs : List Region) (plain : (r : ℕ) (here : Region) → slice_get rs r ≡ Some here → IsPlain here.kind) (look : ℕ → Facts) (q : ℕ) where
+module _ (rs : List Region) (look : ℕ → Facts) (q : ℕ) where
   abbrev HasOwner : Type 0
   HasOwner = Owner rs look q ⊎ OwnerWithin rs look q
 
@@ -62,17 +61,17 @@ module _ (rs : List Region) (plain : (r : ℕ) (here : Region) → slice_get rs 
       })
   by_comprehension r here at k false e f is rest = rest is
 
-  by_kind : (k : Kind) (r : ℕ) (here : Region) → here.kind ≡ k → slice_get rs r ≡ Some here → IsPlain k → (f : ℕ → Option ℕ)
+  by_kind : (k : Kind) (r : ℕ) (here : Region) → here.kind ≡ k → slice_get rs r ≡ Some here → (f : ℕ → Option ℕ)
       → settled (verdict (look r) here k) r f ≡ Some q → (f here.around ≡ Some q → HasOwner) → HasOwner
-  by_kind kind.Module r here e at p f is rest = nothing_is q is
-  by_kind kind.Function r here e at p f is rest = by_function r here at e (owns (look r)) (look r).global refl f is rest
-  by_kind kind.Class r here e at p f is rest = absurd p
-  by_kind kind.Comprehension r here e at p f is rest = by_comprehension r here at e (owns (look r)) refl f is rest
+  by_kind kind.Module r here e at f is rest = nothing_is q is
+  by_kind kind.Function r here e at f is rest = by_function r here at e (owns (look r)) (look r).global refl f is rest
+  by_kind kind.Class r here e at f is rest = rest is
+  by_kind kind.Comprehension r here e at f is rest = by_comprehension r here at e (owns (look r)) refl f is rest
 
   by_region : (r : ℕ) (o : Option Region) → slice_get rs r ≡ o → (f : ℕ → Option ℕ) → settled (verdict_at (look r) o) r f ≡ Some q
       → ((p : ℕ) → f p ≡ Some q → HasOwner) → HasOwner
   by_region r None at f is rest = nothing_is q is
-  by_region r (Some here) at f is rest = by_kind here.kind r here refl at (plain r here at) f is (λ there. rest here.around there)
+  by_region r (Some here) at f is rest = by_kind here.kind r here refl at f is (λ there. rest here.around there)
 
   pub owner_is : (n r : ℕ) → owner n rs look r ≡ Some q → HasOwner
   owner_is zero r is = nothing_is q is
@@ -116,9 +115,6 @@ module _ (ss : Stms) (built : Built ss) where
   abbrev rs : List Region
   rs = (places_script ss).regions
 
-  pub is_plain : (r : ℕ) (here : Region) → slice_get rs r ≡ Some here → IsPlain here.kind
-  is_plain r here at = each_at (λ (r : Region). IsPlain r.kind) rs r here at (built_is_plain ss built)
-
   pub block_stands : (b h : ℕ) → slice_get (places_script ss).blocks b ≡ Some h → Standing rs h
   block_stands b h at = standing rs h (each_at (Starts 0 rs) (places_script ss).blocks b h at (blocks_start ss built))
 
@@ -136,7 +132,7 @@ module _ (ss : Stms) (built : Built ss) where
   home_by : (k : Kind) (r : ℕ) (here : Region) → here.kind ≡ k → slice_get rs r ≡ Some here → IsBlock k → here.home ≡ r
   home_by kind.Module r here e at p = subst (λ k. OfKind rs r here k) e (regions_have_homes ss r here at)
   home_by kind.Function r here e at p = subst (λ k. OfKind rs r here k) e (regions_have_homes ss r here at)
-  home_by kind.Class r here e at p = absurd p
+  home_by kind.Class r here e at p = subst (λ k. OfKind rs r here k) e (regions_have_homes ss r here at)
   home_by kind.Comprehension r here e at p = absurd p
 
   -- a block belongs to itself
@@ -146,7 +142,7 @@ module _ (ss : Stms) (built : Built ss) where
   not_deeper : (k : Kind) (a : ℕ) (f : ℕ → ℕ) → IsBlock k → deeper (if is_comprehension k then Some a else None) f ≡ 0
   not_deeper kind.Module a f p = refl
   not_deeper kind.Function a f p = refl
-  not_deeper kind.Class a f p = absurd p
+  not_deeper kind.Class a f p = refl
   not_deeper kind.Comprehension a f p = absurd p
 
   no_depth_at : (o : Option Region) (here : Region) → o ≡ Some here → IsBlock here.kind → (f : ℕ → ℕ) → deeper (outside_comprehension o) f ≡ 0

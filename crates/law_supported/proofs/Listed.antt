@@ -1,7 +1,7 @@
 -- Operands of a supported script name what the lists of their block's names have.
-use Rattle.std.proofs.Common.{if◌then◌else◌, ◌≡◌, ℕ, Bool, true, false, List, [], ◌∷◌, ◌++◌, map, Option, Some, None, refl, sym, ap, ◌∙◌, subst, eq-eqb, bytes_eq}
-use Rattle.std.specs.Prelude.{◌==◌, slice_get}
-use Rattle.std.specs.List.{AllByRecursion}
+use Rattle.std.proofs.Common.{if◌then◌else◌, ◌≡◌, ℕ, zero, suc, Bool, true, false, List, [], ◌∷◌, ◌++◌, map, Option, Some, None, refl, sym, ap, ◌∙◌, subst, eq-eqb, bytes_eq}
+use Rattle.std.specs.Prelude.{◌==◌, ◌&&◌, slice_get}
+use Rattle.std.specs.List.{AllByRecursion, list_any}
 use Rattle.std.specs.Option.{unwrap_or}
 use Rattle.pt_tree.specs.Syntax.{Name, Params, Stms}
 use Rattle.sem_control.specs.numbering.Numbered.{IsNumbered, numbers_stms}
@@ -12,11 +12,11 @@ use Rattle.pt_scopes.specs.declared.region.Region.{Region}
 use Rattle.pt_scopes.specs.Mentions.{places_script}
 use Rattle.pt_scopes.specs.Places.{Places}
 use Rattle.pt_scopes.specs.Refusals.{fault_of}
-use Rattle.pt_scopes.specs.Scope.{facts, home_at, home_of, is_captured, scope_at}
+use Rattle.pt_scopes.specs.Scope.{facts, home_at, home_of, is_captured, is_class, scope_at}
 use Rattle.sem_control.specs.control.Turn as T
 use Rattle.sem_control.specs.control.Turn.{Scope, Variable}
 use Rattle.sem_names.specs.Around.{captured_in}
-use Rattle.sem_names.specs.BlockNames.{captured_at, cell_names, class_if, class_taken, distinct, free_names, has_class, is_cell, is_local, local_names, makes_class, named_at, names_in, param_names, read_free, taken_along, variables_of}
+use Rattle.sem_names.specs.BlockNames.{captured_at, cell_names, class_if, class_name, class_taken, class_variable, distinct, free_names, has_class, is_cell, is_class_of, is_local, local_names, makes_class, named_at, names_in, param_names, read_free, taken_along, variables_of}
 use Rattle.sem_names.specs.Naming.{comprehension_in, own, scope_or_global, seen, seen_if, variable, variable_in}
 use Rattle.sem_names.specs.Regions.{numbered}
 use Rattle.sem_names.specs.Script.{Naming, functions_of, naming_script, spelled_in}
@@ -25,13 +25,14 @@ use Rattle.law_operands.proofs.law_files.code_files.Each.{both, everywhere, mapp
 use Rattle.pt_supported.specs.Built.{Built}
 use Rattle.law_operands.specs.free_names.FreeNames.{Among, StandsIn}
 use Rattle.law_operands.proofs.free_names.Kept.{any_front}
+use Rattle.law_operands.proofs.free_names.Among.{among_end, or_right}
 use Rattle.law_operands.proofs.free_names.Lookups.{looked_up}
+use Rattle.law_operands.proofs.free_names.Outwards.{or_left}
 use Rattle.law_operands.proofs.free_names.Taken.{taken_along_is_free}
 use Rattle.law_operands.proofs.free_pieces.Blocks.{KnowsNames, LooksUp, Slots}
 use Rattle.law_operands.proofs.free_pieces.Operands.{CellIs, SlotIs}
 use Rattle.law_operands.proofs.free_pieces.Script.{place_is_number}
-use Rattle.law_supported.proofs.Plain.{IsPlain}
-use Rattle.law_supported.proofs.Homes.{apart, block_stands, home_is, is_plain}
+use Rattle.law_supported.proofs.Homes.{apart, block_stands, home_is}
 use Rattle.law_supported.proofs.Owned.{seen_cell}
 use Rattle.law_supported.proofs.Shown.{Has, all_shown, among_distinct, among_right}
 
@@ -60,9 +61,14 @@ pub for_all : {A I : Type 0} (P : I → A → Type 0) (xs : List A) → ((i : I)
 for_all P [] f = tt
 for_all P (x ∷ xs) f = (λ i. (f i).0, for_all P xs (λ i. (f i).1))
 
-together : {A : Type 0} (P Q : A → Type 0) (xs : List A) → AllByRecursion P xs → AllByRecursion Q xs → AllByRecursion (λ x. P x × Q x) xs
+pub together : {A : Type 0} (P Q : A → Type 0) (xs : List A) → AllByRecursion P xs → AllByRecursion Q xs → AllByRecursion (λ x. P x × Q x) xs
 together P Q [] h k = tt
 together P Q (x ∷ xs) h k = ((h.0, k.0), together P Q xs h.1 k.1)
+
+any_at : {A : Type 0} (f : A → Bool) (xs : List A) (n : ℕ) (x : A) → slice_get xs n ≡ Some x → f x ≡ true → list_any f xs ≡ true
+any_at f [] n x at is = absurd (let no : None ≡ Some x = at in cc)
+any_at f (y ∷ xs) zero x at is = let same : y ≡ x = cc in or_left (f y) (list_any f xs) (subst (λ z. f z ≡ true) (sym same) is)
+any_at f (y ∷ xs) (suc n) x at is = or_right (f y) (list_any f xs) (any_at f xs n x at is)
 
 pub each_of : {A : Type 0} (P : A → Type 0) → ((x : A) → P x) → (xs : List A) → AllByRecursion P xs
 each_of P f xs = weaken (λ x. Unit {0}) P (λ x u. f x) xs (everywhere xs)
@@ -153,16 +159,31 @@ module _ (ss : Stms) (built : Built ss) where
         (together (λ (m : Mention). Shown is_local m × Shown is_cell m) (Frees within) p.mentions
         (together (Shown is_local) (Shown is_cell) p.mentions (all_there is_local) (all_there is_cell)) (looked_up ss b h within none at))
 
-  class_never : (b : Bool) (k : Kind) → IsPlain k → (Q : Variable → Type 0)
+  -- a class takes along the cell of its maker
+  class_taken_so : (k : Kind) (b : Bool) (Q : Variable → Type 0) → (k ≡ kind.Class → b ≡ true → Q (class_variable kind.Class))
       → AllByRecursion (λ (v : Variable). v.scope ≡ T.cell → Q v) (class_taken b k)
-  class_never false k i Q = tt
-  class_never true kind.Module i Q = (λ e. let no : T.free ≡ T.cell = e in absurd cc, tt)
-  class_never true kind.Function i Q = (λ e. let no : T.free ≡ T.cell = e in absurd cc, tt)
-  class_never true kind.Class i Q = absurd i
-  class_never true kind.Comprehension i Q = (λ e. let no : T.free ≡ T.cell = e in absurd cc, tt)
+  class_taken_so k false Q f = tt
+  class_taken_so kind.Module true Q f = (λ e. let no : T.free ≡ T.cell = e in absurd cc, tt)
+  class_taken_so kind.Function true Q f = (λ e. let no : T.free ≡ T.cell = e in absurd cc, tt)
+  class_taken_so kind.Class true Q f = (λ e. f refl refl, tt)
+  class_taken_so kind.Comprehension true Q f = (λ e. let no : T.free ≡ T.cell = e in absurd cc, tt)
 
   abbrev InCell : (region : ℕ) → Variable → Type 0
   InCell h v = v.scope ≡ T.cell → Listed g h T.cell v.name
+
+  -- the block that makes a class which a function in it may ask for has the cell
+  class_listed : (fs : List ℕ) (c h : ℕ) → makes_class p fs h ≡ true → Among (cell_names p fs c h) class_name
+  class_listed fs c h makes =
+      subst (λ (b : Bool). Among (distinct (names_in is_cell (variables_of p c h)) ++ class_if b) class_name) (sym makes)
+      (among_right (distinct (names_in is_cell (variables_of p c h))) (class_name ∷ []) class_name (among_end [] class_name))
+
+  makes : (fs : List ℕ) (h n k : ℕ) (block : Region) → slice_get p.blocks n ≡ Some k → slice_get p.regions k ≡ Some block → home_of p.regions block.around ≡ h
+      → block.kind ≡ kind.Class → has_class p.regions fs k ≡ true → makes_class p fs h ≡ true
+  makes fs h n k block at is made e has =
+      any_at (λ c. is_class_of p.regions h (slice_get p.regions c) && has_class p.regions fs c) p.blocks n k at
+      (ap (λ o. is_class_of p.regions h o && has_class p.regions fs k) is
+      ∙ ap (λ a. (is_class a && (home_of p.regions block.around == h)) && has_class p.regions fs k) e
+      ∙ ap (λ (b : Bool). b && has_class p.regions fs k) (eq-eqb (home_of p.regions block.around) h made) ∙ has)
 
   cells_taken : (h n k : ℕ) (block : Region) → slice_get p.blocks n ≡ Some k → slice_get p.regions k ≡ Some block → home_of p.regions block.around ≡ h
       → AllByRecursion (InCell h) (captured_in g n)
@@ -175,7 +196,8 @@ module _ (ss : Stms) (built : Built ss) where
       let all : AllByRecursion (InCell h) (taken_along p fs k (Some block)) =
       both (InCell h) (map (seen p block.around) (read_free p k)) (class_taken (has_class p.regions fs k) block.kind)
       (mapped (InCell h) (seen p block.around) (read_free p k) (each_of (λ x. InCell h (seen p block.around x)) one (read_free p k)))
-      (class_never (has_class p.regions fs k) block.kind (is_plain ss built k block is) (λ v. Listed g h T.cell v.name)) in
+      (class_taken_so block.kind (has_class p.regions fs k) (λ v. Listed g h T.cell v.name)
+      (λ e has c there. class_listed fs c h (makes fs h n k block at is made e has))) in
       subst (λ (o : Option ℕ). AllByRecursion (InCell h) (captured_at p fs o)) (sym at)
       (subst (λ (o : Option Region). AllByRecursion (InCell h) (taken_along p fs k o)) (sym is) all)
 

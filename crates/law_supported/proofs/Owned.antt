@@ -23,7 +23,7 @@ use Rattle.law_operands.proofs.free_names.Kept.{any_front}
 use Rattle.law_operands.proofs.free_names.Outwards.{never}
 use Rattle.law_operands.proofs.free_names.Taken.{any_on}
 use Rattle.law_operands.proofs.free_pieces.Blocks.{one_of}
-use Rattle.law_supported.proofs.Homes.{Owner, OwnerWithin, apart, block_stands, function_stands, home_is, is_plain, no_depth, owner_is, seen_from_itself, stays_inside}
+use Rattle.law_supported.proofs.Homes.{Owner, OwnerWithin, apart, block_stands, function_stands, home_is, no_depth, owner_is, seen_from_itself, stays_inside}
 use Rattle.law_supported.proofs.Shown.{Has, all_shown, among_distinct}
 
 pub own_parts : (b g n : Bool) → (b && not g && not n) ≡ true → (b ≡ true) × (g ≡ false) × (n ≡ false)
@@ -153,7 +153,7 @@ module _ (ss : Stms) (built : Built ss) where
           → Among (cell_names g fs b (home_of rs r)) (if c then owned g q x else variable T.free x).name
       in_block q found false e is = absurd (let no : T.free ≡ T.cell = is in cc)
       in_block q found true e is =
-          by_owner q (eqb-true (home_of rs q) (home_of rs r) e) is (owner_is rs (is_plain ss built) (look x) q (length rs) r found)
+          by_owner q (eqb-true (home_of rs q) (home_of rs r) e) is (owner_is rs (look x) q (length rs) r found)
 
       by : (o : Option ℕ) → owner_from rs (look x) r ≡ o → (of_owner g (home_of rs r) x o).scope ≡ T.cell
           → Among (cell_names g fs b (home_of rs r)) (of_owner g (home_of rs r) x o).name

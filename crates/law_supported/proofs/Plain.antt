@@ -1,16 +1,17 @@
--- A supported script has no classes, and its blocks stand in regions of their own.
-use Rattle.std.proofs.Common.{◌≡◌, ℕ, ◌+◌, Bool, true, false, if◌then◌else◌, List, [], ◌∷◌, ◌++◌, length, Option, Some, None, refl, ◌∙◌, arith}
-use Rattle.std.specs.Prelude.{slice_get}
-use Rattle.std.specs.List.{AllByRecursion}
+-- Blocks of a supported script stand in regions of their own, and no name that it mentions is the keyword of a class.
+use Rattle.std.proofs.Common.{◌≡◌, ℕ, ◌+◌, Bool, true, false, not, if◌then◌else◌, List, [], ◌∷◌, ◌++◌, length, Option, Some, None, bytes_eq, refl, ◌∙◌, arith}
+use Rattle.std.specs.Prelude.{◌&&◌, ◌||◌, slice_get}
+use Rattle.std.specs.List.{AllByRecursion, list_any}
 use Rattle.pt_scopes.specs.declared.region.Context.{Context}
 use Rattle.pt_scopes.specs.declared.region.Kind.{Kind}
 use Rattle.pt_scopes.specs.declared.region.Kind.TheVariants.{Module, Function, Class, Comprehension}
+use Rattle.pt_scopes.specs.declared.region.Mention.{Mention}
 use Rattle.pt_scopes.specs.declared.region.Region.{Region}
 use Rattle.pt_scopes.specs.declared.region.Role.{Role}
 use Rattle.pt_scopes.specs.declared.region.Role.TheVariants.{Bind, Global, Nonlocal, Parameter, Read}
 use Rattle.pt_scopes.specs.Mentions.{places_script, places_all, places_args, places_branches, places_clauses, places_decorators, places_entries, places_exp, places_formals, places_links, places_made, places_named_parameter, places_names, places_opt, places_params, places_pieces, places_place, places_stm, places_stms, places_target, places_targets, places_handlers, places_imports, places_named, bound_name}
-use Rattle.pt_scopes.specs.Names.{mangled}
-use Rattle.pt_scopes.specs.Places.{Part, ◌⨾◌, nothing, mention, misplaced, block, comprehension, comprehension_context, function_context, in_comprehension, in_function, loop_context, module_context}
+use Rattle.pt_scopes.specs.Names.{underscore, is_private, is_empty, stripped, mangled}
+use Rattle.pt_scopes.specs.Places.{Part, ◌⨾◌, nothing, mention, misplaced, block, comprehension, class_context, comprehension_context, function_context, in_class, in_comprehension, in_function, loop_context, module_context}
 use Rattle.pt_tree.specs.declared.expression.NamedParameter.{NamedParameter}
 use Rattle.pt_tree.specs.declared.statement.Alias.{Alias}
 use Rattle.pt_tree.specs.Syntax as S
@@ -18,20 +19,14 @@ use Rattle.pt_tree.specs.Syntax.{Name, Exp, Exps, Opt, Pieces, Entries, Links, A
 use Rattle.law_names.proofs.module_names.Homes.{behind_at, front_at}
 use Rattle.law_operands.proofs.law_files.code_files.Each.{both, weaken}
 use Rattle.std.specs.Option.{option_or}
-use Rattle.pt_supported.specs.Built.{Built, is_available, unbuilt_all, unbuilt_args, unbuilt_branches, unbuilt_clauses, unbuilt_decorators, unbuilt_entries, unbuilt_exp, unbuilt_formals, unbuilt_links, unbuilt_made, unbuilt_opt, unbuilt_params, unbuilt_pieces, unbuilt_place, unbuilt_stm, unbuilt_stms, unbuilt_target, unbuilt_targets, unless, unbuilt_handlers}
+use Rattle.pt_supported.specs.Built.{Built, are_available, are_bound_available, class_word, is_available, is_available_if, is_either_available, is_meant, unbuilt_all, unbuilt_args, unbuilt_branches, unbuilt_clauses, unbuilt_decorators, unbuilt_entries, unbuilt_exp, unbuilt_formals, unbuilt_links, unbuilt_made, unbuilt_opt, unbuilt_params, unbuilt_pieces, unbuilt_place, unbuilt_star, unbuilt_stm, unbuilt_stms, unbuilt_target, unbuilt_targets, unless, unbuilt_handlers}
 use Rattle.pt_supported.proofs.Never.{first, second, told}
 
-abbrev pub IsPlain : Kind → Type 0
-IsPlain Module = Unit {0}
-IsPlain Function = Unit {0}
-IsPlain Class = ⊥
-IsPlain Comprehension = Unit {0}
-
--- a block of a supported script
+-- a region is a block
 abbrev pub IsBlock : Kind → Type 0
 IsBlock Module = Unit {0}
 IsBlock Function = Unit {0}
-IsBlock Class = ⊥
+IsBlock Class = Unit {0}
 IsBlock Comprehension = ⊥
 
 -- the region of a block, which is one of these, with so many before them
@@ -42,18 +37,45 @@ pub record Starts (before : ℕ) (regions : List Region) (region : ℕ) : Type 0
   pub at : slice_get regions place ≡ Some here
   pub is_block : IsBlock here.kind
 
--- so is each region of a part, and each of its blocks starts in the part
+-- the name of a mention is not the keyword
+abbrev pub IsOther : Mention → Type 0
+IsOther m = bytes_eq m.name class_word ≡ false
+
+-- so it is in a part, each of whose blocks starts in it
 record Plain (f : Part) : Type 0 where
-  at : (n : ℕ) → AllByRecursion (λ (r : Region). IsPlain r.kind) (f n).regions
   blocks : (n : ℕ) → AllByRecursion (Starts n (f n).regions) (f n).blocks
+  mentions : (n : ℕ) → AllByRecursion IsOther (f n).mentions
 
 plain_nothing : Plain nothing
 unfolding nothing
-plain_nothing = record { at = λ n. tt; blocks = λ n. tt }
+plain_nothing = record { blocks = λ n. tt; mentions = λ n. tt }
 
-plain_mention : (r : Role) (a : Context) (x : Name) (l : ℕ) → Plain (mention r a x l)
+plain_mention : (r : Role) (a : Context) (x : Name) (l : ℕ) → bytes_eq x class_word ≡ false → Plain (mention r a x l)
 unfolding mention
-plain_mention r a x l = record { at = λ n. tt; blocks = λ n. tt }
+plain_mention r a x l other = record { blocks = λ n. tt; mentions = λ n. (other, tt) }
+
+-- a name that may stand in a script is another one, as it is read in a class too
+
+either_other : (b : Bool) (x : Name) (y : Name) → bytes_eq x class_word ≡ false → bytes_eq y class_word ≡ false
+    → bytes_eq (if b then x else y) class_word ≡ false
+either_other true x y p q = p
+either_other false x y p q = q
+
+no_word : (b c : Bool) → (not b && c) ≡ true → b ≡ false
+no_word true c h = absurd (let no : false ≡ true = h in cc)
+no_word false c h = refl
+
+other_word : (c x : Name) → is_available x ≡ true → bytes_eq (mangled c x) class_word ≡ false
+unfolding is_available
+other_word c x h =
+    either_other (is_private x && not (is_empty (stripped c))) (underscore ∷ (stripped c ++ x)) x refl (no_word (bytes_eq x class_word) (is_meant x) h)
+
+available : (b : Bool) (l : ℕ) → unless b l ≡ None → b ≡ true
+available true l h = refl
+available false l h = told h
+
+named : (r : Role) (a : Context) (c x : Name) (l k : ℕ) → unless (is_available x) l ≡ None → Plain (mention r a (mangled c x) k)
+named r a c x l k h = plain_mention r a (mangled c x) k (other_word c x (available (is_available x) l h))
 
 starts_front : (n : ℕ) (xs ys : List Region) (h : ℕ) → Starts n xs h → Starts n (xs ++ ys) h
 starts_front n xs ys h s = record { here = s.here; place = s.place; same = s.same; at = front_at xs ys s.place s.here s.at; is_block = s.is_block }
@@ -70,56 +92,80 @@ starts_behind n xs ys h s = record {
 plain_then : (f g : Part) → Plain f → Plain g → Plain (f ⨾ g)
 unfolding ◌⨾◌
 plain_then f g h k = record {
-  at = λ n. both (λ (r : Region). IsPlain r.kind) (f n).regions _ (h.at n) (k.at _);
   blocks = λ n. let xs = (f n).regions in
       let m = n + length xs in
       let ys = (g m).regions in
       both (Starts n (xs ++ ys)) (f n).blocks (g m).blocks
       (weaken (Starts n xs) (Starts n (xs ++ ys)) (starts_front n xs ys) (f n).blocks (h.blocks n))
       (weaken (Starts m ys) (Starts n (xs ++ ys)) (starts_behind n xs ys) (g m).blocks (k.blocks m));
+  mentions = λ n. both IsOther (f n).mentions _ (h.mentions n) (k.mentions _);
 }
 
-plain_block : (a : Context) → Plain (block Function a)
+block_starts : (k : Kind) (a : Context) → IsBlock k → Plain (block k a)
 unfolding block
-plain_block a = record {
-  at = λ n. (tt, tt);
-  blocks = λ n. (record { here = record { kind = Function; around = a.region; home = n }; place = 0; same = omega arith; at = refl; is_block = tt }, tt);
+block_starts k a i = record {
+  blocks = λ n. (record { here = record { kind = k; around = a.region; home = n }; place = 0; same = omega arith; at = refl; is_block = i }, tt);
+  mentions = λ n. tt;
 }
 
 plain_within : (a : Context) → Plain (comprehension a)
 unfolding comprehension
-plain_within a = record { at = λ n. (tt, tt); blocks = λ n. tt }
+plain_within a = record { blocks = λ n. tt; mentions = λ n. tt }
 
 plain_function : (a : Context) (inside : Context → Part) → ((b : Context) → Plain (inside b)) → Plain (in_function a inside)
 unfolding in_function
 plain_function a inside h = record {
-  at = λ n. (plain_then (block Function a) _ (plain_block a) (h (function_context n))).at n;
-  blocks = λ n. (plain_then (block Function a) _ (plain_block a) (h (function_context n))).blocks n;
+  blocks = λ n. (plain_then (block Function a) _ (block_starts Function a tt) (h (function_context n))).blocks n;
+  mentions = λ n. (plain_then (block Function a) _ (block_starts Function a tt) (h (function_context n))).mentions n;
+}
+
+plain_class : (a : Context) (inside : Context → Part) → ((b : Context) → Plain (inside b)) → Plain (in_class a inside)
+unfolding in_class
+plain_class a inside h = record {
+  blocks = λ n. (plain_then (block Class a) _ (block_starts Class a tt) (h (class_context n))).blocks n;
+  mentions = λ n. (plain_then (block Class a) _ (block_starts Class a tt) (h (class_context n))).mentions n;
 }
 
 plain_comprehension : (a : Context) (inside : Context → Part) → ((b : Context) → Plain (inside b)) → Plain (in_comprehension a inside)
 unfolding in_comprehension
 plain_comprehension a inside h = record {
-  at = λ n. (plain_then (comprehension a) _ (plain_within a) (h (comprehension_context a n))).at n;
   blocks = λ n. (plain_then (comprehension a) _ (plain_within a) (h (comprehension_context a n))).blocks n;
+  mentions = λ n. (plain_then (comprehension a) _ (plain_within a) (h (comprehension_context a n))).mentions n;
 }
 
 plain_if : (b : Bool) (a : Context) (l : ℕ) → Plain (if b then nothing else misplaced a l)
 plain_if true a l = plain_nothing
-plain_if false a l = plain_mention _ a [] l
+plain_if false a l = plain_mention _ a [] l refl
 
-plain_parameter : (b : Context) (c : Name) (s : Option NamedParameter) → Plain (places_named_parameter b c s)
-plain_parameter b c None = plain_nothing
-plain_parameter b c (Some p) = plain_mention Parameter b (mangled c p.name) p.line.0
+plain_parameter : (b : Context) (c : Name) (s : Option NamedParameter) → unbuilt_star s ≡ None → Plain (places_named_parameter b c s)
+plain_parameter b c None h = plain_nothing
+plain_parameter b c (Some p) h = named Parameter b c p.name p.line.0 p.line.0 h
 
-plain_names : (r : Role) (a : Context) (c : Name) (l : ℕ) (xs : List Name) → Plain (places_names r a c l xs)
-plain_names r a c l [] = plain_nothing
-plain_names r a c l (x ∷ xs) = plain_then _ _ (plain_mention r a (mangled c x) l) (plain_names r a c l xs)
+neither : (p q : Bool) → (p || q) ≡ false → (p ≡ false) × (q ≡ false)
+neither false q h = (refl, h)
+neither true q h = absurd (let no : true ≡ false = h in cc)
+
+so : (b : Bool) → not b ≡ false → b ≡ true
+so true h = refl
+so false h = absurd (let no : true ≡ false = h in cc)
+
+none_among : (b : Bool) → not b ≡ true → b ≡ false
+none_among true h = absurd (let no : false ≡ true = h in cc)
+none_among false h = refl
+
+plain_names : (r : Role) (a : Context) (c : Name) (l : ℕ) (xs : List Name) → list_any (λ x. not (is_available x)) xs ≡ false → Plain (places_names r a c l xs)
+plain_names r a c l [] h = plain_nothing
+plain_names r a c l (x ∷ xs) h =
+    let p = neither (not (is_available x)) (list_any (λ y. not (is_available y)) xs) h in
+    plain_then _ _ (plain_mention r a (mangled c x) l (other_word c x (so (is_available x) p.0))) (plain_names r a c l xs p.1)
+
+declared : (r : Role) (a : Context) (c : Name) (l : ℕ) (xs : List Name) → unless (are_available xs) l ≡ None → Plain (places_names r a c l xs)
+declared r a c l xs h = plain_names r a c l xs (none_among (list_any (λ x. not (is_available x)) xs) (available (are_available xs) l h))
 
 mutual
   plain_exp : (a : Context) (c : Name) (e : Exp) → unbuilt_exp e ≡ None → Plain (places_exp a c e)
   plain_exp a c (S.constant l k) h = plain_nothing
-  plain_exp a c (S.name l x) h = plain_mention Read a (mangled c x) l
+  plain_exp a c (S.name l x) h = named Read a c x l l h
   plain_exp a c (S.unary l o e) h = plain_exp a c e h
   plain_exp a c (S.not_of l e) h = plain_exp a c e h
   plain_exp a c (S.binary l o e f) h = plain_then _ _ (plain_exp a c e (first _ _ h)) (plain_exp a c f (second _ _ h))
@@ -195,13 +241,18 @@ mutual
 
   plain_params : (a b : Context) (c : Name) (ps : Params) → unbuilt_params ps ≡ None → Plain (places_params a b c ps)
   plain_params a b c (S.parameters ps s ks d) h =
-      plain_then _ _ (plain_formals a b c ps (first _ _ h)) (plain_then _ _ (plain_parameter b c s)
-      (plain_then _ _ (plain_formals a b c ks (first _ _ (second _ _ (second _ _ h)))) (plain_parameter b c d)))
+      let given = option_or (unbuilt_formals ks) (unbuilt_star d) in
+      let behind = second (unbuilt_formals ps) (option_or (unbuilt_star s) given) h in
+      let last = second (unbuilt_star s) given behind in
+      plain_then _ _ (plain_formals a b c ps (first (unbuilt_formals ps) (option_or (unbuilt_star s) given) h))
+      (plain_then _ _ (plain_parameter b c s (first (unbuilt_star s) given behind))
+      (plain_then _ _ (plain_formals a b c ks (first (unbuilt_formals ks) (unbuilt_star d) last))
+      (plain_parameter b c d (second (unbuilt_formals ks) (unbuilt_star d) last))))
 
   plain_formals : (a b : Context) (c : Name) (ps : Formals) → unbuilt_formals ps ≡ None → Plain (places_formals a b c ps)
   plain_formals a b c S.no_formals h = plain_nothing
   plain_formals a b c (S.formal l x n d r) h =
-      plain_then _ _ (plain_mention Parameter b (mangled c x) l)
+      plain_then _ _ (named Parameter b c x l l (first _ _ h))
       (plain_then _ _ (plain_opt a c d (first _ _ (second _ _ h))) (plain_formals a b c r (second _ _ (second _ _ h))))
 
   plain_made : (a : Context) (c : Name) (m : Made) → unbuilt_made m ≡ None → Plain (places_made a c m)
@@ -217,8 +268,8 @@ mutual
       plain_then _ _ (plain_target a c t (first _ _ h)) (plain_then _ _ (plain_exp a c it (first _ _ behind)) (plain_clauses a c cs (second _ _ behind)))
 
   plain_place : (a : Context) (c : Name) (p : Place) → unbuilt_place p ≡ None → Plain (places_place a c p)
-  plain_place a c (S.name_at l x) h = plain_mention Bind a (mangled c x) l
-  plain_place a c (S.attribute_at l e x) h = told h
+  plain_place a c (S.name_at l x) h = named Bind a c x l l h
+  plain_place a c (S.attribute_at l e x) h = plain_exp a c e h
   plain_place a c (S.item_at l e i) h = plain_then _ _ (plain_exp a c e (first _ _ h)) (plain_exp a c i (second _ _ h))
 
   plain_target : (a : Context) (c : Name) (t : Tgt) → unbuilt_target t ≡ None → Plain (places_target a c t)
@@ -234,13 +285,26 @@ plain_decorators : (a : Context) (c : Name) (ds : Decorators) → unbuilt_decora
 plain_decorators a c S.no_decorators h = plain_nothing
 plain_decorators a c (S.decorator l e r) h = plain_then _ _ (plain_exp a c e (first _ _ h)) (plain_decorators a c r (second _ _ h))
 
-plain_named : (a : Context) (c : Name) (l : ℕ) (x : Option Name) → Plain (places_named a c l x)
-plain_named a c l None = plain_nothing
-plain_named a c l (Some x) = plain_mention Bind a (mangled c x) l
+plain_named : (a : Context) (c : Name) (l k : ℕ) (x : Option Name) → unless (is_available_if x) l ≡ None → Plain (places_named a c k x)
+plain_named a c l k None h = plain_nothing
+plain_named a c l k (Some x) h = named Bind a c x l k h
 
-plain_imports : (a : Context) (c : Name) (l : ℕ) (xs : List Alias) → Plain (places_imports a c l xs)
-plain_imports a c l [] = plain_nothing
-plain_imports a c l (x ∷ xs) = plain_then _ _ (plain_mention Bind a (mangled c (bound_name x.name x.alias)) l) (plain_imports a c l xs)
+-- what an import binds
+is_bound : (x : Name) (alias : Option Name) → is_either_available x alias ≡ true → is_available (bound_name x alias) ≡ true
+is_bound x None h = h
+is_bound x (Some y) h = h
+
+plain_imports : (a : Context) (c : Name) (l : ℕ) (xs : List Alias) → list_any (λ (x : Alias). not (is_either_available x.name x.alias)) xs ≡ false
+    → Plain (places_imports a c l xs)
+plain_imports a c l [] h = plain_nothing
+plain_imports a c l (x ∷ xs) h =
+    let p = neither (not (is_either_available x.name x.alias)) (list_any (λ (y : Alias). not (is_either_available y.name y.alias)) xs) h in
+    let bound = is_bound x.name x.alias (so (is_either_available x.name x.alias) p.0) in
+    plain_then _ _ (plain_mention Bind a (mangled c (bound_name x.name x.alias)) l (other_word c (bound_name x.name x.alias) bound)) (plain_imports a c l xs p.1)
+
+imported : (a : Context) (c : Name) (l : ℕ) (xs : List Alias) → unless (are_bound_available xs) l ≡ None → Plain (places_imports a c l xs)
+imported a c l xs h =
+    plain_imports a c l xs (none_among (list_any (λ (x : Alias). not (is_either_available x.name x.alias)) xs) (available (are_bound_available xs) l h))
 
 mutual
   plain_stm : (a : Context) (c : Name) (s : Stm) → unbuilt_stm s ≡ None → Plain (places_stm a c s)
@@ -253,8 +317,8 @@ mutual
   plain_stm a c (S.return l v) h = plain_then _ _ (plain_if a.may_give a l) (plain_opt a c v h)
   plain_stm a c (S.break l) h = plain_if a.in_loop a l
   plain_stm a c (S.continue l) h = plain_if a.in_loop a l
-  plain_stm a c (S.global l xs) h = plain_names Global a c l xs
-  plain_stm a c (S.nonlocal l xs) h = plain_names Nonlocal a c l xs
+  plain_stm a c (S.global l xs) h = declared Global a c l xs h
+  plain_stm a c (S.nonlocal l xs) h = declared Nonlocal a c l xs h
   plain_stm a c (S.choice l bs els) h = plain_then _ _ (plain_branches a c bs (first _ _ h)) (plain_stms a c els (second _ _ h))
   plain_stm a c (S.while l e body els) h =
       let behind = second _ _ h in
@@ -269,7 +333,7 @@ mutual
       let inner = option_or (unbuilt_params ps) (unbuilt_stms body) in
       let parts = second (unless (is_available x) l) (option_or (unbuilt_decorators ds) inner) h in
       let inside = second (unbuilt_decorators ds) inner parts in
-      plain_then _ _ (plain_decorators a c ds (first (unbuilt_decorators ds) inner parts)) (plain_then _ _ (plain_mention Bind a (mangled c x) dl)
+      plain_then _ _ (plain_decorators a c ds (first (unbuilt_decorators ds) inner parts)) (plain_then _ _ (named Bind a c x l dl (first (unless (is_available x) l) (option_or (unbuilt_decorators ds) inner) h))
       (plain_function a (λ b. places_params a b c ps ⨾ places_stms b c body)
       (λ b. plain_then _ _ (plain_params a b c ps (first (unbuilt_params ps) (unbuilt_stms body) inside))
       (plain_stms b c body (second (unbuilt_params ps) (unbuilt_stms body) inside)))))
@@ -283,10 +347,18 @@ mutual
       plain_then _ _ (plain_stms a c body (first _ _ h))
       (plain_then _ _ (plain_handlers a c hs (first _ _ parts))
       (plain_then _ _ (plain_stms a c els (first _ _ behind)) (plain_stms a c fin (second _ _ behind))))
-  plain_stm a c (S.import l xs) h = plain_imports a c l xs
-  plain_stm a c (S.import_from l m xs) h = plain_imports a c l xs
+  plain_stm a c (S.import l xs) h = imported a c l xs h
+  plain_stm a c (S.import_from l m xs) h = imported a c l xs h
   plain_stm a c (S.with l is body) h = told h
-  plain_stm a c (S.class l ds k n x base body) h = told h
+  plain_stm a c (S.class l ds k n x base body) h =
+      let inner = option_or (unbuilt_opt base) (unbuilt_stms body) in
+      let parts = second (unless (is_available x) l) (option_or (unbuilt_decorators ds) inner) h in
+      let inside = second (unbuilt_decorators ds) inner parts in
+      plain_then _ _ (plain_decorators a c ds (first (unbuilt_decorators ds) inner parts))
+      (plain_then _ _ (named Bind a c x l k (first (unless (is_available x) l) (option_or (unbuilt_decorators ds) inner) h))
+      (plain_class a (λ b. places_opt a c base ⨾ places_stms b x body)
+      (λ b. plain_then _ _ (plain_opt a c base (first (unbuilt_opt base) (unbuilt_stms body) inside))
+      (plain_stms b x body (second (unbuilt_opt base) (unbuilt_stms body) inside)))))
 
   plain_stms : (a : Context) (c : Name) (ss : Stms) → unbuilt_stms ss ≡ None → Plain (places_stms a c ss)
   plain_stms a c S.none h = plain_nothing
@@ -304,10 +376,10 @@ mutual
       let parts = second _ _ h in
       let behind = second _ _ parts in
       plain_then _ _ (plain_opt a c e (first _ _ parts))
-      (plain_then _ _ (plain_named a c l x) (plain_then _ _ (plain_stms a c body (first _ _ behind)) (plain_handlers a c r (second _ _ behind))))
+      (plain_then _ _ (plain_named a c l l x (first _ _ h)) (plain_then _ _ (plain_stms a c body (first _ _ behind)) (plain_handlers a c r (second _ _ behind))))
 
-pub built_is_plain : (ss : Stms) → Built ss → AllByRecursion (λ (r : Region). IsPlain r.kind) (places_script ss).regions
-built_is_plain ss h = (tt, (plain_stms module_context [] ss h).at 1)
+pub none_is_the_keyword : (ss : Stms) → Built ss → AllByRecursion IsOther (places_script ss).mentions
+none_is_the_keyword ss h = (plain_stms module_context [] ss h).mentions 1
 
 pub blocks_start : (ss : Stms) → Built ss → AllByRecursion (Starts 0 (places_script ss).regions) (places_script ss).blocks
 blocks_start ss h =

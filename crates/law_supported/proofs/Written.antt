@@ -1,18 +1,21 @@
 -- Code of a block has the names that its operands name, and those are the ones with which it begins.
-use Rattle.std.proofs.Common.{◌≡◌, ℕ, ◌<◌, Bool, true, false, List, [], ◌∷◌, ◌++◌, length, get_or, map, Option, Some, None, refl, sym, ap, ◌∙◌, subst, append-nil}
-use Rattle.std.specs.Prelude.{◌==◌, ◌&&◌, ◌||◌, slice_get}
-use Rattle.std.specs.List.{AllByRecursion, list_any}
+use Rattle.std.proofs.Common.{if◌then◌else◌, ◌≡◌, ℕ, zero, suc, ◌<◌, Bool, true, false, cond, List, [], ◌∷◌, ◌++◌, length, get_or, map, filter, Option, Some, None, refl, sym, ap, ◌∙◌, subst, append-nil, bytes_eq}
+use Rattle.std.specs.Prelude.{◌==◌, slice_get}
+use Rattle.std.specs.List.{AllByRecursion}
+use Rattle.std.proofs.lemmas.Slice.Eq.{bytes_eq-Decides}
 use Rattle.pt_tree.specs.Syntax.{Name, Stms}
-use Rattle.pt_tree.specs.Blocks.{Block}
-use Rattle.pt_scopes.specs.declared.region.Kind.{Kind}
-use Rattle.pt_scopes.specs.declared.region.Kind.TheVariants as kind
-use Rattle.pt_scopes.specs.declared.region.Region.{Region}
-use Rattle.pt_scopes.specs.Scope.{home_of, is_class}
+use Rattle.pt_tree.specs.Blocks.{Block, blocks_script}
+use Rattle.pt_scopes.specs.declared.region.Mention.{Mention}
+use Rattle.pt_scopes.specs.Mentions.{places_script}
+use Rattle.pt_scopes.specs.Places.{Places}
+use Rattle.pt_scopes.specs.Scope.{facts, home_of, owner_from}
 use Rattle.pt_instr.specs.declared.TextNo.{TextNo}
 use Rattle.sem_control.specs.control.Turn as T
-use Rattle.sem_control.specs.control.Turn.{Around, Scope}
+use Rattle.sem_control.specs.control.Turn.{Around, Scope, Variable}
 use Rattle.sem_names.specs.Around.{Names, around_of, names_at, names_of}
-use Rattle.sem_names.specs.BlockNames.{class_if, has_class, is_cell, is_class_of, is_local, makes_class, names_in, param_names, variables_of}
+use Rattle.sem_names.specs.BlockNames.{class_if, class_name, distinct, has_class, is_cell, is_local, makes_class, named_at, names_in, param_names, read_free, variables_of}
+use Rattle.sem_names.specs.Naming.{dot, dotted, is_free_at, of_owner, own, owned, seen, variable}
+use Rattle.sem_names.specs.Regions.{depth_of}
 use Rattle.sem_names.specs.Script.{Naming, functions_of, naming_script, spelled_in}
 use Rattle.pt_assembler.specs.Tables.{Begins}
 use Rattle.pt_assembler.specs.Layout.{Written, keep_cell, keep_free, keep_local, layout, with_cell, with_free, with_local, with_text}
@@ -23,17 +26,17 @@ use Rattle.law_operands.specs.law_files.sem_compile.compile.ScriptCode.{BlockLay
 use Rattle.law_operands.specs.law_files.sem_compile.compile.Laws.{IsLayoutIn}
 use Rattle.law_operands.proofs.law_files.sem_compile.compile.Blocks.{all_tabled, blocks_are_laid_out}
 use Rattle.law_operands.proofs.law_files.code_files.Sound.{Apart, Differs}
-use Rattle.pt_supported.specs.Built.{Built}
-use Rattle.law_operands.specs.free_names.FreeNames.{Among, NamedOperands}
+use Rattle.law_operands.proofs.law_files.code_files.Each.{both, mapped, weaken}
+use Rattle.pt_supported.specs.Built.{Built, class_word}
+use Rattle.law_operands.specs.free_names.FreeNames.{Among, ClassNameIsUnused, NamedOperands}
 use Rattle.law_operands.proofs.free_names.Begun.{each_among, operands_also}
-use Rattle.law_operands.proofs.free_names.Distinct.{apart_behind, frees_apart}
+use Rattle.law_operands.proofs.free_names.Distinct.{apart_behind, each_distinct, each_mention, frees_apart}
 use Rattle.law_operands.proofs.free_names.Kept.{Choice, Holds, cell_there, chosen, free_there, holds_on, layout_kept, local_there, the_cells, the_frees, the_locals}
 use Rattle.law_operands.proofs.free_names.Listing.{Lists, all_held, listed, lists_cell, lists_free, lists_local, texts_of}
 use Rattle.law_operands.proofs.free_pieces.Script.{block_named}
 use Rattle.law_supported.specs.Laws.{BuiltBlocksHaveTheirNames}
-use Rattle.law_supported.proofs.Homes.{is_plain}
-use Rattle.law_supported.proofs.Plain.{IsPlain}
-use Rattle.law_supported.proofs.Listed.{Listed, knows_names}
+use Rattle.law_supported.proofs.Plain.{none_is_the_keyword}
+use Rattle.law_supported.proofs.Listed.{Listed, knows_names, together}
 
 -- what is in the lists of a block's names
 abbrev InNames : Names → Scope → Name → Type 0
@@ -79,10 +82,10 @@ nothing_begun : (t : Tables) (k : Block) → let v = with_text k.name (empty_blo
 unfolding with_text
 nothing_begun t k = (refl, refl, refl)
 
-record AllApart (ns : Names) : Type 0 where
-  locals : Apart ns.locals
-  cells : Apart ns.cells
-  frees : Apart ns.frees
+pub record AllApart (ns : Names) : Type 0 where
+  pub locals : Apart ns.locals
+  pub cells : Apart ns.cells
+  pub frees : Apart ns.frees
 
 record Has (ns : Names) (ts : List Name) (w : Written) : Type 0 where
   locals : texts_of ts w.locals ≡ ns.locals
@@ -145,46 +148,132 @@ laid t a ns k ts apart operands grown =
     by d l c f T.global x h = tt
     by d l c f T.of_class x h = tt
 
-pub none_of : {A : Type 0} (p : A → Bool) (xs : List A) → ((x : A) → p x ≡ false) → list_any p xs ≡ false
-none_of p [] f = refl
-none_of p (x ∷ xs) f = ap (λ b. b || list_any p xs) (f x) ∙ none_of p xs f
+each_name : (Q : Name → Type 0) (p : Scope → Bool) (vs : List Variable) → AllByRecursion (λ (v : Variable). Q v.name) vs → AllByRecursion Q (names_in p vs)
+each_name Q p [] h = tt
+each_name Q p (v ∷ vs) h = by (p v.scope) (each_name Q p vs h.1)
+  where
+    by : (b : Bool) → AllByRecursion Q (names_in p vs) → AllByRecursion Q (if b then v.name ∷ names_in p vs else names_in p vs)
+    by true rest = (h.0, rest)
+    by false rest = rest
 
-module _ (ss : Stms) (built : Built ss) where
+all_filtered : {A : Type 0} (R : A → Type 0) (f : A → Bool) (xs : List A) → AllByRecursion R xs → AllByRecursion R (filter f xs)
+all_filtered R f [] h = tt
+all_filtered {A} R f (x ∷ xs) h = by (f x) (all_filtered R f xs h.1)
+  where
+    by : (b : Bool) → AllByRecursion R (filter f xs) → AllByRecursion R (cond b (x ∷ filter f xs) (filter f xs))
+    by true rest = (h.0, rest)
+    by false rest = rest
+
+apart_end : (xs : List Name) (x : Name) → Apart xs → AllByRecursion (λ y. y ≡ x → ⊥) xs → Apart (xs ++ x ∷ [])
+apart_end [] x h d = (tt, tt)
+apart_end (y ∷ ys) x h d = (both (λ z. y ≡ z → ⊥) ys (x ∷ []) h.0 (d.0, tt), apart_end ys x h.1 d.1)
+
+other_name : (x : Name) → bytes_eq x class_name ≡ false → x ≡ class_name → ⊥
+other_name x e s = let same : false ≡ true = sym e ∙ (bytes_eq-Decides x class_name).1 s in absurd cc
+
+-- what holds of each name that is mentioned, and then of it with dots before it, holds of each name of a block
+module _ (ss : Stms) (R Q : Name → Type 0) (with_dots : (d : ℕ) (x : Name) → R x → Q (dotted d x))
+    (mentioned : AllByRecursion (λ (m : Mention). R m.name) (places_script ss).mentions) where
+  abbrev places : Places
+  places = places_script ss
+
+  of_owner_named : (h : ℕ) (x : Name) (o : Option ℕ) → R x → Q (of_owner places h x o).name
+  of_owner_named h x None i = with_dots 0 x i
+  of_owner_named h x (Some q) i = by (home_of places.regions q == h)
+    where
+      by : (b : Bool) → Q (if b then owned places q x else variable T.free x).name
+      by true = with_dots (depth_of places.regions q) x i
+      by false = with_dots 0 x i
+
+  named_so : (n h : ℕ) (m : Mention) → R m.name → Q (named_at places n h m).name
+  named_so n h m i = by (m.region == h)
+    where
+      by : (b : Bool) → Q (if b then own places n m.name else seen places m.region m.name).name
+      by true = with_dots 0 m.name i
+      by false = of_owner_named (home_of places.regions m.region) m.name (owner_from places.regions (facts places.mentions m.name) m.region) i
+
+  pub each_cell : (n h : ℕ) → AllByRecursion Q (distinct (names_in is_cell (variables_of places n h)))
+  each_cell n h =
+      let f : Mention → Bool = λ m. home_of places.regions m.region == h in
+      each_distinct Q [] (names_in is_cell (variables_of places n h)) tt
+      (each_name Q is_cell (variables_of places n h)
+      (mapped (λ (v : Variable). Q v.name) (named_at places n h) (filter f places.mentions)
+      (all_filtered (λ m. Q (named_at places n h m).name) f places.mentions
+      (weaken (λ (m : Mention). R m.name) (λ m. Q (named_at places n h m).name) (named_so n h) places.mentions mentioned))))
+
+  named_at_region : (n : ℕ) (k : Option Block) (r : Option ℕ) → Q class_name
+      → AllByRecursion Q (names_at (naming_script ss) n k r).cells × AllByRecursion Q (names_at (naming_script ss) n k r).frees
+  named_at_region n (Some k) (Some h) of_class =
+      let fs = functions_of (naming_script ss) in (
+        both Q (distinct (names_in is_cell (variables_of places n h))) (class_if (makes_class places fs h)) (each_cell n h) (class_named (makes_class places fs h)),
+        both Q (read_free places h) (class_if (has_class places.regions fs h)) (each_free h) (class_named (has_class places.regions fs h)),
+      )
+    where
+      class_named : (b : Bool) → AllByRecursion Q (class_if b)
+      class_named true = (of_class, tt)
+      class_named false = tt
+
+      each_free : (h : ℕ) → AllByRecursion Q (read_free places h)
+      each_free h =
+          each_distinct Q [] (map (λ (m : Mention). m.name) (filter (is_free_at places h) places.mentions)) tt
+          (each_mention Q (is_free_at places h) places.mentions
+          (weaken (λ (m : Mention). R m.name) (λ (m : Mention). is_free_at places h m ≡ true → Q m.name) (λ m i free. with_dots 0 m.name i) places.mentions mentioned))
+  named_at_region n None r of_class = (tt, tt)
+  named_at_region n (Some k) None of_class = (tt, tt)
+
+  -- of each of its names in cells, and of each free one, if of that of a class
+  pub all_named : (n : ℕ) → Q class_name → AllByRecursion Q (names_of ss n).cells × AllByRecursion Q (names_of ss n).frees
+  all_named n of_class = named_at_region n (slice_get (blocks_script ss) n) (slice_get (naming_script ss).places.blocks n) of_class
+
+-- a name that is neither that of a class nor the keyword isn't that of a class with dots before it either
+abbrev IsNoClass : Name → Type 0
+IsNoClass x = (bytes_eq x class_name ≡ false) × (bytes_eq x class_word ≡ false)
+
+no_class : (d : ℕ) (x : Name) → IsNoClass x → dotted d x ≡ class_name → ⊥
+no_class zero x h s = other_name x h.0 s
+no_class (suc zero) x h s = other_name (dot ∷ x) h.1 s
+no_class (suc (suc d)) x h s = other_name (dot ∷ (dot ∷ dotted d x)) refl s
+
+module _ (ss : Stms) (unused : ClassNameIsUnused ss) (built : Built ss) where
   abbrev g : Naming
   g = naming_script ss
 
-  no_class : (k : Kind) → IsPlain k → is_class k ≡ false
-  no_class kind.Module i = refl
-  no_class kind.Function i = refl
-  no_class kind.Class i = absurd i
-  no_class kind.Comprehension i = refl
+  abbrev p : Places
+  p = g.places
 
-  makes_at : (h c : ℕ) (o : Option Region) → slice_get g.places.regions c ≡ o → is_class_of g.places.regions h o ≡ false
-  makes_at h c None at = refl
-  makes_at h c (Some here) at = ap (λ b. b && (home_of g.places.regions here.around == h)) (no_class here.kind (is_plain ss built c here at))
+  pub cells_other : (n h : ℕ) → AllByRecursion (λ x. x ≡ class_name → ⊥) (distinct (names_in is_cell (variables_of p n h)))
+  cells_other n h =
+      each_cell ss IsNoClass (λ x. x ≡ class_name → ⊥) no_class
+      (together (λ (m : Mention). bytes_eq m.name class_name ≡ false) (λ (m : Mention). bytes_eq m.name class_word ≡ false) p.mentions unused
+      (none_is_the_keyword ss built)) n h
 
-  pub makes_none : (h : ℕ) → makes_class g.places (functions_of g) h ≡ false
-  makes_none h =
-      none_of (λ c. is_class_of g.places.regions h (slice_get g.places.regions c) && has_class g.places.regions (functions_of g) c) g.places.blocks
-      (λ c. ap (λ b. b && has_class g.places.regions (functions_of g) c) (makes_at h c (slice_get g.places.regions c) refl))
+  cells_apart : (b : Bool) (xs : List Name) → Apart xs → AllByRecursion (λ x. x ≡ class_name → ⊥) xs → Apart (xs ++ class_if b)
+  cells_apart true xs h d = apart_end xs class_name h d
+  cells_apart false xs h d = subst Apart (sym (append-nil xs)) h
 
-  cells_apart : (xs : List Name) (b : Bool) → b ≡ false → Apart xs → Apart (xs ++ class_if b)
-  cells_apart xs true e h = absurd (let no : true ≡ false = e in cc)
-  cells_apart xs false e h = subst Apart (sym (append-nil xs)) h
-
+  -- each list has no name twice
   names_apart : (n : ℕ) (k : Block) (h : ℕ) → Apart (names_at g n (Some k) (Some h)).frees → AllApart (names_at g n (Some k) (Some h))
   names_apart n k h frees = record {
-    locals = apart_behind [] (map (spelled_in g n) (param_names k.params) ++ names_in is_local (variables_of g.places n h)) tt;
-    cells = cells_apart _ (makes_class g.places (functions_of g) h) (makes_none h) (apart_behind [] (names_in is_cell (variables_of g.places n h)) tt);
+    locals = apart_behind [] (map (spelled_in g n) (param_names k.params) ++ names_in is_local (variables_of p n h)) tt;
+    cells = cells_apart (makes_class p (functions_of g) h) (distinct (names_in is_cell (variables_of p n h)))
+        (apart_behind [] (names_in is_cell (variables_of p n h)) tt) (cells_other n h);
     frees = frees;
   }
 
-  in_names : (n : ℕ) (k : Block) (h : ℕ) → slice_get g.places.blocks n ≡ Some h → (s : Scope) (x : Name) → Listed g h s x → InNames (names_at g n (Some k) (Some h)) s x
+  in_names : (n : ℕ) (k : Block) (h : ℕ) → slice_get p.blocks n ≡ Some h → (s : Scope) (x : Name) → Listed g h s x → InNames (names_at g n (Some k) (Some h)) s x
   in_names n k h at T.local x f = f n k.params at
   in_names n k h at T.cell x f = f n at
   in_names n k h at T.free x f = f
   in_names n k h at T.global x f = tt
   in_names n k h at T.of_class x f = tt
+
+  apart_by : (n : ℕ) (k : Option Block) (r : Option ℕ) → Apart (names_at g n k r).frees → AllApart (names_at g n k r)
+  apart_by n (Some k) (Some h) frees = names_apart n k h frees
+  apart_by n None r frees = record { locals = tt; cells = tt; frees = tt }
+  apart_by n (Some k) None frees = record { locals = tt; cells = tt; frees = tt }
+
+  pub lists_apart : (n : ℕ) → AllApart (names_of ss n)
+  lists_apart n = apart_by n (slice_get (blocks_script ss) n) (slice_get p.blocks n) (frees_apart ss n unused)
 
 pub blocks_have_names : BuiltBlocksHaveTheirNames
 blocks_have_names ss none numbered unused built n b at =
@@ -195,8 +284,8 @@ blocks_have_names ss none numbered unused built n b at =
     let ns = names_at g n (Some k) (Some h.0) in
     let same : names_of ss n ≡ ns = ap (λ o. names_at g n o (slice_get g.places.blocks n)) l.is_block ∙ ap (λ o. names_at g n (Some k) o) h.1 in
     let a = around_of {V = Unit {0}} tt ss n in
-    let operands = operands_also (Listed g h.0) (InNames ns) (in_names ss built n k h.0 h.1) (code_piece a k.code) h.2 in
-    let apart = names_apart ss built n k h.0 (subst (λ (ns : Names). Apart ns.frees) same (frees_apart ss n unused)) in
+    let operands = operands_also (Listed g h.0) (InNames ns) (in_names ss unused built n k h.0 h.1) (code_piece a k.code) h.2 in
+    let apart = subst AllApart same (lists_apart ss unused built n) in
     let laid_out : b ≡ layout_of l.tables a ns k = l.is ∙ ap (λ ns. layout_of l.tables a ns k) same in
     let has : Has ns (code_of ss).texts b.written =
     subst (λ (c : BlockLayout). Has ns (code_of ss).texts c.written) (sym laid_out)

@@ -1,5 +1,5 @@
 -- What the laws say of the names of the blocks of a supported script.
-use Rattle.std.specs.Prelude.{◌≡◌, ℕ, false, List, ◌∷◌, ◌++◌, map, slice_get, Some, None}
+use Rattle.std.specs.Prelude.{◌≡◌, ℕ, Bool, false, List, ◌∷◌, ◌++◌, map, slice_get, Some, None}
 use Rattle.std.specs.List.{AllByRecursion, IsDistinct}
 use Rattle.std.specs.Str.{bytes_eq}
 use Rattle.pt_tree.specs.Syntax.{Name, Stms}
@@ -7,7 +7,8 @@ use Rattle.sem_control.specs.numbering.Numbered.{IsNumbered}
 use Rattle.pt_scopes.specs.declared.region.Mention.{Mention}
 use Rattle.pt_scopes.specs.Mentions.{places_script}
 use Rattle.pt_scopes.specs.Refusals.{fault_of}
-use Rattle.sem_names.specs.Around.{names_of}
+use Rattle.sem_names.specs.Around.{Names, names_of}
+use Rattle.sem_names.specs.BlockNames.{class_if}
 use Rattle.sem_names.specs.Naming.{dot}
 use Rattle.pt_instr.specs.declared.TextNo.{TextNo}
 use Rattle.sem_code.specs.slots.BlockObject.{text_in}
@@ -34,7 +35,15 @@ BuiltBlocksHaveTheirNames = (ss : Stms) → fault_of (places_script ss) ≡ None
 abbrev pub NamesBeginWithoutDot : Stms → Type 0
 NamesBeginWithoutDot ss = (x : Name) → AllByRecursion (λ (m : Mention). bytes_eq m.name (dot ∷ x) ≡ false) (places_script ss).mentions
 
--- no name in a cell of a block stands twice, as its own or as a free one
+-- No name in a cell of a block stands twice, and no free one does. None is both but that of the class for `super`, which stands behind the other cells where
+-- a block makes a class, and is free in a block within one.
+pub record CellsDiffer (ns : Names) : Type 0 where
+  pub others : List Name
+  pub makes_class : Bool
+  pub cells_are : ns.cells ≡ others ++ class_if makes_class
+  pub cells : IsDistinct bytes_eq ns.cells
+  pub frees : IsDistinct bytes_eq ns.frees
+  pub apart : IsDistinct bytes_eq (others ++ ns.frees)
+
 abbrev pub BuiltCellsAreDifferent : Type 0
-BuiltCellsAreDifferent =
-    (ss : Stms) → NamesBeginWithoutDot ss → Built ss → (n : ℕ) → IsDistinct bytes_eq ((names_of ss n).cells ++ (names_of ss n).frees)
+BuiltCellsAreDifferent = (ss : Stms) → NamesBeginWithoutDot ss → Built ss → (n : ℕ) → CellsDiffer (names_of ss n)

@@ -14,8 +14,8 @@ pub fn blocks_of_a_supported_script_have_their_names()
 {}
 
 /// In a supported script in which no name begins with a dot, as that of a comprehension does in
-/// code, the names in cells of a block and its free names are different (Language Reference 4.2.2,
-/// 6.2.4).
+/// code, the names in cells of a block are different, and so are its free names; none is both but
+/// that of the class for `super` (Language Reference 4.2.2, 6.2.4, 8.8).
 pub fn names_in_cells_of_a_supported_script_differ()
     ensures { BuiltCellsAreDifferent }
 {}

@@ -1,5 +1,5 @@
 //! That the code of each block of a supported script has the names that the block is said to have,
-//! and that those in cells are different. Laws, without code.
+//! and that those in cells are different, as its free ones are. Laws, without code.
 #![tactic(auto)]
 
 mod laws;

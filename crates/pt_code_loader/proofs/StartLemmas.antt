@@ -20,7 +20,7 @@ use Rattle.pt_names.specs.Names.{name_value}
 use Rattle.pt_bind.specs.NameSets.{is_among}
 use Rattle.pt_code_facts.specs.declared.facts.BlockFacts.{BlockFacts}
 use Rattle.pt_code_facts.specs.declared.facts.Blocks.{Blocks}
-use Rattle.pt_code_facts.specs.Facts.{facts_at, facts_view, KnowsBlocks}
+use Rattle.pt_code_facts.specs.Facts.{facts_view, KnowsBlocks}
 use Rattle.pt_code_tables.specs.pt_builtins.pt_host.World.{CodeFacts, Program, first_objects, start_world}
 use Rattle.pt_code_tables.specs.pt_builtins.pt_host.World as W
 use Rattle.pt_code_tables.specs.pt_builtins.pt_host.Calls.{cells_along, cells_from, first_value, module_block, module_names, module_world, names_along}

@@ -1,5 +1,5 @@
 -- From the answer for a text over the prelude to that for a text, and to the answer to words.
-use Rattle.std.proofs.Common.{◌≡◌, ◌∙◌, ◌⊎◌, ◌≤◌, ℕ, [], List, Option, Some, None, Result, Ok, Err, IfOk, IfErr, inl, inr, refl, sym, ap, subst, length}
+use Rattle.std.proofs.Common.{◌≡◌, ◌∙◌, ◌⊎◌, ℕ, List, Some, Result, Ok, Err, IfOk, IfErr, inl, inr, refl, sym, ap, subst}
 use Rattle.std.specs.declared.string.String.{String}
 use Rattle.std.specs.declared.alloc.Global.{Global}
 use Rattle.pt_base.specs.Taken.{Pieces}
@@ -22,7 +22,7 @@ use Rattle.pt_prog.specs.declared.end.End.{End}
 use Rattle.pt_prog.specs.declared.end.End.TheVariants as end
 use Rattle.pt_prog.specs.LogText.{Text, final}
 use Rattle.pt_prog.specs.RunEnds.{ended}
-use Rattle.pt_prog.specs.Answer.{BrokeOffFor, BrokeOffOver, IsAnswer, IsAnswerFor, IsAnswerOver, IsBuilt, IsCodeAnswer, IsEndFor, IsNoPrelude, IsTextOf, WroteAll, WroteAllFor, WroteAllOver, WroteFront, WroteFrontFor, Wrote, asked_for, end_of, of_no_prelude, of_no_text, of_its_text, of_prelude, of_text, bad_code, unbuilt_code, ran_code, of_code, refused, unbuilt, ran, wrote_code, no_prelude, over, refused_prelude, unbuilt_prelude, usage, read_fault, too_long}
+use Rattle.pt_prog.specs.Answer.{BrokeOffFor, BrokeOffOver, IsAnswer, IsAnswerFor, IsAnswerOver, IsBuilt, IsCodeAnswer, IsEndFor, IsNoPrelude, IsTextOf, WroteAllFor, WroteAllOver, Wrote, asked_for, end_of, of_no_prelude, of_no_text, of_its_text, of_prelude, of_text, bad_code, unbuilt_code, ran_code, of_code, refused, unbuilt, ran, wrote_code, no_prelude, over, refused_prelude, unbuilt_prelude, usage, read_fault, too_long}
 
 -- an answer is neither a fault of a write nor want of memory
 abbrev IsOrdinary : End → Type 0

@@ -20,7 +20,7 @@ use Rattle.pt_run_script.specs.law_compile.script_runs.Blocks.{the_module}
 use Rattle.pt_run_script.specs.law_compile.script_runs.ProgramBlocks.{program_machine}
 use Rattle.pt_run_script.specs.pt_run_code.pt_runner.Work.{Work}
 use Rattle.pt_run_script.specs.ScriptRun.{RunsTo}
-use Rattle.pt_supported.specs.Built.{Built, unbuilt_of}
+use Rattle.pt_supported.specs.Built.{unbuilt_of}
 use Rattle.pt_prelude.specs.declared.source.TheConstants.{PRELUDE}
 use Rattle.pt_front.proofs.Once.{one_script, one_refusal, never_both}
 use Rattle.pt_words.specs.Words.{Asked}

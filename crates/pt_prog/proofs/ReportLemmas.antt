@@ -1,6 +1,5 @@
 -- The run of a script with a report: a plain run with all its events and totals, whose log is one that counts.
-use Rattle.std.proofs.Common.{◌≡◌, ◌∙◌, ◌≤◌, Bool, true, false, List, [], ◌∷◌, ◌++◌, map, Option, Some, None, Result, Ok, Err, IfOk, IfErr, inl, inr, refl, sym, ap, subst, append-nil}
-use Rattle.std.specs.Prelude.{◌⊎◌}
+use Rattle.std.proofs.Common.{◌≡◌, ◌∙◌, Bool, true, false, List, [], ◌∷◌, ◌++◌, map, Option, Some, None, Result, Ok, Err, IfOk, IfErr, inl, inr, refl, sym, ap, subst, append-nil}
 use Rattle.std.proofs.lemmas.Bool.{true≢false}
 use Rattle.pt_base.specs.Taken.{Pieces, Takes}
 use Rattle.pt_base.specs.Taken as one

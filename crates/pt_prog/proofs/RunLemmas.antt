@@ -1,5 +1,5 @@
 -- From what was written of a run, and behind it, to the answer for a text over a prelude.
-use Rattle.std.proofs.Common.{◌≡◌, ◌∙◌, ◌++◌, ◌-◌, ◌^◌, ℕ, min, Bool, true, List, Option, Some, None, Result, Ok, Err, IfOk, IfErr, inl, inr, refl, sym, ap, subst}
+use Rattle.std.proofs.Common.{◌≡◌, ◌∙◌, ◌++◌, ◌-◌, ◌^◌, ℕ, min, true, List, Option, Some, None, Result, Ok, Err, IfOk, IfErr, inr, refl, sym, ap, subst}
 use Rattle.std.specs.Prelude.{IsErr, IsErrAnd, MatchOption}
 use Rattle.pt_base.specs.Taken.{Pieces}
 use Rattle.pt_tree.specs.Syntax.{Stms}

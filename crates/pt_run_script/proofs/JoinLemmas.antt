@@ -46,7 +46,6 @@ use Rattle.pt_code_loader.specs.Loaded.{AreLoaded, IsLoaded, IsLoadedProgram, Is
 use Rattle.pt_code_loader.specs.Starting.{Begins, at_start}
 use Rattle.pt_run_code.proofs.law_loading.code_names.Blocks.{code_names_blocks, module_begins}
 use Rattle.pt_run_code.specs.law_loading.loaded_scripts.Laws.{AreLoadable, HasTables, IsLoadable}
-use Rattle.pt_run_code.specs.law_loading.code_names.Laws.{AreBuilt}
 use Rattle.pt_run_code.proofs.law_loading.loaded_scripts.Loading.{code_has_its_module, loaded_script_has_tables, loaded_script_is_read}
 use Rattle.law_compile.specs.fitting_scripts.Laws.{CodeFits}
 use Rattle.law_compile.proofs.fitting_scripts.Fitting.{code_of_texts_fits}
@@ -141,9 +140,6 @@ module _ (prelude ss : Stms) (first script : Code) (of_prelude : IsCompiled prel
     script_is = loadable of_script.text ss of_script.is of_script.built (fit_of ss script of_script) (room_of ss script of_script room.1);
   }
 
-  both_built : AreBuilt prelude ss
-  both_built = record { prelude_is = of_prelude.built; script_is = of_script.built }
-
   tables : HasTables prelude ss l
   tables = loaded_script_has_tables wide_prelude wide_script prelude ss l ready loaded_so
 
@@ -190,7 +186,7 @@ module _ (prelude ss : Stms) (first script : Code) (of_prelude : IsCompiled prel
     starts = starts m begins;
     none_waits = alone;
     no_names = plain;
-    names_blocks = code_names_blocks wide_prelude wide_script prelude ss l ready both_built tables;
+    names_blocks = code_names_blocks wide_prelude wide_script prelude ss l ready tables;
     has_names = module_begins prelude ss;
     never_stuck = never_stuck n;
   }

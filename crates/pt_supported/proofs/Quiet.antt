@@ -129,7 +129,7 @@ mutual
 
   quiet_place : (p : Place) → unbuilt_place p ≡ None → Quiet (acts_place p)
   quiet_place (S.name_at l x) h = row refl
-  quiet_place (S.attribute_at l a x) h = told h
+  quiet_place (S.attribute_at l a x) h = both (quiet_exp a h) (row refl)
   quiet_place (S.item_at l a i) h = both (both (quiet_exp a (first _ _ h)) (quiet_exp i (second _ _ h))) (row refl)
 
   quiet_target : (t : Tgt) → unbuilt_target t ≡ None → Quiet (acts_target t)
@@ -143,7 +143,7 @@ mutual
 
 quiet_got : (p : Place) → unbuilt_place p ≡ None → Quiet (acts_got p)
 quiet_got (S.name_at l x) h = row refl
-quiet_got (S.attribute_at l a x) h = told h
+quiet_got (S.attribute_at l a x) h = both (quiet_exp a h) (row refl)
 quiet_got (S.item_at l a i) h = both (both (quiet_exp a (first _ _ h)) (quiet_exp i (second _ _ h))) (row refl)
 
 quiet_put : (p : Place) → Quiet (acts_put p)
@@ -154,7 +154,7 @@ quiet_put (S.item_at l a i) = row refl
 mutual
   quiet_deleted : (t : Tgt) → unbuilt_target t ≡ None → Quiet (acts_deleted t)
   quiet_deleted (S.single (S.name_at l x)) h = row refl
-  quiet_deleted (S.single (S.attribute_at l a x)) h = told h
+  quiet_deleted (S.single (S.attribute_at l a x)) h = both (quiet_exp a h) (row refl)
   quiet_deleted (S.single (S.item_at l a i)) h = both (both (quiet_exp a (first _ _ h)) (quiet_exp i (second _ _ h))) (row refl)
   quiet_deleted (S.several l f ts) h = quiet_all_deleted ts h
   quiet_deleted (S.starred l t) h = quiet_deleted t h
@@ -224,7 +224,9 @@ mutual
   quiet_stm (S.import l xs) h = quiet_imports l xs
   quiet_stm (S.import_from l m xs) h = item refl (quiet_import_names l xs)
   quiet_stm (S.with l is body) h = told h
-  quiet_stm (S.class l ds k n x base body) h = told h
+  quiet_stm (S.class l ds k n x base body) h =
+      let parts = second _ _ h in
+      both (both (both (both (quiet_decorators ds (first _ _ parts)) (quiet_opt base (first _ _ (second _ _ parts)))) (row refl)) (quiet_calls ds)) (row refl)
 
   pub quiet_stms : (ss : Stms) → unbuilt_stms ss ≡ None → Quiet (acts_stms ss)
   quiet_stms S.none h = nothing

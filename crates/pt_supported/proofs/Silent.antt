@@ -1,25 +1,22 @@
--- The blocks of supported parts give no value on, and none is the body of a class.
-use Rattle.std.proofs.Common.{◌≡◌, ◌++◌, ℕ, List, Bool, true, false, Some, None, refl}
-use Rattle.std.specs.Prelude.{cond, ◌||◌, slice_get}
-use Rattle.pt_tree.specs.Blocks.{Block, function_body, is_string, yields, blocks_exp, blocks_all, blocks_opt, blocks_pieces, blocks_entries, blocks_links, blocks_args, blocks_params, blocks_formals, blocks_made, blocks_clauses, blocks_place, blocks_target, blocks_targets, blocks_decorators, blocks_stm, blocks_stms, blocks_branches, blocks_script, blocks_handlers}
+-- The blocks of supported parts give no value on.
+use Rattle.std.proofs.Common.{◌≡◌, ◌++◌, ℕ, List, [], ◌∷◌, map, Bool, true, false, None, refl}
+use Rattle.std.specs.Prelude.{cond}
+use Rattle.pt_tree.specs.Blocks.{Block, function_body, inside_class, is_string, yields, blocks_exp, blocks_all, blocks_opt, blocks_pieces, blocks_entries, blocks_links, blocks_args, blocks_params, blocks_formals, blocks_made, blocks_clauses, blocks_place, blocks_target, blocks_targets, blocks_decorators, blocks_stm, blocks_stms, blocks_branches, blocks_script, blocks_handlers}
 use Rattle.pt_tree.specs.Acts.{acts_stm, acts_stms}
 use Rattle.pt_tree.specs.Syntax as S
-use Rattle.pt_tree.specs.Syntax.{Exp, Exps, Opt, Pieces, Entries, Links, Args, Made, Clauses, Params, Formals, Place, Tgt, Tgts, Decorators, Stm, Stms, Branches, Handlers}
+use Rattle.pt_tree.specs.Syntax.{Name, Exp, Exps, Opt, Pieces, Entries, Links, Args, Made, Clauses, Params, Formals, Place, Tgt, Tgts, Decorators, Stm, Stms, Branches, Handlers}
 use Rattle.pt_supported.specs.Built.{unbuilt_all, unbuilt_args, unbuilt_branches, unbuilt_clauses, unbuilt_decorators, unbuilt_entries, unbuilt_exp, unbuilt_formals, unbuilt_links, unbuilt_made, unbuilt_opt, unbuilt_params, unbuilt_pieces, unbuilt_place, unbuilt_stm, unbuilt_stms, unbuilt_target, unbuilt_targets, unbuilt_handlers}
-use Rattle.pt_supported.specs.Laws.{is_class_code, BuiltBlocksAreNoClasses, BuiltBlocksGiveNothingOn}
+use Rattle.pt_supported.specs.Laws.{BuiltBlocksGiveNothingOn}
 use Rattle.pt_supported.proofs.Never.{Never, nothing, item, both, none_passes, at_its_place, first, second, told}
 use Rattle.pt_supported.proofs.Quiet.{Quiet, quiet_exp, quiet_stm, quiet_stms}
 
--- whether a block is one that no supported script has
-abbrev is_unbuilt : Block → Bool
-is_unbuilt b = is_class_code b.code || yields b.code
-
 abbrev Silent : List Block → Type 0
-Silent bs = Never is_unbuilt bs
+Silent bs = Never (λ b. yields b.code) bs
 
-neither_holds : (p q : Bool) → (p || q) ≡ false → (p ≡ false) × (q ≡ false)
-neither_holds false q h = (refl, h)
-neither_holds true q h = absurd (cc)
+-- the blocks in the body of a class
+silent_inside : (x : Name) (bs : List Block) → Silent bs → Silent (map (inside_class x) bs)
+silent_inside x [] nothing = nothing
+silent_inside x (b ∷ bs) (item is p) = item is (silent_inside x bs p)
 
 -- the documentation string doesn't run
 quiet_first : (text : Bool) (l : ℕ) (e : Exp) (ss : Stms) → Quiet (acts_stm (S.expr l e)) → Quiet (acts_stms ss)
@@ -116,7 +113,7 @@ mutual
 
   silent_place : (p : Place) → unbuilt_place p ≡ None → Silent (blocks_place p)
   silent_place (S.name_at l x) h = nothing
-  silent_place (S.attribute_at l a x) h = told h
+  silent_place (S.attribute_at l a x) h = silent_exp a h
   silent_place (S.item_at l a i) h = both (silent_exp a (first _ _ h)) (silent_exp i (second _ _ h))
 
   silent_target : (t : Tgt) → unbuilt_target t ≡ None → Silent (blocks_target t)
@@ -169,7 +166,12 @@ mutual
   silent_stm (S.import l xs) h = nothing
   silent_stm (S.import_from l m xs) h = nothing
   silent_stm (S.with l is body) h = told h
-  silent_stm (S.class l ds k n x base body) h = told h
+  silent_stm (S.class l ds k n x base body) h =
+      let parts = second _ _ h in
+      let inside = second _ _ parts in
+      let block = item (none_passes (quiet_stms body (second _ _ inside))) nothing in
+      both (both (both (silent_decorators ds (first _ _ parts)) block) (silent_opt base (first _ _ inside)))
+      (silent_inside x (blocks_stms body) (silent_stms body (second _ _ inside)))
 
   silent_stms : (ss : Stms) → unbuilt_stms ss ≡ None → Silent (blocks_stms ss)
   silent_stms S.none h = nothing
@@ -190,12 +192,5 @@ mutual
 silent_script : (ss : Stms) → unbuilt_stms ss ≡ None → Silent (blocks_script ss)
 silent_script ss h = item (none_passes (quiet_stms ss h)) (silent_stms ss h)
 
-built_block : (ss : Stms) → unbuilt_stms ss ≡ None → (n : ℕ) (block : Block) → slice_get (blocks_script ss) n ≡ Some block
-    → (is_class_code block.code ≡ false) × (yields block.code ≡ false)
-built_block ss h n block at = neither_holds (is_class_code block.code) (yields block.code) (at_its_place (silent_script ss h) n block at)
-
 pub built_blocks_give_nothing_on : BuiltBlocksGiveNothingOn
-built_blocks_give_nothing_on ss built n block at = (built_block ss built n block at).1
-
-pub built_blocks_are_no_classes : BuiltBlocksAreNoClasses
-built_blocks_are_no_classes ss built n block at = (built_block ss built n block at).0
+built_blocks_give_nothing_on ss built n block at = at_its_place (silent_script ss built) n block at

@@ -1,7 +1,7 @@
 -- Which forms of the language are supported, and the line of the first node of a script that isn't: a node comes before its parts, and parts
 -- come in the order of the source. Annotations aren't looked at, since they never run. A part without a line of its own, as an argument, a link
 -- of a comparison, a declared name or one that is imported, is told with the node that it belongs to.
-use Rattle.std.specs.Prelude.{◌≡◌, ◌||◌, ℕ, List, Bool, true, false, not, Option, Some, None, if◌then◌else◌}
+use Rattle.std.specs.Prelude.{◌≡◌, ◌&&◌, ◌||◌, ℕ, List, Bool, true, false, not, Option, Some, None, bytes_eq, codes, if◌then◌else◌}
 use Rattle.std.specs.List.{list_any}
 use Rattle.std.specs.Option.{option_or}
 use Rattle.pt_tree.specs.declared.expression.NamedParameter.{NamedParameter}
@@ -20,8 +20,16 @@ is_there builtins.no_builtin = true
 
 -- a builtin that runs don't have is missed where it is read; one that is to be written in Python is unsupported wherever its name stands, also where
 -- it is bound
+abbrev pub is_meant : Name → Bool
+is_meant x = is_there (builtin x) || is_unbuilt_name x
+
+-- The keyword, which is a name where it is written in other letters that stand for the same (2.3). As a name of a comprehension it would have in code
+-- the name under which a class stands in a cell, and so it is unsupported.
+abbrev pub class_word : Name
+class_word = codes "class"
+
 unfoldable pub is_available : Name → Bool
-is_available x = is_there (builtin x) || is_unbuilt_name x
+is_available x = not (bytes_eq x class_word) && is_meant x
 
 abbrev pub are_available : List Name → Bool
 are_available xs = not (list_any (λ x. not (is_available x)) xs)
@@ -125,7 +133,7 @@ abbrev mutual
 
   pub unbuilt_place : Place → Option ℕ
   unbuilt_place (S.name_at l x) = unless (is_available x) l
-  unbuilt_place (S.attribute_at l a x) = Some l
+  unbuilt_place (S.attribute_at l a x) = unbuilt_exp a
   unbuilt_place (S.item_at l a i) = option_or (unbuilt_exp a) (unbuilt_exp i)
 
   pub unbuilt_target : Tgt → Option ℕ
@@ -168,7 +176,8 @@ abbrev mutual
   unbuilt_stm (S.import l xs) = unless (are_bound_available xs) l
   unbuilt_stm (S.import_from l m xs) = unless (are_bound_available xs) l
   unbuilt_stm (S.with l is body) = Some l
-  unbuilt_stm (S.class l ds k n x base body) = Some l
+  unbuilt_stm (S.class l ds k n x base body) =
+      option_or (unless (is_available x) l) (option_or (unbuilt_decorators ds) (option_or (unbuilt_opt base) (unbuilt_stms body)))
 
   pub unbuilt_stms : Stms → Option ℕ
   unbuilt_stms S.none = None

@@ -282,7 +282,7 @@ pub fn unbuilt_place(line: Line, place: &PlaceNode) -> Option<Line>
 {
     match place {
         PlaceNode::Name(name) => unless(is_available(name.as_str()), line),
-        PlaceNode::Attribute { .. } => Some(line),
+        PlaceNode::Attribute { object, .. } => unbuilt_expression(object.get()),
         PlaceNode::Item { object, index } => {
             let index = unbuilt_expression(index.get());
             unbuilt_expression(object.get()).or(index)

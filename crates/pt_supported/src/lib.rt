@@ -6,7 +6,5 @@ mod laws;
 mod names;
 mod statements;
 
-pub use laws::{
-    blocks_of_supported_scripts_are_no_classes, blocks_of_supported_scripts_give_nothing_on,
-};
+pub use laws::blocks_of_supported_scripts_give_nothing_on;
 pub use statements::first_unbuilt;

@@ -1,6 +1,7 @@
-ghost use Rattle.std.specs.Prelude.{◌≡◌, Some, None, map, option_map, not};
+ghost use Rattle.std.specs.Prelude.{◌≡◌, Some, None, bytes_eq, map, option_map, not};
 ghost use Rattle.std.specs.List.{list_any};
-ghost use Rattle.pt_supported.specs.Built.{are_available, are_bound_available, is_available};
+ghost use Rattle.pt_supported.specs.Built.{are_available, are_bound_available, class_word};
+ghost use Rattle.pt_supported.specs.Built.{is_available, is_meant};
 ghost use Rattle.pt_supported.specs.Built.{is_available_if, is_either_available};
 ghost use Rattle.pt_supported.specs.Built.{unbuilt_star, unless};
 
@@ -8,16 +9,30 @@ use pt_base::{Line, Text};
 use pt_builtins::{BuiltinLookup, builtin, is_unbuilt_name};
 use pt_tree::{Alias, NamedParameter};
 
-/// Whether a name may stand in a script. A builtin that runs don't have is missed where it is read.
-#[tactic(auto, unfolding(crate::specs::Built::is_available))]
-pub fn is_available(name: &str) -> bool
-    ensures { result ≡ is_available name.now }
+/// Whether a name is the keyword, in other letters that stand for the same.
+fn is_class_word(name: &str) -> bool
+    ensures { result ≡ bytes_eq name.now class_word }
+{
+    name == "class"
+}
+
+/// Whether runs have what a name means by itself, or miss it where it is read.
+fn is_meant(name: &str) -> bool
+    ensures { result ≡ is_meant name.now }
 {
     match builtin(name) {
         BuiltinLookup::Unbound => true,
         BuiltinLookup::Found(_) => true,
         BuiltinLookup::Unavailable => is_unbuilt_name(name),
     }
+}
+
+/// Whether a name may stand in a script.
+#[tactic(auto, unfolding(crate::specs::Built::is_available))]
+pub fn is_available(name: &str) -> bool
+    ensures { result ≡ is_available name.now }
+{
+    !is_class_word(name) && is_meant(name)
 }
 
 /// The same of a name that need not be written.

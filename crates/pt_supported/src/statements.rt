@@ -119,7 +119,19 @@ fn unbuilt_statement(s: &Stmt) -> Option<Line>
         StmtNode::ImportFrom { names, .. } => {
             unless(are_bound_available(names.as_slice()), s.line)
         }
-        StmtNode::With { .. } | StmtNode::Class { .. } => Some(s.line),
+        StmtNode::Class {
+            decorators,
+            name,
+            base,
+            body,
+            ..
+        } => {
+            let behind = unbuilt_optional(base).or(unbuilt_statements(body.as_slice()));
+            let parts = unbuilt_decorators(decorators.as_slice()).or(behind);
+            let name = unless(is_available(name.as_str()), s.line);
+            name.or(parts)
+        }
+        StmtNode::With { .. } => Some(s.line),
     }
 }
 

@@ -1,5 +1,5 @@
 -- Blocks of a code that has a file.
-use Rattle.std.proofs.Common.{◌≡◌, ◌<◌, ◌≤◌, ℕ, zero, suc, Bool, true, false, ◌+◌, ◌&&◌, List, [], ◌∷◌, ◌++◌, length, Option, Some, None, nat_eq, eqb-true, eq-eqb, get_or, refl, sym, ap, ◌∙◌, subst, arith}
+use Rattle.std.proofs.Common.{◌≡◌, ◌<◌, ◌≤◌, ℕ, zero, suc, Bool, true, false, ◌+◌, ◌&&◌, List, [], ◌∷◌, length, Option, Some, None, nat_eq, eqb-true, eq-eqb, get_or, refl, sym, ap, ◌∙◌, subst, arith}
 use Rattle.std.specs.Prelude.{Decides, slice_get}
 use Rattle.std.specs.List.{AllByRecursion, IsDistinct}
 use Rattle.std.specs.Str.{bytes_eq}
@@ -68,11 +68,6 @@ below : (texts : ℕ) (xs : List TextNo) → AllByRecursion (NamesText texts) xs
 below texts [] all = tt
 below texts (x ∷ xs) all = (all.0.1, below texts xs all.1)
 
-pub all_below : (xs ys : List TextNo) (texts : ℕ) → AllByRecursion (λ (x : TextNo). x.0 < texts) xs → AllByRecursion (λ (x : TextNo). x.0 < texts) ys
-    → AllByRecursion (λ (x : TextNo). x.0 < texts) (xs ++ ys)
-all_below [] ys texts p q = q
-all_below (x ∷ xs) ys texts p q = (p.0, all_below xs ys texts p.1 q)
-
 pub is_read : (c : Code) → HasFile c → (n : ℕ) (b : CodeBlock) → slice_get c.blocks n ≡ Some b → IsReadBlock c b
 is_read c has n b e =
     let names = (fields_of c has n b e).is.1.0 in
@@ -104,22 +99,24 @@ module _ (c : Code) (b : CodeBlock) (read : IsReadBlock c b) where
   one_view_takes : Takes → (view : ℕ → Option Ins) → IsView b view → (pc : ℕ) (i : Ins) → view pc ≡ Some i → TakesAsListed c.lists i.instr
   one_view_takes t view seen pc i e = t pc i (ap (λ v. v pc) (one_view b read.view view read.is_view seen) ∙ e)
 
-  pub parts_tell : (locals cells takes : Bool) → Decides locals (IsDistinct bytes_eq (named_by c.texts b.locals))
-      → Decides cells (IsDistinct bytes_eq (named_by c.texts (b.cells ++ b.free))) → Decides takes Takes
-      → Decides (has_kind && (locals && (cells && takes))) (IsBuiltBlock c b)
-  parts_tell locals cells takes l m n = (told, asked)
+  pub parts_tell : (locals cells free takes : Bool) → Decides locals (IsDistinct bytes_eq (named_by c.texts b.locals))
+      → Decides cells (IsDistinct bytes_eq (named_by c.texts b.cells)) → Decides free (IsDistinct bytes_eq (named_by c.texts b.free)) → Decides takes Takes
+      → Decides (has_kind && (locals && (cells && (free && takes)))) (IsBuiltBlock c b)
+  parts_tell locals cells free takes l m f n = (told, asked)
     where
-      told : (has_kind && (locals && (cells && takes))) ≡ true → IsBuiltBlock c b
+      told : (has_kind && (locals && (cells && (free && takes)))) ≡ true → IsBuiltBlock c b
       told e =
-          let p = both_true has_kind (locals && (cells && takes)) e in
-          let q = both_true locals (cells && takes) p.1 in
-          let r = both_true cells takes q.1 in
-          record { is_plain = p.0; locals = l.0 q.0; cells = m.0 r.0; takes = one_view_takes (n.0 r.1) }
+          let p = both_true has_kind (locals && (cells && (free && takes))) e in
+          let q = both_true locals (cells && (free && takes)) p.1 in
+          let r = both_true cells (free && takes) q.1 in
+          let s = both_true free takes r.1 in
+          record { is_plain = p.0; locals = l.0 q.0; cells = m.0 r.0; free = f.0 s.0; takes = one_view_takes (n.0 s.1) }
 
-      asked : IsBuiltBlock c b → (has_kind && (locals && (cells && takes))) ≡ true
+      asked : IsBuiltBlock c b → (has_kind && (locals && (cells && (free && takes)))) ≡ true
       asked x =
-          both has_kind (locals && (cells && takes)) x.is_plain
-          (both locals (cells && takes) (l.1 x.locals) (both cells takes (m.1 x.cells) (n.1 (x.takes read.view read.is_view))))
+          both has_kind (locals && (cells && (free && takes))) x.is_plain
+          (both locals (cells && (free && takes)) (l.1 x.locals)
+          (both cells (free && takes) (m.1 x.cells) (both free takes (f.1 x.free) (n.1 (x.takes read.view read.is_view)))))
 
 -- blocks one after another
 pub read_at : (xs bs : List CodeBlock) (n : ℕ) (b : CodeBlock) → xs ≡ bs → n < length xs → b ≡ get_or xs n b → slice_get bs n ≡ Some b

@@ -1,6 +1,6 @@
 -- Which code is supported yet. No rule of code asks for it: each condition is what the machine lacks. The code of each supported script that has a file
--- meets them (Library Reference, "inspect": code objects; Language Reference 4.2.2, 6.2.8, 6.2.9, 8.8).
-use Rattle.std.specs.Prelude.{◌≡◌, ◌<◌, ℕ, List, [], ◌++◌, length, map, slice_get, slice_index_or, Bool, true, false, Option, Some}
+-- meets them (Library Reference, "inspect": code objects; Language Reference 4.2.2, 6.2.8, 6.2.9).
+use Rattle.std.specs.Prelude.{◌≡◌, ◌<◌, ℕ, List, [], length, map, slice_get, slice_index_or, Bool, true, false, Option, Some}
 use Rattle.std.specs.List.{IsDistinct}
 use Rattle.std.specs.Str.{bytes_eq}
 use Rattle.pt_base.specs.declared.numbers.Line.{Line}
@@ -15,10 +15,11 @@ use Rattle.pt_code.specs.declared.Code.{Code}
 use Rattle.pt_code.specs.View.{Ins, IsView}
 use Rattle.sem_code.specs.slots.BlockObject.{text_in}
 
--- neither the body of a class nor a generator
+-- no generator
 abbrev pub is_plain_kind : BlockKind → Bool
 is_plain_kind kind.Module = true
 is_plain_kind kind.Function = true
+is_plain_kind kind.Class = true
 is_plain_kind k = false
 
 abbrev pub named_by : (texts : List Name) → List TextNo → List Name
@@ -31,9 +32,11 @@ TakesAsListed lists i = Unit {0}
 
 pub record IsBuiltBlock (c : Code) (b : CodeBlock) : Type 0 where
   pub is_plain : is_plain_kind b.kind ≡ true
-  -- no two local names are the same text, and no two names of cells or free ones
+  -- no two local names are the same text, no two names of cells, and no two free ones; a name of a cell may be free too, as that of the class for `super` is
+  -- where a block of a class makes one
   pub locals : IsDistinct bytes_eq (named_by c.texts b.locals)
-  pub cells : IsDistinct bytes_eq (named_by c.texts (b.cells ++ b.free))
+  pub cells : IsDistinct bytes_eq (named_by c.texts b.cells)
+  pub free : IsDistinct bytes_eq (named_by c.texts b.free)
   -- at each place, also where no way comes
   pub takes : (view : ℕ → Option Ins) → IsView b view → (pc : ℕ) (i : Ins) → view pc ≡ Some i → TakesAsListed c.lists i.instr
 

@@ -9,11 +9,15 @@ use Rattle.pt_places.specs.declared.places.Place.{Place}
 use Rattle.pt_places.specs.PlaceTable.{entry}
 use Rattle.pt_supported_code.specs.Built.{TakesAsListed}
 
+-- names are texts that are there
+abbrev pub AreThere : Code → List TextNo → Type 0
+AreThere c xs = AllByRecursion (λ (x : TextNo). x.0 < length c.texts) xs
+
 -- a block names texts that are there, and its bytes are those of instructions
 pub record IsReadBlock (c : Code) (b : CodeBlock) : Type 0 where
-  pub locals : AllByRecursion (λ (x : TextNo). x.0 < length c.texts) b.locals
-  pub cells : AllByRecursion (λ (x : TextNo). x.0 < length c.texts) b.cells
-  pub free : AllByRecursion (λ (x : TextNo). x.0 < length c.texts) b.free
+  pub locals : AreThere c b.locals
+  pub cells : AreThere c b.cells
+  pub free : AreThere c b.free
   pub view : ℕ → Option Ins
   pub is_view : IsView b view
 

@@ -1,4 +1,4 @@
--- No name that a script mentions is the one under which a class stands in a cell, or begins with a dot, as those of comprehensions do in code.
+-- No name that a script mentions is the one under which a class stands in a cell, or another that begins as no name does.
 use Rattle.std.proofs.Common.{◌≡◌, Bool, true, false, not, ◌&&◌, List, [], ◌∷◌, ◌++◌, Some, bytes_eq, refl}
 use Rattle.std.proofs.lemmas.Bool.{not-true, not_from_false}
 use Rattle.std.specs.Prelude.{if◌then◌else◌}
@@ -11,7 +11,6 @@ use Rattle.pt_scopes.specs.declared.region.Mention.{Mention}
 use Rattle.pt_scopes.specs.Mentions.{places_script}
 use Rattle.pt_scopes.specs.Names.{underscore, is_private, is_empty, stripped, mangled}
 use Rattle.sem_names.specs.BlockNames.{class_name}
-use Rattle.sem_names.specs.Naming.{dot}
 use Rattle.law_typed_pieces.specs.law_operands.free_names.FreeNames.{ClassNameIsUnused}
 use Rattle.law_front.specs.parsed.Parsed.{StmsParsed}
 use Rattle.law_front.proofs.parsed.Statements.{mentions_are_parsed}
@@ -25,7 +24,7 @@ either false x y p q = q
 mangled-is : (class x : Name) → IsName x → IsName (mangled class x)
 mangled-is class x h = either (is_private x && not (is_empty (stripped class))) (underscore ∷ (stripped class ++ x)) x refl h
 
-abbrev is_other : Name → Name → Bool
+abbrev pub is_other : Name → Name → Bool
 is_other y x = not (bytes_eq x y)
 
 others : (y : Name) (ms : List Mention) → AllByRecursion (λ (m : Mention). is_other y m.name ≡ true) ms
@@ -34,7 +33,7 @@ others y [] h = tt
 others y (m ∷ ms) h = (not-true _ h.0, others y ms h.1)
 
 -- what begins as no name does
-never_mentioned : (y : Name) → begins_name y ≡ false → is_other y [] ≡ true → (wide : W.Stms) (ss : T.Stms) → StmsParsed IsName wide
+pub never_mentioned : (y : Name) → begins_name y ≡ false → is_other y [] ≡ true → (wide : W.Stms) (ss : T.Stms) → StmsParsed IsName wide
     → narrow_script wide ≡ Some ss → AllByRecursion (λ (m : Mention). bytes_eq m.name y ≡ false) (places_script ss).mentions
 never_mentioned y apart nameless wide ss h e =
     others y (places_script ss).mentions
@@ -42,7 +41,3 @@ never_mentioned y apart nameless wide ss h e =
 
 pub unused : (wide : W.Stms) (ss : T.Stms) → StmsParsed IsName wide → narrow_script wide ≡ Some ss → ClassNameIsUnused ss
 unused wide ss h e = never_mentioned class_name refl refl wide ss h e
-
-pub undotted : (x : Name) (wide : W.Stms) (ss : T.Stms) → StmsParsed IsName wide → narrow_script wide ≡ Some ss
-    → AllByRecursion (λ (m : Mention). bytes_eq m.name (dot ∷ x) ≡ false) (places_script ss).mentions
-undotted x wide ss h e = never_mentioned (dot ∷ x) refl refl wide ss h e

@@ -1,5 +1,5 @@
 -- The names in the wide tree of a script's text begin as identifiers do.
-use Rattle.std.proofs.Common.{◌≡◌, ℕ, false, List, [], ◌∷◌, Option, Some, None, bytes_eq, sym, subst, ◌∙◌, append-nil}
+use Rattle.std.proofs.Common.{◌≡◌, ℕ, true, false, List, [], ◌∷◌, Option, Some, None, bytes_eq, refl, sym, subst, ◌∙◌, append-nil}
 use Rattle.std.specs.List.{AllByRecursion}
 use Rattle.pt_literals.specs.declared.token.Token.{Token}
 use Rattle.pt_literals.specs.declared.token.TokenKind.{TokenKind}
@@ -25,7 +25,7 @@ use Rattle.law_front.proofs.script_numbers.Scripts.{numbered}
 use Rattle.law_typed_pieces.proofs.law_operands.law_files.operands_fit.Operands.{operands_fit}
 use Rattle.law_compile.specs.read_forms.Laws.{OperandsOfTextsFit, ScriptsOfTextsAreFormed, ScriptsOfTextsAreRead}
 use Rattle.law_compile.proofs.read_forms.Formed.{IsName, statements}
-use Rattle.law_compile.proofs.read_forms.ClassName.{undotted, unused}
+use Rattle.law_compile.proofs.read_forms.ClassName.{is_other, never_mentioned, unused}
 
 a-sign : (l : ℕ) (s : Option Sign) → NameIfOne IsName (signed l s)
 a-sign l None = tt
@@ -67,13 +67,18 @@ scripts_of_texts_are_formed text script is =
       },
     )
 
+-- nothing that begins as no name does is a name in it
+pub names_begin_as_such : (text : List ℕ) (script : Stms) → IsScript text script → (y : Name) → begins_name y ≡ false → is_other y [] ≡ true
+    → AllByRecursion (λ (m : Mention). bytes_eq m.name y ≡ false) (places_script script).mentions
+names_begin_as_such text script is y apart nameless =
+    let tree = is.are_script in
+    let w = wide-is-parsed text is.tokens tree.wide (names_begin text is.tokens is.are_tokens) tree.are_wide in
+    never_mentioned y apart nameless (stms_from tree.wide) script w tree.is_narrow
+
 -- no name in it begins with a dot
 pub names_begin_without_dot : (text : List ℕ) (script : Stms) → IsScript text script → (x : Name)
     → AllByRecursion (λ (m : Mention). bytes_eq m.name (dot ∷ x) ≡ false) (places_script script).mentions
-names_begin_without_dot text script is x =
-    let tree = is.are_script in
-    let w = wide-is-parsed text is.tokens tree.wide (names_begin text is.tokens is.are_tokens) tree.are_wide in
-    undotted x (stms_from tree.wide) script w tree.is_narrow
+names_begin_without_dot text script is x = names_begin_as_such text script is (dot ∷ x) refl refl
 
 pub scripts_of_texts_are_read : {V : Type 0} → ScriptsOfTextsAreRead V
 scripts_of_texts_are_read null text script object is blocks =

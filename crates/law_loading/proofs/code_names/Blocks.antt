@@ -1,33 +1,26 @@
 -- The code of a supported script names its blocks.
-use Rattle.std.proofs.Common.{◌≡◌, ◌∙◌, ◌+◌, ℕ, zero, suc, Bool, true, false, if◌then◌else◌, List, [], ◌∷◌, ◌++◌, length, map, Option, Some, None, refl, sym, ap, subst, arith}
+use Rattle.std.proofs.Common.{◌≡◌, ◌∙◌, ◌+◌, ℕ, zero, suc, Bool, true, false, List, [], ◌∷◌, ◌++◌, length, map, Option, Some, None, refl, sym, ap, subst, arith}
 use Rattle.std.specs.Prelude.{slice_get}
 use Rattle.std.specs.List.{AllByRecursion}
 use Rattle.std.proofs.lemmas.List.{length-map, length-append}
 use Rattle.pt_tree.specs.Syntax.{Stms}
-use Rattle.pt_tree.specs.Blocks as B
-use Rattle.pt_tree.specs.Blocks.{Block, Code as BlockCode, blocks_script, yields}
+use Rattle.pt_tree.specs.Blocks.{Block, blocks_script}
 use Rattle.pt_wide.specs.Syntax as wide
 use Rattle.pt_instr.specs.declared.Instr.{Instr}
 use Rattle.pt_instr.specs.declared.Instr.TheVariants as instr
 use Rattle.pt_heap.specs.declared.value.Value.{Value}
 use Rattle.pt_heap.specs.declared.value.Value.TheVariants as value
-use Rattle.sem_control.specs.control.Turn as T
 use Rattle.sem_names.specs.Around.{names_of}
-use Rattle.pt_code.specs.declared.BlockKind.TheVariants as kind
 use Rattle.pt_code.specs.View.{Ins, laid_from}
 use Rattle.pt_code.proofs.OneView.{one_view}
 use Rattle.sem_code.specs.slots.CodeObject.{CodeObject, Pool}
-use Rattle.sem_code.specs.slots.BlockObject.{free_in, scope_of}
+use Rattle.sem_code.specs.slots.BlockObject.{free_in}
 use Rattle.pt_assembler.specs.Layout.{instrs_of}
-use Rattle.law_typed_pieces.specs.law_operands.law_files.sem_compile.compile.ScriptCode.{BlockLayout, code_block, code_of, kind_of, script_layouts}
-use Rattle.law_typed_pieces.specs.law_operands.law_files.sem_compile.compile.Laws.{IsLayoutIn}
-use Rattle.law_typed_pieces.proofs.law_operands.law_files.sem_compile.compile.Blocks.{as_many_blocks, blocks_are_laid_out}
+use Rattle.law_typed_pieces.specs.law_operands.law_files.sem_compile.compile.ScriptCode.{BlockLayout, code_block, code_of, script_layouts}
+use Rattle.law_typed_pieces.proofs.law_operands.law_files.sem_compile.compile.Blocks.{as_many_blocks}
 use Rattle.law_front.proofs.script_numbers.Scripts.{numbered}
 use Rattle.law_compile.specs.script_objects.Laws.{HasCode}
 use Rattle.pt_builtins.specs.pt_host.Calls.{module_names, module_world}
-use Rattle.pt_supported.specs.Built.{Built}
-use Rattle.pt_supported.specs.Laws.{is_class_code}
-use Rattle.pt_supported.proofs.Silent.{built_blocks_are_no_classes}
 use Rattle.law_names.proofs.module_names.Classes.{module_has_no_frees}
 use Rattle.law_compile.specs.script_runs.Blocks.{number_of, number_or_module, the_module}
 use Rattle.law_compile.specs.script_runs.ProgramBlocks.{program_code, text_of}
@@ -42,26 +35,11 @@ use Rattle.law_frames.specs.RunNames.{StoresHaveNames}
 use Rattle.law_frames.specs.Operands.{CodeNamesItsBlocks, OperandsNameIn}
 use Rattle.law_frames.proofs.Runs.{reached_has_names}
 use Rattle.law_frames.proofs.Start.{begins_with_names}
-use Rattle.law_loading.specs.code_names.Laws.{AreBuilt, SupportedCodeNamesItsBlocks, SupportedCodeRunsWithItsNames}
+use Rattle.law_loading.specs.code_names.Laws.{SupportedCodeNamesItsBlocks, SupportedCodeRunsWithItsNames}
 use Rattle.law_loading.proofs.code_names.Instructions.{TakesAsNamed, all-take, laid-is, mapped-at, operands-name, seen-names, within_of}
 
 mapped-count : {A B : Type 0} (f : A → B) (xs : List A) (ys : List B) → map f xs ≡ ys → length xs ≡ length ys
 mapped-count f xs ys e = sym (length-map xs f) ∙ ap length e
-
-no-class : (c : BlockCode) → is_class_code c ≡ false → scope_of (kind_of c) ≡ T.global
-no-class (B.of_module ss) e = refl
-no-class (B.of_function ss) e = by (yields (B.of_function ss))
-  where
-    by : (t : Bool) → scope_of (if t then kind.Generator else kind.Function) ≡ T.global
-    by true = refl
-    by false = refl
-no-class (B.of_class ss) e = absurd (let no : true ≡ false = e in cc)
-no-class (B.of_lambda l e) h = by (yields (B.of_lambda l e))
-  where
-    by : (t : Bool) → scope_of (if t then kind.Generator else kind.Function) ≡ T.global
-    by true = refl
-    by false = refl
-no-class (B.of_generator l e k t cs) h = refl
 
 -- by lists that have as many names
 renamed : (locals cells : ℕ) (f g : ℕ → ℕ) → ((l : ℕ) → f l ≡ g l) → (i : Instr) → OperandsNameIn locals cells f i → OperandsNameIn locals cells g i
@@ -78,7 +56,7 @@ some-same : {A : Type 0} (a b : A) → Some a ≡ Some b → a ≡ b
 some-same a b e = cc
 
 -- of a script, by objects of its blocks
-module _ (script : wide.Stms) (ss : Stms) (ready : IsLoadable script ss) (built : Built ss) (own : ℕ → CodeObject Value)
+module _ (script : wide.Stms) (ss : Stms) (ready : IsLoadable script ss) (own : ℕ → CodeObject Value)
     (of_blocks : (n : ℕ) (k : Block) → slice_get (blocks_script ss) n ≡ Some k → HasCode value.None ss n k (own n)) where
   -- of a block with its object
   module _ (n : ℕ) (k : Block) (h : HasCode value.None ss n k (own n)) where
@@ -126,13 +104,6 @@ module _ (script : wide.Stms) (ss : Stms) (ready : IsLoadable script ss) (built 
         (subst (λ k. P (length (names_of ss n).locals) k) cells-count (subst (λ m. P m (length (code_block b).cells + length
         (code_block b).free)) locals-count raw))
 
-    pub scope : object.pool.name_scope ≡ T.global
-    scope =
-        let laid : IsLayoutIn ss n b = blocks_are_laid_out ss n b h.is_layout in
-        let kind_is : (code_block b).kind ≡ kind_of k.code =
-        ap (λ (c : BlockLayout). c.heading.kind) laid.is ∙ ap (λ (j : Block). kind_of j.code) (some-same laid.block k (sym laid.is_block ∙ h.is_block)) in
-        ap (λ (p : Pool). p.name_scope) h.is_object.pool ∙ (ap scope_of kind_is ∙ no-class k.code (built_blocks_are_no_classes ss built n k h.is_block))
-
     pub captures : (m : ℕ) → object.pool.captures m ≡ free_in (slice_get (code_of ss).blocks m)
     captures m = ap (λ (p : Pool). p.captures m) h.is_object.pool
 
@@ -154,10 +125,6 @@ module _ (script : wide.Stms) (ss : Stms) (ready : IsLoadable script ss) (built 
   operands-by (Some k) n e = operands n k (of_blocks n k e)
   operands-by None n e = operands 0 the_block module-code
 
-  pub scope-by : (o : Option Block) (n : ℕ) → slice_get (blocks_script ss) n ≡ o → (own (number_or_module o n)).pool.name_scope ≡ T.global
-  scope-by (Some k) n e = scope n k (of_blocks n k e)
-  scope-by None n e = scope 0 the_block module-code
-
   pub captures-by : (o : Option Block) (n : ℕ) → slice_get (blocks_script ss) n ≡ o → (m : ℕ)
       → (own (number_or_module o n)).pool.captures m ≡ free_in (slice_get (code_of ss).blocks m)
   captures-by (Some k) n e = captures n k (of_blocks n k e)
@@ -169,44 +136,39 @@ module _ (script : wide.Stms) (ss : Stms) (ready : IsLoadable script ss) (built 
   frees-by None n e = ap free_in (none-there (code_of ss).blocks (blocks_script ss) n (as_many_blocks ss) e) ∙ ap length (sym (module_has_no_frees ss))
 
 -- of a prelude and of a script over it
-module _ (first script : wide.Stms) (prelude ss : Stms) (l : Loaded) (ready : AreLoadable first script prelude ss) (built : AreBuilt prelude ss)
+module _ (first script : wide.Stms) (prelude ss : Stms) (l : Loaded) (ready : AreLoadable first script prelude ss)
     (t : HasTables prelude ss l) where
   abbrev At : (hidden : Bool) → (b : BlockId) → Type 0
   At hidden b = let n = number_of (text_of prelude ss hidden) b in
       ((pc : ℕ) (i : Ins) → (t.object hidden n).at pc ≡ Some i
       → OperandsNameIn (length (names_of (text_of prelude ss hidden) n).locals)
       (length ((names_of (text_of prelude ss hidden) n).cells ++ (names_of (text_of prelude ss hidden) n).frees)) (λ k. length ((t.object hidden n).pool.texts k)) i.instr)
-      × (((t.object hidden n).pool.name_scope ≡ T.global)
       × ((m : ℕ) → (t.object hidden n).pool.captures m
-      ≡ length (names_of (text_of prelude ss hidden) (number_or_module (slice_get (blocks_script (text_of prelude ss hidden)) m) m)).frees))
+      ≡ length (names_of (text_of prelude ss hidden) (number_or_module (slice_get (blocks_script (text_of prelude ss hidden)) m) m)).frees)
 
-  at_side : (script : wide.Stms) (hidden : Bool) → IsLoadable script (text_of prelude ss hidden) → Built (text_of prelude ss hidden) → (b : BlockId) → At hidden b
-  at_side script hidden ready built b =
+  at_side : (script : wide.Stms) (hidden : Bool) → IsLoadable script (text_of prelude ss hidden) → (b : BlockId) → At hidden b
+  at_side script hidden ready b =
       let ts = text_of prelude ss hidden in
       let o = slice_get (blocks_script ts) b.number in (
-        operands-by script ts ready built (t.object hidden) (t.of_blocks hidden) o b.number refl,
-        (
-          scope-by script ts ready built (t.object hidden) (t.of_blocks hidden) o b.number refl,
-          λ m. captures-by script ts ready built (t.object hidden) (t.of_blocks hidden) o b.number refl m
-              ∙ frees-by script ts ready built (t.object hidden) (t.of_blocks hidden) (slice_get (blocks_script ts) m) m refl,
-        ),
+        operands-by script ts ready (t.object hidden) (t.of_blocks hidden) o b.number refl,
+        λ m. captures-by script ts ready (t.object hidden) (t.of_blocks hidden) o b.number refl m
+            ∙ frees-by script ts ready (t.object hidden) (t.of_blocks hidden) (slice_get (blocks_script ts) m) m refl,
       )
 
   at_both : (hidden : Bool) (b : BlockId) → At hidden b
-  at_both true b = at_side first true ready.prelude_is built.prelude_is b
-  at_both false b = at_side script false ready.script_is built.script_is b
+  at_both true b = at_side first true ready.prelude_is b
+  at_both false b = at_side script false ready.script_is b
 
   names-blocks : CodeNamesItsBlocks (program_of prelude ss) (program_code prelude ss t.object)
   names-blocks = record {
     operands = λ b. (at_both b.hidden b).0;
     names = λ b. t.tables.names b;
     extras = λ b. t.tables.extras b;
-    scopes = λ b. (at_both b.hidden b).1.0;
-    captures = λ b m. (at_both b.hidden b).1.1 m;
+    captures = λ b m. (at_both b.hidden b).1 m;
   }
 
 pub code_names_blocks : SupportedCodeNamesItsBlocks
-code_names_blocks first script prelude ss l ready built t = names-blocks first script prelude ss l ready built t
+code_names_blocks first script prelude ss l ready t = names-blocks first script prelude ss l ready t
 
 -- the run of the module begins with its names
 pub module_begins : (prelude ss : Stms) → StoresHaveNames (program_of prelude ss) the_module
@@ -214,6 +176,6 @@ pub module_begins : (prelude ss : Stms) → StoresHaveNames (program_of prelude 
 module_begins prelude ss = begins_with_names (program_of prelude ss) (module_has_no_frees ss)
 
 pub runs_with_names : SupportedCodeRunsWithItsNames
-runs_with_names first script prelude ss l ready built t n s r =
-    reached_has_names (program_of prelude ss) (program_code prelude ss t.object) (names-blocks first script prelude ss l ready built t) n the_module
+runs_with_names first script prelude ss l ready t n s r =
+    reached_has_names (program_of prelude ss) (program_code prelude ss t.object) (names-blocks first script prelude ss l ready t) n the_module
     (module_names (program_of prelude ss)) (module_world (program_of prelude ss)) (module_begins prelude ss) s r

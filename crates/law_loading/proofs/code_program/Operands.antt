@@ -8,7 +8,6 @@ use Rattle.pt_instr.specs.declared.Instr.{Instr}
 use Rattle.pt_instr.specs.declared.Instr.TheVariants as instr
 use Rattle.pt_instr.specs.Encoding.{encoding, Fits as InstrFits, code_of}
 use Rattle.pt_heap.specs.declared.value.Value.{Value}
-use Rattle.sem_control.specs.control.Turn as T
 use Rattle.pt_code.specs.declared.BlockKind.{BlockKind}
 use Rattle.pt_code.specs.declared.BlockKind.TheVariants as kind
 use Rattle.pt_code.specs.declared.CodeBlock.{CodeBlock}
@@ -19,13 +18,13 @@ use Rattle.pt_code.specs.File.{AreBelow, NamesAll, may_be_free, naming, inside, 
 use Rattle.pt_code.specs.View.{Ins, IsView, ins_at, laid_from}
 use Rattle.pt_code.proofs.OneView.{one_view}
 use Rattle.sem_code.specs.slots.CodeObject.{CodeObject, Pool}
-use Rattle.sem_code.specs.slots.BlockObject.{free_in, pool_of, scope_of, text_in}
+use Rattle.sem_code.specs.slots.BlockObject.{free_in, pool_of, text_in}
 use Rattle.pt_code_loader.specs.pt_code_tables.pt_machine_state.pt_code_facts.Facts.{facts_of, facts_view, named_texts}
 use Rattle.pt_code_loader.proofs.pt_code_tables.pt_machine_state.pt_code_facts.NameLemmas.{facts_know_names}
 use Rattle.pt_code_loader.specs.pt_code_tables.pt_machine_state.pt_code_facts.sem_rows.variables.Numbers.{KnowsNames}
 use Rattle.law_frames.specs.Operands.{CodeNamesItsBlocks, OperandsName, OperandsNameIn}
 use Rattle.law_frames.proofs.Start.{begins_with_names}
-use Rattle.pt_supported_code.specs.Built.{TakesAsListed, is_plain_kind}
+use Rattle.pt_supported_code.specs.Built.{TakesAsListed}
 use Rattle.pt_supported_code.proofs.BlockLemmas.{fields_of}
 use Rattle.law_loading.proofs.loaded_scripts.Lists.{same_some}
 use Rattle.law_loading.specs.code_program.CodeProgram.{AreObjectsOf, code_blocks, code_in, facts_by, number_in, number_or_module, program_of_code}
@@ -66,13 +65,6 @@ module _ (within : Within) (lists : List (List ℕ)) (count : ℕ → ℕ) (coun
   operands_name (instr.PushCell x) h t = h.0.1
   operands_name (instr.MakeFunction b n l) h t = t ∙ sym (counted l.0)
   operands_name i h t = tt
-
-plain_scope : (k : BlockKind) → is_plain_kind k ≡ true → scope_of k ≡ T.global
-plain_scope kind.Module e = refl
-plain_scope kind.Function e = refl
-plain_scope kind.Generator e = absurd (false≢true e)
-plain_scope kind.Class e = absurd (false≢true e)
-plain_scope kind.GeneratorExpression e = absurd (false≢true e)
 
 no_items : {A : Type 0} (xs : List A) → length xs ≡ 0 → xs ≡ []
 no_items [] e = refl
@@ -141,9 +133,6 @@ module _ (c : Code) (ready : IsRunnable c) where
           (facts_know_names c b (object n) (are.of_blocks n b is).pool)
       names_at None q = absurd (let no : None ≡ Some b = sym q ∙ is in cc)
 
-      scope_is : (object n).pool.name_scope ≡ T.global
-      scope_is = ap (λ (p : Pool). p.name_scope) (are.of_blocks n b is).pool ∙ plain_scope b.kind (ready.built n b is).is_plain
-
     captures_by : (o : Option CodeBlock) (m : ℕ) → slice_get c.blocks m ≡ o → free_in o ≡ length (facts_by c.texts (slice_get c.blocks (number_or_module o m))).frees
     captures_by (Some a) m e =
         sym (ap (λ (x : Option CodeBlock). length (facts_by c.texts x).frees) e ∙ length-map a.free (λ x. text_in c.texts x.0))
@@ -157,9 +146,6 @@ module _ (c : Code) (ready : IsRunnable c) where
 
     names_by : (m : ℕ) → KnowsNames (object (number_in c m)) (facts_by c.texts (slice_get c.blocks (number_in c m)))
     names_by m = let a = at_number c ready.has_file m in let n = number_in c m in names_at n a.0 a.1 (slice_get c.blocks n) refl
-
-    scopes_by : (m : ℕ) → (object (number_in c m)).pool.name_scope ≡ T.global
-    scopes_by m = let a = at_number c ready.has_file m in scope_is (number_in c m) a.0 a.1
 
     captured_by : (m k : ℕ) → (object (number_in c m)).pool.captures k ≡ length (facts_by c.texts (slice_get c.blocks (number_in c k))).frees
     captured_by m k =
@@ -178,7 +164,6 @@ module _ (prelude c : Code) (object : (hidden : Bool) → ℕ → CodeObject Val
     operands = λ b pc i e. operands_by (code_in prelude c b.hidden) (runnable b.hidden) (object b.hidden) (are b.hidden) b.number pc i e;
     names = λ b. names_by (code_in prelude c b.hidden) (runnable b.hidden) (object b.hidden) (are b.hidden) b.number;
     extras = λ b. (are b.hidden).extras (number_in (code_in prelude c b.hidden) b.number);
-    scopes = λ b. scopes_by (code_in prelude c b.hidden) (runnable b.hidden) (object b.hidden) (are b.hidden) b.number;
     captures = λ b m. captured_by (code_in prelude c b.hidden) (runnable b.hidden) (object b.hidden) (are b.hidden) b.number m;
   }
 

@@ -31,7 +31,7 @@ use Rattle.law_loading.specs.code_program.CodeProgram.{AreObjectsOf, code_blocks
 use Rattle.law_loading.specs.code_program.Laws.{IsRunnable, BuiltCodeIsNeverStuck}
 use Rattle.law_loading.proofs.code_program.Objects.{at_number, begins}
 
--- neither a function nor a module gives a value on or begins with an iterator
+-- neither a module nor a function or the body of a class gives a value on or begins with an iterator
 record IsPlain (k : BlockKind) : Type 0 where
   silent : may_yield k ≡ false
   starts : kinds_at_start k ≡ []
@@ -41,7 +41,7 @@ is_plain : (k : BlockKind) → is_plain_kind k ≡ true → IsPlain k
 is_plain kind.Module e = record { silent = refl; starts = refl; iterates = refl }
 is_plain kind.Function e = record { silent = refl; starts = refl; iterates = refl }
 is_plain kind.Generator e = absurd (false≢true e)
-is_plain kind.Class e = absurd (false≢true e)
+is_plain kind.Class e = record { silent = refl; starts = refl; iterates = refl }
 is_plain kind.GeneratorExpression e = absurd (false≢true e)
 
 module _ (prelude c : Code) (object : (hidden : Bool) → ℕ → CodeObject Value) (first : IsRunnable prelude) (ready : IsRunnable c)

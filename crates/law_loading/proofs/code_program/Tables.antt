@@ -3,8 +3,6 @@ use Rattle.std.proofs.Common.{◌≡◌, ℕ, Bool, false, true, List, Option, S
 use Rattle.std.specs.Prelude.{slice_get}
 use Rattle.pt_tree.specs.Syntax.{Name}
 use Rattle.std.specs.List.{IsDistinct}
-use Rattle.std.specs.Str.{bytes_eq}
-use Rattle.std.proofs.lemmas.List.{map-append}
 use Rattle.std.proofs.lemmas.Bool.{false≢true}
 use Rattle.pt_heap.specs.declared.value.Value.{Value}
 use Rattle.pt_code.specs.declared.BlockKind.{BlockKind}
@@ -14,7 +12,7 @@ use Rattle.pt_code.specs.declared.Code.{Code}
 use Rattle.pt_code.specs.File.{stands_first}
 use Rattle.pt_code.specs.View.{IsView}
 use Rattle.sem_code.specs.slots.CodeObject.{CodeObject}
-use Rattle.sem_code.specs.slots.BlockObject.{IsBlockObject, pool_of, text_in}
+use Rattle.sem_code.specs.slots.BlockObject.{IsBlockObject, pool_of}
 use Rattle.sem_fits.specs.fits.Block.{block_of}
 use Rattle.sem_fits.specs.fits.Fits.{Fits}
 use Rattle.sem_fits.proofs.fits.ViewLaid.{view_is_laid}
@@ -124,9 +122,9 @@ module _ (c : Code) (hidden : Bool) (ts : List Name) (s : Side) (ready : IsRunna
   different n (Some b) e =
       let built = ready.built n b e in record {
         locals = built.locals;
-        cells = subst (IsDistinct bytes_eq) (map-append (λ x. text_in c.texts x.0) b.cells b.free) built.cells;
+        cells = (built.cells, built.free);
       }
-  different n None e = record { locals = tt; cells = tt }
+  different n None e = record { locals = tt; cells = (tt, tt) }
 
 -- of a prelude and of a code over it
 module _ (prelude c : Code) (l : Loaded) (first : IsRunnable prelude) (ready : IsRunnable c) (loaded : IsLoadedProgram prelude c l) where

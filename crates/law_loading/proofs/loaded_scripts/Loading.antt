@@ -190,7 +190,8 @@ module _ (script : wide.Stms) (ss : Stms) (hidden : Bool) (ts : List Name) (s : 
 different : (script : wide.Stms) (ss : Stms) → IsLoadable script ss → (b : BlockId) → HasDifferentNames (facts_at ss b)
 different script ss ready b =
     let n = number_or_module (slice_get (blocks_script ss) b.number) b.number in
-    record { locals = locals_are_different ss n; cells = ready.cells_are_different n }
+    let d = ready.cells_are_different n in
+    record { locals = locals_are_different ss n; cells = (d.cells, d.frees) }
 
 -- of a prelude and of a script over it
 module _ (first script : wide.Stms) (prelude ss : Stms) (l : Loaded) (ready : AreLoadable first script prelude ss)

@@ -67,7 +67,7 @@ kind_scope kind.GeneratorExpression = refl
 
 -- operations that no tree asks for leave the profile
 abbrev heap_extras : Extras
-heap_extras = record { tuple_join = T.class 0; dict_merge = T.class 0; super = T.class 0 }
+heap_extras = record { tuple_join = T.generator 0; dict_merge = T.generator 0; super = T.generator 0 }
 
 -- an object over the values of the heap
 abbrev pub object_with : Pool → (view : ℕ → Option Ins) → (depth_at : ℕ → ℕ) → CodeObject Value

@@ -10,7 +10,6 @@ use Rattle.pt_builtins.specs.pt_host.HeapHost.{heap_host}
 use Rattle.pt_bare_runs.specs.Strides as bare
 use Rattle.pt_bare_runs.specs.Laws.{Reaches}
 use Rattle.sem_code_machine.specs.code_machine.CodeBlocks.{machine}
-use Rattle.pt_supported.specs.Built.{Built}
 use Rattle.law_compile.specs.script_runs.Blocks.{the_module}
 use Rattle.law_compile.specs.script_runs.ProgramBlocks.{program_code}
 use Rattle.law_loading.specs.script_program.ScriptProgram.{program_of}
@@ -19,17 +18,12 @@ use Rattle.law_loading.specs.loaded_scripts.Laws.{AreLoadable, HasTables}
 use Rattle.law_frames.specs.RunNames.{RunHasNames}
 use Rattle.law_frames.specs.Operands.{CodeNamesItsBlocks}
 
--- both are supported
-pub record AreBuilt (prelude ss : Stms) : Type 0 where
-  pub prelude_is : Built prelude
-  pub script_is : Built ss
-
 abbrev pub SupportedCodeNamesItsBlocks : Type 0
-SupportedCodeNamesItsBlocks = (first script : wide.Stms) (prelude ss : Stms) (l : Loaded) → AreLoadable first script prelude ss → AreBuilt prelude ss
+SupportedCodeNamesItsBlocks = (first script : wide.Stms) (prelude ss : Stms) (l : Loaded) → AreLoadable first script prelude ss
     → (t : HasTables prelude ss l) → CodeNamesItsBlocks (program_of prelude ss) (program_code prelude ss t.object)
 
 abbrev pub SupportedCodeRunsWithItsNames : Type 0
-SupportedCodeRunsWithItsNames = (first script : wide.Stms) (prelude ss : Stms) (l : Loaded) → AreLoadable first script prelude ss → AreBuilt prelude ss
+SupportedCodeRunsWithItsNames = (first script : wide.Stms) (prelude ss : Stms) (l : Loaded) → AreLoadable first script prelude ss
     → (t : HasTables prelude ss l) → (n : ℕ) (s : bare.State (State Value) Names Value World)
     → Reaches (machine (program_code prelude ss t.object)) (heap_host (program_of prelude ss)) n
     (bare.start (machine (program_code prelude ss t.object)) (heap_host (program_of prelude ss)) the_module (module_names (program_of prelude ss))

@@ -1,7 +1,5 @@
 -- When tables made of the code of a prelude and of a script over it are those of both.
-use Rattle.std.specs.Prelude.{◌≡◌, ◌<◌, ◌++◌, ℕ, Bool, true, false, List, length, slice_get, Some, None}
-use Rattle.std.specs.List.{IsDistinct}
-use Rattle.std.specs.Str.{bytes_eq}
+use Rattle.std.specs.Prelude.{◌≡◌, ◌<◌, ℕ, Bool, true, false, List, length, slice_get, Some, None}
 use Rattle.pt_tree.specs.declared.expression.Constant.TheVariants as constant
 use Rattle.pt_tree.specs.Syntax.{Stms}
 use Rattle.pt_tree.specs.Blocks.{Block, blocks_script}
@@ -21,6 +19,7 @@ use Rattle.law_compile.specs.formed_scripts.Wide as formed
 use Rattle.law_compile.specs.script_objects.Laws.{HasCode}
 use Rattle.law_compile.specs.script_runs.ProgramBlocks.{program_code, text_of}
 use Rattle.law_compile.specs.read_runs.Laws.{IsReadWith}
+use Rattle.law_supported.specs.Laws.{CellsDiffer}
 use Rattle.pt_code_loader.specs.pt_code_tables.Tables.{AreTablesOf}
 use Rattle.pt_code_loader.specs.declared.loading.Loaded.{Loaded}
 use Rattle.pt_code_loader.specs.Loaded.{IsLoadedProgram}
@@ -28,7 +27,8 @@ use Rattle.law_loading.specs.script_program.ScriptProgram.{program_of}
 use Rattle.law_loading.specs.script_program.Laws.{BlocksHaveTheirNames}
 
 -- a script that a wide tree is, which the parser gives, without a fault in its declarations. No name is `.class`, which isn't an identifier; counts and
--- numbers of the code fit, as those of cells do with free names; and code has the names that blocks are said to have, of which those of cells are different
+-- numbers of the code fit, as those of cells do with free names; and code has the names that blocks are said to have, of which those of cells are
+-- different, and so are free ones
 pub record IsLoadable (script : wide.Stms) (ss : Stms) : Type 0 where
   pub is_script : narrow_script script ≡ Some ss
   pub is_formed : formed.StmsFormed script
@@ -37,7 +37,7 @@ pub record IsLoadable (script : wide.Stms) (ss : Stms) : Type 0 where
   pub numbers_fit : NumbersFit (code_of ss)
   pub cells_fit : CellsFit (code_of ss)
   pub names : BlocksHaveTheirNames ss
-  pub cells_are_different : (n : ℕ) → IsDistinct bytes_eq ((names_of ss n).cells ++ (names_of ss n).frees)
+  pub cells_are_different : (n : ℕ) → CellsDiffer (names_of ss n)
 
 -- objects of the code of a prelude and of a script over it, which has a run as these have one; the tables are those of the program and of its code, and its
 -- texts are the program's

@@ -1,4 +1,4 @@
-use Rattle.std.proofs.Common.{◌≡◌, Err, inl, refl, subst, arith}
+use Rattle.std.proofs.Common.{inl, refl, subst, arith}
 use Rattle.pt_base.specs.Failures.{IfRefused}
 use Rattle.pt_sinks.proofs.WritingLemmas.{took_nothing}
 use Rattle.pt_tree.specs.StatementFold.{script_of}

@@ -1,4 +1,4 @@
-use Rattle.std.proofs.Common.{◌≡◌, refl, sym, subst}
+use Rattle.std.proofs.Common.{subst}
 use Rattle.pt_tree.specs.StatementFold.{script_of}
 use Rattle.pt_run_script.specs.ScriptRun.{ScriptBrokeOff, ScriptFinished}
 use Rattle.pt_words.specs.Asked.{asked}

@@ -1,7 +1,7 @@
 use Rattle.pt_tree.specs.StatementFold.{script_of}
 use Rattle.pt_sinks.specs.declared.writing.WriteErr.TheVariants as error
 use Rattle.pt_run_code.proofs.pt_runner.AdvanceLemmas.{if_err}
-use Rattle.pt_run_script.proofs.JoinLemmas.{IsCompiled, code_run, is_ready, all_finished, all_broke_off, has_its_module}
+use Rattle.pt_run_script.proofs.JoinLemmas.{code_run, is_ready, all_finished, all_broke_off, has_its_module}
 use Rattle.pt_run_script.proofs.RunLemmas.{broke_off_at_once}
 use Rattle.pt_run_script.proofs.run.run_script.Goals as goal
 

@@ -1,7 +1,7 @@
 use Rattle.std.proofs.Common.{sym, ap, inl, inr, arith}
 use Rattle.std.proofs.lemmas.Grind.{common_steps}
-use Rattle.pt_tree.proofs.Folds.{exp_of-Attribute, exp_of-DictComprehension, exp_of-Generator, exp_of-ListComprehension, exp_of-SetComprehension, exp_of-Slice, exp_of-Yield, exp_of-YieldFrom, clause_of-parts, place_node_of-Attribute, target_of-Starred}
-use Rattle.pt_supported.specs.Built.{unbuilt_exp, unbuilt_place, unbuilt_target}
+use Rattle.pt_tree.proofs.Folds.{exp_of-DictComprehension, exp_of-Generator, exp_of-ListComprehension, exp_of-SetComprehension, exp_of-Slice, exp_of-Yield, exp_of-YieldFrom, clause_of-parts}
+use Rattle.pt_supported.specs.Built.{unbuilt_exp}
 use Rattle.pt_supported.proofs.Walk.{or-assoc, arguments-first, clause-is, clauses-first, entries-first, formals-first, links-first, pieces-first}
 use Rattle.pt_supported.proofs.expressions.+expressions.Goals as goal
 
@@ -62,9 +62,6 @@ unbuilt_clauses-returns-then-is_some t c = grind (arith, common_steps, or-assoc,
 
 pub unbuilt_clauses-loop-clause-preserved : goal.unbuilt_clauses-loop-clause-preserved
 unbuilt_clauses-loop-clause-preserved t c = grind (arith, common_steps, or-assoc, clauses-first)
-
-pub unbuilt_place-returns-in-Attribute : goal.unbuilt_place-returns-in-Attribute
-unbuilt_place-returns-in-Attribute t c = sym (ap unbuilt_place (place_node_of-Attribute c.args.place.now c.args.line.0 _ _ c.in-Attribute.is))
 
 pub unbuilt_clause-returns : goal.unbuilt_clause-returns
 unbuilt_clause-returns t c = grind (arith, common_steps, clause_of-parts, clause-is)

@@ -1,6 +1,6 @@
-use Rattle.std.proofs.Common.{sym, ap, inl, inr, arith}
+use Rattle.std.proofs.Common.{sym, ap, arith}
 use Rattle.std.proofs.lemmas.Grind.{common_steps}
-use Rattle.pt_tree.proofs.StatementFolds.{branch_of-parts, stm_of-Annotated, stm_of-With, stm_of-Class, handler_of-parts}
+use Rattle.pt_tree.proofs.StatementFolds.{branch_of-parts, stm_of-Annotated, stm_of-With, handler_of-parts}
 use Rattle.pt_supported.specs.Built.{unbuilt_stm}
 use Rattle.pt_supported.proofs.Walk.{or-assoc}
 use Rattle.pt_supported.proofs.statements.+statements.Goals as goal
@@ -21,7 +21,4 @@ pub unbuilt_handlers-loop-handler-preserved : goal.unbuilt_handlers-loop-handler
 unbuilt_handlers-loop-handler-preserved t c = grind (arith, common_steps, or-assoc, handler_of-parts c.handler-item.result)
 
 pub unbuilt_statement-returns-in-With : goal.unbuilt_statement-returns-in-With
-unbuilt_statement-returns-in-With t c = elim c.in-With.is [
-  | inl (x0, x1, is) ↦ sym (ap unbuilt_stm (stm_of-With c.args.s.now x0 x1 is))
-  | inr (x0, x1, x2, x3, x4, x5, is) ↦ sym (ap unbuilt_stm (stm_of-Class c.args.s.now x0 x1 x2 x3 x4 x5 is))
-]
+unbuilt_statement-returns-in-With t c = sym (ap unbuilt_stm (stm_of-With c.args.s.now _ _ c.in-With.is))
