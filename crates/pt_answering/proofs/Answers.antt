@@ -34,7 +34,7 @@ use Rattle.pt_replying.specs.pt_turning.pt_telling.pt_transfers.pt_machine_state
 use Rattle.pt_replying.specs.pt_turning.pt_telling.pt_transfers.pt_machine_state.Blocks.{IsBlockOf}
 use Rattle.pt_replying.specs.pt_turning.pt_telling.pt_transfers.pt_machine_state.Views.{state_of, stores_of}
 use Rattle.pt_replying.specs.pt_turning.pt_telling.pt_transfers.pt_machine_state.Changes.{left_place}
-use Rattle.pt_transfers.proofs.pt_machine_state.LandLemmas.{landed-state}
+use Rattle.pt_replying.proofs.pt_turning.pt_telling.pt_transfers.pt_machine_state.LandLemmas.{landed-state}
 use Rattle.pt_replying.specs.pt_turning.pt_telling.pt_run_state.pt_purposes.declared.standing.Standing.{Standing}
 use Rattle.pt_replying.specs.pt_turning.pt_telling.pt_run_state.pt_purposes.declared.standing.Standing.TheVariants.{AtPlace, Reraises}
 use Rattle.pt_replying.specs.pt_turning.pt_telling.pt_run_state.pt_purposes.Seen.{block_of}
@@ -42,8 +42,8 @@ use Rattle.pt_replying.specs.pt_turning.pt_telling.pt_run_state.pt_purposes.Open
 use Rattle.pt_replying.specs.pt_turning.pt_telling.pt_run_state.declared.machine.Machine.{Machine as Held}
 use Rattle.pt_replying.specs.pt_turning.pt_telling.pt_run_state.Stands.{Stands, StandsAround}
 use Rattle.pt_replying.specs.pt_turning.pt_telling.Laws.{Comes}
-use Rattle.pt_turning.proofs.pt_telling.Asks.{writes-append}
-use Rattle.pt_turning.proofs.Turns.{around-at, settled-there}
+use Rattle.pt_replying.proofs.pt_turning.pt_telling.Asks.{writes-append}
+use Rattle.pt_replying.proofs.pt_turning.Turns.{around-at, settled-there}
 use Rattle.pt_replying.specs.pt_turning.Ways.{IsOfCode, rows_of, state_at}
 use Rattle.pt_replying.specs.pt_turning.Turning.{standing_of}
 use Rattle.pt_replying.specs.declared.replying.Decided.{Decided}
@@ -262,7 +262,7 @@ module _ {S : Type 0} (program : Program) (code : CodeBlocks Value) (machine : M
         let to = replied-so (at_pc next m) AtPlace q d st u (around-at program code machine embed ways is_of minds n (at_pc next m) (with_store st s) p (around-pc m next (with_store st s) is.around)) is.active_is is.is_act refl (tells-at (at_pc next m) AtPlace q d s p is.tells) block known
         (C.on i.next ss) (ap (λ k. C.on k ss) is.next_is) is.leads.1.1 in
         goes_on _ _ to.0 (comes-behind s u to.0 _ is.leads.1.0 to.1.0) to.1.1
-    by-row (progress.Calls b hidden ls) is = further _ _
+    by-row (progress.Calls b hidden ls why) is = further _ _
     by-row (progress.Raises e) is = further _ _
     by-row progress.RaisesAgain is = further _ _
     by-row (progress.Fails c a) is = further _ _

@@ -7,3 +7,4 @@ mod laws;
 
 pub use answering::{Answered, Asked, answer};
 pub use laws::answers_go_on_as_in_a_run;
+pub use pt_replying::Writes;

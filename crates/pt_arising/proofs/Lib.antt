@@ -1,1 +1,2 @@
 pub mod Arises
+pub use Rattle.pt_replying.proofs as pt_replying

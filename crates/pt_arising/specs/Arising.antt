@@ -5,12 +5,12 @@ use Rattle.std.specs.Prelude.{List, [], ◌∷◌, ◌++◌, Bool, true, false, 
 use Rattle.pt_heap.specs.declared.value.Value.{Value}
 use Rattle.pt_happenings.specs.declared.happening.Happening.{Happening}
 use Rattle.pt_happenings.specs.declared.happening.Happening.TheVariants.{Raises, RaisesFrom}
-use Rattle.pt_turning.specs.pt_telling.pt_transfers.pt_machine_state.declared.blocks.BlockCode.{BlockCode}
-use Rattle.pt_turning.specs.pt_telling.pt_run_state.pt_purposes.declared.purpose.Called.{Called}
-use Rattle.pt_turning.specs.pt_telling.pt_run_state.declared.machine.Machine.{Machine}
-use Rattle.pt_turning.specs.pt_telling.pt_run_state.declared.machine.Waiting.{Waiting}
-use Rattle.pt_turning.specs.pt_telling.Telling.{Told}
-use Rattle.pt_turning.specs.Turning.{raised_in, going}
+use Rattle.pt_replying.specs.pt_turning.pt_telling.pt_transfers.pt_machine_state.declared.blocks.BlockCode.{BlockCode}
+use Rattle.pt_replying.specs.pt_turning.pt_telling.pt_run_state.pt_purposes.declared.purpose.Called.{Called}
+use Rattle.pt_replying.specs.pt_turning.pt_telling.pt_run_state.declared.machine.Machine.{Machine}
+use Rattle.pt_replying.specs.pt_turning.pt_telling.pt_run_state.declared.machine.Waiting.{Waiting}
+use Rattle.pt_replying.specs.pt_turning.pt_telling.Telling.{Told}
+use Rattle.pt_replying.specs.pt_turning.Turning.{raised_in, going}
 use Rattle.pt_replying.specs.Replying.{told_on}
 
 -- behind a call, of an act alone

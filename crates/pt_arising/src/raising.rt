@@ -1,14 +1,13 @@
 //! An exception arises in place of a reply.
 ghost use Rattle.std.specs.Prelude.{◌≡◌, IfOk};
-ghost use Rattle.pt_turning.specs.pt_telling.pt_transfers.pt_machine_state.declared.machine.Standing.TheVariants as code;
+ghost use Rattle.pt_replying.specs.pt_turning.pt_telling.pt_transfers.pt_machine_state.declared.machine.Standing.TheVariants as code;
 ghost use Rattle.pt_arising.specs.Arising.{arisen, arising_told};
 
 use pt_base::{Memory, Seq};
 use pt_happenings::Happening;
 use pt_heap::Value;
 use pt_pendings::{Origin, Pending};
-use pt_replying::tell_on;
-use pt_turning::{BlockCode, Called, Machine, Waiting, below_top, land_raise};
+use pt_replying::{BlockCode, Called, Machine, Waiting, below_top, land_raise, tell_on};
 use std::alloc::Global;
 
 /// What is told of it.

@@ -53,10 +53,10 @@ module _ {S : Type 0} (program : Program) (machine : Machine S Value) (ways : Wa
   None_if [] os = os ≡ []
   None_if (e ∷ es) os = Unit {0}
 
-  none-if : (es : List Opener) (os : List (run.Opener S Names Value World))
-      → AreOpeners program machine ways m.hooks es os → None_if es os
-  none-if _ _ openers.none = refl
-  none-if _ _ (openers.more e o es os is rest) = tt
+  none-if : (above : BlockId) (es : List Opener) (os : List (run.Opener S Names Value World))
+      → AreOpeners program machine ways m.hooks above es os → None_if es os
+  none-if _ _ _ (openers.none above) = refl
+  none-if _ _ _ (openers.more above e o es os is rest) = tt
 
   -- what waits in the run is that end
   abbrev Ends_so : Pending → run.Pending S Value → Type 0
@@ -75,7 +75,7 @@ module _ {S : Type 0} (program : Program) (machine : Machine S Value) (ways : Wa
   module _ (s : Run) (around : StandsAround program machine ways m s) (alone : m.openers ≡ [])
       (block : BlockCode) (named : IsNamed program (block_of m.code.here) block) where
     none : s.openers ≡ []
-    none = subst (λ es. None_if es s.openers) alone (none-if m.openers s.openers around.openers)
+    none = subst (λ es. None_if es s.openers) alone (none-if (block_of m.code.here) m.openers s.openers around.openers)
 
     abbrev closing_by : T.End Value → Run
     closing_by e = at (run.closing e) s

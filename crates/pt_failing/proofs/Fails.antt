@@ -29,27 +29,27 @@ use Rattle.sem_run.specs.transitions.Successors as leads
 use Rattle.sem_steps.specs.Steps.{Steps, minded}
 use Rattle.sem_steps.proofs.Moves.{join}
 use Rattle.pt_openers.specs.Openers.{active_in}
-use Rattle.pt_turning.specs.pt_telling.pt_run_state.pt_purposes.sem_rows.pt_host.World.{Names, World, Stores, Program, Allotted, IsAllotted, allot, with_objects}
-use Rattle.pt_turning.specs.pt_telling.pt_run_state.pt_purposes.sem_rows.pt_host.Calls.{arguments_of}
-use Rattle.pt_turning.specs.pt_telling.pt_run_state.pt_purposes.sem_rows.pt_host.Errors.{arise_while, error, error_saying, object_place}
-use Rattle.pt_turning.specs.pt_telling.pt_run_state.pt_purposes.sem_rows.pt_host.Trees.{raise_with}
-use Rattle.pt_turning.specs.pt_telling.pt_run_state.pt_purposes.sem_rows.pt_host.HeapHost.{heap_host}
-use Rattle.pt_turning.specs.pt_telling.pt_run_state.pt_purposes.sem_rows.heap_rows.Leads.{by_tree, giving}
-use Rattle.pt_turning.specs.pt_telling.pt_run_state.pt_purposes.sem_rows.heap_rows.Views.{slots_view}
-use Rattle.pt_turning.specs.pt_telling.pt_run_state.pt_purposes.sem_rows.declared.heap_rows.progress.Progress.{Progress}
-use Rattle.pt_turning.specs.pt_telling.pt_run_state.pt_purposes.sem_rows.declared.heap_rows.progress.Progress.TheVariants as progress
-use Rattle.pt_turning.specs.pt_telling.pt_transfers.pt_machine_state.declared.blocks.BlockCode.{BlockCode}
-use Rattle.pt_turning.specs.pt_telling.pt_transfers.pt_machine_state.Blocks.{IsBlockOf}
-use Rattle.pt_turning.specs.pt_telling.pt_transfers.pt_machine_state.Views.{stores_of}
-use Rattle.pt_turning.specs.pt_telling.pt_run_state.pt_purposes.Seen.{block_of, active_of}
-use Rattle.pt_turning.specs.pt_telling.pt_run_state.pt_purposes.Openers.{Ways}
-use Rattle.pt_transfers.proofs.pt_machine_state.FailLemmas.{saying-heap}
-use Rattle.pt_turning.proofs.pt_telling.pt_run_state.pt_purposes.Seeing.{parts_tell}
-use Rattle.pt_turning.proofs.pt_telling.Around.{are-seen}
-use Rattle.pt_turning.specs.pt_telling.pt_run_state.declared.machine.Machine.{Machine as Held}
-use Rattle.pt_turning.specs.pt_telling.pt_run_state.Stands.{Stands, StandsAround}
-use Rattle.pt_turning.specs.pt_telling.Laws.{Comes}
-use Rattle.pt_turning.specs.Ways.{IsOfCode, rows_of, rows_at}
+use Rattle.pt_arising.specs.pt_replying.pt_turning.pt_telling.pt_run_state.pt_purposes.sem_rows.pt_host.World.{Names, World, Stores, Program, Allotted, IsAllotted, allot, with_objects}
+use Rattle.pt_arising.specs.pt_replying.pt_turning.pt_telling.pt_run_state.pt_purposes.sem_rows.pt_host.Calls.{arguments_of}
+use Rattle.pt_arising.specs.pt_replying.pt_turning.pt_telling.pt_run_state.pt_purposes.sem_rows.pt_host.Errors.{arise_while, error, error_saying, object_place}
+use Rattle.pt_arising.specs.pt_replying.pt_turning.pt_telling.pt_run_state.pt_purposes.sem_rows.pt_host.Trees.{raise_with}
+use Rattle.pt_arising.specs.pt_replying.pt_turning.pt_telling.pt_run_state.pt_purposes.sem_rows.pt_host.HeapHost.{heap_host}
+use Rattle.pt_arising.specs.pt_replying.pt_turning.pt_telling.pt_run_state.pt_purposes.sem_rows.heap_rows.Leads.{by_tree, giving}
+use Rattle.pt_arising.specs.pt_replying.pt_turning.pt_telling.pt_run_state.pt_purposes.sem_rows.heap_rows.Views.{slots_view}
+use Rattle.pt_arising.specs.pt_replying.pt_turning.pt_telling.pt_run_state.pt_purposes.sem_rows.declared.heap_rows.progress.Progress.{Progress}
+use Rattle.pt_arising.specs.pt_replying.pt_turning.pt_telling.pt_run_state.pt_purposes.sem_rows.declared.heap_rows.progress.Progress.TheVariants as progress
+use Rattle.pt_arising.specs.pt_replying.pt_turning.pt_telling.pt_transfers.pt_machine_state.declared.blocks.BlockCode.{BlockCode}
+use Rattle.pt_arising.specs.pt_replying.pt_turning.pt_telling.pt_transfers.pt_machine_state.Blocks.{IsBlockOf}
+use Rattle.pt_arising.specs.pt_replying.pt_turning.pt_telling.pt_transfers.pt_machine_state.Views.{stores_of}
+use Rattle.pt_arising.specs.pt_replying.pt_turning.pt_telling.pt_run_state.pt_purposes.Seen.{block_of, active_of}
+use Rattle.pt_arising.specs.pt_replying.pt_turning.pt_telling.pt_run_state.pt_purposes.Openers.{Ways}
+use Rattle.pt_arising.proofs.pt_replying.pt_turning.pt_telling.pt_transfers.pt_machine_state.FailLemmas.{saying-heap}
+use Rattle.pt_arising.proofs.pt_replying.pt_turning.pt_telling.pt_run_state.pt_purposes.Seeing.{parts_tell}
+use Rattle.pt_arising.proofs.pt_replying.pt_turning.pt_telling.Around.{are-seen}
+use Rattle.pt_arising.specs.pt_replying.pt_turning.pt_telling.pt_run_state.declared.machine.Machine.{Machine as Held}
+use Rattle.pt_arising.specs.pt_replying.pt_turning.pt_telling.pt_run_state.Stands.{Stands, StandsAround}
+use Rattle.pt_arising.specs.pt_replying.pt_turning.pt_telling.Laws.{Comes}
+use Rattle.pt_arising.specs.pt_replying.pt_turning.Ways.{IsOfCode, rows_of, rows_at}
 use Rattle.pt_arising.specs.Laws.{IsReplied}
 use Rattle.pt_arising.proofs.Arises.{arises_as_run}
 use Rattle.pt_failing.specs.declared.failing.Failed.{Failed}
@@ -58,7 +58,7 @@ use Rattle.pt_failing.specs.Failing.{FailedSo, context_of, with_heap, arisen_by,
 use Rattle.pt_failing.specs.Laws.{IsFailing, BehindFailure, goes_on, leaves, further, FailsAsRun}
 
 -- what is too much for a heap leaves the profile
-beyond-heap : (o : Object) (h : List Object) (what : What) → allot o h ≡ beyond what → what ≡ Heap
+pub beyond-heap : (o : Object) (h : List Object) (what : What) → allot o h ≡ beyond what → what ≡ Heap
 beyond-heap o h what e = by (nat_eq (length h) _) (next_object h) (h ++ o ∷ []) e
   where
     by : (b : Bool) (v : Value) (k : List Object)
@@ -147,7 +147,6 @@ module _ {S : Type 0} (program : Program) (code : CodeBlocks Value) (machine : M
         let is2 : IsReplied program code machine embed ways minds n (with_heap h m) (in_run embed q) f.called f.is_act f.active (with_store (with_objects h st) s) = record {
           around = around-heap h is.around;
           active_is = is.active_is;
-          decides = is.decides;
           told = is.tells;
           lands = λ w. ap embed
               (is.raises w
@@ -208,7 +207,7 @@ module _ {S : Type 0} (program : Program) (code : CodeBlocks Value) (machine : M
   fails (progress.Leaves how) is r new did = subst (BehindSo (progress.Leaves how) is) (sym did) (further _ _)
   fails (progress.Reraises e) is r new did = subst (BehindSo (progress.Reraises e) is) (sym did) (further _ _)
   fails (progress.Print t) is r new did = subst (BehindSo (progress.Print t) is) (sym did) (further _ _)
-  fails (progress.Calls b hidden ls) is r new did = subst (BehindSo (progress.Calls b hidden ls) is) (sym did) (further _ _)
+  fails (progress.Calls b hidden ls why) is r new did = subst (BehindSo (progress.Calls b hidden ls why) is) (sym did) (further _ _)
   fails progress.RaisesAgain is r new did = subst (BehindSo progress.RaisesAgain is) (sym did) (further _ _)
   fails progress.Lacks is r new did = subst (BehindSo progress.Lacks is) (sym did) (further _ _)
 

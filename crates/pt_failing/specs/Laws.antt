@@ -12,27 +12,27 @@ use Rattle.sem_run.specs.run.Machine.{Machine}
 use Rattle.sem_run.specs.run.Events.{Event}
 use Rattle.sem_run.specs.run.Host.{Host}
 use Rattle.sem_run.specs.run.State.{State, OpenAsk, with_store}
-use Rattle.sem_run.specs.run.Views.{here_of, visible_line}
+use Rattle.sem_run.specs.run.Views.{active, here_of, visible_line}
 use Rattle.sem_run.specs.run.Outcome as O
 use Rattle.sem_run.specs.run.Step.{step}
 use Rattle.sem_steps.specs.Steps.{minded}
-use Rattle.pt_turning.specs.pt_telling.pt_run_state.pt_purposes.sem_rows.pt_host.World.{Names, World, Program}
-use Rattle.pt_turning.specs.pt_telling.pt_run_state.pt_purposes.sem_rows.pt_host.HeapHost.{heap_host}
-use Rattle.pt_turning.specs.pt_telling.pt_run_state.pt_purposes.sem_rows.heap_rows.Views.{slots_view}
-use Rattle.pt_turning.specs.pt_telling.pt_run_state.pt_purposes.sem_rows.heap_rows.Told.{told}
-use Rattle.pt_turning.specs.pt_telling.pt_run_state.pt_purposes.sem_rows.declared.heap_rows.progress.Progress.{Progress}
-use Rattle.pt_turning.specs.pt_telling.pt_transfers.pt_machine_state.declared.blocks.BlockCode.{BlockCode}
-use Rattle.pt_turning.specs.pt_telling.pt_transfers.pt_machine_state.Blocks.{IsBlockOf}
-use Rattle.pt_turning.specs.pt_telling.pt_transfers.pt_machine_state.Views.{stores_of}
-use Rattle.pt_turning.specs.pt_telling.pt_run_state.pt_purposes.Seen.{block_of}
-use Rattle.pt_turning.specs.pt_telling.pt_run_state.pt_purposes.Asks.{TellsSo}
-use Rattle.pt_turning.specs.pt_telling.pt_run_state.pt_purposes.Openers.{Ways}
-use Rattle.pt_turning.specs.pt_telling.pt_run_state.declared.machine.Machine.{Machine as Held}
-use Rattle.pt_turning.specs.pt_telling.pt_run_state.Stands.{Stands, StandsAround}
-use Rattle.pt_turning.specs.pt_telling.Laws.{Comes}
+use Rattle.pt_arising.specs.pt_replying.pt_turning.pt_telling.pt_run_state.pt_purposes.sem_rows.pt_host.World.{Names, World, Program}
+use Rattle.pt_arising.specs.pt_replying.pt_turning.pt_telling.pt_run_state.pt_purposes.sem_rows.pt_host.HeapHost.{heap_host}
+use Rattle.pt_arising.specs.pt_replying.pt_turning.pt_telling.pt_run_state.pt_purposes.sem_rows.heap_rows.Views.{slots_view}
+use Rattle.pt_arising.specs.pt_replying.pt_turning.pt_telling.pt_run_state.pt_purposes.sem_rows.heap_rows.Told.{told}
+use Rattle.pt_arising.specs.pt_replying.pt_turning.pt_telling.pt_run_state.pt_purposes.sem_rows.declared.heap_rows.progress.Progress.{Progress}
+use Rattle.pt_arising.specs.pt_replying.pt_turning.pt_telling.pt_transfers.pt_machine_state.declared.blocks.BlockCode.{BlockCode}
+use Rattle.pt_arising.specs.pt_replying.pt_turning.pt_telling.pt_transfers.pt_machine_state.Blocks.{IsBlockOf}
+use Rattle.pt_arising.specs.pt_replying.pt_turning.pt_telling.pt_transfers.pt_machine_state.Views.{stores_of}
+use Rattle.pt_arising.specs.pt_replying.pt_turning.pt_telling.pt_run_state.pt_purposes.Seen.{block_of}
+use Rattle.pt_arising.specs.pt_replying.pt_turning.pt_telling.pt_run_state.pt_purposes.Openers.{Ways}
+use Rattle.pt_arising.specs.pt_replying.pt_turning.pt_telling.pt_run_state.declared.machine.Machine.{Machine as Held}
+use Rattle.pt_arising.specs.pt_replying.pt_turning.pt_telling.pt_run_state.Stands.{Stands, StandsAround}
+use Rattle.pt_arising.specs.pt_replying.pt_turning.pt_telling.Laws.{Comes}
 use Rattle.pt_failing.specs.declared.failing.Failed.{Failed}
 use Rattle.pt_failing.specs.declared.failing.Failed.TheVariants.{Goes, Leaves, Further}
 use Rattle.pt_failing.specs.declared.failing.Failing.{Failing}
+use Rattle.pt_arising.specs.Laws.{TellsRaise}
 use Rattle.pt_failing.specs.Failing.{FailsSo}
 
 module _ {S : Type 0} (program : Program) (code : CodeBlocks Value) (machine : Machine S Value)
@@ -50,8 +50,7 @@ module _ {S : Type 0} (program : Program) (code : CodeBlocks Value) (machine : M
       (f : Failing) (s : Run) : Type 0 where
     pub around : StandsAround program machine ways m (with_store (stores_of program m.code) s)
     pub active_is : machine.active s.here.state ≡ f.active
-    pub decides : Bool
-    pub tells : TellsSo (in_run embed q) f.called f.is_act decides
+    pub tells : TellsRaise (in_run embed q) f.called f.is_act (active machine s)
     pub there : (code.object (block_of m.code.here)).at m.code.here.pc.0 ≡ Some i
     pub below : Slots Value
     pub raises : (v : Value) → q.next (raised v)

@@ -1,16 +1,15 @@
 //! An instruction fails.
 ghost use Rattle.std.specs.Prelude.{◌≡◌, None, IfOk};
 ghost use Rattle.pt_arising.specs.Arising.{arisen};
-ghost use Rattle.pt_turning.specs.pt_telling.pt_run_state.pt_purposes.sem_rows.pt_host.Calls.{arguments_of};
-ghost use Rattle.pt_turning.specs.pt_telling.pt_run_state.pt_purposes.sem_rows.pt_host.Errors.{error, error_saying, object_place};
-ghost use Rattle.pt_turning.specs.pt_telling.pt_run_state.pt_purposes.sem_rows.pt_host.World.{allot};
-ghost use Rattle.pt_turning.specs.pt_telling.pt_transfers.pt_machine_state.declared.machine.Standing.TheVariants as code;
+ghost use Rattle.pt_arising.specs.pt_replying.pt_turning.pt_telling.pt_run_state.pt_purposes.sem_rows.pt_host.Calls.{arguments_of};
+ghost use Rattle.pt_arising.specs.pt_replying.pt_turning.pt_telling.pt_run_state.pt_purposes.sem_rows.pt_host.Errors.{error, error_saying, object_place};
+ghost use Rattle.pt_arising.specs.pt_replying.pt_turning.pt_telling.pt_run_state.pt_purposes.sem_rows.pt_host.World.{allot};
+ghost use Rattle.pt_arising.specs.pt_replying.pt_turning.pt_telling.pt_transfers.pt_machine_state.declared.machine.Standing.TheVariants as code;
 ghost use Rattle.pt_failing.specs.Failing.{FailsOf, FailsSo, context_of, failed_by, goes, raised_there};
 
-use pt_arising::arise;
+use pt_arising::{BlockCode, Called, Machine, arise};
 use pt_base::{Memory, ObjId, Seq, Text, What};
 use pt_heap::Value;
-use pt_telling::{BlockCode, Called, Machine};
 use sem_rows::heap_rows::Progress;
 use sem_rows::{allot, arise_while, error, error_saying};
 use std::alloc::Global;
@@ -35,8 +34,8 @@ pub struct Failing {
     pub active: Option<Value>,
 }
 
-/// The exception that is active in the run.
-fn context_of(machine: &Machine, active: Option<Value>) -> Option<Value>
+/// The exception that is active in the run, where this one is in the newest activation.
+pub fn context_of(machine: &Machine, active: Option<Value>) -> Option<Value>
     ensures { result ≡ context_of active machine.now }
 {
     match active {

@@ -5,5 +5,8 @@
 mod failing;
 mod laws;
 
-pub use failing::{Failed, Failing, fail};
+pub use failing::{Failed, Failing, context_of, fail};
 pub use laws::failures_arise_as_in_a_run;
+pub use pt_arising::{
+    BlockCode, Blocks, Machine, Purpose, Standing, Step, Waiting, below_top, land_raise, tell_on,
+};

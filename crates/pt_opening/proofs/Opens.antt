@@ -62,8 +62,9 @@ given-next n ks given =
 module _ {S : Type 0} (program : Program) (code : CodeBlocks Value) (machine : Machine S Value)
     (embed : CodeState Value → S) (ways : Ways S) (is_of : IsOfCode code machine embed ways)
     (m : Held) (s : State S Names Value World) (around : StandsAround program machine ways m s)
-    (w : Wanted) (r : Rest S Names Value World (BlockResult Names Value))
-    (wanted : IsWanted program code machine ways m w s r) (b : BlockId) (hidden : Bool)
+    (b : BlockId) (hidden : Bool) (w : Wanted)
+    (r : Rest S Names Value World (BlockResult Names Value))
+    (wanted : IsWanted program code machine ways m (block_id b hidden) w s r)
     (ls : Locals) (block : BlockCode)
     (known : IsBlockOf program code (block_id b hidden) block) where
   abbrev Run : Type 0
@@ -131,7 +132,7 @@ module _ {S : Type 0} (program : Program) (code : CodeBlocks Value) (machine : M
   around-above = record {
     at_place = around.at_place;
     here = record { frame = frame-is; act = refl; behind_jump = refl };
-    openers = openers.more (opener_of w m) (record { activation = s.here; purpose = run.for_block r }) m.openers s.openers
+    openers = openers.more (block_id b hidden) (opener_of w m) (record { activation = s.here; purpose = run.for_block r }) m.openers s.openers
         (record { running = around.here; active = wanted.active; purpose = wanted.purpose }) around.openers;
     generators = around.generators;
     world = around.world;
@@ -160,7 +161,7 @@ module _ {S : Type 0} (program : Program) (code : CodeBlocks Value) (machine : M
 pub opens_as_run : {S : Type 0} (program : Program) (code : CodeBlocks Value)
     (machine : Machine S Value) (embed : CodeState Value → S) (ways : Ways S)
     → IsOfCode code machine embed ways → OpensAsRun program code machine ways
-opens_as_run program code machine embed ways is_of m s around room w r wanted b hidden ls block known =
+opens_as_run program code machine embed ways is_of m s around room b hidden w r wanted ls block known =
     subst (λ u. IsToTell program machine ways (opened block.iterates b hidden ls w m) beginning (Starts ∷ []) u)
-    (sym (opens-above program code machine embed ways is_of m s around w r wanted b hidden ls block known room))
-    (to-tell program code machine embed ways is_of m s around w r wanted b hidden ls block known)
+    (sym (opens-above program code machine embed ways is_of m s around b hidden w r wanted ls block known room))
+    (to-tell program code machine embed ways is_of m s around b hidden w r wanted ls block known)

@@ -4,6 +4,7 @@ use Rattle.pt_base.specs.declared.numbers.BlockId.{BlockId}
 use Rattle.pt_heap.specs.declared.value.Value.{Value}
 use Rattle.pt_bind.specs.declared.arguments.Locals.{Locals}
 use Rattle.sem_code_machine.specs.code_machine.CodeBlocks.{CodeBlocks}
+use Rattle.sem_run.specs.run.Machine as M
 use Rattle.sem_run.specs.run.Machine.{Machine}
 use Rattle.sem_run.specs.run.Host.{BlockResult}
 use Rattle.sem_run.specs.run.State as run
@@ -28,20 +29,20 @@ module _ {S : Type 0} (program : Program) (code : CodeBlocks Value) (machine : M
   abbrev Run : Type 0
   Run = State S Names Value World
 
-  -- the newest activation of the machine is to wait for this, as it does in a run
-  pub record IsWanted (m : Held) (w : Wanted) (s : Run)
+  -- the newest activation of the machine is to wait for this below a block, as it does in a run
+  pub record IsWanted (m : Held) (above : M.BlockId) (w : Wanted) (s : Run)
       (r : Rest S Names Value World (BlockResult Names Value)) : Type 0 where
     pub active : machine.active s.here.state ≡ active_of (opener_of w m)
     pub purpose : IsOpenFor machine ways m.code.here s.here.state w.todo
-        (asked_in m.code.here w.context) None w.purpose
+        (asked_in m.code.here w.context) (program.facts above) None w.purpose
         (for_block r)
 
   -- where not as many activations are open as may be, a block opens whose beginning is to be told
   abbrev pub OpensAsRun : Type 0
   OpensAsRun = (m : Held) (s : Run) → StandsAround program machine ways m s
-      → is_full m.openers ≡ false → (w : Wanted)
-      (r : Rest S Names Value World (BlockResult Names Value)) → IsWanted m w s r
-      → (b : BlockId) (hidden : Bool) (ls : Locals) (block : BlockCode)
+      → is_full m.openers ≡ false → (b : BlockId) (hidden : Bool) (w : Wanted)
+      (r : Rest S Names Value World (BlockResult Names Value))
+      → IsWanted m (block_id b hidden) w s r → (ls : Locals) (block : BlockCode)
       → IsBlockOf program code (block_id b hidden) block
       → IsToTell program machine ways (opened block.iterates b hidden ls w m) beginning
       (Starts ∷ [])

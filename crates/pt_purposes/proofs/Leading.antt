@@ -1,5 +1,5 @@
 -- What is done on a result for an ask that waits leads where the same leads the code.
-use Rattle.std.proofs.Common.{List, [], ◌∷◌, Bool, true, false, Option, Some, None, refl, if◌then◌else◌}
+use Rattle.std.proofs.Common.{ℕ, List, [], ◌∷◌, Bool, true, false, Option, Some, None, refl, if◌then◌else◌}
 use Rattle.pt_heap.specs.declared.value.Value.{Value}
 use Rattle.pt_heap.specs.declared.value.Value.TheVariants as value
 use Rattle.pt_content.specs.declared.op.Op.{Op}
@@ -8,19 +8,26 @@ use Rattle.pt_content.specs.declared.answer.PrimAns.TheVariants as prim
 use Rattle.pt_steps.specs.pt_prims.Operations.{prim_answer, prim_heap}
 use Rattle.sem_control.specs.control.Turn.{End, gave, left_by}
 use Rattle.sem_run.specs.run.Host as H
-use Rattle.sem_run.specs.run.Host.{Here, Finding, made, beyond}
+use Rattle.sem_run.specs.run.Host.{Here, BlockResult, Finding, made, beyond}
 use Rattle.sem_run.specs.run.State.{OpenAsk}
 use Rattle.sem_run.specs.transitions.Transitions.{by_answer}
-use Rattle.pt_steps.specs.pt_host.World.{Stores, Allotted, allot, with_objects}
+use Rattle.std.specs.Prelude.{codes}
+use Rattle.pt_steps.specs.pt_host.World.{Names, Stores, CodeFacts, Allotted, allot, with_objects}
+use Rattle.pt_steps.specs.pt_host.Variables.{with_cell}
 use Rattle.pt_steps.specs.pt_host.Trees.{Tree, raise_with}
-use Rattle.pt_steps.specs.pt_host.Errors.{error}
+use Rattle.pt_steps.specs.pt_host.Errors.{error, error_saying}
+use Rattle.pt_steps.specs.pt_host.declared.places.TheConstants.{TYPE_ERROR}
+use Rattle.pt_steps.specs.pt_host.declared.classes.Base.{Base}
+use Rattle.pt_steps.specs.pt_host.declared.classes.Base.TheVariants.{On, Unavailable, NoBase}
+use Rattle.pt_steps.specs.pt_host.Classes.{base_of, class_object}
 use Rattle.pt_steps.specs.pt_host.Leaving.{is_stop}
 use Rattle.pt_steps.specs.pt_host.Primitives.{Awaited, answer_if, arguments_of}
+use Rattle.pt_steps.specs.pt_host.Calls.{opposite}
 use Rattle.pt_steps.specs.declared.step.Step.{Step}
 use Rattle.pt_steps.specs.declared.step.Step.TheVariants as step
-use Rattle.pt_steps.specs.Steps.{if_last, behind_prim, operated, stopped, run_steps}
+use Rattle.pt_steps.specs.Steps.{if_last, behind_prim, operated, stopped, run_steps, class_made, class_on, class_by, run_result}
 use Rattle.pt_purposes.specs.Asks.{by_tree, DoneSo, LeadsThere, GoesOn}
-use Rattle.pt_purposes.specs.Laws.{ResultsAreDoneBySteps}
+use Rattle.pt_purposes.specs.Laws.{ResultsAreDoneBySteps, BlocksAreDoneBySteps}
 
 module _ {S : Type 0} (q : OpenAsk S Value) (w : Awaited (Finding Value q.ask)) (given : Awaited S)
     (lands : Value → S) (goes : GoesOn q w given lands) where
@@ -88,6 +95,8 @@ module _ {S : Type 0} (q : OpenAsk S Value) (w : Awaited (Finding Value q.ask)) 
     by_steps [] (left_by v) st = raised_so v st
     by_steps (step.Makes v ∷ todo) (gave u) st = by_steps todo (gave v) st
     by_steps (step.Makes v ∷ todo) (left_by u) st = raised_so u st
+    by_steps (step.Inverts ∷ todo) (gave u) st = by_steps todo (gave (opposite u)) st
+    by_steps (step.Inverts ∷ todo) (left_by u) st = raised_so u st
     by_steps (step.Operates op vs ∷ todo) (gave u) st =
         by_operation todo (λ v st1. run_steps w here todo (gave v) st1)
         (λ v st1. run_steps given here todo (gave v) st1) (λ v st1. by_steps todo (gave v) st1) op
@@ -101,9 +110,53 @@ module _ {S : Type 0} (q : OpenAsk S Value) (w : Awaited (Finding Value q.ask)) 
     by_steps (step.Enters exit ∷ todo) (left_by v) st = raised_so v st
     by_steps (step.Calls arguments ∷ todo) (gave u) st = refl
     by_steps (step.Calls arguments ∷ todo) (left_by v) st = raised_so v st
-    by_steps (step.BindsClass base ∷ todo) (gave u) st = refl
-    by_steps (step.BindsClass base ∷ todo) (left_by v) st = raised_so v st
+    by_steps (step.BindsClass base cell ∷ todo) (gave u) st = refl
+    by_steps (step.BindsClass base cell ∷ todo) (left_by v) st = raised_so v st
+
+    module _ (rest : Value → Stores → Tree (Finding Value q.ask))
+        (onward : Value → Stores → Tree S) (cell : Option ℕ)
+        (same : (v : Value) (st : Stores) → Same (rest v st) (onward v st)) where
+      made_so : (a : Allotted) (st : Stores)
+          → Same (class_made w here rest cell a st) (class_made given here onward cell a st)
+      made_so (made v k) st = same v (with_cell cell (Some v) (with_objects k st))
+      made_so (beyond what) st = refl
+
+      based : (b : Base) (facts : CodeFacts) (ns : Names) (st : Stores)
+          → Same (class_on w here rest b facts cell ns st)
+          (class_on given here onward b facts cell ns st)
+      based (On base) facts ns st =
+          made_so (allot (class_object facts base ns.values) st.world.heap) st
+      based Unavailable facts ns st = refl
+      based NoBase facts ns st =
+          with_error (error_saying TYPE_ERROR (codes "bad argument") None here.active st.world.heap)
+          st
+
+      bound : (base : Value) (facts : CodeFacts) (ns : Names) (e : End Value) (st : Stores)
+          → Same (class_by w here rest base facts cell ns e st)
+          (class_by given here onward base facts cell ns e st)
+      bound base facts ns (gave u) st = based (base_of st.world.heap base) facts ns st
+      bound base facts ns (left_by v) st = raised_so v st
+
+    by_result : (facts : CodeFacts) (todo : List Step) (r : BlockResult Names Value) (st : Stores)
+        → Same (run_result w here facts todo r st) (run_result given here facts todo r st)
+    by_result facts [] r st = by_steps [] r.end st
+    by_result facts (step.BindsClass base cell ∷ todo) r st =
+        bound (λ v st1. run_steps w here todo (gave v) st1)
+        (λ v st1. run_steps given here todo (gave v) st1) cell (λ v st1. by_steps todo (gave v) st1)
+        base facts r.names r.end st
+    by_result facts (step.Makes v ∷ todo) r st = by_steps (step.Makes v ∷ todo) r.end st
+    by_result facts (step.Inverts ∷ todo) r st = by_steps (step.Inverts ∷ todo) r.end st
+    by_result facts (step.Operates op vs ∷ todo) r st =
+        by_steps (step.Operates op vs ∷ todo) r.end st
+    by_result facts (step.EndsAtStop ∷ todo) r st = by_steps (step.EndsAtStop ∷ todo) r.end st
+    by_result facts (step.Enters exit ∷ todo) r st = by_steps (step.Enters exit ∷ todo) r.end st
+    by_result facts (step.Calls arguments ∷ todo) r st =
+        by_steps (step.Calls arguments ∷ todo) r.end st
 
 pub results_are_done_by_steps : {S : Type 0} → ResultsAreDoneBySteps S
 results_are_done_by_steps q w given lands goes here todo e st =
     by_steps q w given lands goes here todo e st
+
+pub blocks_are_done_by_steps : {S : Type 0} → BlocksAreDoneBySteps S
+blocks_are_done_by_steps q w given lands goes here facts todo r st =
+    by_result q w given lands goes here facts todo r st

@@ -7,7 +7,7 @@ ghost use Rattle.pt_steps.specs.pt_host.World.{Program};
 ghost use Rattle.pt_settrace.specs.Tracing.{Tracing};
 ghost use Rattle.pt_purposes.specs.declared.opener.Opener.{Opener};
 ghost use Rattle.pt_purposes.specs.Openers.{Ways};
-ghost use Rattle.pt_purposes.specs.Laws.{OpenersAreSeen, PartsTell, ResultsAreDoneBySteps};
+ghost use Rattle.pt_purposes.specs.Laws.{BlocksAreDoneBySteps, OpenersAreSeen, PartsTell, ResultsAreDoneBySteps};
 
 /// Entries that stand for the activations of a run are seen there as their parts tell, and so the
 /// machine tells by them whether another activation may open, whether a hook runs, and which
@@ -22,5 +22,6 @@ pub fn openers_are_seen<S>()
 /// The steps that are done on the result for an ask that waits, whatever that is, lead to the reply
 /// by which its code goes on where they lead there: so nothing else has to be known of it.
 pub fn results_are_done_by_steps<S>()
-    ensures { ResultsAreDoneBySteps S }
+    ensures steps { ResultsAreDoneBySteps S }
+    ensures blocks { BlocksAreDoneBySteps S }
 {}

@@ -1,7 +1,7 @@
 use crate::Standing;
 use pt_asking::Hook;
 use pt_heap::Value;
-use pt_pendings::{Callee, Origin, Telling};
+use pt_pendings::{Callee, Telling};
 
 /// A call that waits: what is called, and what is told of it.
 #[derive(Clone, Copy)]
@@ -13,10 +13,10 @@ pub struct Called {
 /// What an activation that waits is open for.
 #[derive(Drop)]
 pub enum Purpose {
-    /// An ask, whose slots are gone. A raise in place of its reply comes from there.
+    /// An ask, whose slots are gone. Its reply comes to the place of the activation, above those that
+    /// are left.
     Ask {
         called: Option<Called>,
-        from: Origin,
         is_act: bool,
     },
     /// A delegation to a generator, which keeps its slots and gives on what that gives on.

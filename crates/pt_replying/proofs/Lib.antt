@@ -1,2 +1,3 @@
 pub mod Goes
 pub mod Replies
+pub use Rattle.pt_turning.proofs as pt_turning

@@ -2,15 +2,17 @@
 use Rattle.std.specs.Prelude.{List, [], ◌∷◌, Option, Some, None}
 use Rattle.pt_telling.specs.pt_run_state.pt_purposes.declared.opener.Opener.{Opener}
 use Rattle.pt_telling.specs.pt_run_state.declared.machine.Machine.{Machine}
+use Rattle.pt_telling.specs.pt_run_state.Stands.{newest}
 use Rattle.pt_returning.specs.declared.closing.Returned.{Returned}
 
--- what the activation that waits is open for, and the machine then
+-- what the activation that waits is open for, with the one that closed, and the machine then
 pub record Closed : Type 0 where
   pub returned : Option Returned
   pub machine : Machine
 
-abbrev pub returned_of : Opener → Returned
-returned_of o = record {
+abbrev pub returned_of : Opener → Machine → Returned
+returned_of o m = record {
+  closed = newest m;
   purpose = o.purpose;
   todo = o.todo;
   context = o.context;
@@ -26,4 +28,4 @@ returned_to o os m = record m {
 
 abbrev pub closed_by : List Opener → Machine → Closed
 closed_by [] m = record { returned = None; machine = m }
-closed_by (o ∷ os) m = record { returned = Some (returned_of o); machine = returned_to o os m }
+closed_by (o ∷ os) m = record { returned = Some (returned_of o m); machine = returned_to o os m }

@@ -5,12 +5,14 @@ ghost use Rattle.pt_returning.specs.Returning.{closed_by};
 use pt_base::Seq;
 use pt_heap::Value;
 use pt_telling::{Machine, Opener, Purpose, Running, Step};
+use std::mem;
 
 /// What an activation that waited was open for: what goes on in it, what is done on the result before,
 /// in this order, and the context of an exception that arises then; and the generator that has gone on
-/// above it, if one has.
+/// above it, if one has. And the one that has closed, of whose names a class may be made.
 #[derive(Drop)]
 pub struct Returned {
+    pub closed: Running,
     pub purpose: Purpose,
     pub todo: Seq<Step>,
     pub context: Option<Value>,
@@ -34,9 +36,13 @@ pub fn close(machine: &mut Machine) -> Option<Returned>
         generator,
     } = opener;
     let Running { activation, course } = running;
-    machine.code.here = activation;
+    let closed = Running {
+        activation: mem::replace(&mut machine.code.here, activation),
+        course: machine.course,
+    };
     machine.course = course;
     Some(Returned {
+        closed,
         purpose,
         todo,
         context,

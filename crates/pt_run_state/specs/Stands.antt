@@ -22,7 +22,7 @@ use Rattle.pt_pendings.specs.Stands.{IsPending, IsTold}
 use Rattle.pt_machine_state.specs.declared.machine.Standing.TheVariants as place
 use Rattle.pt_purposes.specs.declared.standing.Standing.{Standing}
 use Rattle.pt_purposes.specs.declared.opener.Running.{Running}
-use Rattle.pt_purposes.specs.Seen.{active_at}
+use Rattle.pt_purposes.specs.Seen.{block_of, active_at}
 use Rattle.pt_purposes.specs.Openers.{Ways, IsEventIn, UnlessGone, IsRunning}
 use Rattle.pt_purposes.specs.Openers.{standpoint, AreOpeners}
 use Rattle.pt_purposes.specs.Kept.{AreKept}
@@ -72,7 +72,8 @@ module _ {S : Type 0} (program : Program) (machine : Machine S Value) (ways : Wa
   pub record StandsAround (m : Held) (s : Run) : Type 0 where
     pub at_place : m.code.standing ≡ place.AtPlace
     pub here : IsRunning program m.hooks (newest m) s.here
-    pub openers : AreOpeners program machine ways m.hooks m.openers s.openers
+    pub openers : AreOpeners program machine ways m.hooks (block_of m.code.here) m.openers
+        s.openers
     pub generators : AreKept program machine ways m.hooks m.generators s.generators
     pub world : s.world ≡ world_of m
     pub trace : s.trace ≡ m.hooks.global

@@ -84,7 +84,7 @@ module _ {S : Type 0} (program : Program) (machine : Machine S Value) (ways : Wa
     are-seen = record {
       frame = around.here.frame;
       active = refl;
-      others = openers_are_seen program machine ways m.hooks m.openers s.openers around.openers;
+      others = openers_are_seen program machine ways m.hooks (block_of m.code.here) m.openers s.openers around.openers;
     }
 
     pub silent-is : run.is_silent s ≡ is_silent m

@@ -14,5 +14,8 @@ pub use laws::{asking_is_steps_of_a_run, telling_is_steps_of_a_run};
 pub use pt_run_state::{
     Called, Course, Machine, Opener, Phase, Purpose, Running, Standing, Step, Waiting,
 };
-pub use pt_transfers::{BlockCode, MachineEnd, is_told, line};
+pub use pt_transfers::{
+    BlockCode, Blocks, MachineEnd, Standing as CodeStanding, Writes, give_back, is_told, land,
+    leave_place, line, print,
+};
 pub use telling::{is_silent, tell};

@@ -3,7 +3,7 @@ use Rattle.std.proofs.Common.{◌≡◌, ◌≢◌, ◌∙◌, ◌<◌, ◌≤�
 use Rattle.pt_heap.specs.declared.value.Value.{Value}
 use Rattle.pt_heap.specs.declared.value.Value.TheVariants as value
 use Rattle.pt_events.specs.declared.EventKind.{EventKind}
-use Rattle.sem_run.specs.run.Machine.{Machine}
+use Rattle.sem_run.specs.run.Machine.{BlockId, Machine}
 use Rattle.sem_run.specs.run.Host.{Frame}
 use Rattle.sem_run.specs.run.State as run
 use Rattle.sem_run.specs.run.State.{State}
@@ -61,14 +61,16 @@ module _ {S : Type 0} (program : Program) (machine : Machine S Value) (ways : Wa
     behind_jump = is.behind_jump;
   }
 
-  openers-kept : (es : List Opener) (os : List (run.Opener S Names Value World))
+  openers-kept : (above : BlockId) (es : List Opener)
+      (os : List (run.Opener S Names Value World))
       → IsNotAmong k (map (λ o. o.running.activation.frame.0) es)
-      → AreOpeners program machine ways h es os → AreOpeners program machine ways g es os
-  openers-kept _ _ apart openers.none = openers.none
-  openers-kept _ _ apart (openers.more e o es os is rest) =
-      openers.more e o es os
+      → AreOpeners program machine ways h above es os
+      → AreOpeners program machine ways g above es os
+  openers-kept _ _ _ apart (openers.none above) = openers.none above
+  openers-kept _ _ _ apart (openers.more above e o es os is rest) =
+      openers.more above e o es os
       (record { running = running-kept e.running o.activation apart.0 is.running; active = is.active; purpose = is.purpose })
-      (openers-kept es os apart.1 rest)
+      (openers-kept (block_of e.running.activation) es os apart.1 rest)
 
   at-place-kept : (r : Running) (a : run.Activation S Names Value) → r.activation.frame.0 ≢ k
       → IsAtPlace program machine ways h r a → IsAtPlace program machine ways g r a
@@ -113,7 +115,7 @@ module _ {S : Type 0} (program : Program) (machine : Machine S Value) (ways : Wa
       act = around.here.act;
       behind_jump = around.here.behind_jump;
     };
-    openers = openers-kept program machine ways m.hooks g number elsewhere m.openers s.openers
+    openers = openers-kept program machine ways m.hooks g number elsewhere (block_of m.code.here) m.openers s.openers
         (not-in-first number _ (numbers_kept m.generators) around.numbers.1.0) around.openers;
     generators = all-kept program machine ways m.hooks g number elsewhere m.generators s.generators
         (not-in-second number (map (λ o. o.running.activation.frame.0) m.openers) _ around.numbers.1.0) around.generators;

@@ -7,7 +7,7 @@ use Rattle.sem_code.specs.slots.Slots.{State}
 use Rattle.sem_code.specs.comp_expr.Law.{active_at as active_in_state}
 use Rattle.sem_code_machine.specs.code_machine.CodeBlocks.{CodeBlocks}
 use Rattle.sem_run.specs.run.Machine.{turn_in}
-use Rattle.pt_transfers.proofs.pt_machine_state.LandLemmas.{active-view}
+use Rattle.pt_telling.proofs.pt_transfers.pt_machine_state.LandLemmas.{active-view}
 use Rattle.pt_telling.specs.pt_run_state.pt_purposes.declared.standing.Standing.{Standing}
 use Rattle.pt_telling.specs.pt_run_state.pt_purposes.declared.standing.Standing.TheVariants as standing
 use Rattle.pt_telling.specs.pt_run_state.pt_purposes.Seen.{active_at}

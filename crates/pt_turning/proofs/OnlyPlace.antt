@@ -6,10 +6,10 @@ use Rattle.pt_ranges.specs.declared.handlers.Handler.{Handler}
 use Rattle.pt_unwind.specs.declared.Landing.{Landing}
 use Rattle.pt_unwind.specs.declared.Landing.TheVariants.{Enter, Jump, Out}
 use Rattle.pt_unwind.specs.Landings.{landing_of}
-use Rattle.pt_transfers.specs.pt_machine_state.declared.blocks.BlockCode.{BlockCode}
-use Rattle.pt_transfers.specs.pt_machine_state.declared.machine.Machine.{Machine as Code}
-use Rattle.pt_transfers.specs.pt_machine_state.declared.machine.Standing.TheVariants as code
-use Rattle.pt_transfers.specs.pt_machine_state.Changes.{landed, landed_at}
+use Rattle.pt_telling.specs.pt_transfers.pt_machine_state.declared.blocks.BlockCode.{BlockCode}
+use Rattle.pt_telling.specs.pt_transfers.pt_machine_state.declared.machine.Machine.{Machine as Code}
+use Rattle.pt_telling.specs.pt_transfers.pt_machine_state.declared.machine.Standing.TheVariants as code
+use Rattle.pt_telling.specs.pt_transfers.pt_machine_state.Changes.{landed, landed_at}
 use Rattle.pt_telling.specs.pt_run_state.declared.machine.Machine.{Machine}
 use Rattle.pt_turning.specs.Turning.{behind_raise, raised_in}
 

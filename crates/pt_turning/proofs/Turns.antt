@@ -26,9 +26,9 @@ use Rattle.sem_run.specs.run.Outcome as O
 use Rattle.sem_run.specs.run.Outcome.{Output}
 use Rattle.sem_run.specs.run.Step.{step, by_phase, begin_turn, proceed}
 use Rattle.sem_steps.specs.Steps.{Steps, stays, behind_step, minded}
-use Rattle.pt_transfers.specs.pt_machine_state.pt_code_facts.sem_rows.pt_host.World.{Names, World, Program}
-use Rattle.pt_transfers.specs.pt_machine_state.pt_code_facts.sem_rows.pt_host.HeapHost.{heap_host}
-use Rattle.pt_transfers.specs.pt_machine_state.pt_code_facts.sem_rows.heap_rows.Views.{slots_view}
+use Rattle.pt_telling.specs.pt_transfers.pt_machine_state.pt_code_facts.sem_rows.pt_host.World.{Names, World, Program}
+use Rattle.pt_telling.specs.pt_transfers.pt_machine_state.pt_code_facts.sem_rows.pt_host.HeapHost.{heap_host}
+use Rattle.pt_telling.specs.pt_transfers.pt_machine_state.pt_code_facts.sem_rows.heap_rows.Views.{slots_view}
 use Rattle.pt_pendings.specs.declared.reply.End.{End}
 use Rattle.pt_pendings.specs.declared.reply.End.TheVariants.{Gave, LeftBy}
 use Rattle.pt_pendings.specs.declared.pending.Origin.{Origin}
@@ -40,13 +40,13 @@ use Rattle.pt_pendings.specs.Views.{end_view}
 use Rattle.pt_happenings.specs.declared.happening.Happening.{Happening as Tells}
 use Rattle.pt_happenings.specs.declared.happening.Happening.TheVariants as told
 use Rattle.pt_happenings.specs.Views.{happening_view}
-use Rattle.pt_transfers.specs.pt_machine_state.declared.blocks.BlockCode.{BlockCode}
-use Rattle.pt_transfers.specs.pt_machine_state.declared.machine.Standing.{Standing as CodeStanding}
-use Rattle.pt_transfers.specs.pt_machine_state.declared.machine.Standing.TheVariants as code_standing
-use Rattle.pt_transfers.specs.pt_machine_state.Blocks.{IsBlockOf}
-use Rattle.pt_transfers.specs.pt_machine_state.Views.{state_of}
-use Rattle.pt_transfers.specs.pt_machine_state.Changes.{landed}
-use Rattle.pt_transfers.proofs.pt_machine_state.LandLemmas.{landed-state}
+use Rattle.pt_telling.specs.pt_transfers.pt_machine_state.declared.blocks.BlockCode.{BlockCode}
+use Rattle.pt_telling.specs.pt_transfers.pt_machine_state.declared.machine.Standing.{Standing as CodeStanding}
+use Rattle.pt_telling.specs.pt_transfers.pt_machine_state.declared.machine.Standing.TheVariants as code_standing
+use Rattle.pt_telling.specs.pt_transfers.pt_machine_state.Blocks.{IsBlockOf}
+use Rattle.pt_telling.specs.pt_transfers.pt_machine_state.Views.{state_of}
+use Rattle.pt_telling.specs.pt_transfers.pt_machine_state.Changes.{landed}
+use Rattle.pt_telling.proofs.pt_transfers.pt_machine_state.LandLemmas.{landed-state}
 use Rattle.pt_telling.specs.pt_run_state.pt_purposes.declared.standing.Standing.{Standing}
 use Rattle.pt_telling.specs.pt_run_state.pt_purposes.declared.standing.Standing.TheVariants as standing
 use Rattle.pt_telling.specs.pt_run_state.pt_purposes.Seen.{block_of, active_at}

@@ -9,11 +9,11 @@ use Rattle.pt_happenings.specs.declared.happening.Happening.TheVariants as told
 use Rattle.pt_pendings.specs.declared.reply.End.{End}
 use Rattle.pt_pendings.specs.declared.reply.End.TheVariants.{Gave, LeftBy}
 use Rattle.pt_pendings.specs.declared.pending.Pending.TheVariants.{Going, Ending}
-use Rattle.pt_transfers.specs.pt_machine_state.declared.blocks.BlockCode.{BlockCode}
-use Rattle.pt_transfers.specs.pt_machine_state.declared.machine.Machine.{Machine as Code}
-use Rattle.pt_transfers.specs.pt_machine_state.declared.machine.Standing.{Standing as CodeStanding}
-use Rattle.pt_transfers.specs.pt_machine_state.declared.machine.Standing.TheVariants as code
-use Rattle.pt_transfers.specs.pt_machine_state.Changes.{landed}
+use Rattle.pt_telling.specs.pt_transfers.pt_machine_state.declared.blocks.BlockCode.{BlockCode}
+use Rattle.pt_telling.specs.pt_transfers.pt_machine_state.declared.machine.Machine.{Machine as Code}
+use Rattle.pt_telling.specs.pt_transfers.pt_machine_state.declared.machine.Standing.{Standing as CodeStanding}
+use Rattle.pt_telling.specs.pt_transfers.pt_machine_state.declared.machine.Standing.TheVariants as code
+use Rattle.pt_telling.specs.pt_transfers.pt_machine_state.Changes.{landed}
 use Rattle.pt_telling.specs.pt_run_state.pt_purposes.declared.standing.Standing.{Standing}
 use Rattle.pt_telling.specs.pt_run_state.pt_purposes.declared.standing.Standing.TheVariants as standing
 use Rattle.pt_telling.specs.pt_run_state.pt_purposes.Openers.{settled}

@@ -13,8 +13,8 @@ use Rattle.sem_code.specs.comp_expr.Law.{active_at as active_in_state}
 use Rattle.law_origins.specs.Landings.{lands_with}
 use Rattle.sem_code_machine.specs.code_machine.CodeBlocks.{CodeBlocks, start_of, machine as code_machine}
 use Rattle.sem_run.specs.run.Machine.{Machine, BlockId, turn_in}
-use Rattle.pt_transfers.specs.pt_machine_state.pt_code_facts.sem_rows.pt_host.Primitives.{Awaited}
-use Rattle.pt_transfers.specs.pt_machine_state.pt_code_facts.sem_rows.heap_rows.Views.{slots_view}
+use Rattle.pt_telling.specs.pt_transfers.pt_machine_state.pt_code_facts.sem_rows.pt_host.Primitives.{Awaited}
+use Rattle.pt_telling.specs.pt_transfers.pt_machine_state.pt_code_facts.sem_rows.heap_rows.Views.{slots_view}
 use Rattle.pt_pendings.specs.declared.pending.Origin.{Origin}
 use Rattle.pt_telling.specs.pt_run_state.pt_purposes.declared.standing.Standing.{Standing}
 use Rattle.pt_telling.specs.pt_run_state.pt_purposes.declared.standing.Standing.TheVariants as standing

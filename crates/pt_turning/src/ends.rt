@@ -5,8 +5,7 @@ ghost use Rattle.pt_turning.specs.Turning.{begun, block_ended, gone_on};
 use pt_base::{Memory, Seq};
 use pt_happenings::Happening;
 use pt_pendings::{End, Pending};
-use pt_telling::{Machine, Phase, Standing, Waiting, tell};
-use pt_transfers::BlockCode;
+use pt_telling::{BlockCode, Machine, Phase, Standing, Waiting, tell};
 
 /// The block of the newest activation ends, which is told; it answers whether an event is, at which
 /// hooks are to be asked.

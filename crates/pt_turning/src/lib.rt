@@ -12,7 +12,7 @@ pub use laws::{
     what_waits_goes_on_as_in_a_run,
 };
 pub use pt_telling::{
-    BlockCode, Called, Course, Machine, Opener, Phase, Purpose, Running, Step, Waiting, enter_told,
-    tell,
+    BlockCode, Blocks, Called, CodeStanding, Course, Machine, Opener, Phase, Purpose, Running,
+    Standing, Step, Waiting, Writes, enter_told, give_back, leave_place, print, tell,
 };
 pub use raises::{below_top, land_raise, reraise};

@@ -1,6 +1,6 @@
 //! A raise goes on that was held, or that no handler took.
 ghost use Rattle.std.specs.Prelude.{◌≡◌, ◌-◌, length, IfOk, OnOk};
-ghost use Rattle.pt_transfers.specs.pt_machine_state.declared.machine.Standing.TheVariants as code;
+ghost use Rattle.pt_telling.specs.pt_transfers.pt_machine_state.declared.machine.Standing.TheVariants as code;
 ghost use Rattle.pt_turning.specs.Turning.{behind_raise, raised_in, reraised, standing_of};
 
 use pt_base::{Memory, Seq};
@@ -8,8 +8,7 @@ use pt_frames::Slots;
 use pt_happenings::Happening;
 use pt_heap::{Completion, Value};
 use pt_pendings::{Origin, Pending};
-use pt_telling::{Machine, Standing, Waiting, tell};
-use pt_transfers::{BlockCode, Standing as CodeStanding, land};
+use pt_telling::{BlockCode, CodeStanding, Machine, Standing, Waiting, land, tell};
 
 /// Where code stands that a completion has left.
 fn standing_of(standing: CodeStanding) -> Standing

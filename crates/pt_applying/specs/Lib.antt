@@ -1,0 +1,4 @@
+pub mod Applying
+pub mod Laws
+pub mod Known
+pub mod Acting

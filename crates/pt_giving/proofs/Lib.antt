@@ -1,0 +1,3 @@
+pub mod AnswersDone
+pub mod Taken
+pub mod Gives

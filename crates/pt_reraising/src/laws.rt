@@ -1,0 +1,20 @@
+//! The law of `raise` alone, the contract of a function that does nothing.
+ghost use Rattle.std.specs.Prelude.{ℕ, Bool, Option};
+ghost use Rattle.pt_heap.specs.declared.value.Value.{Value};
+ghost use Rattle.sem_code.specs.slots.Slots.{State};
+ghost use Rattle.sem_code_machine.specs.code_machine.CodeBlocks.{CodeBlocks};
+ghost use Rattle.sem_run.specs.run.Events.{Event};
+ghost use Rattle.sem_run.specs.run.Machine.{Machine};
+ghost use Rattle.pt_failing.specs.pt_arising.pt_replying.pt_turning.pt_telling.pt_run_state.pt_purposes.sem_rows.pt_host.World.{Program};
+ghost use Rattle.pt_failing.specs.pt_arising.pt_replying.pt_turning.pt_telling.pt_run_state.pt_purposes.Openers.{Ways};
+ghost use Rattle.pt_failing.specs.pt_arising.pt_replying.pt_turning.Ways.{IsOfCode};
+ghost use Rattle.pt_reraising.specs.Laws.{RaisesAgainAsRun};
+
+/// `raise` alone does in the machine as in each run for which it stands, over any machine whose turns
+/// are those of code (Language Reference 7.8).
+pub fn raise_alone_does_as_in_a_run<S>()
+    ensures { (program : Program) (code : CodeBlocks Value) (machine : Machine S Value)
+        (embed : State Value → S) (ways : Ways S) → IsOfCode code machine embed ways
+        → (minds : Event Value → Bool) (n : ℕ) (ends : Option Value → Bool)
+        → RaisesAgainAsRun program code machine embed ways minds n ends }
+{}
