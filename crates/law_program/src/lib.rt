@@ -1,8 +1,9 @@
-//! Laws of the program: a code file has one outcome, bare runs are runs, and `exec` of the file
-//! which `build` writes answers as `run`.
+//! Laws of the program: bare runs are runs, a code file has one outcome, `exec` answers as `run`,
+//! and the lines of a profile add up.
 #![tactic(auto)]
 
 pub mod code_ends;
 pub mod exec_answers;
 pub mod program_runs;
+pub mod reports;
 pub mod script_files;

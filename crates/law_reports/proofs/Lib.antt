@@ -1,1 +1,3 @@
+pub mod LineTexts
+pub mod ProfileLemmas
 pub mod SumLemmas

@@ -3,4 +3,4 @@
 
 mod laws;
 
-pub use laws::own_lines_add_up;
+pub use laws::{own_lines_add_up, profiles_add_up};

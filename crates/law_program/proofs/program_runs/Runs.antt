@@ -4,7 +4,7 @@ use Rattle.std.specs.Prelude.{slice_get}
 use Rattle.std.proofs.Math.Path.{fun_ext}
 use Rattle.pt_tree.specs.Syntax.{Stms}
 use Rattle.sem_run.specs.run.Machine.{BlockId}
-use Rattle.sem_run.specs.run.Shown.{Outcome, RunsTo}
+use Rattle.sem_run.specs.run.Shown.{RunsTo}
 use Rattle.pt_heap.specs.declared.value.Value.{Value}
 use Rattle.pt_heap.specs.declared.value.Value.TheVariants as value
 use Rattle.pt_code.specs.declared.CodeBlock.{CodeBlock}
@@ -14,7 +14,6 @@ use Rattle.pt_bare_runs.proofs.BareRuns.{bare_runs_are_runs}
 use Rattle.pt_bare_writes.proofs.Fronting.{runs_write_it_first}
 use Rattle.sem_code_machine.specs.code_machine.CodeBlocks.{machine}
 use Rattle.pt_host.specs.HeapHost.{heap_host}
-use Rattle.pt_host.specs.World.{World}
 use Rattle.pt_host.specs.Calls.{module_names, module_world}
 use Rattle.pt_prog.proofs.pt_run_script.pt_run_code.pt_runner.GoesTo.{runs_so}
 use Rattle.pt_prog.specs.pt_run_script.law_compile.script_runs.Blocks.{number_of, the_module}

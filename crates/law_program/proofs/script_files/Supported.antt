@@ -1,5 +1,5 @@
 -- The code of a supported script is supported, and it is run where it isn't too deep.
-use Rattle.std.proofs.Common.{◌≡◌, ◌+◌, ◌++◌, ℕ, Bool, true, false, if◌then◌else◌, List, [], length, Option, Some, refl, sym, ap, ◌∙◌, subst}
+use Rattle.std.proofs.Common.{◌≡◌, ◌++◌, ℕ, Bool, true, false, if◌then◌else◌, List, [], length, Option, Some, refl, sym, ap, ◌∙◌, subst}
 use Rattle.std.specs.Prelude.{slice_get, slice_index_or, ◌||◌}
 use Rattle.std.specs.List.{AllByRecursion, IsDistinct, list_any}
 use Rattle.std.specs.Str.{bytes_eq}
@@ -25,15 +25,14 @@ use Rattle.law_typed_pieces.specs.law_operands.law_files.sem_compile.compile.Scr
 use Rattle.law_typed_pieces.proofs.law_operands.law_files.operands_fit.Operands.{operands_fit}
 use Rattle.sem_fits.specs.fits.Block.{links_of}
 use Rattle.law_typed_pieces.proofs.standing_pieces.Script.{instructions_may_stand}
-use Rattle.pt_supported.specs.Laws.{is_class_code}
 use Rattle.pt_supported.proofs.Quiet.{gives_on}
-use Rattle.pt_supported.proofs.Silent.{built_blocks_are_no_classes, built_blocks_give_nothing_on}
+use Rattle.pt_supported.proofs.Silent.{built_blocks_give_nothing_on}
 use Rattle.pt_supported_code.specs.Built.{IsBuiltBlock, TakesAsListed, is_plain_kind}
 use Rattle.pt_prog.proofs.pt_run_script.pt_run_code.law_loading.script_program.Facts.{locals_are_different}
 use Rattle.pt_prog.proofs.pt_run_script.pt_run_code.law_loading.code_names.Instructions.{TakesAsNamed, all-take, laid-is}
 use Rattle.law_compile.proofs.fitting_scripts.Fitting.{code_of_texts_fits}
 use Rattle.law_program.specs.script_files.Laws.{CodeIsSupported, HasCodeFile, ShallowCodeIsRunnable}
-use Rattle.law_program.proofs.script_files.Named.{cells_fit, different_cells, in_script, names, numbered_blocks, numbers}
+use Rattle.law_program.proofs.script_files.Named.{cells_fit, different_cells, different_frees, in_script, names, numbered_blocks, numbers}
 
 -- kinds of blocks
 
@@ -44,13 +43,13 @@ gives_within xs ys zs e =
     list_any-append gives (xs ++ ys) zs
     ∙ ap (λ (b : Bool). b || list_any gives zs) (list_any-append gives xs ys ∙ (ap (λ (b : Bool). list_any gives xs || b) e ∙ or-true (list_any gives xs)))
 
--- what neither is the body of a class nor gives a value on is a module or a function
-plain_kind : (c : BlockCode) → is_class_code c ≡ false → yields c ≡ false → is_plain_kind (kind_of c) ≡ true
-plain_kind (B.of_module ss) plain silent = refl
-plain_kind (B.of_function ss) plain silent = ap (λ (t : Bool). is_plain_kind (if t then kind.Generator else kind.Function)) silent
-plain_kind (B.of_class ss) plain silent = absurd (false≢true (sym plain))
-plain_kind (B.of_lambda l e) plain silent = ap (λ (t : Bool). is_plain_kind (if t then kind.Generator else kind.Function)) silent
-plain_kind (B.of_generator l e k t cs) plain silent =
+-- what gives no value on is a module, a function or the body of a class
+plain_kind : (c : BlockCode) → yields c ≡ false → is_plain_kind (kind_of c) ≡ true
+plain_kind (B.of_module ss) silent = refl
+plain_kind (B.of_function ss) silent = ap (λ (t : Bool). is_plain_kind (if t then kind.Generator else kind.Function)) silent
+plain_kind (B.of_class ss) silent = refl
+plain_kind (B.of_lambda l e) silent = ap (λ (t : Bool). is_plain_kind (if t then kind.Generator else kind.Function)) silent
+plain_kind (B.of_generator l e k t cs) silent =
     let gives : yields (B.of_generator l e k t cs) ≡ true =
     gives_within (act A.Next k ++ acts_target t ++ acts_clauses l cs ++ acts_exp e) (act A.Yield l) (act A.Discard l) refl in
     absurd (false≢true (sym silent ∙ gives))
@@ -91,10 +90,10 @@ module _ (text : List ℕ) (ss : Stms) (h : HasCodeFile text ss) where
       subst (IsBuiltBlock c) i.is (record {
         is_plain =
             ap is_plain_kind i.kind
-            ∙ plain_kind i.block.code (built_blocks_are_no_classes ss h.is_built n i.block i.is_block)
-            (built_blocks_give_nothing_on ss h.is_built n i.block i.is_block);
+            ∙ plain_kind i.block.code (built_blocks_give_nothing_on ss h.is_built n i.block i.is_block);
         locals = subst (IsDistinct bytes_eq) (sym (names text ss h n k i.is_layout).locals) (locals_are_different ss n);
         cells = different_cells text ss h n k i.is_layout;
+        free = different_frees text ss h n k i.is_layout;
         takes = takes n k i.is_layout;
       })
 

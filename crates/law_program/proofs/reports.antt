@@ -1,0 +1,2 @@
+mod LogTexts
+mod Named
