@@ -7,10 +7,10 @@ SUPPORTED = (
     ast.Return, ast.Global, ast.Nonlocal, ast.FunctionDef, ast.Constant, ast.Name, ast.UnaryOp, ast.BinOp, ast.BoolOp, ast.Compare, ast.IfExp, ast.Call,
     ast.keyword, ast.Lambda, ast.arg, ast.Tuple, ast.List, ast.Set, ast.Dict, ast.Attribute, ast.Subscript, ast.Slice, ast.Starred, ast.JoinedStr,
     ast.FormattedValue, ast.ListComp, ast.SetComp, ast.DictComp, ast.Assert, ast.Raise, ast.Try, ast.ExceptHandler,
-    ast.Import, ast.ImportFrom, ast.alias)
+    ast.Import, ast.ImportFrom, ast.alias, ast.ClassDef)
 
-# builtins that are to give generators, and aren't there yet
-UNAVAILABLE = frozenset("map filter zip enumerate reversed".split())
+# builtins that are to give generators, and aren't there yet; and the keyword, which other letters make a name
+UNAVAILABLE = frozenset("map filter zip enumerate reversed class".split())
 
 
 def place(node):
@@ -36,7 +36,7 @@ def nodes(node):
 def names(node):
     """The names that a node reads, binds, deletes or declares."""
     match node:
-        case ast.Name(x) | ast.FunctionDef(x) | ast.arg(x):
+        case ast.Name(x) | ast.FunctionDef(x) | ast.ClassDef(x) | ast.arg(x):
             return [x]
         case ast.Global(xs) | ast.Nonlocal(xs):
             return xs
@@ -48,9 +48,6 @@ def names(node):
 
 
 def is_supported(node):
-    match node:
-        case ast.Attribute(ctx=ast.Store() | ast.Del()):
-            return False
     return isinstance(node, SUPPORTED) and UNAVAILABLE.isdisjoint(names(node))
 
 

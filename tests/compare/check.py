@@ -66,8 +66,9 @@ def differences(run, trace, text):
 
 def random_script(seed):
     """Every second one has line ends within parentheses, most have containers, and some exceptions, comprehensions, stars and orders of sequences,
-    and builtins that come seldom or are written in Python."""
-    text = program(seed, containers=seed % 4 > 0, exceptions=seed % 5 == 0, forms=seed % 4 > 1, builtins=seed % 3 == 0, helpers=seed % 3 == 1)
+    builtins that come seldom or are written in Python, and classes."""
+    text = program(seed, containers=seed % 4 > 0, exceptions=seed % 5 == 0, forms=seed % 4 > 1, builtins=seed % 3 == 0, helpers=seed % 3 == 1,
+                   classes=seed % 7 < 2)
     return broken(text, seed) if seed % 2 else text
 
 

@@ -1,7 +1,7 @@
 """Which forms of the language a script has on lines that it comes to."""
 import ast
 
-STATEMENTS = (ast.FunctionDef, ast.Return, ast.Delete, ast.Assign, ast.AugAssign, ast.AnnAssign, ast.For, ast.While, ast.If, ast.Raise, ast.Try, ast.Assert,
+STATEMENTS = (ast.FunctionDef, ast.ClassDef, ast.Return, ast.Delete, ast.Assign, ast.AugAssign, ast.AnnAssign, ast.For, ast.While, ast.If, ast.Raise, ast.Try, ast.Assert,
               ast.Import, ast.ImportFrom, ast.Global, ast.Nonlocal, ast.Pass, ast.Break, ast.Continue)
 EXPRESSIONS = (ast.BoolOp, ast.Lambda, ast.IfExp, ast.Dict, ast.Set, ast.ListComp, ast.SetComp, ast.DictComp, ast.Call, ast.JoinedStr, ast.List, ast.Tuple, ast.Slice)
 OPERATORS = (ast.operator, ast.unaryop, ast.cmpop)
@@ -13,7 +13,13 @@ def names_of(node):
         case ast.Call(func=ast.Name(id=name)) if name in BUILTINS:
             yield f"{name}()"
         case ast.Call(func=ast.Attribute(attr=name)):
-            yield f".{name}()"
+            yield f".{name}()" if name in METHODS else "method of a class()"
+        case ast.Attribute(ctx=context) if not isinstance(context, ast.Load):
+            yield {"Store": "attribute target", "Del": "attribute deleted"}[type(context).__name__]
+        case ast.ClassDef(bases=[_, *_]):
+            yield "base of a class"
+        case ast.FunctionDef(name="__init__"):
+            yield "__init__"
         case ast.Starred(ctx=ast.Load()):
             yield "*argument"
         case ast.Starred():
@@ -37,7 +43,9 @@ def names_of(node):
 
 
 BUILTINS = ["print", "len", "range", "str", "int", "bool", "repr", "type", "isinstance", "issubclass", "iter", "next", "abs", "divmod", "ord", "chr", "hasattr",
-            "getattr", "callable", "list", "tuple", "set", "dict", "sum", "any", "all", "min", "max", "sorted"]
+            "getattr", "setattr", "super", "object", "callable", "list", "tuple", "set", "dict", "sum", "any", "all", "min", "max", "sorted"]
+
+METHODS = {name for kind in (str, list, dict, set) for name in dir(kind) if not name.startswith("_")} | {"exit"}
 
 
 def forms_of(text, lines):

@@ -209,8 +209,11 @@ class Hooks:
 
 # Differences that docs/DECISIONS.md lists. What only CPython tells: each rule says of an event whether it is one
 def of_class_head(recorder, stream, event):
-    """A class's body has no act on the line of its head."""
-    return event[0] in ("LINE", "line") and event[2] == event[1][1] and recorder.lines[event[2] - 1].lstrip().startswith("class")
+    """A class's body has no act on the line of its head, unless it stands there."""
+    if event[0] not in ("LINE", "line") or event[2] != event[1][1] or event[1][0] == "<module>":
+        return False
+    head = recorder.lines[event[2] - 1].strip()
+    return head.startswith("@") or head.startswith("class") and head.endswith(":")
 
 
 def of_same_line(recorder, stream, event):
@@ -267,8 +270,9 @@ def alike(events):
     """What is told otherwise: a module that has not begun is on line 0 for CPython, where an exception leaves a frame its line is that
     of the last act here, and so it is where a block comes to its end, of which CPython may have no line."""
     def one(e):
-        if e[0] == "PY_UNWIND" or e[0] in ("return", "PY_RETURN") and e[3] == "None":
-            return (e[0], e[1], 0, *e[3:-1])
+        # the body of a class gives the cell of the class, if it has one, to CPython alone
+        if e[0] == "PY_UNWIND" or e[0] in ("return", "PY_RETURN") and e[3] in ("None", "<cell>"):
+            return (e[0], e[1], 0, e[3].replace("<cell>", "None"), *e[4:-1])
         return (e[0], e[1], max(e[2], 1), *e[3:-1])
     return [one(e) for e in events]
 

@@ -18,6 +18,7 @@ import warnings
 from check import EVENTS, RULES, TRACED, Plan, alike, first_difference, of_ended_iteration, of_one_line, of_spread_call
 from coded import CodedRunner
 from definitions import items, listed, number
+from classes import CLASSES, OWN
 from exceptions import EXCEPTIONS
 from objects import NamesRunner, ObjectRunner, text_of
 from programs import WORDED, program
@@ -36,13 +37,22 @@ def as_here(text):
     """What CPython prints, in which functions have no text of their own here."""
     text = text.replace("No active exception to reraise", "no active exception")
     text = re.sub(r"<function \S+ at 0x\w+>", "<function object>", text)
+    text = re.sub(r"<bound method \S+ of .*? at 0x\w+>>", "<method object>", text)
+    text = re.sub(r"<class '__main__\.(?:\S*\.)?(\w+)'>", r"<class '\1'>", text)
+    text = of_classes(text)
     return re.sub(r"<built-in (function \w+|method \w+ of \w+ object at 0x\w+)>", "<builtin_function_or_method object>", text)
+
+
+def of_classes(text):
+    """What is told of classes: an AttributeError of one, and their names, here without what is around them."""
+    text = re.sub(r"^(?:(?:\w+|<locals>)\.)+(?=\w+(?:: |$))", "", text, flags=re.MULTILINE)
+    return re.sub(r"type object '\w+' has no attribute", "'type' object has no attribute", text)
 
 
 def traceback_by_python(text):
     """What CPython prints of the exception that leaves a script, without suggestions of other names."""
     with contextlib.redirect_stdout(io.StringIO()):
-        return re.sub(r"\. Did you mean: '\w+'\?$", "", traceback_of(exception_of("script.py", text)), flags=re.MULTILINE)
+        return of_classes(re.sub(r"\. Did you mean: '\w+'\?$", "", traceback_of(exception_of("script.py", text)), flags=re.MULTILINE))
 
 
 def by_class(traceback):
@@ -74,6 +84,7 @@ class Check:
             what = event["what"]
             where = (blocks[event["block"]["number"]].key, event["line"])
             value = self.runner.describe(what[1], heap) if what[0] in ("returns", "unwinds", "raises", *CALL_KINDS) else ""
+            value = "<function>" if what[0] in CALL_KINDS and value == "<method>" else value
             if what[0] in TRACED:
                 told.hear("trace", (of_ended_iteration, of_one_line), (TRACED[what[0]], *where, "None" if what[0] == "unwinds" else value, False, event["frame"]))
             if what[0] in EVENTS:
@@ -111,10 +122,10 @@ class Check:
             difference = difference or ["out", printed[-200:], out[-200:]]
         wanted = recorder.end if end[0] == "done" else "done" if recorder.end == "done" else ("raised", recorder.end)
         if end[0] == "exited":
-            wanted = ("exited",) if recorder.end == "<SystemExit>" else wanted
+            wanted = ("exited",) if recorder.exits else wanted
         if not left and (end[0] if end[0] == "done" else end[:2]) != wanted:
             difference = difference or ["end", recorder.end, end]
-        if not left and end[:2] == ("raised", recorder.end) and recorder.end in NAMED and recorder.error != end[2]:
+        if not left and end[:2] == ("raised", recorder.end) and recorder.end in NAMED and of_classes(recorder.error) != end[2]:
             difference = difference or ["text", recorder.error, end[2]]
         if not left and difference is None and end[0] == "raised":
             a, b = by_class(traceback_by_python(text)), by_class(self.traceback)
@@ -232,13 +243,24 @@ NAMES = [
 
 
 def containers(check):
-    """How many of those scripts, and of those of exceptions, imports and exits, differ from CPython."""
+    """How many of those scripts, and of those of exceptions, imports, exits and classes, differ from CPython."""
     bad = 0
-    for text in CONTAINERS + EXCEPTIONS + IMPORTS + EXITS:
+    for text in CONTAINERS + EXCEPTIONS + IMPORTS + EXITS + CLASSES:
         difference, end, _, _ = check.compare(text)
         if difference:
             bad += 1
             print(text, *difference, sep="\n    ")
+    return bad
+
+
+def by_rule(check):
+    """How many of the scripts of classes that have a rule of their own run otherwise."""
+    bad = 0
+    for text, *wanted in OWN:
+        _, out, end, _ = check.run(text)
+        if [out, end] != wanted:
+            bad += 1
+            print(text, [out, end], wanted, sep="\n    ")
     return bad
 
 
@@ -338,17 +360,17 @@ def main():
     p.add_argument("--bare", action="store_true")
     p.add_argument("--coded", action="store_true")
     a = p.parse_args()
-    plain = CALLING + [w[:2] for w in WRITTEN] + [(t, 999) for t in CONTAINERS + EXCEPTIONS + IMPORTS + EXITS] + [(program(s, containers=s % 2 > 0, exceptions=s % 4 > 1), 20000) for s in range(a.first, a.first + a.many)]
+    plain = CALLING + [w[:2] for w in WRITTEN] + [(t, 999) for t in CONTAINERS + EXCEPTIONS + IMPORTS + EXITS + CLASSES] + [(program(s, containers=s % 2 > 0, exceptions=s % 4 > 1, classes=s % 8 > 4), 20000) for s in range(a.first, a.first + a.many)]
     if a.coded:
         return by_code(a.crates, plain)
     check = Check(a.crates)
     if a.bare:
         return bare(check, plain)
-    bad = 0 if a.show is not None else written(check) + containers(check) + by_names(a.crates)
+    bad = 0 if a.show is not None else written(check) + containers(check) + by_rule(check) + by_names(a.crates)
     ends, acts, events = collections.Counter(), 0, 0
     seeds = [a.show] if a.show is not None else range(a.first, a.first + a.many)
     calling = [] if a.show is not None else sorted({(text, text) for text, _ in CALLING})
-    for seed, text in [(seed, program(seed, containers=seed % 4 > 0, exceptions=seed % 3 > 0, helpers=seed % 5 < 2)) for seed in seeds] + calling:
+    for seed, text in [(seed, program(seed, containers=seed % 4 > 0, exceptions=seed % 3 > 0, helpers=seed % 5 < 2, classes=seed % 2 > 0)) for seed in seeds] + calling:
         difference, end, taken, told = check.compare(text)
         ends[" ".join(str(e) for e in end[:2])] += 1
         acts, events = acts + taken, events + told
@@ -358,7 +380,7 @@ def main():
         if a.show is not None:
             print("\n".join(f"{i + 1:3} {line}" for i, line in enumerate(text.split("\n"))), end)
     print(", ".join(f"{k} {n}" for k, n in sorted(ends.items())))
-    print(f"{len(WRITTEN) + len(CONTAINERS) + len(EXCEPTIONS) + len(IMPORTS) + len(EXITS) + len(NAMES) + len(calling)} written scripts, {len(seeds)} random ones, "
+    print(f"{len(WRITTEN) + len(CONTAINERS) + len(EXCEPTIONS) + len(IMPORTS) + len(EXITS) + len(CLASSES) + len(OWN) + len(NAMES) + len(calling)} written scripts, {len(seeds)} random ones, "
           f"{acts} acts, {events} events, {bad} with a difference")
     return bad > 0
 

@@ -4,6 +4,7 @@ import os
 
 from definitions import constants, integer, items, listed, number
 from run import Runner
+from scopes import Scopes, in_order
 from trees import Trees
 
 
@@ -36,12 +37,18 @@ def facts_of(block):
     return {
         "name": word(block.name), "first_line": block.first_line, "yields": block.yields,
         "params": {"plain": words(plain), "only": words(only), "star": star is not None, "stars": stars is not None, "defaults": ()},
-        "locals": words(parameters + others), "cells": words(sorted(block.scope.cells)), "frees": words(block.captured),
+        "locals": words(parameters + others), "cells": words(in_order(block.scope.cells)), "frees": words(block.captured),
     }
 
 
+class ClassScopes(Scopes):
+    def __init__(self, module):
+        super().__init__(module)
+        self.keep_classes()
+
+
 class ObjectRunner(Runner):
-    trees = ByteTrees
+    trees, scopes = ByteTrees, ClassScopes
 
     def __init__(self, crates):
         super().__init__(crates)

@@ -31,6 +31,7 @@ class Block:
         self.depth, self.around = depth, around
         self.names, self.functions, self.sequences, self.lists = [], [], [], []
         self.dicts, self.sets, self.errors, self.loops = [], [], [], 0
+        self.classes, self.objects, self.receiver = [], [], None
 
     def all(self, kind):
         block, found = self, []
@@ -40,14 +41,34 @@ class Block:
         return found
 
 
+# methods of classes, with how many parameters each has beside the first; one calls those before it alone, so calls end
+METHODS = [("m0", 0), ("m1", 1), ("m2", 2), ("_m3", 1), ("__m4", 0)]
+ATTRIBUTES = ["x", "y", "z", "_u", "__v", "shared"]
+
+
+class Made:
+    """A class that is written: its base among those, its attributes and methods, and how many arguments `__init__` takes, if it has one."""
+
+    def __init__(self, name, base=None, is_error=False):
+        self.name, self.base, self.is_error = name, base, is_error
+        self.attributes, self.methods, self.inits = [], [], None
+
+    def all(self, kind):
+        return getattr(self, kind) + (self.base.all(kind) if self.base else [])
+
+    def arguments(self):
+        return self.inits if self.inits is not None or not self.base else self.base.arguments()
+
+
 class Program:
     """`containers` says that there are lists, tuples, ranges, f-strings, slices, dictionaries and sets; `exceptions` that there are `try`,
     `raise`, `assert` and exceptions; `forms` that there are comprehensions and orders of sequences; `builtins` that there are statements of
-    builtins and methods that come seldom; `helpers` that there are statements of those that are written in Python."""
+    builtins and methods that come seldom; `helpers` that there are statements of those that are written in Python; `classes` that there are
+    classes, their instances and exceptions of classes of the script."""
 
-    def __init__(self, seed, containers=False, exceptions=False, forms=False, builtins=False, helpers=False):
+    def __init__(self, seed, containers=False, exceptions=False, forms=False, builtins=False, helpers=False, classes=False):
         self.r = random.Random(seed)
-        self.forms, self.builtins, self.helpers = forms, builtins, helpers
+        self.forms, self.builtins, self.helpers, self.has_classes = forms, builtins, helpers, classes
         self.lines, self.fresh, self.containers, self.exceptions, self.handling = list(HEAD), 0, containers, exceptions, 0
         self.starred = {}
 
@@ -71,6 +92,8 @@ class Program:
         return str(self.r.choice([0, 1, 2, 3, 5] if chance < 0.99 else [17, 2 ** 64, 2 ** 127 - 1]))
 
     def exp(self, block, room=2):
+        if self.has_classes and self.r.random() < 0.2:
+            return self.of_object(block, room)
         if self.containers and self.r.random() < 0.2:
             return self.of_sequence(block)
         if room <= 0 or self.r.random() < 0.25:
@@ -697,6 +720,9 @@ class Program:
         """A class of exceptions, one that it makes, or one that is held."""
         if block.all("errors") and self.r.random() < 0.35:
             return self.r.choice(block.all("errors"))
+        own = [c for c in block.all("classes") if c.is_error]
+        if own and self.r.random() < 0.6:
+            return self.made_of(block, self.r.choice(own), 0) if self.r.random() < 0.8 else self.r.choice(own).name
         name = self.r.choice(ERRORS)
         # what `assert` calls isn't told from a call of its class
         if self.r.random() < 0.25 or name == "AssertionError":
@@ -750,7 +776,8 @@ class Program:
             if i == handlers - 1 and self.r.random() < 0.2:
                 put("except:")
             else:
-                taken = self.handled()
+                own = [c.name for c in block.all("classes") if c.is_error]
+                taken = self.handled() if not own or self.r.random() < 0.5 else self.r.choice(own + [f"({own[-1]}, KeyError)"])
                 name = self.name("e") if self.r.random() < 0.7 else None
                 put(f"except {taken}{f' as {name}' if name else ''}:")
                 if name:
@@ -796,6 +823,208 @@ class Program:
             return self.try_of(block, deeper, room)
         return self.put(block, f"print({self.error(block)})" if self.r.random() < 0.5 else "pass", deeper)
 
+    # classes
+    def made_of(self, block, c, room=1):
+        """An instance."""
+        many = c.arguments()
+        given = [self.exp(block, room) for _ in range(many if many is not None else self.r.randrange(3) if c.is_error else 0)]
+        if self.r.random() < 0.015:
+            given = self.r.choice([given + ["1"], given[1:], given + ["other=1"]])
+        return f"{c.name}({', '.join(given)})"
+
+    def attribute(self, c):
+        names = c.all("attributes")
+        return self.r.choice(names) if names and self.r.random() < 0.97 else self.r.choice(ATTRIBUTES[:4])
+
+    def named_of(self, block, within=None):
+        """What names an object of a class here, and the class."""
+        if block.receiver and self.r.random() < 0.7:
+            return block.receiver
+        return self.r.choice(block.all("objects") or [(None, None)])
+
+    def of_object(self, block, room=1):
+        """A value of an attribute, of a method or of a question about classes."""
+        o, c = self.named_of(block)
+        if o is None:
+            return self.atom(block)
+        x, methods = self.attribute(c), c.all("methods")
+        match self.r.randrange(10):
+            case 0 | 1 | 2:
+                return f"{o}.{x}"
+            case 3:
+                return self.r.choice([f"getattr({o}, {x!r}, 3)", f"hasattr({o}, {x!r})", f"getattr({c.name}, {x!r}, 2)"])
+            case 4:
+                return self.r.choice([f"isinstance({o}, {self.r.choice(block.all('classes') or [c]).name})", f"(type({o}) is {c.name})", f"issubclass({c.name}, {self.r.choice(block.all('classes') or [c]).name})"])
+            case 5:
+                return self.r.choice([f"callable({o}.{x})", f"({o} is {self.named_of(block)[0]})", f"({c.name}.__name__ == {c.name!r})"])
+            case _ if methods and not block.receiver:
+                m, many = self.r.choice(methods)
+                given = [self.exp(block, 0) for _ in range(many)]
+                if self.r.random() < 0.01:
+                    given.append("1")
+                if self.r.random() < 0.25 and not m.startswith("__"):
+                    return f"{c.name}.{m}({', '.join([o, *given])})"
+                return f"{o}.{m}({', '.join(given)})"
+        return f"getattr({o}, {x!r}, {self.atom(block)})"
+
+    def method(self, inner, c, name, many, is_init=False):
+        """A method, whose block is in the body of the class but doesn't see it."""
+        put = lambda block, text, deeper=0: self.put(block, text, deeper)
+        parameters = [self.name("a") for _ in range(many)]
+        words = parameters[:-1] + [f"{parameters[-1]}={self.atom(inner.around)}"] if parameters and self.r.random() < 0.2 and not is_init else parameters
+        body = Block(inner.depth + 1, inner.around)
+        own = self.r.choice(["self", "self", "me"])
+        put(inner, f"def {name}({', '.join([own, *words])}):")
+        body.names, body.receiver = list(parameters), (own, c)
+        above = c.base.all("methods") if c.base else []
+        if is_init:
+            if c.base and c.base.arguments() is not None and self.r.random() < 0.8:
+                put(body, f"super().__init__({', '.join(self.r.choice(parameters + ['1']) for _ in range(c.base.arguments()))})")
+            for x in self.r.sample(ATTRIBUTES, self.r.randint(1, 3)):
+                put(body, f"{own}.{x} = {self.r.choice(parameters + [self.exp(body, 1)])}")
+                c.attributes.append(x)
+        for _ in range(self.r.randint(0, 2)):
+            self.of_receiver(body, own, c, name)
+        if (name, many) in above and self.r.random() < 0.7:
+            put(body, self.r.choice(["print({})", "return {}"]).format(f"super().{name}({', '.join(parameters)})"))
+        if not is_init and self.r.random() < 0.9:
+            put(body, self.r.choice([f"return {self.exp(body, 1)}", f"return {own}.{self.attribute(c)}", f"return getattr({own}, {self.attribute(c)!r}, {self.atom(body)})", "return len('ab')"]))
+        elif self.lines[-1].endswith("):"):
+            put(body, "pass")
+
+    def of_receiver(self, body, own, c, name):
+        x = self.r.choice(ATTRIBUTES)
+        before = [m for m, _ in METHODS].index(name) if name != "__init__" else len(METHODS)
+        callable_ = [(m, n) for m, n in c.all("methods") if [k for k, _ in METHODS].index(m) < before and not m.startswith("__")]
+        match self.r.randrange(7):
+            case 0 | 1:
+                self.put(body, f"{own}.{x} = {self.exp(body, 1)}")
+                if name == "__init__":
+                    c.attributes.append(x)
+            case 2 if callable_:
+                m, many = self.r.choice(callable_)
+                self.put(body, f"print({own}.{m}({', '.join(self.atom(body) for _ in range(many))}))")
+            case 3:
+                self.put(body, f"if hasattr({own}, {x!r}):")
+                self.put(body, self.r.choice([f"{own}.{x} += 1", f"print({own}.{x})"] if not x.startswith("__") else ["print('has it')"]), 1)
+            case 4:
+                self.put(body, f"setattr({own}, {x!r}, {self.atom(body)})")
+            case 5 if body.around.all("names"):
+                self.put(body, f"print({self.r.choice(body.around.all('names'))})")
+            case _:
+                self.put(body, f"print({self.exp(body, 1)})")
+
+    def a_class(self, block, deeper, inside=0):
+        """A class, some in a class, and some of exceptions."""
+        put = lambda text: self.put(block, text, deeper)
+        known = block.all("classes")
+        name, base, word = self.name("C"), None, ""
+        if known and self.r.random() < 0.6:
+            base = self.r.choice(known)
+            word = f"({base.name})"
+        elif self.exceptions and self.r.random() < 0.35:
+            word = f"({self.r.choice(['Exception', 'ValueError', 'KeyError', 'LookupError', 'RuntimeError'])})"
+        elif self.r.random() < 0.15:
+            word = self.r.choice(["(object)", "()", "(int)" if self.r.random() < 0.1 else "(object)", "(5)" if self.r.random() < 0.1 else "()"])
+        c = Made(name, base, word not in ("", "()", "(object)", "(int)", "(5)") and base is None or base is not None and base.is_error)
+        if self.r.random() < 0.15:
+            put("@same")
+        put(f"class {name}{word}:")
+        inner = Block(block.depth + deeper + 1, block)
+        if self.r.random() < 0.15:
+            self.put(inner, "'a text'")
+        for _ in range(self.r.randrange(3)):
+            self.of_body(inner, c, block)
+        if self.r.random() < 0.5:
+            c.inits = self.r.randrange(3)
+            self.method(inner, c, "__init__", c.inits, True)
+        for m, many in self.r.sample(METHODS, self.r.randrange(3)):
+            self.method(inner, c, m, many)
+            c.methods.append((m, many))
+        if not inside and self.r.random() < 0.1:
+            inner.names.append(self.a_class(inner, 0, 1).name)
+        if not inner.names and not c.methods and c.inits is None:
+            self.put(inner, self.r.choice(["pass", "print('body')", "x = 1"]))
+        return c
+
+    def of_body(self, inner, c, block):
+        """A statement of a class's body, which binds names of the class, some of which are names around it too."""
+        names = block.names if self.r.random() < 0.15 else []
+        x = self.r.choice([*ATTRIBUTES, *names])
+        own = Block(inner.depth, None)
+        own.names = [*inner.names, "1", "2"]
+        match self.r.randrange(8):
+            case 0 if inner.names:
+                self.put(inner, f"if {self.r.choice(inner.names)} == 1:")
+                self.put(inner, f"{x} = {self.atom(own)}", 1)
+                self.put(inner, "else:")
+                self.put(inner, f"{x} = {self.exp(block, 1)}", 1)
+            case 1:
+                self.put(inner, f"for {x} in range({self.r.randrange(1, 3)}):")
+                self.put(inner, f"print({x})", 1)
+            case 2 if inner.names and len(inner.names) > 1:
+                y = inner.names.pop()
+                self.put(inner, f"del {y}")
+                c.attributes = [a for a in c.attributes if a != y]
+                return
+            case 3:
+                self.put(inner, f"print({self.atom(own)}, {self.exp(block, 1)})")
+                return
+            case 4:
+                self.put(inner, f"{x} = lambda self, n=1: n")
+            case _:
+                self.put(inner, f"{x} = {self.r.choice([self.exp(block, 1), self.atom(own), self.atom(block)])}")
+        inner.names.append(x)
+        c.attributes.append(x)
+
+    def of_classes(self, block, deeper, room):
+        put = lambda text, more=0: self.put(block, text, deeper + more)
+        classes = block.all("classes")
+        o, c = self.named_of(block)
+        if not classes or self.r.random() < 0.25:
+            if deeper or block.depth > 2:
+                return put("pass")
+            c = self.a_class(block, deeper)
+            return block.classes.append(c)
+        if o is None or self.r.random() < 0.25:
+            c, o = self.r.choice(classes), self.name("o")
+            put(f"{o} = {self.made_of(block, c)}")
+            return block.objects.append((o, c)) if not deeper else None
+        x, m = self.r.choice(ATTRIBUTES[:4] + ["shared"]), self.name("m")
+        match self.r.randrange(12):
+            case 0 | 1:
+                put(f"{o}.{x} = {self.exp(block, 1)}")
+            case 2:
+                put(f"{c.name}.{x} = {self.exp(block, 1)}")
+                c.attributes.append(x)
+            case 3:
+                put(f"if hasattr({o}, {x!r}):")
+                put(self.r.choice([f"{o}.{x} += {self.atom(block)}", f"print({o}.{x})", f"{o}.{x} = {o}.{x}, 1"]), 1)
+            case 4:
+                put("try:")
+                put(f"del {self.r.choice([o, c.name])}.{x}", 1)
+                put("except AttributeError as missing:")
+                put("print(missing)", 1)
+            case 5 if c.all("methods"):
+                name, many = self.r.choice([k for k in c.all("methods") if not k[0].startswith("__")] or [("m0", 0)])
+                put(f"{m} = {self.r.choice([o, c.name])}.{name}")
+                is_bound = f"= {o}." in self.lines[-1]
+                put(f"print({m}({', '.join([o] * (not is_bound) + [self.atom(block) for _ in range(many)])}))")
+            case 6:
+                put(f"setattr({self.r.choice([o, c.name, '5' if self.r.random() < 0.1 else o])}, {x!r}, {self.exp(block, 1)})")
+            case 7:
+                put(f"print({c.name}, type({o}), {o}.{self.attribute(c)})")
+            case 8:
+                put(f"{o}.{x}, {o}._u = {self.exp(block, 1)}, {self.exp(block, 1)}")
+            case 9 if self.containers:
+                put(f"for {o}.{x} in {self.sequence(block, 0)}:")
+                put(f"print({o}.{x})", 1)
+            case 10:
+                put(f"{c.name}.m0 = lambda self: {self.atom(block)}")
+                put(f"print({o}.m0())")
+            case _:
+                put(f"print({self.of_object(block)}, {self.of_object(block)})")
+
     # statements
     def target(self, block, among=None):
         if among or block.names and self.r.random() < 0.5:
@@ -806,6 +1035,8 @@ class Program:
 
     def statement(self, block, deeper, room):
         put = lambda text: self.put(block, text, deeper)
+        if self.has_classes and self.r.random() < 0.45:
+            return self.of_classes(block, deeper, room)
         if self.exceptions and self.r.random() < 0.3:
             return self.of_exceptions(block, deeper, room)
         if self.builtins and self.r.random() < 0.25:
@@ -924,5 +1155,5 @@ class Program:
         return "\n".join(self.lines) + "\n"
 
 
-def program(seed, containers=False, exceptions=False, forms=False, builtins=False, helpers=False):
-    return Program(seed, containers, exceptions, forms, builtins, helpers).text()
+def program(seed, containers=False, exceptions=False, forms=False, builtins=False, helpers=False, classes=False):
+    return Program(seed, containers, exceptions, forms, builtins, helpers, classes).text()

@@ -30,7 +30,7 @@ def is_own_call(kind, f):
         return True
     if isinstance(f, types.FunctionType) and f.__name__ == "<genexpr>" or isinstance(f, types.MethodType) and f.__name__ == "__exit__":
         return True
-    return kind != "CALL" and isinstance(f, type) and f.__module__ == "script"
+    return kind != "CALL" and isinstance(f, type) and f.__module__ in ("script", "__main__")
 
 
 def describe(v, depth=3):
@@ -78,7 +78,7 @@ class Recorder:
     def run(self):
         M.use_tool_id(TOOL, "check")
         out = io.StringIO()
-        self.end, self.error = "done", ""
+        self.end, self.error, self.exits = "done", "", False
         for kind in KINDS:
             M.register_callback(TOOL, getattr(M.events, kind), self.function("called_back", self.callback(kind)))
         try:
@@ -91,7 +91,7 @@ class Recorder:
                     exec(self.code, self.space)
                 except BaseException as e:
                     sys.settrace(None)
-                    self.end, self.error = describe(e), str(e)
+                    self.end, self.error, self.exits = describe(e), str(e), isinstance(e, SystemExit)
                 finally:
                     sys.settrace(None)
                     M.set_events(TOOL, 0)

@@ -4,7 +4,7 @@ import types
 
 from definitions import items, listed, load
 from host import DISABLE, NONE, Cell, Function, Generator, Host, Method, Names, World
-from scopes import Scopes
+from scopes import CLASS, Scopes, in_order
 from trees import Trees
 
 SPECS = "Rattle.{}.specs.{}"
@@ -19,7 +19,7 @@ class Block:
         self.name = name if isinstance(name, str) else bytes(items(name)).decode()
         self.first_line = record["first_line"]
         self.key = (self.name, self.first_line)
-        self.captured = sorted(scope.free)
+        self.captured = in_order(scope.free)
 
     def cells(self, values):
         """The cells that the block takes along, in the order in which they are asked for."""
@@ -45,7 +45,7 @@ class Block:
 
 
 class Runner:
-    trees = Trees
+    trees, scopes = Trees, Scopes
 
     def __init__(self, crates):
         self.definitions = load(crates)
@@ -61,7 +61,7 @@ class Runner:
 
     def blocks(self, text):
         trees = self.trees(text)
-        scopes = Scopes(trees.module)
+        scopes = self.scopes(trees.module)
         records = items(self.blocks_script(trees.tree))
         assert len(records) == len(trees.nodes)
         out = []
@@ -79,7 +79,9 @@ class Runner:
             return {"scope": (scope.scope(name),), "name": name}
 
         def captured(number):
-            return listed({"scope": ("cell" if x in scope.cells and x in scope.bound else "free",), "name": x} for x in blocks[number].captured)
+            is_class = isinstance(blocks[number].node, ast.ClassDef)
+            is_cell = lambda x: is_class if x == CLASS else x in scope.cells and x in scope.bound
+            return listed({"scope": ("cell" if is_cell(x) else "free",), "name": x} for x in blocks[number].captured)
         return {"null": None, "variable": lambda within: variable, "spelled": scope.spell, "captured": captured}
 
     def run(self, text, hooks, most=20000):

@@ -3,6 +3,12 @@ their own in each script, so a comprehension needs no scope here."""
 import ast
 
 FUNCTIONS = (ast.FunctionDef, ast.Lambda, ast.GeneratorExp)
+CLASS = ".class"
+
+
+def in_order(names):
+    """The class for `super` behind all others."""
+    return sorted(names, key=lambda x: (x == CLASS, x))
 
 
 def spelled(name, class_name):
@@ -61,6 +67,19 @@ class Scopes:
                 return
             between.append(outer)
             outer = outer.around
+
+    def keep_classes(self):
+        """The class that `super` is called for stands in a cell of the block around the class; it is free in the class and in each function of it."""
+        for block in self.blocks.values():
+            between = [block]
+            if not isinstance(block.node, (ast.FunctionDef, ast.Lambda)):
+                continue
+            while between[-1].around is not None and not isinstance(between[-1].node, ast.ClassDef):
+                between.append(between[-1].around)
+            if isinstance(between[-1].node, ast.ClassDef):
+                between[-1].around.cells.add(CLASS)
+                for b in between:
+                    b.free.add(CLASS)
 
     def walk_all(self, parts, block):
         for part in parts:

@@ -182,6 +182,8 @@ class Rows:
             return f"set({','.join(self.item(e['first']) for e in items(what))})"
         if kind == "Range":
             return "range({},{},{})".format(*(number(what[x]) for x in ("start", "stop", "step")))
+        if kind == "Builtin":
+            return f"method({self.item(what['receiver'][1])})"
         assert kind == "Cursor"
         over = "nothing" if what["over"][0] == "None" else self.item(("Obj", what["over"][1]))
         return f"iterator({over},{what['place']})"

@@ -82,7 +82,7 @@ def objects():
     self_b.append(self_b)
     ended.over = None
     return {"F": first, "G": second, "P": print, "O": PLAIN, "M": types, "C": int, "L": one, "T": (), "D": {}, "S": set(), "R": range(3),
-            "V": {}.keys(), "E": ValueError(), "X": x, "Y": ScriptedError("x"),
+            "V": {}.keys(), "E": ValueError(), "X": x, "Y": ScriptedError(),
             "oE": [], "oA": [1, "ab", None], "oB": [1, "ab", None], "oT": (1, "ab", None), "oI": [True, 2], "oJ": [1, 2], "oQ": [one], "oU": [[1]],
             "oX": [x], "oY": (x,), "oS": self_a, "oP": self_b, "oO": three, "oW": ([1], (2, "h\u00e9")), "oR": range(0, 10, 3), "oM": range(0, 12, 3),
             "oN": range(5, 5), "oK": range(7, 0, -2), "oL": slice(None), "oC": made([4, 5], 1), "oZ": made("h\u00e9l", 1), "oF": made(range(9, 1, -3), 1),
@@ -98,7 +98,6 @@ OBJECTS = objects()
 COMPOUND = "LTDSRVE"
 INSTANCES = "XY"
 HELPED = ["X", "Y", "oX", "oY", "oDx"]
-UNTOLD = (type({}.keys()), slice)
 
 
 def spelled(text):
@@ -210,7 +209,7 @@ class Row:
         if isinstance(value, (list, tuple, set, range, Iterator)) and not any(value is v for v in [*self.values, *self.objects.values()]):
             return self.made(value) + " new"
         # CPython has one empty tuple, and hands out an operand that it would have to copy
-        if isinstance(value, tuple) and (is_new or self.kind == "tuple"):
+        if isinstance(value, tuple) and (is_new or self.kind in ("tuple", "call_getattr")):
             return self.made(value) + " new"
         return self.item(value)
 
@@ -401,13 +400,13 @@ def comparison(row, sign, a, b):
 
 def text_of(row, value, is_repr):
     """An object is written without its address, and a class by its name; what isn't written yet is left out."""
-    if isinstance(value, UNTOLD):
+    if isinstance(value, slice):
         raise Other(FEATURE)
     if row.is_deep(value) and value[0] is not value:
         raise Other(TOO_DEEP)
     if isinstance(value, type):
         return f"<class '{name_of(value)}'>"
-    if value is None or isinstance(value, (int, list, tuple, dict, set, range)) or value is ... or value is NotImplemented:
+    if value is None or isinstance(value, (int, list, tuple, dict, set, type({}.keys()), range)) or value is ... or value is NotImplemented:
         return repr(value)
     if isinstance(value, str):
         return escaped(value) if is_repr else value
@@ -593,18 +592,19 @@ def tuples_around(value):
     return depth
 
 
-HELD = ("__cause__", "__context__")
+NAMED = ("__cause__", "__context__", "__name__", "args")
 
 
 def attribute(row, a, name, *default):
-    """What a method is isn't given yet."""
+    """A method of a builtin value is a new object that is bound to it. What the name of a function is isn't known."""
     if not isinstance(name, str):
         return f"TypeError: {BAD}"
-    if isinstance(a, BaseException) and name in HELD:
-        return row.shown(getattr(a, name))
-    if hasattr(a, name):
+    if not hasattr(a, name):
+        return row.shown(default[0]) if default else f"AttributeError: '{row.class_name(a)}' object has no attribute '{name}'"
+    if name == "__name__" and isinstance(a, types.FunctionType):
         return FEATURE
-    return row.shown(default[0]) if default else f"AttributeError: '{row.class_name(a)}' object has no attribute '{name}'"
+    value = getattr(a, name)
+    return f"method({row.item(a)}) new" if isinstance(value, types.BuiltinMethodType) else row.shown(value)
 
 
 def has_attribute(row, a, name):
@@ -619,7 +619,7 @@ CALLS = {"print": (2, 9, printed), "len": (1, 1, length), "repr": (1, 1, written
          "divmod": (2, 2, division), "ord": (1, 1, code), "chr": (1, 1, char), "type": (1, 1, lambda row, a: row.shown(type(a))),
          "isinstance": (2, 2, of_class(isinstance)), "issubclass": (2, 2, of_class(issubclass)),
          "hasattr": (2, 2, has_attribute), "getattr": (2, 3, attribute),
-         "callable": (1, 1, lambda row, a: FEATURE if row.is_instance(a) else row.shown(callable(a)))}
+         "callable": (1, 1, lambda row, a: row.shown(callable(a)))}
 
 
 def answered(row):
@@ -727,8 +727,8 @@ def all_rows():
     for a in [*SIMPLE, "C", *OTHERS, "oA", "oT", "oR", "oC", "oD"]:
         for name in ("sappend", "sget", "sadd", "sjoin", "snothing", "s", "i1", "n"):
             yield from (f"call_hasattr {a} {name}", f"call_getattr {a} {name}", f"call_getattr {a} {name} i7")
-    for a in ("E", "Y", "i5"):
-        for name in HELD:
+    for a in ("C", "E", "F", "Y", "i5"):
+        for name in NAMED:
             yield from (f"call_hasattr {a} u{name}", f"call_getattr {a} u{name}", f"call_getattr {a} u{name} i7")
     for text in INTEGER_TEXTS:
         yield f"call_int {text}"

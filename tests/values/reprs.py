@@ -1,9 +1,10 @@
-"""Runs the definition of `repr` beside CPython, over lists, tuples, dictionaries and sets that stand inside one another, and inside
-themselves.
+"""Runs the definition of `repr` beside CPython, over lists, tuples, dictionaries, sets and views that stand inside one another, and
+inside themselves.
 
 Run with CPython 3.12 in this folder. A set's items are those of CPython, in the order that it has them in.
 """
 
+import gc
 import random
 import sys
 from pathlib import Path
@@ -14,6 +15,7 @@ import definitions
 from definitions import integer, items, listed
 
 LEAVES = [None, True, False, 0, -7, 2 ** 100, "", "it's", 'a"b', "\u00e9\n", ..., range(3), (), ("a", 1)]
+VIEWS = {"dict_keys": "Keys", "dict_values": "Values", "dict_items": "Items"}
 KEYS = [None, True, 0, -7, "", "a'b", (1, ("x",)), ..., range(2, 9, 3)]
 
 
@@ -48,18 +50,23 @@ class Heap:
             return ("Dict", listed([self.entry(key, value) for key, value in thing.items()]))
         if isinstance(thing, set):
             return ("Set", listed([self.entry(item, None) for item in thing]))
+        if type(thing).__name__ in VIEWS:
+            return ("View", {"part": (VIEWS[type(thing).__name__],), "dict": self.value(gc.get_referents(thing)[0])[1]})
         return (type(thing).__name__.capitalize(), listed([self.value(item) for item in thing]))
 
 
 def made(source, depth):
     """A value by chance, which stands in itself nowhere."""
-    kind = source.randrange(5) if depth else 0
+    kind = source.randrange(6) if depth else 0
     if kind == 0:
         return source.choice(LEAVES)
     if kind == 1:
         return set(source.sample(KEYS, source.randrange(4)))
     parts = [made(source, depth - 1) for _ in range(source.randrange(4))]
-    return {2: tuple, 3: list}.get(kind, lambda values: dict(zip(source.sample(KEYS, len(values)), values)))(parts)
+    if kind > 3:
+        entries = dict(zip(source.sample(KEYS, len(parts)), parts))
+        return source.choice([entries.keys(), entries.values(), entries.items()]) if kind == 5 else entries
+    return tuple(parts) if kind == 2 else parts
 
 
 def answer(told):
@@ -75,7 +82,11 @@ def main():
     itself, both = {}, {"a": [3]}
     itself[1] = itself
     both["b"] = {2: ("x", [both])}
-    values = [{}, set(), {1: 2, "a": [3]}, {1, 2}, {("a", 2)}, itself, both, (itself,), [set(), {}, {1}], {1: {}, 2: {3: set()}},
+    own, others = {}, {1: "x"}
+    own[1] = own.values()
+    others[2] = [others.items(), others.keys()]
+    values = [own, own[1], own.values(), own.items(), others, others.items(), {}.keys(), {}.values(), {}.items(), {"a": 1}.keys(), [{2: (3,)}.items()],
+              {}, set(), {1: 2, "a": [3]}, {1, 2}, {("a", 2)}, itself, both, (itself,), [set(), {}, {1}], {1: {}, 2: {3: set()}},
               *(made(source, 3) for _ in range(200))]
     wrong = 0
     for value in values:
