@@ -90,7 +90,7 @@ use Rattle.pt_prims.specs.pt_methods.pt_mappings.Items.{item_by}
 use Rattle.pt_prims.specs.pt_methods.pt_sets.Members as set
 use Rattle.pt_prims.specs.pt_methods.pt_sets.Operators.{new_set}
 use Rattle.pt_prims.specs.pt_methods.pt_sequences.Displays.{fit, list_content, repeated, repeated_list, repeated_tuple, times, tuple_content}
-use Rattle.pt_prims.specs.pt_methods.pt_sequences.Items.{char_at, char_or, index_of, integer_at, item_at, item_of, item_or, not_subscriptable, place_of, unindexed, value_at}
+use Rattle.pt_prims.specs.pt_methods.pt_sequences.Items.{char_at, char_or, index_of, integer_at, item_at, item_of, item_or, place_of, unindexed, value_at}
 use Rattle.pt_prims.specs.pt_methods.pt_sequences.Ranges.{range_length, range_value}
 use Rattle.pt_prims.specs.pt_methods.pt_sequences.declared.item.Index.{Index}
 use Rattle.pt_prims.specs.pt_methods.pt_sequences.declared.item.Index.TheVariants as index
@@ -413,17 +413,13 @@ char-at : (cs : List ℕ) (o : Option ℕ) → OnlyAdds (char_at cs o)
 char-at cs (Some i) = char-adds (slice_get cs i)
 char-at cs None = tt
 
-no-item : (h : List Object) (v : Value) (k : Operand) → OnlyAdds (not_subscriptable h v k)
-no-item h v operand.Instance = tt
-no-item h v k = tt
-
 numbered : (h : List Object) (v : Value) (z : ℤ) (o : Option Object) → OnlyAdds (item_at h v z o)
 numbered h v z (Some (object.List vs)) = value-adds vs (place_of (length vs) z)
 numbered h v z (Some (object.Tuple vs)) = value-adds vs (place_of (length vs) z)
 numbered h v z (Some (object.Range r)) = integer-at r (place_of (range_length r) z)
 numbered h v z (Some (object.Str t)) = char-at (chars t) (place_of (length (chars t)) z)
 numbered h v z (Some (object.Dict es)) = tt
-numbered h v z o = no-item h v (operand_of h v)
+numbered h v z o = tt
 
 unindexed-adds : (h : List Object) (v : Value) (o : Option Object) → OnlyAdds (unindexed h v o)
 unindexed-adds h v (Some (object.List vs)) = tt
@@ -431,7 +427,7 @@ unindexed-adds h v (Some (object.Tuple vs)) = tt
 unindexed-adds h v (Some (object.Range r)) = tt
 unindexed-adds h v (Some (object.Str t)) = tt
 unindexed-adds h v (Some (object.Dict es)) = tt
-unindexed-adds h v o = no-item h v (operand_of h v)
+unindexed-adds h v o = tt
 
 indexed : (h : List Object) (v : Value) (i : Index) (o : Option Object) → OnlyAdds (item_of h v i o)
 indexed h v (index.Number z) o = numbered h v z o

@@ -31,9 +31,10 @@ pub enum HelperKind {
 
 /// The names of these objects, in the order of their places: the functions as they stand in the
 /// text, and what they ask.
-pub const HELPERS: [(&str, HelperKind); 48] = [
+pub const HELPERS: [(&str, HelperKind); 49] = [
     ("iter_of", HelperKind::Function(Helper::IterOf)),
     ("next_of", HelperKind::Function(Helper::NextOf)),
+    ("next_or_of", HelperKind::Function(Helper::NextOrOf)),
     ("len_of", HelperKind::Function(Helper::LenOf)),
     ("truth_of", HelperKind::Function(Helper::TruthOf)),
     ("binary_of", HelperKind::Function(Helper::BinaryOf)),
@@ -83,7 +84,7 @@ pub const HELPERS: [(&str, HelperKind); 48] = [
 ];
 
 /// The place of the empty tuple.
-pub const EMPTY_TUPLE: ObjId = ObjId(113);
+pub const EMPTY_TUPLE: ObjId = ObjId(114);
 
 /// The places of builtin objects end here.
 const BUILTIN_COUNT: u32 = 85;

@@ -39,12 +39,12 @@ deleted_by l vs k = bad_argument TYPE_ERROR
 abbrev pub set_in : List Object → (new container : Value) → Operand → Option Object → Content
 set_in h x v k (Some (object.List vs)) = set_by v vs x k
 set_in h x v k (Some (object.Dict es)) = content.Outside Feature
-set_in h x v k o = not_subscriptable h v (operand_of h v)
+set_in h x v k o = not_subscriptable h v
 
 abbrev pub deleted_in : List Object → (container : Value) → Operand → Option Object → Content
 deleted_in h v k (Some (object.List vs)) = deleted_by v vs k
 deleted_in h v k (Some (object.Dict es)) = content.Outside Feature
-deleted_in h v k o = not_subscriptable h v (operand_of h v)
+deleted_in h v k o = not_subscriptable h v
 
 -- `a[i] = x`
 abbrev pub set_item_content : List Object → (new container index : Value) → Content

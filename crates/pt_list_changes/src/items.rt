@@ -3,7 +3,7 @@
 ghost use Rattle.std.specs.Prelude.{◌≡◌, [], ◌∷◌, ◌++◌, ◌<◌, None, length, IfOk, IfSome};
 ghost use Rattle.std.specs.List.{remove};
 ghost use Rattle.pt_content.specs.Operands.{operand_of};
-ghost use Rattle.pt_sequences.specs.Items.{item_or, not_subscriptable, place_of};
+ghost use Rattle.pt_sequences.specs.Items.{item_or, place_of};
 ghost use Rattle.pt_list_changes.specs.Items.{delete_item_content, deleted_by, list_add_content};
 ghost use Rattle.pt_list_changes.specs.Items.{set_by, set_item_content};
 
@@ -11,9 +11,9 @@ use crate::changed::{list_changed, list_grown};
 use pt_base::{Memory, Seq, What};
 use pt_content::{
     Content, INDEX_ERROR, Operand, TYPE_ERROR, bad_argument, object_of, operand_of, raise,
-    use_type_error,
 };
 use pt_heap::{Heap, Object, Value};
+use pt_sequences::not_subscriptable;
 use std::alloc::Global;
 
 /// Items with one more behind them.
@@ -56,17 +56,6 @@ pub fn no_item(alloc: Global) -> Result<Content, Memory>
     ensures { IfOk result (λ content. content ≡ item_or None) }
 {
     raise(alloc, INDEX_ERROR, "index out of range")
-}
-
-/// A value has no items that change. The method of an instance isn't asked here.
-fn not_subscriptable(alloc: Global, heap: &Heap, value: Value) -> Result<Content, Memory>
-    ensures { IfOk result
-        (λ content. content ≡ not_subscriptable heap.now value (operand_of heap.now value)) }
-{
-    if operand_of(heap, value) == Operand::Instance {
-        return Ok(Content::Outside(What::Feature));
-    }
-    use_type_error(alloc, heap, value, "subscriptable")
 }
 
 fn set_by(
@@ -113,7 +102,7 @@ fn deleted_by(
 
 /// `a[i] = x` (Language Reference 7.2), of a list by an integer. An IndexError where there is no
 /// such item, a TypeError for another container or index, as a slice. Outside with the cause
-/// Feature for dictionaries and instances of a script's classes.
+/// Feature for dictionaries.
 pub fn set_item_content(
     alloc: Global,
     heap: &Heap,

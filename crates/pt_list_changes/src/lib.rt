@@ -13,3 +13,4 @@ pub use changes::{
     pop_last_content, reverse_content,
 };
 pub use items::{delete_item_content, list_add_content, set_item_content, without_item};
+pub use pt_sequences::not_subscriptable;

@@ -22,6 +22,6 @@ pub use pt_fields::{
     format_content, join_content, joined_content, slice_content, subscript_content,
 };
 pub use pt_list_changes::{
-    delete_item_content as delete_list_item, list_add_content, list_changed,
+    delete_item_content as delete_list_item, list_add_content, list_changed, not_subscriptable,
     set_item_content as set_list_item,
 };

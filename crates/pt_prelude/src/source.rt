@@ -3,7 +3,7 @@ ghost use Rattle.pt_prelude.specs.Functions.{function_names};
 ghost use Rattle.pt_prelude.specs.Helpers.{helpers, name_of};
 
 /// The prelude in parts, for a macro that makes a text of them. What stands behind `later` holds
-/// `try` or `yield`, or calls a function that does.
+/// `yield`, or calls a function that does.
 macro_rules! prelude {
     ($text:ident) => {
         $text! {
@@ -13,12 +13,10 @@ macro_rules! prelude {
 def next_of(x):
     if _has(x, "__next__"): return x.__next__()
     _bad("next", x, x)
-"#
-            later r#"def next_or_of(x, default):
+def next_or_of(x, default):
     try: return next(x)
     except StopIteration: return default
-"#
-            now r#"def len_of(x):
+def len_of(x):
     if _has(x, "__len__"): return _len(x.__len__())
     _bad("len", x, x)
 def truth_of(x):
@@ -153,15 +151,11 @@ def print_of(xs, sep, end): _write(sep.join([str(v) for v in xs]) + end)
 }
 
 macro_rules! whole {
-    (now $a:literal later $b:literal now $c:literal later $d:literal now $e:literal) => {
-        concat!($a, $b, $c, $d, $e)
-    };
+    (now $a:literal later $b:literal now $c:literal) => { concat!($a, $b, $c) };
 }
 
 macro_rules! without_later {
-    (now $a:literal later $b:literal now $c:literal later $d:literal now $e:literal) => {
-        concat!($a, $c, $e)
-    };
+    (now $a:literal later $b:literal now $c:literal) => { concat!($a, $c) };
 }
 
 /// The whole prelude: the functions, written in Python, that operations and builtins ask where they
@@ -169,7 +163,7 @@ macro_rules! without_later {
 /// before it is a primitive.
 pub const WHOLE_PRELUDE: &str = prelude!(whole);
 
-/// The prelude without the functions that hold `try` or `yield` and those that call them.
+/// The prelude without the functions that hold `yield` and those that call them.
 pub const PRELUDE: &str = prelude!(without_later);
 
 /// The text of the prelude, as scripts run over it.

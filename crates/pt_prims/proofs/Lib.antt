@@ -10,6 +10,7 @@ pub mod SortLemmas
 pub mod EntryLemmas
 pub mod ContainerLemmas
 pub mod StarLemmas
+pub mod UnpackLemmas
 pub mod MethodLemmas
 pub mod AttributeLemmas
 pub mod InstanceLemmas

@@ -1,6 +1,6 @@
 -- What operations give of values of a sound heap lies there: what they make of what they are given, and classes of the start.
 use Rattle.std.proofs.Common.{◌≡◌, ◌+◌, ℕ, zero, suc, ℤ, pos, negsuc, Bool, true, false, ◌&&◌, List, [], ◌∷◌, ◌++◌, Option, None, Some, Result, Ok, Err, length, map, set, codes, nat_le, slice_get, if◌then◌else◌, refl, subst, arith}
-use Rattle.std.specs.Prelude.{◌||◌, is_some, option_to_list, nat_lt}
+use Rattle.std.specs.Prelude.{◌||◌, is_some, nat_lt}
 use Rattle.std.specs.Char.{encode_utf8}
 use Rattle.std.specs.List.{remove}
 use Rattle.std.specs.Str.{chars}
@@ -49,7 +49,7 @@ use Rattle.pt_methods.specs.pt_sequences.Cursors as cursors
 use Rattle.pt_methods.specs.pt_sequences.Displays.{bounded, fit, list_content, repeated, repeated_list, repeated_tuple, times, tuple_content}
 use Rattle.pt_methods.specs.pt_sequences.Items as items
 use Rattle.pt_methods.specs.pt_sequences.Lengths.{length_by, length_of, lengthless}
-use Rattle.pt_methods.specs.pt_sequences.Ranges.{range_by, range_content, range_length, range_of, range_value, range_item}
+use Rattle.pt_methods.specs.pt_sequences.Ranges.{range_by, range_content, range_length, range_of, range_value}
 use Rattle.pt_methods.specs.pt_sequences.Starred as stars
 use Rattle.pt_methods.specs.pt_sequences.Unpacking as unpacking
 use Rattle.pt_methods.specs.pt_reprs.declared.writer.WriteErr.{WriteErr}
@@ -127,6 +127,7 @@ use Rattle.pt_prims.proofs.MethodLemmas.{answered-within, joined-within, method-
 use Rattle.pt_prims.proofs.SortLemmas.{fault-within, sorted-within, FaultIsWithin}
 use Rattle.pt_prims.proofs.SoundLemmas.{IsWithinHeap, NewAreWithin}
 use Rattle.pt_prims.proofs.StarLemmas.{starred-items-within}
+use Rattle.pt_prims.proofs.UnpackLemmas.{integers-within, range-value-within, unpack-star-within, unpack-within}
 
 -- the characters of a text, each as a text
 chars-within : (h : List Object) (cs : List ℕ) → NewAreWithin h (unpacking.char_texts cs)
@@ -150,7 +151,7 @@ truths-within h o a b = integer-within h (binary_answer o (truth a) (truth b))
 unary-within : (o : UnOp) (h : List Object) (a : Value) (k : Operand) → IsWithinHeap h (unary_by o h a k)
 unary-within o h a (operand.Number x) = integer-within h (unary_answer o x)
 unary-within o h a operand.Text = (_, refl)
-unary-within o h a operand.Instance = tt
+unary-within o h a operand.Instance = (_, refl)
 unary-within o h a operand.Compound = (_, refl)
 unary-within o h a operand.Plain = (_, refl)
 
@@ -435,16 +436,9 @@ module _ (h : List Object) (s : IsSound start_objects h) where
   value-at-within vs None w = (_, refl)
   value-at-within vs (Some i) w = item-or-within (slice_get vs i) (λ v e. one-within h vs i v e w)
 
-  range-value-within : (r : Range) (i : ℕ) (v : Value) → range_value r i ≡ Some v → IsWithin h v
-  range-value-within r i v = by (nat_lt i (range_length r))
-    where
-      by : (b : Bool) → (if b then Some (value.Int (range_item r i)) else None) ≡ Some v → IsWithin h v
-      by true e = let same : value.Int (range_item r i) ≡ v = cc in subst (λ x. IsWithin h x) same tt
-      by false e = absurd cc
-
   integer-at-within : (r : Range) (o : Option ℕ) → IsWithinHeap h (items.integer_at r o)
   integer-at-within r None = (_, refl)
-  integer-at-within r (Some i) = item-or-within (range_value r i) (λ v e. range-value-within r i v e)
+  integer-at-within r (Some i) = item-or-within (range_value r i) (λ v e. range-value-within h r i v e)
 
   char-or-within : (o : Option ℕ) → IsWithinHeap h (items.char_or o)
   char-or-within None = (_, refl)
@@ -454,17 +448,13 @@ module _ (h : List Object) (s : IsSound start_objects h) where
   char-at-within cs None = (_, refl)
   char-at-within cs (Some i) = char-or-within (slice_get cs i)
 
-  unsubscriptable-within : (v : Value) (k : Operand) → IsWithinHeap h (items.not_subscriptable h v k)
-  unsubscriptable-within v operand.Instance = tt
-  unsubscriptable-within v k = (_, refl)
-
   item-at-within : (v : Value) (z : ℤ) (o : Option Object) → object_of h v ≡ o → IsWithinHeap h (items.item_at h v z o)
   item-at-within v z (Some (object.List vs)) e = value-at-within vs (items.place_of (length vs) z) (list-items v vs e)
   item-at-within v z (Some (object.Tuple vs)) e = value-at-within vs (items.place_of (length vs) z) (tuple-items v vs e)
   item-at-within v z (Some (object.Range r)) e = integer-at-within r (items.place_of (range_length r) z)
   item-at-within v z (Some (object.Str t)) e = char-at-within (chars t) (items.place_of (length (chars t)) z)
   item-at-within v z (Some (object.Dict es)) e = tt
-  item-at-within v z o e = unsubscriptable-within v (operand_of h v)
+  item-at-within v z o e = (_, refl)
 
   unindexed-within : (v : Value) (o : Option Object) → IsWithinHeap h (items.unindexed h v o)
   unindexed-within v (Some (object.List vs)) = (_, refl)
@@ -472,7 +462,7 @@ module _ (h : List Object) (s : IsSound start_objects h) where
   unindexed-within v (Some (object.Range r)) = (_, refl)
   unindexed-within v (Some (object.Str t)) = (_, refl)
   unindexed-within v (Some (object.Dict es)) = tt
-  unindexed-within v o = unsubscriptable-within v (operand_of h v)
+  unindexed-within v o = (_, refl)
 
   item-within : (v i : Value) → IsWithinHeap h (items.item_content h v i)
   item-within v i = by (items.index_of h i)
@@ -555,12 +545,12 @@ module _ (h : List Object) (s : IsSound start_objects h) where
   set-in-list-within : (x v : Value) (k : Operand) (o : Option Object) → IsWithin h x → object_of h v ≡ o → IsWithinHeap h (list.set_in h x v k o)
   set-in-list-within x v k (Some (object.List vs)) a e = set-by-within v vs x k (list-items v vs e) a
   set-in-list-within x v k (Some (object.Dict es)) a e = tt
-  set-in-list-within x v k o a e = unsubscriptable-within v (operand_of h v)
+  set-in-list-within x v k o a e = (_, refl)
 
   deleted-in-list-within : (v : Value) (k : Operand) (o : Option Object) → object_of h v ≡ o → IsWithinHeap h (list.deleted_in h v k o)
   deleted-in-list-within v k (Some (object.List vs)) e = deleted-by-within v vs k (list-items v vs e)
   deleted-in-list-within v k (Some (object.Dict es)) e = tt
-  deleted-in-list-within v k o e = unsubscriptable-within v (operand_of h v)
+  deleted-in-list-within v k o e = (_, refl)
 
   list-add-within : (l x : Value) (o : Option Object) → IsWithin h x → object_of h l ≡ o → IsWithinHeap h (list.added_to l x o)
   list-add-within l x (Some (object.List vs)) a e = list-grown-within l (vs ++ x ∷ []) (all-append h vs (x ∷ []) (list-items l vs e) (a, tt))
@@ -571,26 +561,23 @@ module _ (h : List Object) (s : IsSound start_objects h) where
   subscript-in-within v i (Some (object.Dict es)) w e = dict-item-within h s es i w (dict-entries h s v es e)
   subscript-in-within v i o w e = subscript-by-within v i (object_of h i)
 
-  not-changed-within : (v : Value) → IsWithinHeap h (subscripts.not_changed h v)
-  not-changed-within v = unsubscriptable-within v (operand_of h v)
-
   set-in-within : (id : ObjId) (i v : Value) (o : Option Object) → IsWithin h i → IsWithin h v → slice_get h id.0 ≡ o → IsWithinHeap h (subscripts.set_in h id i v o)
   set-in-within id i v (Some (object.Dict es)) a b e = set-item-within h s id es i v a b (dict-entries h s (value.Obj id) es e)
   set-in-within id i v (Some (object.List vs)) a b e = set-in-list-within v (value.Obj id) (operand_of h i) (object_of h (value.Obj id)) b refl
-  set-in-within id i v o a b e = not-changed-within (value.Obj id)
+  set-in-within id i v o a b e = (_, refl)
 
   set-subscript-within : (v a i : Value) → IsWithin h v → IsWithin h i → IsWithinHeap h (subscripts.set_subscript h v a i)
   set-subscript-within v (value.Obj id) i x y = set-in-within id i v (slice_get h id.0) y x refl
-  set-subscript-within v a i x y = not-changed-within a
+  set-subscript-within v a i x y = (_, refl)
 
   delete-in-within : (id : ObjId) (i : Value) (o : Option Object) → IsWithin h i → slice_get h id.0 ≡ o → IsWithinHeap h (subscripts.delete_in h id i o)
   delete-in-within id i (Some (object.Dict es)) a e = delete-item-within h s id es i a (dict-entries h s (value.Obj id) es e)
   delete-in-within id i (Some (object.List vs)) a e = deleted-in-list-within (value.Obj id) (operand_of h i) (object_of h (value.Obj id)) refl
-  delete-in-within id i o a e = not-changed-within (value.Obj id)
+  delete-in-within id i o a e = (_, refl)
 
   delete-subscript-within : (a i : Value) → IsWithin h i → IsWithinHeap h (subscripts.delete_subscript h a i)
   delete-subscript-within (value.Obj id) i w = delete-in-within id i (slice_get h id.0) w refl
-  delete-subscript-within a i w = not-changed-within a
+  delete-subscript-within a i w = (_, refl)
 
   added-in-within : (id : ObjId) (v : Value) (o : Option Object) → IsWithin h v → slice_get h id.0 ≡ o → IsWithinHeap h (subscripts.added_in h id v o)
   added-in-within id v (Some (object.Set es)) a e = add-within h s id es v a (set-entries h s (value.Obj id) es e)
@@ -639,7 +626,7 @@ module _ (h : List Object) (s : IsSound start_objects h) where
   next-item-within : (id over : ObjId) (c : Cursor) (o : Option Object) → Below (length h) (place_in c.over) → object_of h (value.Obj over) ≡ o → IsWithinHeap h (cursors.item_of h id c o)
   next-item-within id over c (Some (object.List vs)) b e = at-item-within id c (slice_get vs c.place) b (λ v f. one-within h vs c.place v f (list-items (value.Obj over) vs e))
   next-item-within id over c (Some (object.Tuple vs)) b e = at-item-within id c (slice_get vs c.place) b (λ v f. one-within h vs c.place v f (tuple-items (value.Obj over) vs e))
-  next-item-within id over c (Some (object.Range r)) b e = at-item-within id c (range_value r c.place) b (λ v f. range-value-within r c.place v f)
+  next-item-within id over c (Some (object.Range r)) b e = at-item-within id c (range_value r c.place) b (λ v f. range-value-within h r c.place v f)
   next-item-within id over c (Some (object.Str t)) b e = at-char-within id c (cursors.chars_from t c.place) b
   next-item-within id over c o b e = tt
 
@@ -733,20 +720,11 @@ module _ (h : List Object) (s : IsSound start_objects h) where
   items-within : (n : ℕ) (vs : List Value) → AllWithin h vs → IsWithinHeap h (unpacking.items_content n vs)
   items-within n vs w = unless-within (unpacking.mismatch n (length vs)) (unpacking.values vs) (mismatch-within n (length vs)) (values-within vs w)
 
-  one-listed : (o : Option Value) → ((v : Value) → o ≡ Some v → IsWithin h v) → AllWithin h (option_to_list o)
-  one-listed None w = tt
-  one-listed (Some v) w = (w v refl, tt)
-
-  integers-within : (r : Range) (i n : ℕ) → AllWithin h (unpacking.integers_from r i n)
-  integers-within r i zero = tt
-  integers-within r i (suc n) =
-      all-append h (option_to_list (range_value r i)) (unpacking.integers_from r (i + 1) n) (one-listed (range_value r i) (λ v e. range-value-within r i v e)) (integers-within r (i + 1) n)
-
   unpacked-within : (n : ℕ) (v : Value) (o : Option Object) → object_of h v ≡ o → IsWithinHeap h (unpacking.unpacked h n v o)
   unpacked-within n v (Some (object.List vs)) e = items-within n vs (list-items v vs e)
   unpacked-within n v (Some (object.Tuple vs)) e = items-within n vs (tuple-items v vs e)
   unpacked-within n v (Some (object.Range r)) e =
-      unless-within (unpacking.mismatch n (range_length r)) (unpacking.values (unpacking.integers_from r 0 n)) (mismatch-within n (range_length r)) (values-within (unpacking.integers_from r 0 n) (integers-within r 0 n))
+      unless-within (unpacking.mismatch n (range_length r)) (unpacking.values (unpacking.integers_from r 0 n)) (mismatch-within n (range_length r)) (values-within (unpacking.integers_from r 0 n) (integers-within h r 0 n))
   unpacked-within n v (Some (object.Str t)) e =
       unless-within (unpacking.mismatch n (length (chars t))) (content.NewValues (unpacking.char_texts (chars t))) (mismatch-within n (length (chars t))) (chars-within h (chars t))
   unpacked-within n v (Some (object.Dict es)) e = tt
@@ -1190,8 +1168,8 @@ module _ (h : List Object) (s : IsSound start_objects h) where
   content-one-within (op.Unary o) a w = unary-within o h a (operand_of h a)
   content-one-within op.Iter a w = any-iterator-within a w
   content-one-within op.Next a w = any-next-within a
-  content-one-within (op.Unpack n) a w = unpacked-within n a (object_of h a) refl
-  content-one-within (op.UnpackStar n m) a w = starred-within n m a (object_of h a) refl
+  content-one-within (op.Unpack n) a w = unpack-within h s n a (unpacked-within n a (object_of h a) refl)
+  content-one-within (op.UnpackStar n m) a w = unpack-star-within h s n m a (starred-within n m a (object_of h a) refl)
   content-one-within op.SpreadOut a w = spread-within a (object_of h a) refl
   content-one-within op.SpreadNamed a w = spread-named-within a (object_of h a) refl
   content-one-within o a w = tt

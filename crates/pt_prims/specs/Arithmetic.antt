@@ -3,7 +3,7 @@ use Rattle.std.specs.Prelude.{Bool, false, not, ◌&&◌, ◌||◌, List, codes,
 use Rattle.pt_base.specs.declared.operators.BinOp.{BinOp}
 use Rattle.pt_base.specs.declared.operators.BinOp.TheVariants.{BitAnd, BitOr, BitXor}
 use Rattle.pt_base.specs.declared.operators.UnOp.{UnOp}
-use Rattle.pt_base.specs.declared.what.What.TheVariants.{Integer, Feature, Float}
+use Rattle.pt_base.specs.declared.what.What.TheVariants.{Integer, Float}
 use Rattle.pt_heap.specs.declared.value.Value.{Value}
 use Rattle.pt_heap.specs.declared.value.Value.TheVariants as value
 use Rattle.pt_heap.specs.declared.object.Object.{Object}
@@ -56,10 +56,8 @@ abbrev pub binary_content : BinOp → List Object → Value → Value → Conten
 binary_content op h (value.Bool a) b = truth_binary op h a b
 binary_content op h a b = operands_binary op h a b
 
--- the method of an instance isn't asked yet
 abbrev pub unary_by : UnOp → List Object → Value → Operand → Content
 unary_by op h a (operand.Number x) = integer_content (unary_answer op x)
-unary_by op h a operand.Instance = content.Outside Feature
 unary_by op h a k = unary_type_error op h a
 
 abbrev pub unary_content : UnOp → List Object → Value → Content

@@ -1,9 +1,8 @@
 -- Operators of augmented assignments (Language Reference 7.2.1; Library Reference, "Mutable Sequence Types"). A list changes in
 -- place, and so does a set; at other operands they give what the binary operator gives.
-use Rattle.std.specs.Prelude.{List, ◌++◌, Option, Some, codes, if◌then◌else◌}
+use Rattle.std.specs.Prelude.{List, false, ◌++◌, Option, Some, codes, if◌then◌else◌}
 use Rattle.pt_base.specs.declared.operators.BinOp.{BinOp}
 use Rattle.pt_base.specs.declared.operators.BinOp.TheVariants.{Add, Mul}
-use Rattle.pt_base.specs.declared.what.What.TheVariants.{Feature}
 use Rattle.pt_heap.specs.declared.value.Value.{Value}
 use Rattle.pt_heap.specs.declared.value.Value.TheVariants as value
 use Rattle.pt_heap.specs.declared.object.Object.{Object}
@@ -31,17 +30,17 @@ abbrev pub in_place : Value → Content → Content
 in_place (value.Obj id) (content.New (new.List vs)) = content.Changed (replacing id (mutable.List vs)) (answer.Value (value.Obj id))
 in_place v c = c
 
--- `+=` of a list: the items of another value behind its own; of a text, a range and an iterator that isn't there yet
+-- `+=` of a list: the items of another list or of a tuple behind its own; a helper goes through other values
 abbrev pub extended : List Object → Value → List Value → Value → Option Object → Content
 extended h a vs b (Some (object.List ws)) = in_place a (list_content (vs ++ ws))
 extended h a vs b (Some (object.Tuple ws)) = in_place a (list_content (vs ++ ws))
-extended h a vs b (Some (object.Str t)) = content.Outside Feature
-extended h a vs b (Some (object.Range r)) = content.Outside Feature
-extended h a vs b (Some (object.Cursor c)) = content.Outside Feature
-extended h a vs b (Some (object.Dict es)) = content.Outside Feature
-extended h a vs b (Some (object.Set es)) = content.Outside Feature
-extended h a vs b (Some (object.View v)) = content.Outside Feature
-extended h a vs b (Some (object.Generator n)) = content.Outside Feature
+extended h a vs b (Some (object.Str t)) = content.Help ExtendOf false
+extended h a vs b (Some (object.Range r)) = content.Help ExtendOf false
+extended h a vs b (Some (object.Cursor c)) = content.Help ExtendOf false
+extended h a vs b (Some (object.Dict es)) = content.Help ExtendOf false
+extended h a vs b (Some (object.Set es)) = content.Help ExtendOf false
+extended h a vs b (Some (object.View v)) = content.Help ExtendOf false
+extended h a vs b (Some (object.Generator n)) = content.Help ExtendOf false
 extended h a vs b o = asked_or ExtendOf (codes "iterable") h b (operand_of h b)
 
 -- `*=` of a list

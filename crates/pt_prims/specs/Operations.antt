@@ -15,9 +15,8 @@ use Rattle.pt_content.specs.Changes.{added, changed, has_room, next_object, plac
 use Rattle.pt_methods.specs.pt_mappings.Entering.{dict_content}
 use Rattle.pt_methods.specs.pt_sets.Members.{set_content}
 use Rattle.pt_methods.specs.pt_sequences.Displays.{list_content, tuple_content}
-use Rattle.pt_methods.specs.pt_sequences.Starred.{starred_content}
-use Rattle.pt_methods.specs.pt_sequences.Unpacking.{unpack_content}
 use Rattle.pt_methods.specs.pt_views.Cursors.{iterator_content, next_content}
+use Rattle.pt_methods.specs.pt_views.Unpacking.{starred_content, unpack_content}
 use Rattle.pt_methods.specs.pt_list_changes.Items.{list_add_content}
 use Rattle.pt_methods.specs.pt_text_operations.Slices.{slice_content}
 use Rattle.pt_methods.specs.pt_fields.Fields.{format_content, join_content}

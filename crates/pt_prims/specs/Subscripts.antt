@@ -9,7 +9,6 @@ use Rattle.pt_heap.specs.declared.object.Object.TheVariants as object
 use Rattle.pt_content.specs.pt_attrs.Look.{object_of}
 use Rattle.pt_content.specs.declared.content.Content.{Content}
 use Rattle.pt_content.specs.declared.content.Content.TheVariants as content
-use Rattle.pt_content.specs.Operands.{operand_of}
 use Rattle.pt_methods.specs.pt_mappings.Items.{delete_item_content, set_item_content}
 use Rattle.pt_methods.specs.pt_mappings.Items as dictionary
 use Rattle.pt_methods.specs.pt_sequences.Items.{not_subscriptable}
@@ -25,28 +24,25 @@ item_in h a i o = subscript_content h a i
 abbrev pub subscript : List Object → (container index : Value) → Content
 subscript h a i = item_in h a i (object_of h a)
 
-abbrev pub not_changed : List Object → Value → Content
-not_changed h v = not_subscriptable h v (operand_of h v)
-
 -- `a[b] = c`
 abbrev pub set_in : List Object → ObjId → (index value : Value) → Option Object → Content
 set_in h id i v (Some (object.Dict es)) = set_item_content h id es i v
 set_in h id i v (Some (object.List vs)) = list.set_item_content h v (value.Obj id) i
-set_in h id i v o = not_changed h (value.Obj id)
+set_in h id i v o = not_subscriptable h (value.Obj id)
 
 abbrev pub set_subscript : List Object → (value container index : Value) → Content
 set_subscript h v (value.Obj id) i = set_in h id i v (slice_get h id.0)
-set_subscript h v a i = not_changed h a
+set_subscript h v a i = not_subscriptable h a
 
 -- `del a[b]`
 abbrev pub delete_in : List Object → ObjId → (index : Value) → Option Object → Content
 delete_in h id i (Some (object.Dict es)) = delete_item_content h id es i
 delete_in h id i (Some (object.List vs)) = list.delete_item_content h (value.Obj id) i
-delete_in h id i o = not_changed h (value.Obj id)
+delete_in h id i o = not_subscriptable h (value.Obj id)
 
 abbrev pub delete_subscript : List Object → (container index : Value) → Content
 delete_subscript h (value.Obj id) i = delete_in h id i (slice_get h id.0)
-delete_subscript h a i = not_changed h a
+delete_subscript h a i = not_subscriptable h a
 
 -- an item of the set that a comprehension makes
 abbrev pub added_in : List Object → ObjId → (item : Value) → Option Object → Content

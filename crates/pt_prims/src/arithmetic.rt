@@ -92,7 +92,6 @@ pub fn unary_content(alloc: Global, op: UnOp, heap: &Heap, a: Value) -> Result<C
 {
     match operand_of(heap, a) {
         Operand::Number(a) => integer_content(alloc, pt_ints::unary(op, a)),
-        Operand::Instance => Ok(Content::Outside(What::Feature)),
-        Operand::Text | Operand::Compound | Operand::Plain => unary_type_error(alloc, op, heap, a),
+        _ => unary_type_error(alloc, op, heap, a),
     }
 }

@@ -5,7 +5,7 @@ ghost use Rattle.pt_prims.specs.InPlace.{extended, in_place, in_place_content, l
 
 use crate::arithmetic::binary_content;
 use crate::sequences::concatenation;
-use pt_base::{BinOp, Memory, Seq, What};
+use pt_base::{BinOp, Memory, Seq};
 use pt_content::{
     Change, Content, Helper, Mutable, NewObject, Operand, PrimAns, Replacement, object_of,
     operand_of,
@@ -53,13 +53,18 @@ fn extended(
             let items = concatenation(alloc, items, more.as_slice())?;
             Ok(in_place(alloc, list, list_content(items)))
         }
-        Some(Object::Str(_)) => Ok(Content::Outside(What::Feature)),
-        Some(Object::Range(_)) => Ok(Content::Outside(What::Feature)),
-        Some(Object::Cursor(_)) => Ok(Content::Outside(What::Feature)),
-        Some(Object::Dict(_)) => Ok(Content::Outside(What::Feature)),
-        Some(Object::Set(_)) => Ok(Content::Outside(What::Feature)),
-        Some(Object::View(_)) => Ok(Content::Outside(What::Feature)),
-        Some(Object::Generator(_)) => Ok(Content::Outside(What::Feature)),
+        Some(
+            Object::Str(_)
+            | Object::Range(_)
+            | Object::Cursor(_)
+            | Object::Dict(_)
+            | Object::Set(_)
+            | Object::View(_)
+            | Object::Generator(_),
+        ) => Ok(Content::Help {
+            helper: Helper::ExtendOf,
+            inverted: false,
+        }),
         _ => asked_or(alloc, Helper::ExtendOf, "iterable", heap, other),
     }
 }

@@ -1,14 +1,14 @@
 ghost use Rattle.std.specs.Prelude.{◌≡◌, slice_get, IfOk};
 ghost use Rattle.pt_content.specs.pt_attrs.Look.{object_of};
 ghost use Rattle.pt_prims.specs.Subscripts.{add_to_dict, add_to_set, delete_in, delete_subscript};
-ghost use Rattle.pt_prims.specs.Subscripts.{not_changed, set_in, set_subscript, subscript};
+ghost use Rattle.pt_prims.specs.Subscripts.{set_in, set_subscript, subscript};
 
 use pt_base::{Memory, ObjId, What};
-use pt_content::{Content, Operand, object_at, object_of, operand_of, use_type_error};
+use pt_content::{Content, object_at, object_of};
 use pt_heap::{Heap, Object, Value};
 use pt_methods::{
-    add_content, delete_item_content, delete_list_item, item_content, set_item_content,
-    set_list_item, subscript_content,
+    add_content, delete_item_content, delete_list_item, item_content, not_subscriptable,
+    set_item_content, set_list_item, subscript_content,
 };
 use std::alloc::Global;
 
@@ -20,16 +20,6 @@ pub fn subscript(alloc: Global, heap: &Heap, a: Value, index: Value) -> Result<C
         Some(Object::Dict(dict)) => item_content(alloc, heap, dict, index),
         _ => subscript_content(alloc, heap, a, index),
     }
-}
-
-/// Items of this value are neither bound nor taken out.
-fn not_changed(alloc: Global, heap: &Heap, value: Value) -> Result<Content, Memory>
-    ensures { IfOk result (λ content. content ≡ not_changed heap.now value) }
-{
-    if operand_of(heap, value) == Operand::Instance {
-        return Ok(Content::Outside(What::Feature));
-    }
-    use_type_error(alloc, heap, value, "subscriptable")
 }
 
 fn set_in(
@@ -45,7 +35,7 @@ fn set_in(
     match object_at(heap, id) {
         Some(Object::Dict(dict)) => { set_item_content(alloc, heap, id, dict, index, value) }
         Some(Object::List(_)) => { set_list_item(alloc, heap, value, Value::Obj(id), index) }
-        _ => not_changed(alloc, heap, Value::Obj(id)),
+        _ => not_subscriptable(alloc, heap, Value::Obj(id)),
     }
 }
 
@@ -61,7 +51,7 @@ pub fn set_subscript(
 {
     match a {
         Value::Obj(id) => set_in(alloc, heap, id, index, value),
-        _ => not_changed(alloc, heap, a),
+        _ => not_subscriptable(alloc, heap, a),
     }
 }
 
@@ -72,7 +62,7 @@ fn delete_in(alloc: Global, heap: &Heap, id: ObjId, index: Value) -> Result<Cont
     match object_at(heap, id) {
         Some(Object::Dict(dict)) => { delete_item_content(alloc, heap, id, dict, index) }
         Some(Object::List(_)) => { delete_list_item(alloc, heap, Value::Obj(id), index) }
-        _ => not_changed(alloc, heap, Value::Obj(id)),
+        _ => not_subscriptable(alloc, heap, Value::Obj(id)),
     }
 }
 
@@ -87,7 +77,7 @@ pub fn delete_subscript(
 {
     match a {
         Value::Obj(id) => delete_in(alloc, heap, id, index),
-        _ => not_changed(alloc, heap, a),
+        _ => not_subscriptable(alloc, heap, a),
     }
 }
 

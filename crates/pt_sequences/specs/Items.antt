@@ -57,18 +57,17 @@ abbrev pub char_at : List ℕ → Option ℕ → Content
 char_at cs (Some i) = char_or (slice_get cs i)
 char_at cs None = item_or None
 
--- an item of a dictionary isn't there yet, and the method of an instance isn't asked here
-abbrev pub not_subscriptable : List Object → Value → Operand → Content
-not_subscriptable h v operand.Instance = content.Outside Feature
-not_subscriptable h v k = use_type_error h v (codes "subscriptable")
+abbrev pub not_subscriptable : List Object → Value → Content
+not_subscriptable h v = use_type_error h v (codes "subscriptable")
 
+-- an item of a dictionary isn't there yet
 abbrev pub item_at : List Object → (container : Value) → ℤ → Option Object → Content
 item_at h v z (Some (object.List vs)) = value_at vs (place_of (length vs) z)
 item_at h v z (Some (object.Tuple vs)) = value_at vs (place_of (length vs) z)
 item_at h v z (Some (object.Range r)) = integer_at r (place_of (range_length r) z)
 item_at h v z (Some (object.Str t)) = char_at (chars t) (place_of (length (chars t)) z)
 item_at h v z (Some (object.Dict es)) = content.Outside Feature
-item_at h v z o = not_subscriptable h v (operand_of h v)
+item_at h v z o = not_subscriptable h v
 
 -- what is no index is a wrong one of a sequence
 abbrev pub unindexed : List Object → (container : Value) → Option Object → Content
@@ -77,7 +76,7 @@ unindexed h v (Some (object.Tuple vs)) = bad_argument TYPE_ERROR
 unindexed h v (Some (object.Range r)) = bad_argument TYPE_ERROR
 unindexed h v (Some (object.Str t)) = bad_argument TYPE_ERROR
 unindexed h v (Some (object.Dict es)) = content.Outside Feature
-unindexed h v o = not_subscriptable h v (operand_of h v)
+unindexed h v o = not_subscriptable h v
 
 -- slices aren't there yet
 abbrev pub item_of : List Object → (container : Value) → Index → Option Object → Content

@@ -1,7 +1,6 @@
 ghost use Rattle.std.specs.Prelude.{◌≡◌, length, IfOk};
 ghost use Rattle.std.specs.Str.{chars};
 ghost use Rattle.pt_content.specs.pt_attrs.Look.{object_of};
-ghost use Rattle.pt_content.specs.Operands.{operand_of};
 ghost use Rattle.pt_sequences.specs.Items.{char_at, char_or, index_of, integer_at, item_at};
 ghost use Rattle.pt_sequences.specs.Items.{item_content, item_or, not_subscriptable, place_of};
 ghost use Rattle.pt_sequences.specs.Items.{unindexed, value_at};
@@ -101,13 +100,10 @@ fn char_at(alloc: Global, text: &Str, index: i128) -> Result<Content, Memory>
     }
 }
 
-fn not_subscriptable(alloc: Global, heap: &Heap, value: Value) -> Result<Content, Memory>
-    ensures { IfOk result
-        (λ content. content ≡ not_subscriptable heap.now value (operand_of heap.now value)) }
+/// A value has no items by their number or key.
+pub fn not_subscriptable(alloc: Global, heap: &Heap, value: Value) -> Result<Content, Memory>
+    ensures { IfOk result (λ content. content ≡ not_subscriptable heap.now value) }
 {
-    if operand_of(heap, value) == Operand::Instance {
-        return Ok(Content::Outside(What::Feature));
-    }
     use_type_error(alloc, heap, value, "subscriptable")
 }
 
@@ -141,7 +137,7 @@ fn unindexed(alloc: Global, heap: &Heap, container: Value) -> Result<Content, Me
 
 /// `a[b]` (Language Reference 6.3.2), of a list, tuple, range or text by an integer. An IndexError
 /// where there is no such item, a TypeError for another container or index. Outside with the cause
-/// Feature for slices, dictionaries and instances of a script's classes.
+/// Feature for slices and dictionaries.
 pub fn item_content(
     alloc: Global,
     heap: &Heap,

@@ -62,13 +62,13 @@ fn push_integer(items: &mut Seq<Value>, range: Range, place: u128) -> Result<(),
     }
 }
 
-/// The integers of a range at so many places.
-fn integers(alloc: Global, range: Range, count: u32) -> Result<Seq<Value>, Memory>
-    ensures { IfOk result (λ items. items ≡ integers_from range 0 count) }
+/// The integers of a range at so many places from one on.
+pub fn integers(alloc: Global, range: Range, first: u64, count: u64) -> Result<Seq<Value>, Memory>
+    ensures { IfOk result (λ items. items ≡ integers_from range first count) }
 {
     let mut items = Seq::new(alloc);
     for place in 0..count {
-        push_integer(&mut items, range, place as u128)?;
+        push_integer(&mut items, range, first as u128 + place as u128)?;
     }
     Ok(items)
 }
@@ -78,7 +78,7 @@ fn integers_content(alloc: Global, count: u32, range: Range) -> Result<Content, 
 {
     match mismatch(alloc, count, range_length(range))? {
         Some(content) => Ok(content),
-        None => Ok(values(alloc, integers(alloc, range, count)?)),
+        None => Ok(values(alloc, integers(alloc, range, 0, count as u64)?)),
     }
 }
 
