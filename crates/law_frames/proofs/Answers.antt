@@ -15,6 +15,7 @@ use Rattle.pt_heap.specs.declared.value.Value.TheVariants as value
 use Rattle.pt_heap.specs.declared.object.Builtin.{Builtin as BuiltinObject}
 use Rattle.pt_heap.specs.declared.object.Class.{Class as ClassObject}
 use Rattle.pt_heap.specs.declared.object.Function.{Function}
+use Rattle.pt_heap.specs.declared.object.Method.{Method}
 use Rattle.pt_heap.specs.declared.object.Object.{Object}
 use Rattle.pt_heap.specs.declared.object.Object.TheVariants as object
 use Rattle.pt_names.specs.Names.{Named}
@@ -58,7 +59,7 @@ use Rattle.pt_helper_objects.specs.Objects.{helper_place}
 use Rattle.pt_helper_objects.specs.pt_prelude.Asked.{function_of}
 use Rattle.pt_helper_objects.specs.pt_prelude.declared.kinds.Helper.{Helper}
 use Rattle.sem_run.specs.run.Machine.{BlockId}
-use Rattle.sem_run.specs.run.Host.{Here, BlockResult, answer, raise, print, leave, request, opens, made, beyond}
+use Rattle.sem_run.specs.run.Host.{Here, BlockResult, Item, an_item, no_item, answer, raise, print, leave, request, opens, made, beyond}
 use Rattle.sem_rows.specs.pt_host.World.{Names, Stores, CodeFacts, Program, Allotted, with_objects, allot}
 use Rattle.sem_rows.specs.pt_host.Trees.{Tree, answer_with, made_all, raise_with, then_with}
 use Rattle.sem_rows.specs.pt_host.Builtins as B
@@ -67,21 +68,24 @@ use Rattle.sem_rows.specs.pt_host.Errors.{error_saying, raise_saying, arise_whil
 use Rattle.sem_rows.specs.pt_host.declared.places.TheConstants.{ATTRIBUTE_ERROR, BASE_EXCEPTION, IMPORT_ERROR, MODULE_NOT_FOUND_ERROR, OBJECT, RECURSION_ERROR, SYS, TYPE_ERROR, ASSERTION_ERROR, RUNTIME_ERROR}
 use Rattle.sem_rows.specs.pt_host.Texts.{unbound_text, unbound_class, binding_text, missing_text, no_module_text, no_name_text, not_callable_text}
 use Rattle.sem_rows.specs.pt_host.Variables.{cell_number, free_number, with_cell, put, make_anew, raise_unbound, by_builtin, unless_bound, readable_value, variable_value, load_by, is_no_method, delete_by}
-use Rattle.sem_rows.specs.pt_host.Primitives.{Awaited, prim_asked, one_value, done, a_truth, so_many, item_or_end, arguments_of}
-use Rattle.sem_rows.specs.pt_host.Calls.{not_callable, number_of, function_object, first_value, cells_from, cells_along, result_of, block_of, parameters_given, run_block, run_given, call_bound, call_function, Values, values_given, operands_of, method_operands, helper_arguments, helper_of_class, call_hidden, call_at, ask, ask_with, asked_in_place, behind_helper, by_prim_or_helper, objects_for, operate_or_ask, call_builtin, call_method, call_builtin_object, class_function, call_other_class, call_by, call_limit, call_object, call_special, called_within, Called, call_value, call, are_arguments, arguments, unnamed_operands, exception_class, make_exception, call_setattr, instance, parameters_without, initializer, with_receiver, made_unless, call_function_at, initialized, instance_by, make_instance, new_object as plain_object, call_super, call_class}
-use Rattle.sem_rows.specs.pt_host.Attributes.{method_object, bound_object, name_of, arguments_in, raise_missing, by_attribute, is_fixed, by_changed, set_attribute, delete_attribute, set_named}
+use Rattle.sem_rows.specs.pt_host.Primitives.{Awaited, answer_if, of_prim, prim_asked, one_value, done, a_truth, so_many, item_or_end, arguments_of}
+use Rattle.sem_rows.specs.pt_host.Calls.{not_callable, number_of, function_object, first_value, cells_from, cells_along, result_of, block_of, parameters_given, run_block, run_given, call_bound, call_function, Values, values_given, operands_of, method_operands, helper_arguments, helper_of_class, call_hidden, call_at, ask, ask_with, asked_in_place, behind_helper, by_prim_or_helper, objects_for, operate_or_ask, operated, standing_for, call_builtin, call_method, call_builtin_object, class_function, call_other_class, call_by, call_found, call_limit, call_object, call_special, called_within, Called, call_value, call, are_arguments, arguments, unnamed_operands, exception_class, make_exception, call_setattr, instance, parameters_without, initializer, with_receiver, made_unless, call_function_at, initialized, instance_by, make_instance, new_object as plain_object, call_super, call_class, takes_arguments}
+use Rattle.sem_rows.specs.pt_host.Attributes.{method_object, bound_object, bound_of, name_of, arguments_in, raise_missing, by_attribute, is_fixed, by_changed, set_attribute, delete_attribute, set_named}
 use Rattle.sem_rows.specs.pt_host.Supers.{class_around, first_value as first_here, may_have_super, super_object, super_by, super_of}
 use Rattle.sem_rows.specs.pt_host.Classes.{class_object, with_own_cell, next_cell, class_made, class_on, class_by, cell_if, class_from, class_block, base_of}
 use Rattle.sem_rows.specs.pt_host.declared.classes.Base.{Base}
 use Rattle.sem_rows.specs.pt_host.declared.classes.Base.TheVariants.{On, Unavailable, NoBase}
 use Rattle.sem_rows.specs.pt_host.Imports.{import_module, by_imported}
 use Rattle.pt_content.specs.pt_attrs.Look.{object_of}
-use Rattle.sem_rows.specs.pt_host.Leaving.{error_at}
+use Rattle.sem_rows.specs.pt_host.Leaving.{error_at, is_stop}
 use Rattle.sem_rows.specs.pt_host.Raising.{Standing, as_standing, raisable, standing, with_cause, raise_object, raise_neither, raise_caused, raise_from, raise_with_cause, raise_standing, raise_active, is_found, throws, handler_classes, is_exception_class, is_of_class, is_taken, matches}
 use Rattle.sem_rows.specs.pt_host.declared.raising.Raisable.{Raisable}
 use Rattle.sem_rows.specs.pt_host.declared.raising.Raisable.TheVariants as raisables
-use Rattle.sem_rows.specs.pt_host.Answers.{change_of, by_change, unpacking, deeds, operation_of, by_operation, named_method, operate, operate_by, seeks, special_name, special_or, answers}
-use Rattle.sem_rows.proofs.pt_host.AskedEnds.{Ends, AllotsIn, asked-ends}
+use Rattle.sem_rows.specs.pt_host.declared.managers.Manager.{Manager}
+use Rattle.sem_rows.specs.pt_host.declared.managers.Manager.TheVariants.{Methods, NoEnter, NoExit, Unavailable as NoCall}
+use Rattle.sem_rows.specs.pt_host.Managers.{exit_arguments, manager_of}
+use Rattle.sem_rows.specs.pt_host.Answers.{call_exit, change_by, change_of, change_or, changed_by, by_change, entered, exit, next_by, or_end, or_end_behind, swallows, unpacked_by, unpacking, deeds, operation_of, by_operation, named_method, operate, operate_by, seeks, special_name, special_or, answers}
+use Rattle.sem_rows.proofs.pt_host.AskedEnds.{Ends, AllotsIn, answered-ends, asked-ends}
 use Rattle.law_frames.specs.RunNames.{HasItsNames, TakesCells, AllTakeCells, StoresHaveNames}
 use Rattle.law_frames.proofs.StarredCells.{values-take, ValuesTakeCells}
 use Rattle.law_frames.proofs.ObjectNames.{ChangedTakes, assigned-takes, unassigned-takes}
@@ -415,29 +419,68 @@ module _ (program : Program) (b : BlockId) where
       then-keeps (made_all (objects_for a vs) st) (λ ms st1. ask program (function_of a) (helper_arguments a vs ms) h st1)
       (made-all-keeps (objects_for a vs) st s (objects-take a vs)) (λ ms st1 s1. ask-keeps (function_of a) (helper_arguments a vs ms) h st1 s1)
 
-  behind-keeps : (o : Op) (a : Asked) (vs : List Value) (inverted : Bool) (v : Value) (h : Here Value) (st : Stores) → Has st → K (behind_helper o a vs inverted v h st)
-  behind-keeps (op.Format c) a (x ∷ spec ∷ vs) inverted v h st s = asked-keeps one_value (op.Format None) (v ∷ spec ∷ []) h st s
-  behind-keeps o a vs inverted v h st s = s
+  given-if-keeps : {A : Type 0} (o : Option A) (st : Stores) → Has st → K (answer_if o st)
+  given-if-keeps (Some x) st s = s
+  given-if-keeps None st s = tt
 
-  in-place-keeps : (o : Op) (a : PrimAns) (h : Here Value) (st : Stores) → Has st → K (asked_in_place program o a h st)
-  in-place-keeps o (prim.Help a vs inverted) h st s =
-      then-keeps (ask_with program a vs h st) (λ v st1. behind_helper o a vs inverted v h st1) (ask-with-keeps a vs h st s)
-      (λ v st1 s1. behind-keeps o a vs inverted v h st1 s1)
-  in-place-keeps o (prim.Value v) h st s = s
-  in-place-keeps o (prim.Values vs) h st s = tt
-  in-place-keeps o prim.End h st s = tt
-  in-place-keeps o (prim.Raise class v) h st s =
-      raised Value (allot (error class (arguments_of v) None h.active) st.world.heap) st s
-      (error-allotted program class (arguments_of v) None h.active st.world.heap s.functions)
-  in-place-keeps o (prim.Print t) h st s = s
-  in-place-keeps o (prim.Outside what) h st s = tt
+  behind-keeps : {A : Type 0} (w : Awaited A) (o : Op) (a : Asked) (vs : List Value) (inverted : Bool) (v : Value) (h : Here Value) (st : Stores) → Has st
+      → K (behind_helper w o a vs inverted v h st)
+  behind-keeps w (op.Format c) a (x ∷ spec ∷ vs) inverted v h st s = asked-keeps w (op.Format None) (v ∷ spec ∷ []) h st s
+  behind-keeps w op.Truth a vs inverted v h st s = given-if-keeps (w.value v) st s
+  behind-keeps w op.Iter a vs inverted v h st s = given-if-keeps (w.value v) st s
+  behind-keeps w o a vs inverted v h st s = given-if-keeps (w.value (standing_for o a vs inverted v)) st s
+
+  answer-keeps : {A : Type 0} (w : Awaited A) (a : PrimAns) (h : Here Value) (st : Stores) → Has st → K (of_prim w a h st)
+  answer-keeps w a h st s =
+      ends-keep (of_prim w a h st) (answered-ends Has w h a st s (λ c args. allots-in _ st s (error-allotted program c args None h.active st.world.heap s.functions)))
+
+  in-place-keeps : {A : Type 0} (w : Awaited A) (o : Op) (a : PrimAns) (h : Here Value) (st : Stores) → Has st → K (asked_in_place program w o a h st)
+  in-place-keeps w o (prim.Help a vs inverted) h st s =
+      then-keeps (ask_with program a vs h st) (λ v st1. behind_helper w o a vs inverted v h st1) (ask-with-keeps a vs h st s)
+      (λ v st1 s1. behind-keeps w o a vs inverted v h st1 s1)
+  in-place-keeps w o a h st s = answer-keeps w a h st s
+
+  -- the stores behind an operation
+  behind-operation : (o : Op) (vs : List Value) (st : Stores) → Has st → Has (with_objects (prim_heap o vs st.world.heap) st)
+  behind-operation o vs st s = other-objects program b st (prim_heap o vs st.world.heap) s (grown-takes (content_of o vs st.world.heap) st.world.heap s.functions)
+
+  operated-keeps : {A : Type 0} (w : Awaited A) (o : Op) (vs : List Value) (h : Here Value) (st : Stores) → Has st → K (operated program w o vs h st)
+  unfolding operated
+  operated-keeps w o vs h st s =
+      in-place-keeps w o (prim_answer o vs st.world.heap) h (with_objects (prim_heap o vs st.world.heap) st) (behind-operation o vs st s)
 
   by-either-keeps : (o : Op) (vs : List Value) (h : Here Value) (st : Stores) → Has st → K (by_prim_or_helper program o vs h st)
-  unfolding by_prim_or_helper
-  by-either-keeps o vs h st s =
-      let k : List Object = prim_heap o vs st.world.heap in
-      in-place-keeps o (prim_answer o vs st.world.heap) h (with_objects k st)
-      (other-objects program b st k s (grown-takes (content_of o vs st.world.heap) st.world.heap s.functions))
+  by-either-keeps o vs h st s = operated-keeps one_value o vs h st s
+
+  -- items of an iterator, up to the StopIteration by which it ends, and what is unpacked
+  or-end-keeps : (t : Tree (Item Value)) → K t → K (or_end t)
+  unfolding or_end
+  or-end-keeps (answer x st) k = k
+  or-end-keeps (raise e st) k = either-tree (is_stop e st.world) (answer (no_item (Some e)) st) (raise e st) k k
+  or-end-keeps (print t u) k = or-end-keeps u k
+  or-end-keeps (leave what) k = tt
+  or-end-keeps (request (opens o) st f) k = (k.0, (k.1.0, λ x st1 s1. or-end-keeps (f x st1) (k.1.1 x st1 s1)))
+  or-end-keeps (request q st f) k = tt
+
+  or-end-behind-keeps : (t : Tree (Item Value)) → K t → K (or_end_behind t)
+  or-end-behind-keeps (answer x st) k = k
+  or-end-behind-keeps (raise e st) k = k
+  or-end-behind-keeps (print t u) k = or-end-behind-keeps u k
+  or-end-behind-keeps (leave what) k = tt
+  or-end-behind-keeps (request (opens o) st f) k = (k.0, (k.1.0, λ x st1 s1. or-end-keeps (f x st1) (k.1.1 x st1 s1)))
+  or-end-behind-keeps (request q st f) k = tt
+
+  next-by-keeps : (a : PrimAns) (h : Here Value) (st : Stores) → Has st → K (next_by program a h st)
+  next-by-keeps (prim.Help a vs inverted) h st s =
+      or-end-behind-keeps (then_with (ask_with program a vs h st) (λ v st1. answer (an_item v) st1))
+      (then-keeps (ask_with program a vs h st) (λ v st1. answer (an_item v) st1) (ask-with-keeps a vs h st s) (λ v st1 s1. s1))
+  next-by-keeps a h st s = answer-keeps item_or_end a h st s
+
+  unpacked-by-keeps : (n : ℕ) (star : Option ℕ) (a : PrimAns) (h : Here Value) (st : Stores) → Has st → K (unpacked_by program n star a h st)
+  unpacked-by-keeps n star (prim.Help a vs inverted) h st s =
+      then-keeps (ask_with program a vs h st) (λ v st1. prim_asked (so_many n) (unpacking n star) (v ∷ []) h st1) (ask-with-keeps a vs h st s)
+      (λ v st1 s1. asked-keeps (so_many n) (unpacking n star) (v ∷ []) h st1 s1)
+  unpacked-by-keeps n star a h st s = answer-keeps (so_many n) a h st s
 
   operate-or-ask-keeps : (f : Op) (o : Option (List Value)) (h : Here Value) (st : Stores) → Has st → K (operate_or_ask program f o h st)
   operate-or-ask-keeps f (Some vs) h st s = by-either-keeps f vs h st s
@@ -734,6 +777,45 @@ module _ (program : Program) (b : BlockId) where
   special-keeps (Some (found.Plain w)) v vs otherwise h st s k = value-keeps w (record { plain = vs; named = [] }) h st s
   special-keeps o v vs otherwise h st s k = k
 
+  found-keeps : (o : Option Found) (v : Value) (vs : List Value) (otherwise : Tree Value) (h : Here Value) (st : Stores) → Has st → K otherwise
+      → K (call_found program o v vs otherwise h st)
+  found-keeps (Some (found.Bound f)) v vs otherwise h st s k =
+      function-at-keeps (object_of st.world.heap f) f (record { plain = v ∷ vs; named = [] }) h st refl s
+  found-keeps (Some (found.Plain w)) v vs otherwise h st s k = tt
+  found-keeps (Some found.Unbuilt) v vs otherwise h st s k = tt
+  found-keeps None v vs otherwise h st s k = k
+
+  -- context managers
+  entered-keeps : (m : Manager) (v : Value) (h : Here Value) (st : Stores) → Has st → K (entered program m v h st)
+  entered-keeps (Methods e f) v h st s =
+      then-keeps (answer_with (allot (bound_object f v) st.world.heap) st)
+      (λ w st1. then_with (call_found program (Some e) v [] (leave Feature) h st1) (λ given st2. answer (w, given) st2))
+      (answered (allot (bound_object f v) st.world.heap) st s (allotted program (bound_object f v) st.world.heap s.functions tt))
+      (λ w st1 s1.
+      then-keeps (call_found program (Some e) v [] (leave Feature) h st1) (λ given st2. answer (w, given) st2) (found-keeps (Some e) v [] (leave Feature) h st1 s1 tt)
+      (λ given st2 s2. s2))
+  entered-keeps NoEnter v h st s = missing-keeps (Value × Value) (codes "__enter__") v h st s
+  entered-keeps NoExit v h st s = missing-keeps (Value × Value) (codes "__exit__") v h st s
+  entered-keeps NoCall v h st s = tt
+
+  exit-called-keeps : (o : Option Method) (vs : List Value) (h : Here Value) (st : Stores) → Has st → K (call_exit program o vs h st)
+  exit-called-keeps (Some m) vs h st s =
+      let args : Args = record { plain = m.receiver ∷ vs; named = [] } in
+      either-tree (takes_arguments program (object_of st.world.heap m.function) args)
+      (call_function_at program (object_of st.world.heap m.function) args h st) (leave Feature)
+      (function-at-keeps (object_of st.world.heap m.function) m.function args h st refl s) tt
+  exit-called-keeps None vs h st s = tt
+
+  swallows-keeps : (o : Option Value) (v : Value) (h : Here Value) (st : Stores) → Has st → K (swallows o v h st)
+  swallows-keeps (Some e) v h st s = asked-keeps a_truth op.Truth (v ∷ []) h st s
+  swallows-keeps None v h st s = s
+
+  exit-keeps : (w : Value) (o : Option Value) (h : Here Value) (st : Stores) → Has st → K (exit program w o h st)
+  exit-keeps w o h st s =
+      let heap : List Object = st.world.heap in
+      then-keeps (call_exit program (bound_of heap w) (exit_arguments heap o) h st) (λ v st1. swallows o v h st1)
+      (exit-called-keeps (bound_of heap w) (exit_arguments heap o) h st s) (λ v st1 s1. swallows-keeps o v h st1 s1)
+
   call-keeps : (rs : List Role) (f : Value) (vs : List Value) (h : Here Value) (st : Stores) → Has st → K (call program rs f vs h st)
   call-keeps rs f vs h st s =
       let heap : List Object = st.world.heap in
@@ -793,11 +875,26 @@ module _ (program : Program) (b : BlockId) where
     seeks-keep (T.cell_of x) i = s
     seeks-keep (T.yielding v) i = tt
 
-    change-keeps : (o : Option (Op × List Value)) → K (by_change o h st)
-    change-keeps (Some p) = asked-keeps done p.0 p.1 h st s
+    -- what changes an object
+    changed-by-keeps : (o : Option Found) (v : Value) (vs : List Value) (otherwise : Tree (Unit {0})) → K otherwise → K (changed_by program o v vs otherwise h st)
+    changed-by-keeps (Some m) v vs otherwise k =
+        then-keeps (call_found program (Some m) v vs (leave Feature) h st) (λ r st1. answer tt st1) (found-keeps (Some m) v vs (leave Feature) h st s tt) (λ r st1 s1. s1)
+    changed-by-keeps None v vs otherwise k = k
+
+    change-or-keeps : (v : Value) (rest : List Value) (o : Op) (vs : List Value) → K (change_or program v rest o vs h st)
+    change-or-keeps v rest o vs =
+        changed-by-keeps (named_method st.world.heap (special_name o) v) v rest (operated program done o vs h st) (operated-keeps done o vs h st s)
+
+    change-by-keeps : (o : Op) (vs : List Value) → K (change_by program o vs h st)
+    change-by-keeps op.SetItem (v ∷ a ∷ i ∷ []) = change-or-keeps a (i ∷ v ∷ []) op.SetItem (v ∷ a ∷ i ∷ [])
+    change-by-keeps op.DelItem (a ∷ i ∷ []) = change-or-keeps a (i ∷ []) op.DelItem (a ∷ i ∷ [])
+    change-by-keeps o vs = operated-keeps done o vs h st s
+
+    change-keeps : (o : Option (Op × List Value)) → K (by_change program o h st)
+    change-keeps (Some p) = change-by-keeps p.0 p.1
     change-keeps None = tt
 
-    deeds-keep : (d : Deed Value) → NamesInDeed program b d → K (deeds d h st)
+    deeds-keep : (d : Deed Value) → NamesInDeed program b d → K (deeds program d h st)
     deeds-keep (T.delete x) i = delete-keeps (variable_value x.scope x.name st) x.scope x.name h st s
     deeds-keep (T.store x v) i =
         either-tree (is_no_method x.scope x.name) (leave Special) (answer tt (put x.scope x.name (Some v) st)) tt (put-keeps-names x.scope x.name (Some v) st s)
@@ -814,8 +911,13 @@ module _ (program : Program) (b : BlockId) where
     answers-keep (T.leave l) i = s
     answers-keep (T.throw t) i = throws-keep ⊥ h st s t
     answers-keep (T.test (T.matches e c)) i = matches-keep e c h st s
-    answers-keep (T.test (T.branch v)) i = asked-keeps a_truth op.Truth (v ∷ []) h st s
-    answers-keep (T.iter_of v) i = asked-keeps one_value op.Iter (v ∷ []) h st s
-    answers-keep (T.next_of v) i = asked-keeps item_or_end op.Next (v ∷ []) h st s
-    answers-keep (T.unpack v n star) i = asked-keeps (so_many n) (unpacking n star) (v ∷ []) h st s
-    answers-keep a i = tt
+    answers-keep (T.test (T.branch v)) i = operated-keeps a_truth op.Truth (v ∷ []) h st s
+    answers-keep (T.test (T.exit_of w o)) i = exit-keeps w o h st s
+    answers-keep (T.iter_of v) i = by-either-keeps op.Iter (v ∷ []) h st s
+    answers-keep (T.next_of v) i =
+        next-by-keeps (prim_answer op.Next (v ∷ []) st.world.heap) h (with_objects (prim_heap op.Next (v ∷ []) st.world.heap) st) (behind-operation op.Next (v ∷ []) st s)
+    answers-keep (T.enter v) i = entered-keeps (manager_of st.world.heap v) v h st s
+    answers-keep (T.unpack v n star) i =
+        unpacked-by-keeps n star (prim_answer (unpacking n star) (v ∷ []) st.world.heap) h (with_objects (prim_heap (unpacking n star) (v ∷ []) st.world.heap) st)
+        (behind-operation (unpacking n star) (v ∷ []) st s)
+    answers-keep (T.delegate d r) i = tt

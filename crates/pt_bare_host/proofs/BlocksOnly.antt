@@ -13,6 +13,7 @@ use Rattle.pt_heap.specs.declared.value.Value.TheVariants as value
 use Rattle.pt_heap.specs.declared.object.Builtin.{Builtin as BuiltinObject}
 use Rattle.pt_heap.specs.declared.object.Class.{Class as ClassObject}
 use Rattle.pt_heap.specs.declared.object.Function.{Function}
+use Rattle.pt_heap.specs.declared.object.Method.{Method}
 use Rattle.pt_heap.specs.declared.object.Object.{Object}
 use Rattle.pt_heap.specs.declared.object.Object.TheVariants as object
 use Rattle.pt_bind.specs.Binding.{binding_with}
@@ -41,7 +42,7 @@ use Rattle.pt_host.specs.pt_methods.declared.attribute.Attribute.TheVariants as 
 use Rattle.pt_host.specs.pt_methods.Attributes.{attribute_of, receiver_of}
 use Rattle.pt_host.specs.pt_methods.Names.{of_method_number}
 use Rattle.sem_run.specs.run.Machine.{BlockId}
-use Rattle.sem_run.specs.run.Host.{Here, answer, raise, print, leave, request, opens, made, beyond}
+use Rattle.sem_run.specs.run.Host.{Here, Item, an_item, no_item, answer, raise, print, leave, request, opens, made, beyond}
 use Rattle.pt_bare_runs.specs.Laws.{RunsOnlyBlocks, OpensOnly}
 use Rattle.pt_host.specs.World.{Stores, CodeFacts, Program, Allotted, with_objects, allot}
 use Rattle.pt_host.specs.Trees.{Tree, answer_with, made_all, raise_with, then_with}
@@ -51,10 +52,10 @@ use Rattle.pt_host.specs.Errors.{error_saying, raise_saying, error}
 use Rattle.pt_host.specs.declared.places.TheConstants.{ATTRIBUTE_ERROR, BASE_EXCEPTION, IMPORT_ERROR, MODULE_NOT_FOUND_ERROR, OBJECT, RECURSION_ERROR, SYS, TYPE_ERROR, ASSERTION_ERROR, RUNTIME_ERROR}
 use Rattle.pt_host.specs.Texts.{unbound_text, unbound_class, binding_text, missing_text, no_module_text, no_name_text, not_callable_text}
 use Rattle.pt_host.specs.Variables.{raise_unbound, by_builtin, unless_bound, readable_value, variable_value, load_by, delete_by, is_no_method, put}
-use Rattle.pt_host.specs.Primitives.{Awaited, of_prim, prim_asked, one_value, done, a_truth, so_many, item_or_end, arguments_of}
-use Rattle.pt_host.specs.Calls.{number_of, not_callable, function_object, result_of, block_of, run_given, call_bound, call_function, Values, values_given, operands_of, method_operands, call_builtin, call_method, call_builtin_object, class_function, call_by, call_limit, call_object, call_special, called_within, Called, call_value, call, are_arguments, arguments, unnamed_operands, exception_class, make_exception, call_class, call_other_class, helper_of_class, call_hidden, call_at, ask, ask_with, asked_in_place, behind_helper, by_prim_or_helper, operate_or_ask, helper_arguments, objects_for}
-use Rattle.pt_host.specs.Attributes.{method_object, bound_object, name_of, arguments_in, raise_missing, by_attribute, is_fixed, by_changed, set_attribute, delete_attribute, set_named}
-use Rattle.pt_host.specs.Calls.{call_function_at, call_setattr, call_super, initialized, initializer, instance, instance_by, made_unless, make_instance, new_object, parameters_without, with_receiver}
+use Rattle.pt_host.specs.Primitives.{Awaited, answer_if, of_prim, prim_asked, one_value, done, a_truth, so_many, item_or_end, arguments_of}
+use Rattle.pt_host.specs.Calls.{number_of, not_callable, function_object, result_of, block_of, run_given, call_bound, call_function, Values, values_given, operands_of, method_operands, call_builtin, call_method, call_builtin_object, class_function, call_by, call_found, call_limit, call_object, call_special, called_within, Called, call_value, call, are_arguments, arguments, unnamed_operands, exception_class, make_exception, call_class, call_other_class, helper_of_class, call_hidden, call_at, ask, ask_with, asked_in_place, behind_helper, by_prim_or_helper, operate_or_ask, operated, helper_arguments, objects_for, standing_for}
+use Rattle.pt_host.specs.Attributes.{method_object, bound_object, bound_of, name_of, arguments_in, raise_missing, by_attribute, is_fixed, by_changed, set_attribute, delete_attribute, set_named}
+use Rattle.pt_host.specs.Calls.{call_function_at, call_setattr, call_super, initialized, initializer, instance, instance_by, made_unless, make_instance, new_object, parameters_without, with_receiver, takes_arguments}
 use Rattle.pt_host.specs.Classes.{base_of, cell_if, class_block, class_by, class_from, class_made, class_object, class_on, make_class, next_cell}
 use Rattle.pt_host.specs.declared.classes.Base.{Base}
 use Rattle.pt_host.specs.declared.classes.Base.TheVariants.{On, Unavailable, NoBase}
@@ -64,9 +65,12 @@ use Rattle.pt_content.specs.pt_attrs.Look.{object_of}
 use Rattle.pt_content.specs.pt_attrs.Store.{assigned, unassigned}
 use Rattle.pt_content.specs.pt_attrs.declared.look.Found.{Found}
 use Rattle.pt_content.specs.pt_attrs.declared.look.Found.TheVariants as found
-use Rattle.pt_host.specs.Leaving.{error_at}
+use Rattle.pt_host.specs.Leaving.{error_at, is_stop}
 use Rattle.pt_host.specs.Raising.{Standing, raisable, standing, raise_neither, raise_from, raise_with_cause, raise_standing, raise_active, throws, handler_classes, is_exception_class, is_of_class, is_taken, matches}
-use Rattle.pt_host.specs.Answers.{change_of, by_change, unpacking, deeds, operation_of, by_operation, named_method, operate, operate_by, seeks, special_name, special_or}
+use Rattle.pt_host.specs.declared.managers.Manager.{Manager}
+use Rattle.pt_host.specs.declared.managers.Manager.TheVariants.{Methods, NoEnter, NoExit, Unavailable as NoCall}
+use Rattle.pt_host.specs.Managers.{exit_arguments, manager_of}
+use Rattle.pt_host.specs.Answers.{call_exit, change_by, change_of, change_or, changed_by, by_change, entered, exit, next_by, or_end, or_end_behind, swallows, unpacked_by, unpacking, deeds, operation_of, by_operation, named_method, operate, operate_by, seeks, special_name, special_or}
 use Rattle.pt_host.specs.HeapHost.{heap_host}
 use Rattle.pt_host.proofs.AskedEnds.{Ends, AllotsIn, answered-ends, asked-ends}
 
@@ -203,9 +207,37 @@ made-all-only (o ∷ os) st =
     then-only (answer_with (allot o st.world.heap) st) (λ v st1. then_with (made_all os st1) (λ vs st2. answer (v ∷ vs) st2)) (answered (allot o st.world.heap) st)
     (λ v st1. then-only (made_all os st1) (λ vs st2. answer (v ∷ vs) st2) (made-all-only os st1) (λ vs st2. tt))
 
-behind-only : (o : Op) (a : Asked) (vs : List Value) (inverted : Bool) (v : Value) (h : Here Value) (st : Stores) → RunsOnlyBlocks (behind_helper o a vs inverted v h st)
-behind-only (op.Format c) a (x ∷ spec ∷ vs) inverted v h st = asked-only one_value (op.Format None) (v ∷ spec ∷ []) h st
-behind-only o a vs inverted v h st = tt
+given-if-only : {A : Type 0} (o : Option A) (st : Stores) → RunsOnlyBlocks (answer_if o st)
+given-if-only (Some a) st = tt
+given-if-only None st = tt
+
+behind-only : {A : Type 0} (w : Awaited A) (o : Op) (a : Asked) (vs : List Value) (inverted : Bool) (v : Value) (h : Here Value) (st : Stores)
+    → RunsOnlyBlocks (behind_helper w o a vs inverted v h st)
+behind-only w (op.Format c) a (x ∷ spec ∷ vs) inverted v h st = asked-only w (op.Format None) (v ∷ spec ∷ []) h st
+behind-only w op.Truth a vs inverted v h st = given-if-only (w.value v) st
+behind-only w op.Iter a vs inverted v h st = given-if-only (w.value v) st
+behind-only w o a vs inverted v h st = given-if-only (w.value (standing_for o a vs inverted v)) st
+
+answer-only : {A : Type 0} (w : Awaited A) (a : PrimAns) (h : Here Value) (st : Stores) → RunsOnlyBlocks (of_prim w a h st)
+answer-only w a h st = ends-only any-stores (of_prim w a h st) (answered-ends any-stores w h a st tt (λ c args. allots-any _ st))
+
+-- an iterator that ends
+or-end-only : (t : Tree (Item Value)) → RunsOnlyBlocks t → RunsOnlyBlocks (or_end t)
+unfolding or_end
+or-end-only (answer x st) k = tt
+or-end-only (raise e st) k = either-tree (is_stop e st.world) (answer (no_item (Some e)) st) (raise e st) tt tt
+or-end-only (print t u) k = or-end-only u k
+or-end-only (leave what) k = tt
+or-end-only (request (opens o) st f) k = λ x st1. or-end-only (f x st1) (k x st1)
+or-end-only (request q st f) k = absurd k
+
+or-end-behind-only : (t : Tree (Item Value)) → RunsOnlyBlocks t → RunsOnlyBlocks (or_end_behind t)
+or-end-behind-only (answer x st) k = tt
+or-end-behind-only (raise e st) k = tt
+or-end-behind-only (print t u) k = or-end-behind-only u k
+or-end-behind-only (leave what) k = tt
+or-end-behind-only (request (opens o) st f) k = λ x st1. or-end-only (f x st1) (k x st1)
+or-end-behind-only (request q st f) k = absurd k
 
 -- functions that are written in Python
 module _ (program : Program) where
@@ -222,14 +254,30 @@ module _ (program : Program) where
       then-only (made_all (objects_for a vs) st) (λ ms st1. ask program (function_of a) (helper_arguments a vs ms) h st1) (made-all-only (objects_for a vs) st)
       (λ ms st1. at-only (helper_place (function_of a)) (helper_arguments a vs ms) h st1)
 
-  in-place-only : (o : Op) (a : PrimAns) (h : Here Value) (st : Stores) → RunsOnlyBlocks (asked_in_place program o a h st)
-  in-place-only o (prim.Help a vs inverted) h st =
-      then-only (ask_with program a vs h st) (λ v st1. behind_helper o a vs inverted v h st1) (ask-with-only a vs h st) (λ v st1. behind-only o a vs inverted v h st1)
-  in-place-only o a h st = ends-only any-stores (of_prim one_value a h st) (answered-ends any-stores one_value h a st tt (λ c args. allots-any _ st))
+  in-place-only : {A : Type 0} (w : Awaited A) (o : Op) (a : PrimAns) (h : Here Value) (st : Stores) → RunsOnlyBlocks (asked_in_place program w o a h st)
+  in-place-only w o (prim.Help a vs inverted) h st =
+      then-only (ask_with program a vs h st) (λ v st1. behind_helper w o a vs inverted v h st1) (ask-with-only a vs h st) (λ v st1. behind-only w o a vs inverted v h st1)
+  in-place-only w o a h st = answer-only w a h st
+
+  operated-only : {A : Type 0} (w : Awaited A) (o : Op) (vs : List Value) (h : Here Value) (st : Stores) → RunsOnlyBlocks (operated program w o vs h st)
+  unfolding operated
+  operated-only w o vs h st = in-place-only w o (prim_answer o vs st.world.heap) h (with_objects (prim_heap o vs st.world.heap) st)
 
   prim-or-helper-only : (o : Op) (vs : List Value) (h : Here Value) (st : Stores) → RunsOnlyBlocks (by_prim_or_helper program o vs h st)
-  unfolding by_prim_or_helper
-  prim-or-helper-only o vs h st = in-place-only o (prim_answer o vs st.world.heap) h (with_objects (prim_heap o vs st.world.heap) st)
+  prim-or-helper-only o vs h st = operated-only one_value o vs h st
+
+  -- items of an iterator, and what is unpacked
+  next-by-only : (a : PrimAns) (h : Here Value) (st : Stores) → RunsOnlyBlocks (next_by program a h st)
+  next-by-only (prim.Help a vs inverted) h st =
+      or-end-behind-only (then_with (ask_with program a vs h st) (λ v st1. answer (an_item v) st1))
+      (then-only (ask_with program a vs h st) (λ v st1. answer (an_item v) st1) (ask-with-only a vs h st) (λ v st1. tt))
+  next-by-only a h st = answer-only item_or_end a h st
+
+  unpacked-by-only : (n : ℕ) (star : Option ℕ) (a : PrimAns) (h : Here Value) (st : Stores) → RunsOnlyBlocks (unpacked_by program n star a h st)
+  unpacked-by-only n star (prim.Help a vs inverted) h st =
+      then-only (ask_with program a vs h st) (λ v st1. prim_asked (so_many n) (unpacking n star) (v ∷ []) h st1) (ask-with-only a vs h st)
+      (λ v st1. asked-only (so_many n) (unpacking n star) (v ∷ []) h st1)
+  unpacked-by-only n star a h st = answer-only (so_many n) a h st
 
   operate-or-ask-only : (f : Op) (o : Option (List Value)) (h : Here Value) (st : Stores) → RunsOnlyBlocks (operate_or_ask program f o h st)
   operate-or-ask-only f (Some vs) h st = prim-or-helper-only f vs h st
@@ -467,11 +515,62 @@ module _ (program : Program) where
   seeks-only (T.cell_of x) h st = tt
   seeks-only (T.yielding v) h st = tt
 
-  change-only : (o : Option (Op × List Value)) (h : Here Value) (st : Stores) → RunsOnlyBlocks (by_change o h st)
-  change-only (Some p) h st = asked-only done p.0 p.1 h st
+  found-only : (o : Option Found) (v : Value) (vs : List Value) (otherwise : Tree Value) (h : Here Value) (st : Stores) → RunsOnlyBlocks otherwise
+      → RunsOnlyBlocks (call_found program o v vs otherwise h st)
+  found-only (Some (found.Bound f)) v vs otherwise h st k = function-at-only program (object_of st.world.heap f) (record { plain = v ∷ vs; named = [] }) h st
+  found-only (Some (found.Plain u)) v vs otherwise h st k = tt
+  found-only (Some found.Unbuilt) v vs otherwise h st k = tt
+  found-only None v vs otherwise h st k = k
+
+  -- what changes an object
+  changed-by-only : (o : Option Found) (v : Value) (vs : List Value) (otherwise : Tree (Unit {0})) (h : Here Value) (st : Stores) → RunsOnlyBlocks otherwise
+      → RunsOnlyBlocks (changed_by program o v vs otherwise h st)
+  changed-by-only (Some m) v vs otherwise h st k =
+      then-only (call_found program (Some m) v vs (leave Feature) h st) (λ r st1. answer tt st1) (found-only (Some m) v vs (leave Feature) h st tt) (λ r st1. tt)
+  changed-by-only None v vs otherwise h st k = k
+
+  change-or-only : (v : Value) (rest : List Value) (o : Op) (vs : List Value) (h : Here Value) (st : Stores) → RunsOnlyBlocks (change_or program v rest o vs h st)
+  change-or-only v rest o vs h st =
+      changed-by-only (named_method st.world.heap (special_name o) v) v rest (operated program done o vs h st) h st (operated-only program done o vs h st)
+
+  change-by-only : (o : Op) (vs : List Value) (h : Here Value) (st : Stores) → RunsOnlyBlocks (change_by program o vs h st)
+  change-by-only op.SetItem (v ∷ a ∷ i ∷ []) h st = change-or-only a (i ∷ v ∷ []) op.SetItem (v ∷ a ∷ i ∷ []) h st
+  change-by-only op.DelItem (a ∷ i ∷ []) h st = change-or-only a (i ∷ []) op.DelItem (a ∷ i ∷ []) h st
+  change-by-only o vs h st = operated-only program done o vs h st
+
+  change-only : (o : Option (Op × List Value)) (h : Here Value) (st : Stores) → RunsOnlyBlocks (by_change program o h st)
+  change-only (Some p) h st = change-by-only p.0 p.1 h st
   change-only None h st = tt
 
-  deeds-only : (d : Deed Value) (h : Here Value) (st : Stores) → RunsOnlyBlocks (deeds d h st)
+  -- context managers
+  entered-only : (m : Manager) (v : Value) (h : Here Value) (st : Stores) → RunsOnlyBlocks (entered program m v h st)
+  entered-only (Methods e f) v h st =
+      then-only (answer_with (allot (bound_object f v) st.world.heap) st)
+      (λ w st1. then_with (call_found program (Some e) v [] (leave Feature) h st1) (λ given st2. answer (w, given) st2)) (answered (allot (bound_object f v) st.world.heap) st)
+      (λ w st1. then-only (call_found program (Some e) v [] (leave Feature) h st1) (λ given st2. answer (w, given) st2)
+      (found-only (Some e) v [] (leave Feature) h st1 tt) (λ given st2. tt))
+  entered-only NoEnter v h st = missing-only (Value × Value) (codes "__enter__") v h st
+  entered-only NoExit v h st = missing-only (Value × Value) (codes "__exit__") v h st
+  entered-only NoCall v h st = tt
+
+  exit-called-only : (o : Option Method) (vs : List Value) (h : Here Value) (st : Stores) → RunsOnlyBlocks (call_exit program o vs h st)
+  exit-called-only (Some m) vs h st =
+      let args : Args = record { plain = m.receiver ∷ vs; named = [] } in
+      either-tree (takes_arguments program (object_of st.world.heap m.function) args)
+      (call_function_at program (object_of st.world.heap m.function) args h st) (leave Feature)
+      (function-at-only program (object_of st.world.heap m.function) args h st) tt
+  exit-called-only None vs h st = tt
+
+  swallows-only : (o : Option Value) (v : Value) (h : Here Value) (st : Stores) → RunsOnlyBlocks (swallows o v h st)
+  swallows-only (Some e) v h st = asked-only a_truth op.Truth (v ∷ []) h st
+  swallows-only None v h st = tt
+
+  exit-only : (w : Value) (o : Option Value) (h : Here Value) (st : Stores) → RunsOnlyBlocks (exit program w o h st)
+  exit-only w o h st =
+      then-only (call_exit program (bound_of st.world.heap w) (exit_arguments st.world.heap o) h st) (λ v st1. swallows o v h st1)
+      (exit-called-only (bound_of st.world.heap w) (exit_arguments st.world.heap o) h st) (λ v st1. swallows-only o v h st1)
+
+  deeds-only : (d : Deed Value) (h : Here Value) (st : Stores) → RunsOnlyBlocks (deeds program d h st)
   deeds-only (T.delete x) h st = delete-only (variable_value x.scope x.name st) x.scope x.name h st
   deeds-only (T.store x v) h st = either-tree (is_no_method x.scope x.name) (leave Special) (answer tt (put x.scope x.name (Some v) st)) tt tt
   deeds-only (T.set_attribute x a v) h st = set-only x a v h st
@@ -487,8 +586,13 @@ module _ (program : Program) where
   opens_only (T.leave l) h st = tt
   opens_only (T.throw t) h st = throws-only ⊥ h st t
   opens_only (T.test (T.matches e c)) h st = matches-only e c h st
-  opens_only (T.test (T.branch v)) h st = asked-only a_truth op.Truth (v ∷ []) h st
-  opens_only (T.iter_of v) h st = asked-only one_value op.Iter (v ∷ []) h st
-  opens_only (T.next_of i) h st = asked-only item_or_end op.Next (i ∷ []) h st
-  opens_only (T.unpack v n star) h st = asked-only (so_many n) (unpacking n star) (v ∷ []) h st
-  opens_only a h st = tt
+  opens_only (T.test (T.branch v)) h st = operated-only program a_truth op.Truth (v ∷ []) h st
+  opens_only (T.test (T.exit_of w o)) h st = exit-only w o h st
+  opens_only (T.iter_of v) h st = prim-or-helper-only program op.Iter (v ∷ []) h st
+  opens_only (T.next_of i) h st =
+      next-by-only program (prim_answer op.Next (i ∷ []) st.world.heap) h (with_objects (prim_heap op.Next (i ∷ []) st.world.heap) st)
+  opens_only (T.enter v) h st = entered-only (manager_of st.world.heap v) v h st
+  opens_only (T.unpack v n star) h st =
+      unpacked-by-only program n star (prim_answer (unpacking n star) (v ∷ []) st.world.heap) h
+      (with_objects (prim_heap (unpacking n star) (v ∷ []) st.world.heap) st)
+  opens_only (T.delegate i r) h st = tt

@@ -1,4 +1,4 @@
-use pt_base::{ActNo, BlockId, Dup, Memory, Seq};
+use pt_base::{ActNo, BlockId, Dup, Memory, Pc, Seq};
 use pt_heap::{Completion, Value};
 use std::alloc::Global;
 
@@ -21,8 +21,35 @@ pub enum Purpose {
     },
     /// The value of the call is the opposite truth value.
     Opposite,
-    /// Its truth is asked for.
-    Truth,
+    /// Its truth decides where the run goes on: where it is as wanted, at this place, with a value
+    /// that is kept, if one is; else behind the instruction.
+    Truth {
+        wanted: bool,
+        target: Pc,
+        kept: Option<Value>,
+    },
+    /// It is an iterator.
+    Iterate,
+    /// It is the next item of an iterator, and where a StopIteration arises in its place the run goes
+    /// on at the end.
+    Item {
+        iterator: Value,
+        end: Pc,
+    },
+    /// So many items are taken of it; where a target has a star, so many before that and behind it,
+    /// and a list of the others for it.
+    Unpack {
+        before: u32,
+        after: Option<u32>,
+    },
+    /// It is what a context manager gave as it was entered, and this is called as it is left.
+    Enter {
+        exit: Value,
+    },
+    /// Its truth says whether the context manager swallows the raise by which it is left.
+    Exit {
+        completion: Completion,
+    },
     /// It is formatted.
     Format {
         spec: Value,
@@ -56,7 +83,28 @@ impl Dup for Purpose {
             }),
             Purpose::Init { made } => Ok(Purpose::Init { made: *made }),
             Purpose::Opposite => Ok(Purpose::Opposite),
-            Purpose::Truth => Ok(Purpose::Truth),
+            Purpose::Truth {
+                wanted,
+                target,
+                kept,
+            } => Ok(Purpose::Truth {
+                wanted: *wanted,
+                target: *target,
+                kept: *kept,
+            }),
+            Purpose::Iterate => Ok(Purpose::Iterate),
+            Purpose::Item { iterator, end } => Ok(Purpose::Item {
+                iterator: *iterator,
+                end: *end,
+            }),
+            Purpose::Unpack { before, after } => Ok(Purpose::Unpack {
+                before: *before,
+                after: *after,
+            }),
+            Purpose::Enter { exit } => Ok(Purpose::Enter { exit: *exit }),
+            Purpose::Exit { completion } => Ok(Purpose::Exit {
+                completion: *completion,
+            }),
             Purpose::Format { spec } => Ok(Purpose::Format { spec: *spec }),
             Purpose::Resume { generator } => Ok(Purpose::Resume {
                 generator: *generator,

@@ -32,7 +32,7 @@ use Rattle.pt_host.specs.Texts.{missing_text, no_module_text, no_name_text}
 use Rattle.pt_host.specs.Sound.{IsSoundFrom, IsWithinIf, KeepsSound}
 use Rattle.pt_host.proofs.Within.{Anything, allot-sound, given-sound, heap-grows, raise-text-sound, text-fits, value-below}
 
-method-fits : (h : List Object) (f v : Value) → IsWithin h f → IsWithin h v → Fits h (length h) (bound_object f v)
+pub method-fits : (h : List Object) (f v : Value) → IsWithin h f → IsWithin h v → Fits h (length h) (bound_object f v)
 method-fits h f v a b = record { places = both-below (length h) (place_of f) (place_of v) (value-below h f a) (value-below h v b); classes = tt }
 
 arguments-below : (h : List Object) (v : Value) (o : Option Object) → IsSound start_objects h → object_of h v ≡ o → Below (length h) (places_in (arguments_in o))
@@ -83,7 +83,7 @@ module _ (n : ℕ) (st : Stores) (r : Here Value) (s : IsSoundFrom n st) (active
   abbrev heap : List Object
   heap = st.world.heap
 
-  missing-raised : {A : Type 0} (P : List Object → A → Type 0) (x : Name) (v : Value) → KeepsSound P n (raise_missing {A = A} x v r st)
+  pub missing-raised : {A : Type 0} (P : List Object → A → Type 0) (x : Name) (v : Value) → KeepsSound P n (raise_missing {A = A} x v r st)
   missing-raised P x v = raise-text-sound P n st ATTRIBUTE_ERROR (missing_text (class_name heap v) x) r s (_, refl) active
 
   by-attribute-sound : (program : Program) (x : Name) (v : Value) (a : Attribute) → IsWithin heap v → AttributeWithin heap a → KeepsSound IsWithin n (by_attribute program x v a r st)

@@ -37,7 +37,7 @@ use Rattle.pt_content.specs.Classes.{class_name}
 use Rattle.pt_host.specs.Texts.{binding_text, not_callable_text}
 use Rattle.pt_host.specs.Trees.{answer_with, Tree}
 use Rattle.pt_host.specs.Attributes.{set_named}
-use Rattle.pt_host.specs.Calls.{call_by, call_function_at, call_limit, call_special, called_within, Called, call_setattr, exception_class, initialized, initializer, instance, instance_by, made_unless, make_instance, parameters_without, with_receiver}
+use Rattle.pt_host.specs.Calls.{call_by, call_found, call_function_at, call_limit, call_special, called_within, Called, call_setattr, exception_class, initialized, initializer, instance, instance_by, made_unless, make_instance, parameters_without, with_receiver}
 use Rattle.pt_host.specs.Calls.{defaults_of, function_object, make_function, are_arguments, arguments, block_of, are_print_names, or_none, print_operands, unnamed_operands, operands_of, are_sort_names, sort_operands, method_operands, call_builtin, call_method, call_builtin_object, class_function, not_callable, call_object, call_value, call, call_class, make_exception}
 use Rattle.pt_host.specs.Errors.{error}
 use Rattle.pt_prims.specs.Classes.{derives}
@@ -68,7 +68,7 @@ defaults-within h (x ∷ xs) (v ∷ vs) w = (w.0, defaults-within h xs vs w.1)
 
 -- what is a function is called; an instance has `__init__` called
 module _ (n : ℕ) (st : Stores) (r : Here Value) (s : IsSoundFrom n st) (active : IsWithinIf st.world.heap r.active) (program : Program) where
-  function-at-sound : (args : Args) → AllWithin st.world.heap args.plain → BindingsWithin st.world.heap args.named → (o : Option Object) (v : Value) → object_of st.world.heap v ≡ o
+  pub function-at-sound : (args : Args) → AllWithin st.world.heap args.plain → BindingsWithin st.world.heap args.named → (o : Option Object) (v : Value) → object_of st.world.heap v ≡ o
       → KeepsSound IsWithin n (call_function_at program o args r st)
   function-at-sound args plain named (Some (object.Function f)) v e =
       function-sound n st r s active args plain named (program.facts (block_of f)) f
@@ -266,3 +266,11 @@ module _ (n : ℕ) (st : Stores) (r : Here Value) (s : IsSoundFrom n st) (active
       function-at-sound n st r s active program (record { plain = v ∷ vs; named = [] }) (w, ws) tt (object_of heap f) f refl
   special-sound program (Some (found.Plain u)) v vs otherwise i w ws k = value-sound (record { plain = vs; named = [] }) ws tt program u i
   special-sound program o v vs otherwise i w ws k = k
+
+  pub found-sound : (program : Program) (o : Option Found) (v : Value) (vs : List Value) (otherwise : Tree Value) → FoundWithin heap o → IsWithin heap v → AllWithin heap vs
+      → KeepsSound IsWithin n otherwise → KeepsSound IsWithin n (call_found program o v vs otherwise r st)
+  found-sound program (Some (found.Bound f)) v vs otherwise i w ws k =
+      function-at-sound n st r s active program (record { plain = v ∷ vs; named = [] }) (w, ws) tt (object_of heap f) f refl
+  found-sound program (Some (found.Plain u)) v vs otherwise i w ws k = tt
+  found-sound program (Some found.Unbuilt) v vs otherwise i w ws k = tt
+  found-sound program None v vs otherwise i w ws k = k

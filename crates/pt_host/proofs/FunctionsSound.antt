@@ -32,7 +32,7 @@ use Rattle.pt_host.proofs.ArgumentsSound.{below-bindings, filtered-within, Bindi
 use Rattle.pt_host.proofs.StarredSound.{values-sound, LocalsWithin, ValuesSound}
 use Rattle.pt_host.proofs.TreesSound.{from-fewer, made-all-sound, then-keeps, FitFrom}
 use Rattle.pt_host.proofs.Within.{at-least, from-here, heap-grows, raise-text-sound, text-fits}
-use Rattle.pt_host.specs.Primitives.{one_value}
+use Rattle.pt_host.specs.Primitives.{Awaited, one_value}
 use Rattle.pt_host.proofs.VariablesSound.{named-within, cells-both}
 use Rattle.std.specs.Prelude.{codes, pos}
 use Rattle.pt_content.specs.declared.answer.Helper.{Helper as Asked}
@@ -45,10 +45,10 @@ use Rattle.pt_helper_objects.specs.pt_prelude.Asked.{function_of}
 use Rattle.pt_prims.specs.Laws.{AnswerIsWithin}
 use Rattle.pt_prims.specs.Operations.{prim_answer, prim_heap}
 use Rattle.pt_prims.proofs.Places.{all-append, all-grow, if-grows, values-below}
-use Rattle.pt_host.specs.Calls.{ask, ask_with, asked_in_place, behind_helper, by_prim_or_helper, call_at, call_hidden, helper_arguments, objects_for, opposite, or_usual, standing_for}
+use Rattle.pt_host.specs.Calls.{ask, ask_with, asked_in_place, behind_helper, by_prim_or_helper, call_at, call_hidden, helper_arguments, objects_for, operated, opposite, or_usual, standing_for}
 use Rattle.pt_host.specs.Operators.{method_name, reflected_name, sign_of}
 use Rattle.pt_host.specs.Trees.{made_all}
-use Rattle.pt_host.proofs.PrimsWithin.{Operated, operated, answered, asked-sound, one-value-fits}
+use Rattle.pt_host.proofs.PrimsWithin.{Fitting, Operated, operated-within, answered, asked-sound, given-if, one-value-fits}
 
 -- what parameters are bound to
 pub value-within : (h : List Object) (x : Name) (bs : List Binding) → BindingsWithin h bs → IsWithinIf h (value_of x bs)
@@ -229,7 +229,7 @@ module _ (h : List Object) where
   standing-within o a vs false v w i = i
 
 module _ (program : Program) (r : Here Value) where
-  ask-with-sound : (n : ℕ) (a : Asked) (vs : List Value) (st : Stores) → IsSoundFrom n st → AllWithin st.world.heap vs → IsWithinIf st.world.heap r.active
+  pub ask-with-sound : (n : ℕ) (a : Asked) (vs : List Value) (st : Stores) → IsSoundFrom n st → AllWithin st.world.heap vs → IsWithinIf st.world.heap r.active
       → KeepsSound IsWithin n (ask_with program a vs r st)
   ask-with-sound n a vs st s w active =
       let heap : List Object = st.world.heap in
@@ -243,29 +243,39 @@ module _ (program : Program) (r : Here Value) where
       let within : ArgsWithin k (helper_arguments a vs ms) = helper-arguments-within k a vs ms (all-grow heap k vs s1.objects w) i in
       ask-sound m st1 r s1 (if-grows heap k r.active s1.objects active) (helper_arguments a vs ms) within.0 within.1 program (function_of a)))
 
-  behind-sound : (n : ℕ) (o : Op) (a : Asked) (vs : List Value) (inverted : Bool) (v : Value) (st : Stores) → IsSoundFrom n st → AllWithin st.world.heap vs
-      → IsWithin st.world.heap v → IsWithinIf st.world.heap r.active → KeepsSound IsWithin n (behind_helper o a vs inverted v r st)
-  behind-sound n (op.Format c) a (x ∷ spec ∷ vs) inverted v st s w i active =
-      asked-sound IsWithin n one_value one-value-fits (op.Format None) (v ∷ spec ∷ []) r st (i, (w.1.0, tt)) s active
-  behind-sound n o a vs inverted v st s w i active = (s, standing-within st.world.heap o a vs inverted v w i)
+  -- whatever is awaited
+  module _ {A : Type 0} (P : List Object → A → Type 0) (q : Awaited A) (fits : Fitting P q) where
+    behind-sound : (n : ℕ) (o : Op) (a : Asked) (vs : List Value) (inverted : Bool) (v : Value) (st : Stores) → IsSoundFrom n st → AllWithin st.world.heap vs
+        → IsWithin st.world.heap v → IsWithinIf st.world.heap r.active → KeepsSound P n (behind_helper q o a vs inverted v r st)
+    behind-sound n (op.Format c) a (x ∷ spec ∷ vs) inverted v st s w i active =
+        asked-sound P n q fits (op.Format None) (v ∷ spec ∷ []) r st (i, (w.1.0, tt)) s active
+    behind-sound n op.Truth a vs inverted v st s w i active = given-if P n q fits (q.value v) st s (fits.value st.world.heap v i)
+    behind-sound n op.Iter a vs inverted v st s w i active = given-if P n q fits (q.value v) st s (fits.value st.world.heap v i)
+    behind-sound n o a vs inverted v st s w i active =
+        let u : Value = standing_for o a vs inverted v in
+        given-if P n q fits (q.value u) st s (fits.value st.world.heap u (standing-within st.world.heap o a vs inverted v w i))
 
-  in-place-sound : (n : ℕ) (o : Op) (a : PrimAns) (st : Stores) → IsSoundFrom n st → AnswerIsWithin st.world.heap a → IsWithinIf st.world.heap r.active
-      → KeepsSound IsWithin n (asked_in_place program o a r st)
-  in-place-sound n o (prim.Help a vs inverted) st s w active =
-      let heap : List Object = st.world.heap in
-      let m : ℕ = length heap in
-      from-fewer IsWithin n m s.objects (asked_in_place program o (prim.Help a vs inverted) r st)
-      (then-keeps IsWithin IsWithin m (ask_with program a vs r st) (λ v st1. behind_helper o a vs inverted v r st1)
-      (ask-with-sound m a vs st (from-here n st s) w active)
-      (λ v st1 s1 i.
-      let k : List Object = st1.world.heap in
-      behind-sound m o a vs inverted v st1 s1 (all-grow heap k vs s1.objects w) i (if-grows heap k r.active s1.objects active)))
-  in-place-sound n o a st s w active = answered IsWithin n one_value one-value-fits a r st s w active
+    in-place-sound : (n : ℕ) (o : Op) (a : PrimAns) (st : Stores) → IsSoundFrom n st → AnswerIsWithin st.world.heap a → IsWithinIf st.world.heap r.active
+        → KeepsSound P n (asked_in_place program q o a r st)
+    in-place-sound n o (prim.Help a vs inverted) st s w active =
+        let heap : List Object = st.world.heap in
+        let m : ℕ = length heap in
+        from-fewer P n m s.objects (asked_in_place program q o (prim.Help a vs inverted) r st)
+        (then-keeps IsWithin P m (ask_with program a vs r st) (λ v st1. behind_helper q o a vs inverted v r st1)
+        (ask-with-sound m a vs st (from-here n st s) w active)
+        (λ v st1 s1 i.
+        let k : List Object = st1.world.heap in
+        behind-sound m o a vs inverted v st1 s1 (all-grow heap k vs s1.objects w) i (if-grows heap k r.active s1.objects active)))
+    in-place-sound n o a st s w active = answered P n q fits a r st s w active
+
+    pub operated-sound : (n : ℕ) (o : Op) (vs : List Value) (st : Stores) → AllWithin st.world.heap vs → IsSoundFrom n st → IsWithinIf st.world.heap r.active
+        → KeepsSound P n (operated program q o vs r st)
+    unfolding operated
+    operated-sound n o vs st all s active =
+        let h : List Object = st.world.heap in
+        let x : Operated n o vs r st = operated-within n o vs r st all s active in
+        in-place-sound n o (prim_answer o vs h) (with_objects (prim_heap o vs h) st) x.store x.answer x.active
 
   pub prim-or-helper-sound : (n : ℕ) (o : Op) (vs : List Value) (st : Stores) → AllWithin st.world.heap vs → IsSoundFrom n st → IsWithinIf st.world.heap r.active
       → KeepsSound IsWithin n (by_prim_or_helper program o vs r st)
-  unfolding by_prim_or_helper
-  prim-or-helper-sound n o vs st all s active =
-      let h : List Object = st.world.heap in
-      let x : Operated n o vs r st = operated n o vs r st all s active in
-      in-place-sound n o (prim_answer o vs h) (with_objects (prim_heap o vs h) st) x.store x.answer x.active
+  prim-or-helper-sound n o vs st all s active = operated-sound IsWithin one_value one-value-fits n o vs st all s active

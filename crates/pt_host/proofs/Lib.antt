@@ -11,6 +11,7 @@ pub mod FunctionsSound
 pub mod AttributesSound
 pub mod ClassesSound
 pub mod CallsSound
+pub mod ManagersSound
 pub mod HeapSound
 pub mod EntriesSound
 pub mod RaisingSound

@@ -25,7 +25,7 @@ use Rattle.pt_host.proofs.Within.{Anything, heap-grows, raise-sound}
 heap-sound : (o : Op) (vs : List Value) (h : List Object) → IsSound start_objects h → AllWithin h vs → IsSound start_objects (prim_heap o vs h)
 heap-sound o vs h s w = grown-sound (content_of o vs h) h s (content-within h s o vs w)
 
-answer-within : (o : Op) (vs : List Value) (h : List Object) → IsSound start_objects h → AllWithin h vs → AnswerIsWithin (prim_heap o vs h) (prim_answer o vs h)
+pub answer-within : (o : Op) (vs : List Value) (h : List Object) → IsSound start_objects h → AllWithin h vs → AnswerIsWithin (prim_heap o vs h) (prim_answer o vs h)
 answer-within o vs h s w = placed-within (content_of o vs h) vs h s w (content-within h s o vs w)
 
 objects-stay : (o : Op) (vs : List Value) (h : List Object) → Stay h (prim_heap o vs h)
@@ -48,8 +48,8 @@ pub record Operated (n : ℕ) (o : Op) (vs : List Value) (r : Here Value) (st : 
   pub answer : AnswerIsWithin (prim_heap o vs st.world.heap) (prim_answer o vs st.world.heap)
   pub active : IsWithinIf (prim_heap o vs st.world.heap) r.active
 
-pub operated : (n : ℕ) (o : Op) (vs : List Value) (r : Here Value) (st : Stores) → AllWithin st.world.heap vs → IsSoundFrom n st → IsWithinIf st.world.heap r.active → Operated n o vs r st
-operated n o vs r st all s active =
+pub operated-within : (n : ℕ) (o : Op) (vs : List Value) (r : Here Value) (st : Stores) → AllWithin st.world.heap vs → IsSoundFrom n st → IsWithinIf st.world.heap r.active → Operated n o vs r st
+operated-within n o vs r st all s active =
     let h : List Object = st.world.heap in
     let k : List Object = prim_heap o vs h in
     let l : length h ≤ length k = no-fewer h k (objects-stay o vs h) in
@@ -103,7 +103,7 @@ arguments-within h None w = tt
 arguments-within h (Some v) w = (w, tt)
 
 module _ {A : Type 0} (P : List Object → A → Type 0) (n : ℕ) (w : Awaited A) (fits : Fitting P w) where
-  given-if : (o : Option A) (st : Stores) → IsSoundFrom n st → IfGiven o (P st.world.heap) → KeepsSound P n (answer_if o st)
+  pub given-if : (o : Option A) (st : Stores) → IsSoundFrom n st → IfGiven o (P st.world.heap) → KeepsSound P n (answer_if o st)
   given-if None st s f = tt
   given-if (Some a) st s f = (s, f)
 
@@ -121,5 +121,5 @@ module _ {A : Type 0} (P : List Object → A → Type 0) (n : ℕ) (w : Awaited 
   unfolding prim_asked
   asked-sound o vs r st all s active =
       let h : List Object = st.world.heap in
-      let x : Operated n o vs r st = operated n o vs r st all s active in
+      let x : Operated n o vs r st = operated-within n o vs r st all s active in
       answered (prim_answer o vs h) r (with_objects (prim_heap o vs h) st) x.store x.answer x.active

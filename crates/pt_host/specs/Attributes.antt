@@ -4,6 +4,7 @@ use Rattle.std.specs.Str.{bytes_eq}
 use Rattle.pt_base.specs.declared.what.What.TheVariants.{Feature}
 use Rattle.pt_tree.specs.Syntax.{Name}
 use Rattle.pt_heap.specs.declared.value.Value.{Value}
+use Rattle.pt_heap.specs.declared.object.Method.{Method as MethodObject}
 use Rattle.pt_heap.specs.declared.object.Object.{Object}
 use Rattle.pt_heap.specs.declared.object.Object.TheVariants as object
 use Rattle.pt_content.specs.pt_attrs.Look.{object_of}
@@ -29,6 +30,14 @@ method_object m v = object.Builtin (record { number = method_number m; receiver 
 -- so is a function of a script's class, as a method of an instance
 abbrev pub bound_object : (function receiver : Value) → Object
 bound_object f v = object.Method (record { function = f; receiver = v })
+
+-- the method that a value is, if it is one
+abbrev pub bound_in : Option Object → Option MethodObject
+bound_in (Some (object.Method m)) = Some m
+bound_in o = None
+
+abbrev pub bound_of : List Object → Value → Option MethodObject
+bound_of h v = bound_in (object_of h v)
 
 -- the name of a class, and that of a function's block (3.2.8.1, 3.2.10)
 abbrev pub name_of : Program → Option Object → Name

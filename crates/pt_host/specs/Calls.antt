@@ -47,7 +47,7 @@ use Rattle.sem_run.specs.run.Host.{Here, Opening, answer, raise, leave, request,
 use Rattle.pt_host.specs.declared.places.TheConstants.{BASE_EXCEPTION, OBJECT, RECURSION_ERROR, TYPE_ERROR}
 use Rattle.pt_host.specs.World.{Names, World, Stores, CodeFacts, Program, start_world, in_world, with_objects, allot}
 use Rattle.pt_host.specs.Trees.{Tree, answer_with, made_all, then_with}
-use Rattle.pt_host.specs.Primitives.{of_prim, one_value}
+use Rattle.pt_host.specs.Primitives.{Awaited, answer_if, of_prim, one_value, prim_asked}
 use Rattle.pt_host.specs.Operators.{method_name, reflected_name, sign_of}
 use Rattle.pt_prims.specs.pt_special_methods.Instances.{method_of}
 use Rattle.pt_host.specs.Texts.{binding_text, not_callable_text}
@@ -259,10 +259,12 @@ standing_for (op.InPlace o) asked.ExtendOf (l ∷ vs) inverted v = l
 standing_for o a vs true v = opposite v
 standing_for o a vs false v = v
 
--- what is made of it: the text of a field is laid out (2.4.3)
-abbrev pub behind_helper : Op → Asked → List Value → (inverted : Bool) → (given : Value) → Here Value → Stores → Tree Value
-behind_helper (op.Format c) a (x ∷ spec ∷ vs) inverted v h st = by_prim (op.Format None) (v ∷ spec ∷ []) h st
-behind_helper o a vs inverted v h st = answer (standing_for o a vs inverted v) st
+-- what is made of it, for what is awaited: the text of a field is laid out (2.4.3)
+abbrev pub behind_helper : {A : Type 0} → Awaited A → Op → Asked → List Value → (inverted : Bool) → (given : Value) → Here Value → Stores → Tree A
+behind_helper w (op.Format c) a (x ∷ spec ∷ vs) inverted v h st = prim_asked w (op.Format None) (v ∷ spec ∷ []) h st
+behind_helper w op.Truth a vs inverted v h st = answer_if (w.value v) st
+behind_helper w op.Iter a vs inverted v h st = answer_if (w.value v) st
+behind_helper w o a vs inverted v h st = answer_if (w.value (standing_for o a vs inverted v)) st
 
 -- the functions that calls of builtin classes ask, by the places of these
 abbrev pub class_helpers : List (ℕ × Helper)
@@ -294,15 +296,18 @@ module _ (program : Program) where
       then_with (made_all (objects_for a vs) st) (λ ms st1. ask (function_of a) (helper_arguments a vs ms) h st1)
 
   -- an operation on values, or the function that it asks in its place
-  abbrev pub asked_in_place : Op → PrimAns → Here Value → Stores → Tree Value
-  asked_in_place o (prim.Help a vs inverted) h st =
-      then_with (ask_with a vs h st) (λ v st1. behind_helper o a vs inverted v h st1)
-  asked_in_place o p h st = of_prim one_value p h st
+  abbrev pub asked_in_place : {A : Type 0} → Awaited A → Op → PrimAns → Here Value → Stores → Tree A
+  asked_in_place w o (prim.Help a vs inverted) h st =
+      then_with (ask_with a vs h st) (λ v st1. behind_helper w o a vs inverted v h st1)
+  asked_in_place w o p h st = of_prim w p h st
 
-  unfoldable pub by_prim_or_helper : Op → List Value → Here Value → Stores → Tree Value
-  by_prim_or_helper op vs h st =
-      asked_in_place op (prim_answer op vs st.world.heap) h
+  unfoldable pub operated : {A : Type 0} → Awaited A → Op → List Value → Here Value → Stores → Tree A
+  operated w op vs h st =
+      asked_in_place w op (prim_answer op vs st.world.heap) h
       (with_objects (prim_heap op vs st.world.heap) st)
+
+  abbrev pub by_prim_or_helper : Op → List Value → Here Value → Stores → Tree Value
+  by_prim_or_helper op vs h st = operated one_value op vs h st
 
   abbrev pub operate_or_ask : Op → Option (List Value) → Here Value → Stores → Tree Value
   operate_or_ask o (Some vs) h st = by_prim_or_helper o vs h st
@@ -367,7 +372,16 @@ abbrev pub made_unless : Result Locals BindErr → ClassObject → Object → He
 made_unless (Ok ls) c o h st = answer_with (allot o st.world.heap) st
 made_unless (Err e) c o h st = raise_saying TYPE_ERROR (binding_text c.name e) h st
 
+abbrev pub is_bound : Result Locals BindErr → Bool
+is_bound (Ok ls) = true
+is_bound (Err e) = false
+
 module _ (program : Program) where
+  -- whether the parameters of a function take arguments
+  abbrev pub takes_arguments : Option Object → Args → Bool
+  takes_arguments (Some (object.Function f)) args = is_bound (binding_with (program.facts (block_of f)).params f.defaults args)
+  takes_arguments o args = false
+
   abbrev pub call_function_at : Option Object → Args → Here Value → Stores → Tree Value
   call_function_at (Some (object.Function f)) args h st = call_function (program.facts (block_of f)) f args h st
   call_function_at o args h st = leave Feature
@@ -456,6 +470,13 @@ module _ (program : Program) where
       call_function_at program (object_of st.world.heap f) (record { plain = v ∷ vs; named = [] }) h st
   call_special (Some (found.Plain w)) v vs otherwise h st = call_value w (record { plain = vs; named = [] }) h st
   call_special o v vs otherwise h st = otherwise
+
+  -- so is one whose value isn't the operation's own, where it is a function; what is none isn't called yet
+  abbrev pub call_found : Option Found → (receiver : Value) → List Value → (otherwise : Tree Value) → Here Value → Stores → Tree Value
+  call_found (Some (found.Bound f)) v vs otherwise h st =
+      call_function_at program (object_of st.world.heap f) (record { plain = v ∷ vs; named = [] }) h st
+  call_found (Some o) v vs otherwise h st = leave Feature
+  call_found None v vs otherwise h st = otherwise
 
   abbrev pub call : List Role → (callee : Value) → List Value → Here Value → Stores → Tree Value
   call rs f vs h st =

@@ -28,8 +28,11 @@ abbrev pub is_error_of : List Object → ObjId → Option ErrorObject → Bool
 is_error_of h class (Some x) = derives h class x.class
 is_error_of h class None = false
 
+abbrev pub is_stop_in : List Object → Value → Bool
+is_stop_in h v = is_error_of h STOP_ITERATION (error_at h v)
+
 abbrev pub is_stop : Value → World → Bool
-is_stop v w = is_error_of w.heap STOP_ITERATION (error_at w.heap v)
+is_stop v w = is_stop_in w.heap v
 
 -- an integer modulo 256
 abbrev pub status_of : ℤ → ℕ

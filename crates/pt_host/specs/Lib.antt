@@ -14,6 +14,7 @@ pub mod Supers
 pub mod Calls
 pub mod Classes
 pub mod Imports
+pub mod Managers
 pub mod Answers
 pub mod Leaving
 pub mod Raising

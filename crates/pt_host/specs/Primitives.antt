@@ -29,7 +29,7 @@ abbrev pub arguments_of : Option Value → List Value
 arguments_of (Some v) = v ∷ []
 arguments_of None = []
 
--- a function of the prelude is asked by what awaits one value alone (`asked_in_place` of Calls)
+-- a function of the prelude is asked where it may be (`operated` of Calls)
 abbrev pub of_prim : {A : Type 0} → Awaited A → PrimAns → Here Value → Stores → Tree A
 of_prim w (prim.Value v) h st = answer_if (w.value v) st
 of_prim w (prim.Values vs) h st = answer_if (w.values vs) st

@@ -90,8 +90,10 @@ AskWithin h (T.seek s) = SeekWithin h s
 AskWithin h (T.deed d) = DeedWithin h d
 AskWithin h (T.throw t) = ThrowWithin h t
 AskWithin h (T.test (T.branch v)) = IsWithin h v
+AskWithin h (T.test (T.exit_of w r)) = IsWithin h w × IsWithinIf h r
 AskWithin h (T.iter_of v) = IsWithin h v
 AskWithin h (T.next_of i) = IsWithin h i
+AskWithin h (T.enter v) = IsWithin h v
 AskWithin h (T.unpack v n star) = IsWithin h v
 AskWithin h a = Unit {0}
 
@@ -107,6 +109,7 @@ abbrev pub FindingWithin : (a : Ask Value) → List Object → Finding Value a �
 FindingWithin (T.seek s) h v = IsWithin h v
 FindingWithin (T.iter_of v) h it = IsWithin h it
 FindingWithin (T.next_of i) h x = ItemWithin h x
+FindingWithin (T.enter v) h p = IsWithin h p.0 × IsWithin h p.1
 FindingWithin (T.unpack v n star) h vs = RowWithin n h vs
 FindingWithin a h x = Unit {0}
 

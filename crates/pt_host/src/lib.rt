@@ -6,6 +6,7 @@ mod classes;
 mod contexts;
 mod errors;
 mod laws;
+mod managers;
 mod places;
 mod raising;
 mod starred;
@@ -18,6 +19,7 @@ pub use laws::{
     objects_stand_at_their_places, the_host_keeps_the_heap_sound,
     written_builtins_are_of_the_prelude,
 };
+pub use managers::{Manager, bound_of, exit_arguments, manager_of};
 pub use places::{
     ASSERTION_ERROR, ATTRIBUTE_ERROR, BASE_EXCEPTION, DISABLE, GENERATOR_EXIT, IMPORT_ERROR,
     MISSING, MODULE_NOT_FOUND_ERROR, NAME_ERROR, OBJECT, RECURSION_ERROR, RUNTIME_ERROR,
@@ -25,7 +27,7 @@ pub use places::{
 };
 pub use pt_content::{Found, NoAttr, Op, PrimAns, delete, store};
 pub use pt_prims::{are_named, class_of, derives, is_of, prim};
-pub use raising::{Raisable, raisable_of};
+pub use raising::{Raisable, is_stop, raisable_of};
 pub use starred::values_given;
 pub use texts::{
     binding_text, free_text, local_text, missing_text, name_text, no_module_text, no_name_text,

@@ -1,9 +1,11 @@
 //! What values stand for where exceptions are asked for.
 
 ghost use Rattle.std.specs.Prelude.{◌≡◌, slice_get};
+ghost use Rattle.pt_host.specs.Leaving.{error_in, is_error_of, is_stop_in};
 ghost use Rattle.pt_host.specs.Raising.{object_raisable, raisable};
+ghost use Rattle.pt_host.specs.declared.places.TheConstants.{STOP_ITERATION as STOP};
 
-use crate::places::BASE_EXCEPTION;
+use crate::places::{BASE_EXCEPTION, STOP_ITERATION};
 use pt_base::ObjId;
 use pt_dicts::object_at;
 use pt_heap::{Heap, Object, Value};
@@ -46,6 +48,27 @@ pub fn raisable_of(heap: &Heap, value: Value) -> Raisable
         Value::Obj(id) => object_raisable(heap, id),
         Value::None | Value::Bool(_) | Value::Int(_) | Value::Ellipsis | Value::NotImplemented => {
             Raisable::Neither
+        }
+    }
+}
+
+fn is_stop_at(heap: &Heap, id: ObjId) -> bool
+    ensures { result ≡ is_error_of heap.now STOP (error_in (slice_get heap.now id.0)) }
+{
+    match object_at(heap, id) {
+        Some(Object::Error(error)) => derives(heap, STOP_ITERATION, error.class),
+        _ => false,
+    }
+}
+
+/// Whether a value is a StopIteration.
+pub fn is_stop(heap: &Heap, value: Value) -> bool
+    ensures { result ≡ is_stop_in heap.now value }
+{
+    match value {
+        Value::Obj(id) => is_stop_at(heap, id),
+        Value::None | Value::Bool(_) | Value::Int(_) | Value::Ellipsis | Value::NotImplemented => {
+            false
         }
     }
 }

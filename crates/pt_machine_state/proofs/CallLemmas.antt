@@ -14,7 +14,6 @@ use Rattle.pt_heap.specs.declared.object.Object.{Object}
 use Rattle.pt_bind.specs.declared.arguments.Locals.{Locals}
 use Rattle.pt_frames.specs.declared.activations.OpenActivation.{OpenActivation}
 use Rattle.pt_frames.specs.declared.purpose.Purpose.{Purpose}
-use Rattle.pt_frames.specs.declared.purpose.Purpose.TheVariants as purpose
 use Rattle.sem_control.specs.control.Turn.{left_by}
 use Rattle.sem_code.specs.slots.Slots.{State, on, iterator}
 use Rattle.sem_code.specs.slots.Machine as slots
@@ -24,8 +23,7 @@ use Rattle.sem_run.specs.run.Source.{or_null}
 use Rattle.sem_run.specs.run.Events as Told
 use Rattle.sem_run.specs.run.Host as H
 use Rattle.sem_run.specs.run.Host.{Opening, BlockResult, Store, Made, made, beyond}
-use Rattle.pt_code_facts.specs.sem_rows.pt_host.World.{Names, World, Stores, CodeFacts, Program, Allotted, IsAllotted}
-use Rattle.pt_code_facts.specs.sem_rows.pt_host.Trees.{then_with}
+use Rattle.pt_code_facts.specs.sem_rows.pt_host.World.{Names, World, Program, Allotted, IsAllotted}
 use Rattle.pt_code_facts.specs.sem_rows.pt_host.Errors.{error_saying, in_heap_of}
 use Rattle.pt_code_facts.specs.sem_rows.pt_host.HeapHost.{heap_host}
 use Rattle.pt_code_facts.specs.sem_rows.pt_host.declared.places.TheConstants.{RECURSION_ERROR}
@@ -34,8 +32,8 @@ use Rattle.pt_bare_runs.specs.Strides as bare
 use Rattle.pt_bare_runs.specs.Strides.{logged, open_above, open_or_fail, fail_opening, is_full, store, lead}
 use Rattle.sem_code_machine.specs.code_machine.CodeBlocks.{CodeBlocks, machine, start_of}
 use Rattle.pt_code_facts.specs.sem_rows.declared.heap_rows.progress.Progress.TheVariants as progress
-use Rattle.pt_code_facts.specs.sem_rows.heap_rows.Leads.{HasHeapTruths, by_tree, giving}
-use Rattle.pt_code_facts.specs.sem_rows.heap_rows.Told.{block_id, opening_of, taken}
+use Rattle.pt_code_facts.specs.sem_rows.heap_rows.Leads.{HasHeapTruths}
+use Rattle.pt_code_facts.specs.sem_rows.heap_rows.Told.{block_id, opening_of}
 use Rattle.pt_code_facts.specs.sem_rows.heap_rows.Views.{slots_view, world_view}
 use Rattle.pt_machine_state.specs.declared.blocks.BlockCode.{BlockCode}
 use Rattle.pt_machine_state.specs.declared.blocks.Blocks.{Blocks}
@@ -48,29 +46,16 @@ use Rattle.pt_machine_state.specs.Writing.{Adds}
 use Rattle.pt_machine_state.specs.Blocks.{block_at, IsBlockOf}
 use Rattle.pt_machine_state.specs.Views.{Bare, Waits, Beside, AllWait, none, more, WaitsFor, active_of, block_of, state_of, run_in, run_of, led_to}
 use Rattle.pt_machine_state.specs.Strode.{Strode}
-use Rattle.pt_machine_state.specs.Changes.{opened, slots_at_start, events_of, raised_at, raise_events, visible_line}
+use Rattle.pt_machine_state.specs.Changes.{behind_block, end_in, left_at, left_events, opened, slots_at_start, events_of, visible_line}
 use Rattle.pt_machine_state.specs.Applies.{Asking, Stands, Applied, run_at, here_at}
-use Rattle.pt_machine_state.proofs.ApplyLemmas.{logged-start, raise-led}
+use Rattle.pt_machine_state.proofs.ApplyLemmas.{logged-start}
 use Rattle.pt_machine_state.proofs.FailLemmas.{active-here, saying-heap, grown, stands-grown}
+use Rattle.pt_machine_state.proofs.LeftLemmas.{left-led}
 use Rattle.pt_machine_state.proofs.LineLemmas.{outside-led}
 
 pub count-waiting : (program : Program) (code : CodeBlocks Value) (above : M.BlockId) (os : List OpenActivation) (ws : List Waits) → AllWait program code above os ws → length ws ≡ length os
 count-waiting program code _ _ _ (none b) = refl
 count-waiting program code _ _ _ (more b o w os ws waits rest) = ap suc (count-waiting program code (block_of o.activation) os ws rest)
-
--- an exception that left the block arises, whatever its value was for
-pub taken-left : (facts : CodeFacts) (why : Purpose) (v : Value) (ns : Names) (h : H.Here Value) (st : Stores)
-    → taken facts why (record { end = left_by v; names = ns }) h st ≡ H.raise v st
-unfolding then_with
-taken-left facts purpose.Result v ns h st = refl
-taken-left facts purpose.Discard v ns h st = refl
-taken-left facts (purpose.Class base cell) v ns h st = refl
-taken-left facts (purpose.Init new) v ns h st = refl
-taken-left facts purpose.Opposite v ns h st = refl
-taken-left facts purpose.Truth v ns h st = refl
-taken-left facts (purpose.Format spec) v ns h st = refl
-taken-left facts (purpose.Resume generator) v ns h st = refl
-taken-left facts (purpose.Answer hook event block act args pending) v ns h st = refl
 
 -- a block begins where its code does
 
@@ -156,16 +141,21 @@ module _ (blocks : Blocks) (block : BlockCode) (next : Pc) (m : Machine) (w : Wr
     abbrev fails : Made Value World → bare.Stride (State Value) Names Value World
     fails x = fail_opening (machine q.code) (heap_host q.program) (on_with q stands) (o q stands) x (run_at q m)
 
-    fails-made : (t : Allotted) (v : Value) (h : List Object) (w1 : Writes) → IsAllotted t (Some v) h → Adds w w1 (raise_events v block (grown blocks block next m w h))
-        → Strode q.program q.code (fails (in_heap_of (world_view m.frames m.heap) t)) stride.Goes w (raised_at block v (grown blocks block next m w h)) w1
+    -- the machine with the exception, where that left the block which wasn't opened
+    abbrev failed : (v : Value) → List Object → Machine
+    failed v h = left_at block v (end_in why v h) (behind_block why (grown blocks block next m w h))
+
+    abbrev tells : (v : Value) → List Object → Writes → Type 0
+    tells v h w1 = Adds w w1 (left_events v block (end_in why v h) (behind_block why (grown blocks block next m w h)))
+
+    fails-made : (t : Allotted) (v : Value) (h : List Object) (w1 : Writes) → IsAllotted t (Some v) h → tells v h w1
+        → Strode q.program q.code (fails (in_heap_of (world_view m.frames m.heap) t)) stride.Goes w (failed v h) w1
     fails-made (made u k) v h w1 (e, f) adds =
         let same : u ≡ v = cc in
-        subst (λ x. Strode q.program q.code (fails (made x (world_view m.frames k))) stride.Goes w (raised_at block v (grown blocks block next m w h)) w1) (sym same)
-        (subst (λ j. Strode q.program q.code (fails (made v (world_view m.frames j))) stride.Goes w (raised_at block v (grown blocks block next m w h)) w1) f
-        (subst (λ t. Strode q.program q.code (lead (machine q.code) (heap_host q.program) q.ask (by_tree (q.code.object (block_of m.here)) q.ins (giving (q.code.object (block_of m.here)) q.ins (slots_view m.here.slots)) (slots_view m.here.slots) t)
-        (run_at q (grown blocks block next m w h))) stride.Goes w (raised_at block v (grown blocks block next m w h)) w1)
-        (sym (taken-left (q.program.facts (block_id b hidden)) why v (o q stands).names (here_at q m) (store (run_at q (grown blocks block next m w h)))))
-        (raise-led blocks block next (grown blocks block next m w h) w v w1 q (stands-grown blocks block next m w h q stands) adds (run_at q (grown blocks block next m w h)) refl)))
+        subst (λ x. Strode q.program q.code (fails (made x (world_view m.frames k))) stride.Goes w (failed v h) w1) (sym same)
+        (subst (λ j. Strode q.program q.code (fails (made v (world_view m.frames j))) stride.Goes w (failed v h) w1) f
+        (left-led blocks block next (grown blocks block next m w h) w why v w1 adds q (stands-grown blocks block next m w h q stands) (q.program.facts (block_id b hidden)) (o q stands).names
+        (run_at q (grown blocks block next m w h)) refl))
     fails-made (beyond what) v h w1 e adds = absurd (cc)
 
     fails-full : (t : Allotted) (h : List Object) (new : Machine) (line : Line) → IsAllotted t None h → ((what : What) → t ≡ beyond what → what ≡ Heap) → new.units ≡ m.units
@@ -177,12 +167,12 @@ module _ (blocks : Blocks) (block : BlockCode) (next : Pc) (m : Machine) (w : Wr
 
   pub fails_to_open : (v : Value) (h : List Object) (w1 : Writes) → most_activations ≤ length m.frames.activations + 1
       → IsAllotted (error_saying RECURSION_ERROR (codes "too many activations") None (active_of m) m.heap) (Some v) h
-      → Adds w w1 (raise_events v block (grown blocks block next m w h))
-      → Applied blocks block next (progress.Calls b hidden ls why) stride.Goes m w (raised_at block v (grown blocks block next m w h)) w1
+      → Adds w w1 (left_events v block (end_in why v h) (behind_block why (grown blocks block next m w h)))
+      → Applied blocks block next (progress.Calls b hidden ls why) stride.Goes m w (left_at block v (end_in why v h) (behind_block why (grown blocks block next m w h))) w1
   unfolding Applied
   fails_to_open v h w1 full given adds q stands active s stored =
-      subst (λ t. Done q stands stride.Goes (raised_at block v (grown blocks block next m w h)) w1 (open_or_fail (machine q.code) (heap_host q.program) q.ask (rest q stands) (on_with q stands) (o q stands) t)) (sym stored)
-      (subst (λ x. Done q stands stride.Goes (raised_at block v (grown blocks block next m w h)) w1 (if x then fails q stands ((heap_host q.program).makes H.too_deep (here_at q m) (run_at q m).world)
+      subst (λ t. Done q stands stride.Goes (left_at block v (end_in why v h) (behind_block why (grown blocks block next m w h))) w1 (open_or_fail (machine q.code) (heap_host q.program) q.ask (rest q stands) (on_with q stands) (o q stands) t)) (sym stored)
+      (subst (λ x. Done q stands stride.Goes (left_at block v (end_in why v h) (behind_block why (grown blocks block next m w h))) w1 (if x then fails q stands ((heap_host q.program).makes H.too_deep (here_at q m) (run_at q m).world)
       else bare.goes (logged (machine q.code) (heap_host q.program) Told.starts (open_above (machine q.code) (heap_host q.program) q.ask (rest q stands) (o q stands) (run_at q m)))
       (open_above (machine q.code) (heap_host q.program) q.ask (rest q stands) (o q stands) (run_at q m)))) (sym (is-full q stands full))
       (fails-made q stands (too_many q stands (here_at q m).active) v h w1

@@ -23,7 +23,6 @@ use Rattle.pt_code_facts.specs.sem_rows.pt_host.Leaving.{leaving}
 use Rattle.pt_bare_runs.specs.Strides as bare
 use Rattle.pt_bare_runs.specs.Strides.{outside_at, behind, close, end_by_exception, end_logged, lead, return_to, store, stride as stride_of}
 use Rattle.sem_code_machine.specs.code_machine.CodeBlocks.{CodeBlocks, machine}
-use Rattle.pt_code_facts.specs.sem_rows.heap_rows.Leads.{by_tree, giving}
 use Rattle.pt_code_facts.specs.sem_rows.heap_rows.Views.{names_view, slots_view, world_view}
 use Rattle.pt_machine_state.specs.declared.blocks.BlockCode.{BlockCode}
 use Rattle.pt_machine_state.specs.declared.blocks.Blocks.{Blocks}
@@ -39,11 +38,11 @@ use Rattle.pt_machine_state.specs.Writing.{Adds}
 use Rattle.pt_machine_state.specs.Blocks.{AreBlocksOf, IsBlockOf, block_at}
 use Rattle.pt_machine_state.specs.Views.{Bare, Waits, Beside, WaitsFor, AllWait, HasOwnNames, none, more, block_of, state_of, run_in, run_of, led_to, stores_of}
 use Rattle.pt_machine_state.specs.Strode.{Strode, left}
-use Rattle.pt_machine_state.specs.Changes.{events_of, raise_events, raised_at, suspended, visible_line}
-use Rattle.pt_machine_state.specs.Applies.{Asking, Stands, Closes, LedTo, Takes, here_at, object_of, run_at}
+use Rattle.pt_machine_state.specs.Changes.{behind_block, end_in, events_of, left_at, left_events, suspended, visible_line}
+use Rattle.pt_machine_state.specs.Applies.{Asking, Stands, Closes, LedTo, Takes, here_at, run_at}
 use Rattle.pt_machine_state.proofs.WriteLemmas.{behind-strode}
-use Rattle.pt_machine_state.proofs.ApplyLemmas.{logged-return, logged-unwind, raise-led}
-use Rattle.pt_machine_state.proofs.CallLemmas.{taken-left}
+use Rattle.pt_machine_state.proofs.ApplyLemmas.{logged-return, logged-unwind}
+use Rattle.pt_machine_state.proofs.LeftLemmas.{left-led}
 use Rattle.pt_machine_state.proofs.LineLemmas.{visible-line}
 
 some-same : {A : Type 0} (a b : A) → Some a ≡ Some b → a ≡ b
@@ -207,14 +206,12 @@ module _ (program : Program) (code : CodeBlocks Value) (blocks : Blocks) (known 
       unfolding Takes
       returned v r new adds takes own n = closed (gave v) (standing.Returns v) r new refl adds (takes the_asking the-stands at.waits.active own) n
 
-      raised : (v : Value) → Adds w w0 (end_events (block_at blocks (block_of a)) (before (standing.Raises v))) → Adds w0 w1 (raise_events v block m)
-          → (n : ℕ) → Strode program code (stride_of (machine code) (heap_host program) n (run_of program (before (standing.Raises v)) x)) stride.Goes w (raised_at block v m) w1
+      raised : (v : Value) → Adds w w0 (end_events (block_at blocks (block_of a)) (before (standing.Raises v))) → Adds w0 w1 (left_events v block (end_in why v m.heap) (behind_block why m))
+          → (n : ℕ) → Strode program code (stride_of (machine code) (heap_host program) n (run_of program (before (standing.Raises v)) x)) stride.Goes w
+          (left_at block v (end_in why v m.heap) (behind_block why m)) w1
       raised v adds rise n =
-          closed (left_by v) (standing.Raises v) stride.Goes (raised_at block v m) refl adds
-          (subst (λ t. LedTo (by_tree (object_of the_asking m) at.waits.ins (giving (object_of the_asking m) at.waits.ins (slots_view m.here.slots)) (slots_view m.here.slots) t)
-          the_asking stride.Goes m w0 (raised_at block v m) w1)
-          (sym (taken-left (program.facts (block_of a)) why v (names_view (program.facts (block_of a)) a) (here_at the_asking m) (stores_of program m)))
-          (raise-led blocks block next m w0 v w1 the_asking the-stands rise)) n
+          closed (left_by v) (standing.Raises v) stride.Goes (left_at block v (end_in why v m.heap) (behind_block why m)) refl adds
+          (left-led blocks block next m w0 why v w1 rise the_asking the-stands (program.facts (block_of a)) (names_view (program.facts (block_of a)) a)) n
 
 -- the same whatever runs and waits
 
@@ -254,8 +251,8 @@ module _ (blocks : Blocks) (m : Machine) (a : Activation) (why : Purpose) (p : P
       returned program code blocks known m a why p.next caller refl at_place x (waiting-for program code known x waits) w w0 w1 p is refl v r new adds takes own n
 
   pub block_raises : (v : Value) → Adds w w0 (events_of (codes "return") [] (block_at blocks (block_of a)) (suspended a (standing.Raises v) why m))
-      → Adds w0 w1 (raise_events v caller m)
-      → Closes blocks stride.Goes (suspended a (standing.Raises v) why m) w (raised_at caller v m) w1
+      → Adds w0 w1 (left_events v caller (end_in why v m.heap) (behind_block why m))
+      → Closes blocks stride.Goes (suspended a (standing.Raises v) why m) w (left_at caller v (end_in why v m.heap) (behind_block why m)) w1
   unfolding Closes
   block_raises v adds rise program code n x known own waits =
       raised program code blocks known m a why p.next caller refl at_place x (waiting-for program code known x waits) w w0 w1 p is refl v adds rise n

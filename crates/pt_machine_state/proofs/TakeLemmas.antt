@@ -8,6 +8,7 @@ use Rattle.pt_base.specs.declared.what.What.{What}
 use Rattle.pt_base.specs.declared.what.What.TheVariants.{Feature, Heap}
 use Rattle.pt_heap.specs.declared.value.Value.{Value}
 use Rattle.pt_heap.specs.declared.object.Object.{Object}
+use Rattle.pt_code.specs.View.{Ins}
 use Rattle.pt_names.specs.Names.{Named, bindings_of}
 use Rattle.pt_frames.specs.declared.activation.Activation.{Activation}
 use Rattle.pt_frames.specs.declared.purpose.Purpose.{Purpose}
@@ -15,12 +16,13 @@ use Rattle.pt_frames.specs.declared.purpose.Purpose.TheVariants as purpose
 use Rattle.pt_frames.specs.Slots.{active_in}
 use Rattle.sem_control.specs.control.Turn.{gave}
 use Rattle.sem_code.specs.slots.Slots as S
-use Rattle.sem_code.specs.slots.Slots.{on}
+use Rattle.sem_code.specs.slots.Slots.{Slots, on}
+use Rattle.sem_code.specs.slots.CodeObject.{CodeObject}
 use Rattle.sem_code.specs.comp_expr.Law.{active_at}
 use Rattle.sem_run.specs.run.Host as H
 use Rattle.sem_run.specs.run.Host.{made, beyond}
 use Rattle.sem_run.specs.transitions.Successors as leads
-use Rattle.pt_code_facts.specs.sem_rows.pt_host.World.{Names, CodeFacts, Stores, Allotted, IsAllotted, allot}
+use Rattle.pt_code_facts.specs.sem_rows.pt_host.World.{Names, CodeFacts, Program, Stores, Allotted, IsAllotted, allot}
 use Rattle.pt_code_facts.specs.sem_rows.pt_host.Trees.{Tree, then_with}
 use Rattle.pt_code_facts.specs.sem_rows.pt_host.Calls.{opposite}
 use Rattle.pt_code_facts.specs.sem_rows.pt_host.Errors.{error_saying}
@@ -30,7 +32,7 @@ use Rattle.pt_code_facts.specs.sem_rows.pt_host.declared.classes.Base.TheVariant
 use Rattle.pt_code_facts.specs.sem_rows.pt_host.declared.places.TheConstants.{TYPE_ERROR}
 use Rattle.pt_bare_runs.specs.Strides.{with_store}
 use Rattle.pt_code_facts.specs.sem_rows.heap_rows.Leads.{HeapSuccessor, by_tree, giving}
-use Rattle.pt_code_facts.specs.sem_rows.heap_rows.Told.{taken}
+use Rattle.pt_code_facts.specs.sem_rows.heap_rows.Told.{resumed, taken}
 use Rattle.pt_code_facts.specs.sem_rows.heap_rows.Views.{names_view, slots_view}
 use Rattle.pt_machine_state.specs.declared.blocks.BlockCode.{BlockCode}
 use Rattle.pt_machine_state.specs.declared.blocks.Blocks.{Blocks}
@@ -47,17 +49,23 @@ use Rattle.pt_machine_state.proofs.ApplyLemmas.{to_state}
 use Rattle.pt_machine_state.proofs.FailLemmas.{active-here, beyond-heap, full-led, grown, made-led, saying-heap, stands-grown}
 use Rattle.pt_machine_state.proofs.LineLemmas.{outside-led}
 
-given-is : (facts : CodeFacts) (why : Purpose) (v : Value) (ns : Names) (h : H.Here Value) (st : Stores) → IsGiven why
-    → taken facts why (record { end = gave v; names = ns }) h st ≡ H.answer v st
-given-is facts purpose.Result v ns h st is = refl
-given-is facts purpose.Discard v ns h st is = refl
-given-is facts (purpose.Class base cell) v ns h st is = absurd is
-given-is facts (purpose.Init new) v ns h st is = absurd is
-given-is facts purpose.Opposite v ns h st is = absurd is
-given-is facts purpose.Truth v ns h st is = refl
-given-is facts (purpose.Format spec) v ns h st is = absurd is
-given-is facts (purpose.Resume generator) v ns h st is = refl
-given-is facts (purpose.Answer hook event block act args pending) v ns h st is = refl
+module _ (program : Program) (code : CodeObject Value) (i : Ins) (facts : CodeFacts) (ss : Slots Value) (v : Value) (ns : Names) (h : H.Here Value) (st : Stores) where
+  given-is : (why : Purpose) → IsGiven why
+      → resumed program code i facts why ss (record { end = gave v; names = ns }) h st ≡ by_tree code i (giving code i ss) ss (H.answer v st)
+  given-is purpose.Result is = refl
+  given-is purpose.Discard is = absurd is
+  given-is (purpose.Class base cell) is = absurd is
+  given-is (purpose.Init new) is = absurd is
+  given-is purpose.Opposite is = absurd is
+  given-is (purpose.Truth wanted target kept) is = absurd is
+  given-is purpose.Iterate is = absurd is
+  given-is (purpose.Item it at_end) is = absurd is
+  given-is (purpose.Unpack before after) is = absurd is
+  given-is (purpose.Enter exit) is = absurd is
+  given-is (purpose.Exit completion) is = absurd is
+  given-is (purpose.Format spec) is = absurd is
+  given-is (purpose.Resume generator) is = refl
+  given-is (purpose.Answer hook event block act args pending) is = refl
 
 instance-is : (facts : CodeFacts) (new v : Value) (ns : Names) (h : H.Here Value) (st : Stores)
     → taken facts (purpose.Init new) (record { end = gave v; names = ns }) h st ≡ H.answer new st
@@ -93,8 +101,9 @@ module _ (blocks : Blocks) (block : BlockCode) (next : Pc) (m : Machine) (w : Wr
   pub takes_given : (why : Purpose) → IsGiven why → (v : Value) → Takes blocks block next a why v stride.Goes m w (given_back next v m) w
   unfolding Takes
   takes_given why is v q stands active own =
-      subst (λ t. LeadsTo q t stride.Goes (given_back next v m) w)
-      (sym (given-is (q.program.facts (block_of a)) why v (given_by q.program a v).names (here_at q m) (stores_of q.program m) is)) (value-led blocks block next m w q stands v)
+      subst (λ l. LedTo l q stride.Goes m w (given_back next v m) w)
+      (sym (given-is q.program (object_of q m) q.ins (q.program.facts (block_of a)) (slots_view m.here.slots) v (given_by q.program a v).names (here_at q m) (stores_of q.program m) why is))
+      (value-led blocks block next m w q stands v)
 
   pub takes_instance : (new v : Value) → Takes blocks block next a (purpose.Init new) v stride.Goes m w (given_back next new m) w
   unfolding Takes

@@ -18,8 +18,8 @@ use Rattle.pt_code_facts.specs.sem_rows.pt_host.HeapHost.{heap_host}
 use Rattle.pt_bare_runs.specs.Strides.{with_store, here_of, lead, stride as stride_of}
 use Rattle.sem_code_machine.specs.code_machine.CodeBlocks.{CodeBlocks, machine}
 use Rattle.pt_code_facts.specs.sem_rows.declared.heap_rows.progress.Progress.{Progress}
-use Rattle.pt_code_facts.specs.sem_rows.heap_rows.Leads.{HeapSuccessor, by_tree, giving}
-use Rattle.pt_code_facts.specs.sem_rows.heap_rows.Told.{told, taken, IfActive}
+use Rattle.pt_code_facts.specs.sem_rows.heap_rows.Leads.{HeapSuccessor}
+use Rattle.pt_code_facts.specs.sem_rows.heap_rows.Told.{told, resumed, IfActive}
 use Rattle.pt_frames.specs.declared.activation.Activation.{Activation}
 use Rattle.pt_frames.specs.declared.purpose.Purpose.{Purpose}
 use Rattle.pt_frames.specs.declared.purpose.Purpose.TheVariants as purpose
@@ -77,13 +77,12 @@ Applied blocks block next p r old written new writes =
     (q : Asking) → Stands blocks block next old q → IfActive p (active_at q.before ≡ active_in old.here.slots)
     → LedTo (told q.program (object_of q old) q.ins (here_at q old) p (slots_view old.here.slots) (stores_of q.program old)) q r old written new writes
 
--- a block that is run neither for a class nor for another value gives the value of its call
+-- a block that is run neither for a class nor for another value, and decides nothing, gives the value of its call
 abbrev pub IsGiven : Purpose → Type 0
-IsGiven (purpose.Class base cell) = ⊥
-IsGiven (purpose.Init made) = ⊥
-IsGiven purpose.Opposite = ⊥
-IsGiven (purpose.Format spec) = ⊥
-IsGiven why = Unit {0}
+IsGiven purpose.Result = Unit {0}
+IsGiven (purpose.Resume generator) = Unit {0}
+IsGiven (purpose.Answer hook event block act args pending) = Unit {0}
+IsGiven why = ⊥
 
 -- a class on a base, by the name of its block and by the names that its body has bound
 abbrev pub class_of : Blocks → (closed : Activation) → (base : ObjId) → Object
@@ -96,8 +95,8 @@ given_by program a v = record { end = gave v; names = names_view (program.facts 
 unfoldable pub Takes : Blocks → BlockCode → (next : Pc) → (closed : Activation) → Purpose → (given : Value) → Stride → (old : Machine) (written : Writes) → (new : Machine) (writes : Writes) → Type 0
 Takes blocks block next a why v r old written new writes =
     (q : Asking) → Stands blocks block next old q → active_at q.before ≡ active_in old.here.slots → HasOwnNames q.program a
-    → LedTo (by_tree (object_of q old) q.ins (giving (object_of q old) q.ins (slots_view old.here.slots)) (slots_view old.here.slots)
-    (taken (q.program.facts (block_of a)) why (given_by q.program a v) (here_at q old) (stores_of q.program old))) q r old written new writes
+    → LedTo (resumed q.program (object_of q old) q.ins (q.program.facts (block_of a)) why (slots_view old.here.slots) (given_by q.program a v) (here_at q old)
+    (stores_of q.program old)) q r old written new writes
 
 -- the machine did the stride of a run that is at the end of a block
 unfoldable pub Closes : Blocks → Stride → (old : Machine) (written : Writes) → (new : Machine) (writes : Writes) → Type 0

@@ -12,6 +12,7 @@ use Rattle.pt_bind.specs.declared.arguments.Locals.{Locals}
 use Rattle.pt_frames.specs.declared.activation.Activation.{Activation}
 use Rattle.pt_frames.specs.declared.activations.OpenActivation.{OpenActivation}
 use Rattle.pt_frames.specs.declared.purpose.Purpose.{Purpose}
+use Rattle.pt_frames.specs.declared.purpose.Purpose.TheVariants as purpose
 use Rattle.pt_frames.specs.Activations.{next_activation, with_activation, with_next_number}
 use Rattle.pt_frames.specs.declared.slot.Slot.{Slot}
 use Rattle.pt_frames.specs.declared.slot.Slot.TheVariants as slot
@@ -27,6 +28,7 @@ use Rattle.sem_run.specs.run.Host.{Entry}
 use Rattle.sem_run.specs.run.Run as run
 use Rattle.sem_run.specs.run.Views.{line_or}
 use Rattle.pt_code_facts.specs.sem_rows.pt_host.Errors.{with_entry}
+use Rattle.pt_code_facts.specs.sem_rows.pt_host.Leaving.{is_stop_in}
 use Rattle.pt_machine_state.specs.declared.blocks.BlockCode.{BlockCode}
 use Rattle.pt_machine_state.specs.declared.machine.Machine.{Machine}
 use Rattle.pt_machine_state.specs.declared.machine.Standing.{Standing}
@@ -103,6 +105,28 @@ exception_events v block m = events_of (codes "exception") (32 ∷ class_name m.
 
 abbrev pub raise_events : Value → BlockCode → Machine → List run.Write
 raise_events v block m = exception_events v block (entered block v m)
+
+-- a StopIteration that left a block which was to give the next item is the end: there the run goes on (8.3)
+abbrev pub end_in : Purpose → Value → List Object → Option Pc
+end_in (purpose.Item iterator end) v heap = if is_stop_in heap v then Some end else None
+end_in why v heap = None
+
+-- the slots of an exit stay on while its block runs (8.5)
+abbrev pub left_slots : Purpose → List Slot → List Slot
+left_slots (purpose.Exit completion) slots = drop 2 slots
+left_slots why slots = slots
+
+abbrev pub behind_block : Purpose → Machine → Machine
+behind_block why m = record m { here = record m.here { slots = left_slots why m.here.slots } }
+
+-- an exception that left a block comes to the newest frame, unless it is the end
+abbrev pub left_at : BlockCode → Value → Option Pc → Machine → Machine
+left_at block v (Some end) m = gone_to end m
+left_at block v None m = raised_at block v m
+
+abbrev pub left_events : Value → BlockCode → Option Pc → Machine → List run.Write
+left_events v block (Some end) m = []
+left_events v block None m = raise_events v block m
 
 -- the line of the innermost visible frame, which is the newest one where none is
 abbrev pub line_in : Blocks → Activation → ℕ

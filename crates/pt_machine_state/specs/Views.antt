@@ -27,8 +27,7 @@ use Rattle.pt_bare_runs.specs.Strides as bare
 use Rattle.pt_bare_runs.specs.Strides.{Waiting, active_in as active_among}
 use Rattle.sem_code_machine.specs.code_machine.CodeBlocks.{CodeBlocks, machine}
 use Rattle.pt_code_facts.specs.sem_rows.heap_rows.Views.{slots_view, names_view, world_view, stores_view}
-use Rattle.pt_code_facts.specs.sem_rows.heap_rows.Leads.{by_tree, giving}
-use Rattle.pt_code_facts.specs.sem_rows.heap_rows.Told.{block_id, taken}
+use Rattle.pt_code_facts.specs.sem_rows.heap_rows.Told.{block_id, resumed}
 use Rattle.pt_machine_state.specs.declared.machine.Machine.{Machine}
 use Rattle.pt_machine_state.specs.declared.machine.Standing.{Standing}
 use Rattle.pt_machine_state.specs.declared.machine.Standing.TheVariants as standing
@@ -114,7 +113,7 @@ module _ (program : Program) (code : CodeBlocks Value) where
   -- where the result of a block leads, by what it is for
   abbrev pub led_to : (closed : BlockId) → Purpose → Here Value → CodeObject Value → Ins → S.Slots Value → BlockResult Names Value → Store Names World
       → Successor (State Value) Names Value World
-  led_to closed why h object i ss r st = by_tree object i (giving object i ss) ss (taken (program.facts closed) why r h st)
+  led_to closed why h object i ss r st = resumed program object i (program.facts closed) why ss r h st
 
   -- an activation waits at a call, below the block above and above what waits below, for what a run says that waits: what the block gives is taken for
   -- its purpose, and it goes on behind the call with the value, or where an exception lands

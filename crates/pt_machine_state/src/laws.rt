@@ -27,8 +27,10 @@ ghost use Rattle.pt_code_facts.specs.sem_rows.pt_host.World.{IsAllotted, allot};
 ghost use Rattle.pt_code_facts.specs.sem_rows.pt_host.declared.places.TheConstants.{RECURSION_ERROR, TYPE_ERROR};
 ghost use Rattle.pt_machine_state.specs.Applies.{Applied, Closes, IsGiven, Takes, class_of};
 ghost use Rattle.pt_machine_state.specs.Blocks.{block_at};
-ghost use Rattle.pt_machine_state.specs.Changes.{events_of, given_back, gone_to, landed, left_place, with_class};
-ghost use Rattle.pt_machine_state.specs.Changes.{opened};
+ghost use Rattle.pt_machine_state.specs.Changes.{behind_block, end_in, events_of, given_back};
+ghost use Rattle.pt_machine_state.specs.Changes.{gone_to, landed};
+ghost use Rattle.pt_machine_state.specs.Changes.{left_at, left_events, left_place, opened};
+ghost use Rattle.pt_machine_state.specs.Changes.{with_class};
 ghost use Rattle.pt_machine_state.specs.Changes.{raise_events, raised_at, suspended, visible_line};
 ghost use Rattle.pt_machine_state.specs.Laws.{MarkedAgain, MarkedStrides, UnmarkedAgain};
 ghost use Rattle.pt_machine_state.specs.Laws.{UnmarkedStrides};
@@ -115,7 +117,7 @@ pub fn exceptions_arise_as_in_a_run()
 {}
 
 /// A block opens above the newest activation as in a run, and in place of one too many there is a
-/// RecursionError, or no room for one.
+/// RecursionError, by which the block is left, or no room for one.
 #[tactic(auto, using(crate::proofs::CallLemmas::applied_calls, crate::proofs::CallLemmas::fails_to_open, crate::proofs::CallLemmas::no_room_to_fail))]
 pub fn blocks_open_as_in_a_run()
     ensures opens { (blocks : Blocks) (block : BlockCode) (next : Pc) (m : Machine) (w : Writes)
@@ -129,9 +131,11 @@ pub fn blocks_open_as_in_a_run()
         (w : Writes) (b : BlockId) (hidden : Bool) (ls : Locals) (why : Purpose) (v : Value)
         (h : List Object) (w1 : Writes) → most_activations ≤ length m.frames.activations + 1
         → IsAllotted (error_saying RECURSION_ERROR (codes "too many activations") None (active_of m)
-        m.heap) (Some v) h → Adds w w1 (raise_events v block (record m { heap = h }))
+        m.heap) (Some v) h
+        → Adds w w1 (left_events v block (end_in why v h)
+        (behind_block why (record m { heap = h })))
         → Applied blocks block next (progress.Calls b hidden ls why) stride.Goes m w
-        (raised_at block v (record m { heap = h })) w1 }
+        (left_at block v (end_in why v h) (behind_block why (record m { heap = h }))) w1 }
     ensures no_room { (blocks : Blocks) (block : BlockCode) (next : Pc) (m : Machine) (w : Writes)
         (b : BlockId) (hidden : Bool) (ls : Locals) (why : Purpose) (h : List Object)
         (new : Machine) (line : Line) → most_activations ≤ length m.frames.activations + 1
@@ -142,8 +146,8 @@ pub fn blocks_open_as_in_a_run()
 {}
 
 /// A block ends as in a run: what it gave is taken for its purpose behind the call of the
-/// activation that waits for it, or an exception lands there, and the end of the module is that of
-/// the run.
+/// activation that waits for it, or an exception lands there, unless it is the end of what gives
+/// items, and the end of the module is that of the run.
 #[tactic(auto, using(crate::proofs::CloseLemmas::module_returns, crate::proofs::CloseLemmas::module_raises, crate::proofs::CloseLemmas::block_returns, crate::proofs::CloseLemmas::block_raises))]
 pub fn blocks_end_as_in_a_run()
     ensures module_returns { (blocks : Blocks) (m : Machine) (w w1 : Writes)
@@ -170,14 +174,16 @@ pub fn blocks_end_as_in_a_run()
         → entry (block_at blocks (block_of m.here)).places m.here.pc.0 ≡ Some p → (v : Value)
         → Adds w w0 (events_of (codes "return") [] (block_at blocks (block_of a))
         (suspended a (standing.Raises v) why m))
-        → Adds w0 w1 (raise_events v (block_at blocks (block_of m.here)) m)
+        → Adds w0 w1 (left_events v (block_at blocks (block_of m.here)) (end_in why v m.heap)
+        (behind_block why m))
         → Closes blocks stride.Goes (suspended a (standing.Raises v) why m) w
-        (raised_at (block_at blocks (block_of m.here)) v m) w1 }
+        (left_at (block_at blocks (block_of m.here)) v (end_in why v m.heap)
+        (behind_block why m)) w1 }
 {}
 
-/// What a block gave is taken as in a run: it is the value of the call, or the instance is that
-/// `__init__` was called for, or a class that is made of the block's names (Language Reference
-/// 3.3.1, 8.8).
+/// What a block gave is taken as in a run: where it gives a value that is the one of the call, or
+/// the instance that `__init__` was called for, or a class that is made of the block's names
+/// (Language Reference 3.3.1, 8.8).
 #[tactic(auto, using(crate::proofs::TakeLemmas::takes_given, crate::proofs::TakeLemmas::takes_instance, crate::proofs::TakeLemmas::takes_class, crate::proofs::TakeLemmas::takes_full, crate::proofs::TakeLemmas::takes_no_base, crate::proofs::TakeLemmas::takes_unavailable))]
 pub fn results_are_taken_as_in_a_run()
     ensures given { (blocks : Blocks) (block : BlockCode) (next : Pc) (m : Machine) (w : Writes)

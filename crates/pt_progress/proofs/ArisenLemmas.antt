@@ -7,13 +7,14 @@ use Rattle.pt_base.specs.declared.numbers.Pc.{Pc}
 use Rattle.pt_base.specs.declared.what.What.TheVariants.{Heap}
 use Rattle.pt_bind.specs.declared.arguments.Locals.{Locals}
 use Rattle.pt_frames.specs.declared.purpose.Purpose.{Purpose}
+use Rattle.pt_frames.specs.declared.purpose.Purpose.TheVariants as purpose
 use Rattle.pt_heap.specs.declared.value.Value.{Value}
 use Rattle.pt_heap.specs.declared.object.Object.{Object}
 use Rattle.sem_rows.specs.declared.heap_rows.progress.Progress.{Progress}
 use Rattle.sem_rows.specs.declared.heap_rows.progress.Progress.TheVariants as progress
 use Rattle.sem_rows.specs.pt_host.Calls.{arguments_of}
 use Rattle.sem_rows.specs.pt_host.Errors.{error, error_saying}
-use Rattle.sem_rows.specs.pt_host.World.{IsAllotted, allot}
+use Rattle.sem_rows.specs.pt_host.World.{Allotted, IsAllotted, allot}
 use Rattle.sem_rows.specs.pt_host.declared.places.TheConstants.{RECURSION_ERROR, RUNTIME_ERROR}
 use Rattle.sem_run.specs.run.State.{most_activations}
 use Rattle.pt_transfers.specs.pt_machine_state.declared.blocks.BlockCode.{BlockCode}
@@ -27,7 +28,16 @@ use Rattle.pt_transfers.specs.pt_machine_state.Applies.{Applied}
 use Rattle.pt_transfers.specs.pt_machine_state.Views.{active_of}
 use Rattle.pt_transfers.proofs.pt_machine_state.FailLemmas.{applied_fails, applied_fails_saying, fails_outside, fails_saying_outside, none_again}
 use Rattle.pt_transfers.proofs.pt_machine_state.CallLemmas.{fails_to_open, no_room_to_fail}
-use Rattle.pt_progress.specs.Arising.{Arises, ArisesOf}
+use Rattle.pt_progress.specs.Arising.{Arises, ArisesOf, Leaves, LeavesBy}
+
+-- one by which a block was left whose result is the value of its call arises where that was called
+module _ (blocks : Blocks) (block : BlockCode) (r : Stride) (m : Machine) (w : Writes) (new : Machine) (w1 : Writes) where
+  arises-by : (o : Option Value) (h : List Object) → Leaves blocks block purpose.Result o r (record m { heap = h }) w new w1 → Arises blocks block o r (record m { heap = h }) w new w1
+  arises-by (Some v) h it = it
+  arises-by None h it = it
+
+  pub arisen_plainly : (made : Allotted) → LeavesBy made blocks block purpose.Result r m w new w1 → ArisesOf made blocks block r m w new w1
+  arisen_plainly made it = record { exception = it.exception; heap = it.heap; allotted = it.allotted; arises = arises-by it.exception it.heap it.leaves }
 
 module _ (blocks : Blocks) (block : BlockCode) (next : Pc) (m : Machine) (w : Writes) where
   abbrev Does : Progress → Stride → Machine → Writes → Type 0
@@ -73,7 +83,7 @@ module _ (blocks : Blocks) (block : BlockCode) (next : Pc) (m : Machine) (w : Wr
 
     module _ (b : BlockId) (hidden : Bool) (ls : Locals) (why : Purpose) (full : most_activations ≤ length m.frames.activations + 1) where
       too-deep-by : (o : Option Value) (h : List Object) → IsAllotted (error_saying RECURSION_ERROR (codes "too many activations") None (active_of m) m.heap) o h
-          → Arises blocks block o r (record m { heap = h }) w new w1 → Does (progress.Calls b hidden ls why) r new w1
+          → Leaves blocks block why o r (record m { heap = h }) w new w1 → Does (progress.Calls b hidden ls why) r new w1
       too-deep-by (Some v) h given (goes, (is, adds)) =
           subst (λ s. Does (progress.Calls b hidden ls why) s new w1) (sym goes)
           (subst (λ n. Does (progress.Calls b hidden ls why) stride.Goes n w1) (sym is) (fails_to_open blocks block next m w b hidden ls why v h w1 full given adds))
@@ -83,9 +93,9 @@ module _ (blocks : Blocks) (block : BlockCode) (next : Pc) (m : Machine) (w : Wr
           (subst (λ y. Does (progress.Calls b hidden ls why) (stride.Ends (end.Outside Heap line)) (record m { heap = h }) y) (sym same)
           (no_room_to_fail blocks block next m w b hidden ls why h (record m { heap = h }) line full given refl at)))
 
-      pub too_deep_arisen : ArisesOf (error_saying RECURSION_ERROR (codes "too many activations") None (active_of m) m.heap) blocks block r m w new w1
+      pub too_deep_arisen : LeavesBy (error_saying RECURSION_ERROR (codes "too many activations") None (active_of m) m.heap) blocks block why r m w new w1
           → Does (progress.Calls b hidden ls why) r new w1
-      too_deep_arisen it = too-deep-by it.exception it.heap it.allotted it.arises
+      too_deep_arisen it = too-deep-by it.exception it.heap it.allotted it.leaves
 
 -- in place of an exception that is active, by its text
 pub none_active : {E : Type 0} (blocks : Blocks) (block : BlockCode) (m new : Machine) (w w1 : Writes) (t : List ℕ) (o : Result Stride E) → t ≡ codes "no active exception" → active_of m ≡ None

@@ -19,7 +19,7 @@ use Rattle.pt_transfers.specs.pt_machine_state.declared.machine.Stride.TheVarian
 use Rattle.pt_transfers.specs.pt_machine_state.declared.writes.Writes.{Writes}
 use Rattle.pt_transfers.specs.pt_machine_state.Applies.{Closes, Takes}
 use Rattle.pt_transfers.specs.pt_machine_state.Blocks.{AreBlocksOf, block_at}
-use Rattle.pt_transfers.specs.pt_machine_state.Changes.{events_of, raise_events, raised_at, suspended}
+use Rattle.pt_transfers.specs.pt_machine_state.Changes.{behind_block, end_in, events_of, left_at, left_events, suspended}
 use Rattle.pt_transfers.specs.pt_machine_state.Writing.{Adds}
 use Rattle.pt_transfers.proofs.pt_machine_state.CloseLemmas.{block_raises, block_returns}
 use Rattle.pt_transfers.specs.pt_machine_state.Views.{AllWait, none, more, Waits, WaitsFor, block_of}
@@ -60,13 +60,14 @@ returns_on blocks m n new closed why v p w w0 w1 r left same was at is adds take
     (block_returns blocks n m.here why p w w0 w1 at is v r new (subst (λ x. Adds w w0 (events_of (codes "return") [] (block_at blocks (block_of m.here)) x)) e adds)
     (subst (λ x. Takes blocks (block_at blocks (block_of n.here)) p.next x why v r n w0 new w1) same takes))
 
--- an exception goes on in the activation that waited
+-- an exception goes to the activation that waited
 pub raises_on : (blocks : Blocks) (m n : Machine) (why : Purpose) (v : Value) (p : Place) (w w0 w1 : Writes) (new : Machine)
     → m.standing ≡ standing.Raises v → m ≡ suspended m.here m.standing why n → n.standing ≡ standing.AtPlace → entry (block_at blocks (block_of n.here)).places n.here.pc.0 ≡ Some p
-    → Adds w w0 (events_of (codes "return") [] (block_at blocks (block_of m.here)) m) → Adds w0 w1 (raise_events v (block_at blocks (block_of n.here)) n)
-    → new ≡ raised_at (block_at blocks (block_of n.here)) v n → Closes blocks stride.Goes m w new w1
+    → Adds w w0 (events_of (codes "return") [] (block_at blocks (block_of m.here)) m)
+    → Adds w0 w1 (left_events v (block_at blocks (block_of n.here)) (end_in why v n.heap) (behind_block why n))
+    → new ≡ left_at (block_at blocks (block_of n.here)) v (end_in why v n.heap) (behind_block why n) → Closes blocks stride.Goes m w new w1
 raises_on blocks m n why v p w w0 w1 new left was at is adds rise new_is =
     let e : m ≡ suspended m.here (standing.Raises v) why n = was ∙ ap (λ s. suspended m.here s why n) left in
     subst (λ x. Closes blocks stride.Goes m w x w1) (sym new_is)
-    (subst (λ x. Closes blocks stride.Goes x w (raised_at (block_at blocks (block_of n.here)) v n) w1) (sym e)
+    (subst (λ x. Closes blocks stride.Goes x w (left_at (block_at blocks (block_of n.here)) v (end_in why v n.heap) (behind_block why n)) w1) (sym e)
     (block_raises blocks n m.here why p w w0 w1 at is v (subst (λ x. Adds w w0 (events_of (codes "return") [] (block_at blocks (block_of m.here)) x)) e adds) rise))

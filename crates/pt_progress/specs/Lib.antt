@@ -1,2 +1,3 @@
 pub mod Arising
 pub mod Making
+pub mod Taking

@@ -4,7 +4,7 @@ ghost use Rattle.pt_base.specs.declared.numbers.Pc.{Pc};
 ghost use Rattle.pt_transfers.specs.pt_machine_state.Applies.{Applied};
 ghost use Rattle.sem_rows.specs.declared.heap_rows.progress.Progress.TheVariants as progress;
 
-use crate::failing::{outside, raise_saying, raise_there, raise_with};
+use crate::failing::{leave_saying, outside, raise_saying, raise_there, raise_with};
 use pt_base::{BlockId, Memory, Pc, Text};
 use pt_bind::Locals;
 use pt_frames::Purpose;
@@ -20,7 +20,7 @@ use sem_rows::{RECURSION_ERROR, RUNTIME_ERROR};
 const MOST_ACTIVATIONS: usize = 1_000;
 
 /// A block opens above the newest activation, which waits at its call (Language Reference 4.1,
-/// 6.3.4). In place of one too many a RecursionError arises.
+/// 6.3.4). In place of one too many a RecursionError leaves the block.
 #[tactic(auto, using(pt_machine_state::proofs::CallLemmas::applied_calls, crate::proofs::ArisenLemmas::too_deep_arisen))]
 fn call(
     machine: &mut Machine,
@@ -37,7 +37,7 @@ fn call(
 {
     if machine.frames.depth() + 1 >= MOST_ACTIVATIONS {
         let text = Text::from_str(machine.alloc, "too many activations")?;
-        return raise_saying(machine, writes, blocks, block, RECURSION_ERROR, text);
+        return leave_saying(machine, writes, blocks, block, &why, RECURSION_ERROR, text);
     }
     let callee = blocks.at(called, hidden);
     open(machine, callee.iterates, called, hidden, locals, why)?;

@@ -2,8 +2,10 @@
 #![tactic(auto)]
 
 mod applying;
+mod classes;
 mod closing;
 mod failing;
+mod taking;
 
 pub use applying::apply;
 pub use closing::close;

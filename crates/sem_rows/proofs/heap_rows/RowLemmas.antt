@@ -97,15 +97,15 @@ module _ (program : Program) (code : CodeObject Value) (i : Ins) (h : Here Value
       → reached program code i h st (asks code i (T.seek (T.cell_of x)) ss next) ≡ by_tree code i next ss (seeks program (T.cell_of x) h st)
   cells_lead x next ss = asks_lead (T.seek (T.cell_of x)) next ss tt
 
-  pub deeds_lead : (d : Deed Value) (ss : Slots Value) → reached program code i h st (does code i d ss) ≡ by_tree code i (behind code i ss) ss (deeds d h st)
+  pub deeds_lead : (d : Deed Value) (ss : Slots Value) → reached program code i h st (does code i d ss) ≡ by_tree code i (behind code i ss) ss (deeds program d h st)
   deeds_lead d ss = asks_lead (T.deed d) (behind code i ss) ss tt
 
   pub test_leads : (m : Option ActMark) (v : Value) (next : Bool → State Value) (ss : Slots Value)
-      → reached program code i h st (T.act (option_map mark_of m) (T.test (T.branch v)) (after code i ss next)) ≡ by_tree code i next ss (branch v h st)
+      → reached program code i h st (T.act (option_map mark_of m) (T.test (T.branch v)) (after code i ss next)) ≡ by_tree code i next ss (branch program v h st)
   test_leads m v next ss = ask_leads m (T.test (T.branch v)) next ss tt
 
   pub branches_lead : (v : Value) (next : Bool → State Value) (ss : Slots Value)
-      → reached program code i h st (asks code i (T.test (T.branch v)) ss next) ≡ by_tree code i next ss (branch v h st)
+      → reached program code i h st (asks code i (T.test (T.branch v)) ss next) ≡ by_tree code i next ss (branch program v h st)
   branches_lead v next ss = test_leads i.mark v next ss
 
   pub moves_lead : MovesLead program code i h st

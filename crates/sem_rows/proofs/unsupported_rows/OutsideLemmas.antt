@@ -8,23 +8,23 @@ use Rattle.pt_instr.specs.declared.Instr.TheVariants as instr
 use Rattle.pt_heap.specs.declared.value.Value.{Value}
 use Rattle.pt_code.specs.View.{Ins}
 use Rattle.sem_control.specs.control.Turn as T
-use Rattle.sem_control.specs.control.Turn.{Ask, Answer, Operation, Turn, stuck}
+use Rattle.sem_control.specs.control.Turn.{Operation, Turn, stuck}
 use Rattle.sem_code.specs.slots.Slots as S
 use Rattle.sem_code.specs.slots.Slots.{Slots, State}
 use Rattle.sem_code.specs.slots.CodeObject.{CodeObject}
 use Rattle.sem_code.specs.slots.Instructions.{perform}
-use Rattle.sem_code.specs.slots.Pops.{Next, values, cells, one, an_iterator, a_completion, an_exit}
-use Rattle.sem_code.specs.slots.Steps.{mark_of, after, asks, gives, delegated, delegates}
+use Rattle.sem_code.specs.slots.Pops.{Next, values, cells, one, an_iterator}
+use Rattle.sem_code.specs.slots.Steps.{mark_of, after, gives, delegated, delegates}
 use Rattle.sem_run.specs.run.Host as H
 use Rattle.sem_run.specs.run.Host.{Here}
 use Rattle.pt_host.specs.World.{Stores, Program}
-use Rattle.pt_host.specs.Answers.{answers, operate}
+use Rattle.pt_host.specs.Answers.{operate}
 use Rattle.sem_run.specs.transitions.Successors.{outside}
 use Rattle.sem_rows.specs.declared.heap_rows.progress.Progress.TheVariants as progress
-use Rattle.sem_rows.specs.heap_rows.Leads.{HasHeapExtras, IsAnswered, IsStuck, by_tree, found, giving}
+use Rattle.sem_rows.specs.heap_rows.Leads.{HasHeapExtras, IsStuck, by_tree, giving}
 use Rattle.sem_rows.specs.heap_rows.Laws.{reached}
 use Rattle.sem_rows.specs.heap_rows.Views.{slots_view}
-use Rattle.sem_rows.proofs.heap_rows.RowLemmas.{asks_lead, operations_lead}
+use Rattle.sem_rows.proofs.heap_rows.RowLemmas.{operations_lead}
 use Rattle.sem_rows.specs.unsupported_rows.Unsupported.{RowsOutside, is_supported}
 
 module _ (program : Program) (code : CodeObject Value) (i : Ins) (h : Here Value) (st : Stores) where
@@ -73,25 +73,6 @@ module _ (program : Program) (code : CodeObject Value) (i : Ins) (h : Here Value
   iterator-out (S.pending c ∷ ss) next f = inl tt
   iterator-out (S.exit v ∷ ss) next f = inl tt
 
-  completion-out : (ss : Slots Value) (next : Next Value (S.Completion Value)) → ((c : S.Completion Value) (below : Slots Value) → Outside (next c below))
-      → Outside (a_completion ss next)
-  completion-out [] next f = inl tt
-  completion-out (S.value v ∷ ss) next f = inl tt
-  completion-out (S.cell v ∷ ss) next f = inl tt
-  completion-out (S.iterator v ∷ ss) next f = inl tt
-  completion-out (S.exception v ∷ ss) next f = inl tt
-  completion-out (S.pending c ∷ ss) next f = f c ss
-  completion-out (S.exit v ∷ ss) next f = inl tt
-
-  exit-out : (ss : Slots Value) (next : Next Value Value) → ((v : Value) (below : Slots Value) → Outside (next v below)) → Outside (an_exit ss next)
-  exit-out [] next f = inl tt
-  exit-out (S.value v ∷ ss) next f = inl tt
-  exit-out (S.cell v ∷ ss) next f = inl tt
-  exit-out (S.iterator v ∷ ss) next f = inl tt
-  exit-out (S.exception v ∷ ss) next f = inl tt
-  exit-out (S.pending c ∷ ss) next f = inl tt
-  exit-out (S.exit v ∷ ss) next f = f v ss
-
   -- and with a mark or without
 
   gives-out : (o : Operation) (vs : List Value) (ss : Slots Value) → operate program o vs h st ≡ H.leave Feature → Outside (gives code i (T.operate o vs) ss)
@@ -100,11 +81,6 @@ module _ (program : Program) (code : CodeObject Value) (i : Ins) (h : Here Value
   operates-out : (o : Operation) (n : ℕ) (ss : Slots Value) → ((vs : List Value) → operate program o vs h st ≡ H.leave Feature)
       → Outside (values n [] ss (λ vs below. gives code i (T.operate o vs) below))
   operates-out o n ss e = values-out n [] ss _ (λ vs below. gives-out o vs below (e vs))
-
-  -- an ask that the host doesn't answer yet
-  asks-out : (a : Ask Value) (ss : Slots Value) (next : Answer Value a → State Value) → IsAnswered a → answers program a h st ≡ H.leave Feature
-      → Outside (asks code i a ss next)
-  asks-out a ss next w e = inr (sym (asks_lead program code i h st a next ss w ∙ ap (by_tree code i (found a next) ss) e))
 
   yields-out : (v : Value) (ss : Slots Value) → Outside (gives code i (T.yielding v) ss)
   yields-out v ss = by_mark i.mark
@@ -139,8 +115,8 @@ module _ (program : Program) (code : CodeObject Value) (i : Ins) (h : Here Value
   performs-out pc instr.RaiseAgain ss x e = absurd (cc)
   performs-out pc (instr.AssertFail b) ss x e = absurd (cc)
   performs-out pc instr.Match ss x e = absurd (cc)
-  performs-out pc instr.Enter ss x e = one-out ss _ (λ v below. asks-out (T.enter v) below _ tt refl)
-  performs-out pc instr.Exit ss x e = completion-out ss _ (λ c below. exit-out below _ (λ w under. asks-out (T.test (T.exit_of w (S.raise_of c))) under _ tt refl))
+  performs-out pc instr.Enter ss x e = absurd (cc)
+  performs-out pc instr.Exit ss x e = absurd (cc)
   performs-out pc (instr.Import t) ss x e = absurd (cc)
   performs-out pc (instr.ImportName t) ss x e = absurd (cc)
   performs-out pc instr.Nop ss x e = absurd (cc)

@@ -23,9 +23,6 @@ is_supported instr.Super = false
 is_supported (instr.MakeGenerator b) = false
 is_supported instr.Yield = false
 is_supported instr.Delegate = false
--- exits (8.5)
-is_supported instr.Enter = false
-is_supported instr.Exit = false
 is_supported j = true
 
 -- what an instruction comes to is its row whatever the slots and the stores are, unless a bare run is stuck there

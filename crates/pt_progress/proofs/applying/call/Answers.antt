@@ -15,7 +15,7 @@ use Rattle.pt_transfers.specs.pt_machine_state.Changes.{events_of, opened}
 use Rattle.pt_transfers.specs.pt_machine_state.Writing.{Adds}
 use Rattle.pt_transfers.proofs.pt_machine_state.CallLemmas.{applied_calls}
 use Rattle.pt_transfers.specs.pt_machine_state.Views.{active_of}
-use Rattle.pt_progress.specs.Arising.{ArisesOf}
+use Rattle.pt_progress.specs.Arising.{LeavesBy}
 use Rattle.pt_progress.proofs.ArisenLemmas.{too_deep_arisen}
 use Rattle.pt_progress.proofs.applying.call.Goals as goal
 
@@ -24,11 +24,11 @@ returns-then-depth-ge-MOST_ACTIVATIONS c =
     let m = c.args.machine.now in
     let full : most_activations ≤ length m.frames.activations + 1 = omega arith in
     let said : c.in_ok-text.text ≡ codes "too many activations" = search rules in
-    IfOk-weaker c.raise_saying.result _ _
+    IfOk-weaker c.leave_saying.result _ _
     (λ r h next.
-    too_deep_arisen c.args.blocks.now c.args.block.now next m c.args.writes.now r c.raise_saying.new.machine c.raise_saying.new.writes c.args.called c.args.hidden c.args.locals c.args.why full
-    (subst (λ t. ArisesOf (error_saying RECURSION_ERROR t None (active_of m) m.heap) c.args.blocks.now c.args.block.now r m c.args.writes.now c.raise_saying.new.machine c.raise_saying.new.writes) said h))
-    c.raise_saying.ensures
+    too_deep_arisen c.args.blocks.now c.args.block.now next m c.args.writes.now r c.leave_saying.new.machine c.leave_saying.new.writes c.args.called c.args.hidden c.args.locals c.args.why full
+    (subst (λ t. LeavesBy (error_saying RECURSION_ERROR t None (active_of m) m.heap) c.args.blocks.now c.args.block.now c.args.why r m c.args.writes.now c.leave_saying.new.machine c.leave_saying.new.writes) said h))
+    c.leave_saying.ensures
 
 pub returns : goal.returns
 returns c next =

@@ -4,7 +4,7 @@ use Rattle.std.proofs.lemmas.Result.{IfOk-weaker}
 use Rattle.sem_rows.specs.pt_host.Classes.{base_of}
 use Rattle.sem_rows.specs.pt_host.declared.classes.Base.TheVariants.{On, Unavailable, NoBase}
 use Rattle.pt_progress.proofs.ClassLemmas.{base_unavailable, no_base}
-use Rattle.pt_progress.proofs.closing.end_class.Goals as goal
+use Rattle.pt_progress.proofs.classes.end_class.Goals as goal
 
 pub returns-in-On : goal.returns-in-On
 returns-in-On c =

@@ -3,7 +3,7 @@ use Rattle.std.proofs.lemmas.Result.{IfOk-weaker}
 use Rattle.pt_base.specs.declared.what.What.TheVariants.{Feature, Helper}
 use Rattle.pt_content.specs.declared.answer.PrimAns.TheVariants as prim
 use Rattle.pt_progress.proofs.FormatLemmas.{laid_failed, laid_out, laid_outside, leaves_by}
-use Rattle.pt_progress.proofs.closing.end_format.Goals as goal
+use Rattle.pt_progress.proofs.taking.end_format.Goals as goal
 
 pub returns-in-Value : goal.returns-in-Value
 returns-in-Value c =
