@@ -1,5 +1,5 @@
 mod BlockLemmas
-mod AskLemmas
+pub mod AskLemmas
 mod HelperLemmas
 pub use Rattle.pt_operators.proofs as pt_operators
 pub use Rattle.pt_function_rows.proofs as pt_function_rows

@@ -22,19 +22,36 @@ use Rattle.pt_content.specs.declared.op.Op.TheVariants as op
 use Rattle.pt_content.specs.declared.answer.Helper.{Helper as Asked}
 use Rattle.pt_content.specs.declared.answer.Helper.TheVariants as asked
 use Rattle.pt_content.specs.declared.answer.PrimAns.{PrimAns}
+use Rattle.pt_content.specs.declared.answer.PrimAns.TheVariants as prim
 use Rattle.pt_content.specs.pt_attrs.Look.{object_of}
-use Rattle.sem_run.specs.run.Host.{Here, answer, leave}
+use Rattle.sem_control.specs.control.Turn as T
+use Rattle.sem_control.specs.control.Turn.{Answer, Ask}
+use Rattle.pt_instr.specs.declared.Instr.{Instr}
+use Rattle.pt_code.specs.View.{Ins}
+use Rattle.sem_code.specs.slots.Slots as S
+use Rattle.sem_code.specs.slots.Slots.{Slots, State, on}
+use Rattle.sem_code.specs.slots.CodeObject.{CodeObject}
+use Rattle.sem_code.specs.slots.Pops.{giving as row_over}
+use Rattle.sem_code.specs.slots.Steps.{with_item}
+use Rattle.sem_run.specs.run.Host.{Here, an_item, answer, leave}
+use Rattle.pt_operators.specs.pt_prims.Operations.{prim_answer, prim_heap}
 use Rattle.pt_operators.specs.pt_moves.sem_rows.pt_host.declared.places.TheConstants.{TYPE_ERROR}
 use Rattle.pt_operators.specs.pt_moves.sem_rows.pt_host.World.{Stores, Program, with_objects}
 use Rattle.pt_operators.specs.pt_moves.sem_rows.pt_host.Texts.{binding_text}
 use Rattle.pt_operators.specs.pt_moves.sem_rows.pt_host.Trees.{Tree, made_all, then_with}
 use Rattle.pt_operators.specs.pt_moves.sem_rows.pt_host.Calls.{ask, ask_with, asked_in_place, block_of, by_prim, by_prim_or_helper, call_block, call_function, call_function_at, helper_arguments, objects_for, opposite}
+use Rattle.pt_operators.specs.pt_moves.sem_rows.pt_host.Answers.{answers, or_end_behind}
+use Rattle.pt_operators.specs.pt_moves.sem_rows.pt_host.Primitives.{answer_if, one_value, prim_asked, so_many, truth_in}
 use Rattle.pt_operators.specs.pt_moves.sem_rows.declared.heap_rows.progress.Progress.{Progress}
 use Rattle.pt_operators.specs.pt_moves.sem_rows.declared.heap_rows.progress.Progress.TheVariants as progress
+use Rattle.pt_operators.specs.pt_moves.sem_rows.heap_rows.Leads.{HeapSuccessor, behind, by_tree, found, giving}
+use Rattle.pt_operators.specs.pt_moves.sem_rows.heap_rows.RowsIn.{RowsIn}
+use Rattle.pt_operators.specs.pt_moves.sem_rows.heap_rows.Told.{branched, row_count, told, unpacks}
+use Rattle.pt_operators.specs.pt_moves.sem_rows.heap_rows.Views.{slots_view}
 use Rattle.pt_function_rows.specs.pt_code_facts.declared.facts.BlockFacts.{BlockFacts}
 use Rattle.pt_function_rows.specs.pt_code_facts.declared.facts.Blocks.{Blocks}
 use Rattle.pt_function_rows.specs.pt_code_facts.Facts.{facts_view, KnowsBlocks}
-use Rattle.pt_class_rows.specs.Calls.{Calls}
+use Rattle.pt_class_rows.specs.Calls.{Calls, with_parts}
 use Rattle.pt_block_calls.specs.declared.blocks.Given.{Given}
 use Rattle.pt_block_calls.specs.declared.blocks.Given.TheVariants as given
 
@@ -59,25 +76,55 @@ misfit facts hidden e = if hidden then progress.Outside Feature else progress.Fa
 abbrev pub without_defaults : Function → Function
 without_defaults f = record { block = f.block; hidden = f.hidden; defaults = []; cells = f.cells }
 
--- what a block is run for, by what its call gives, and what is made of the value of the block then
+-- what a block is run for, by what its call gives
 abbrev pub purpose_of : Given → Purpose
 purpose_of given.Itself = purpose.Result
 purpose_of (given.Made v) = purpose.Init v
 purpose_of given.Opposite = purpose.Opposite
 purpose_of (given.Laid spec) = purpose.Format spec
+purpose_of (given.Truth wanted target kept) = purpose.Truth wanted target kept
+purpose_of given.Iterate = purpose.Iterate
+purpose_of (given.Item iterator end) = purpose.Item iterator end
+purpose_of (given.Unpack before after) = purpose.Unpack before after
+purpose_of given.Discard = purpose.Discard
+purpose_of (given.Enter exit) = purpose.Enter exit
 
-abbrev pub with_given : Given → Here Value → Tree Value → Tree Value
-with_given given.Itself h t = t
-with_given (given.Made v) h t = then_with t (λ r st. answer v st)
-with_given given.Opposite h t = then_with t (λ r st. answer (opposite r) st)
-with_given (given.Laid spec) h t = then_with t (λ r st. by_prim (op.Format None) (r ∷ spec ∷ []) h st)
+-- where the answer to a call leads, by what is made of the value of the block then
+module _ (program : Program) (code : CodeObject Value) (i : Ins) where
+  abbrev pub led_for : Given → Slots Value → Here Value → Tree Value → HeapSuccessor
+  led_for given.Itself ss h t = by_tree code i (giving code i ss) ss t
+  led_for (given.Made v) ss h t = by_tree code i (giving code i ss) ss (then_with t (λ r st. answer v st))
+  led_for given.Opposite ss h t = by_tree code i (giving code i ss) ss (then_with t (λ r st. answer (opposite r) st))
+  led_for (given.Laid spec) ss h t =
+      by_tree code i (giving code i ss) ss (then_with t (λ r st. by_prim (op.Format None) (r ∷ spec ∷ []) h st))
+  led_for (given.Truth wanted target kept) ss h t =
+      by_tree code i (branched program code i wanted target kept ss) ss (then_with t (λ r st. answer_if (truth_in r) st))
+  led_for given.Iterate ss h t = by_tree code i (λ it. on i.next (S.iterator it ∷ ss)) ss t
+  led_for (given.Item iterator end) ss h t =
+      by_tree code i (found (T.next_of iterator) (with_item code i end.0 iterator ss)) ss
+      (or_end_behind (then_with t (λ r st. answer (an_item r) st)))
+  led_for (given.Unpack before after) ss h t =
+      by_tree code i (λ vs. on i.next (row_over (row_count before after) vs ss)) ss
+      (then_with t (λ r st. prim_asked (so_many (row_count before after)) (unpacks before after) (r ∷ []) h st))
+  led_for given.Discard ss h t = by_tree code i (behind code i ss) ss (then_with t (λ r st. answer tt st))
+  led_for (given.Enter exit) ss h t =
+      by_tree code i (λ (p : Value × Value). on i.next (S.value p.1 ∷ S.exit p.0 ∷ ss)) ss (then_with t (λ r st. answer (exit, r) st))
+
+-- in programs of which this holds, what code did with the cells and the heap is where the answer to a call leads
+abbrev pub CallsFor : Given → (Program → Here Value → Stores → Type 0) → (Program → Here Value → Stores → Tree Value)
+    → (slots : List Slot) (cells : List (Option Value)) (heap : List Object)
+    → Progress → (changed : List (Option Value)) (grown : List Object) → Type 0
+CallsFor g Where tree slots cells heap p changed grown =
+    (program : Program) (code : CodeObject Value) (i : Ins) (h : Here Value) (st : Stores) → Where program h st
+    → told program code i h p (slots_view slots) (with_parts changed grown st)
+    ≡ led_for program code i g (slots_view slots) h (tree program h (with_parts cells heap st))
 
 -- of a block with these facts, whose parameters are bound so
 unfoldable pub CallsBlock : BlockFacts → Function → Result Locals BindErr → Given → List Slot → (cells : List (Option Value)) (heap : List Object)
     → Progress → (changed : List (Option Value)) (grown : List Object) → Type 0
 CallsBlock facts f r g slots cells heap p changed grown =
-    Calls (λ program h st. program.facts (block_of f) ≡ facts_view facts)
-    (λ program h st. with_given g h (call_block (program.facts (block_of f)) f r h st)) slots cells heap p slots changed grown
+    CallsFor g (λ program h st. program.facts (block_of f) ≡ facts_view facts)
+    (λ program h st. call_block (program.facts (block_of f)) f r h st) slots cells heap p changed grown
 
 -- of a block, by what the binding of its arguments came to
 abbrev pub IsBinding : Result Locals BindErr → (bound : Result Locals BindErr) → Type 0
@@ -93,21 +140,21 @@ CallsBound facts f bound g slots cells heap p changed grown =
 unfoldable pub CallsFunction : Blocks → Function → Args → Given → (slots : List Slot) (cells : List (Option Value)) (heap : List Object)
     → Progress → (changed : List (Option Value)) (grown : List Object) → Type 0
 CallsFunction blocks f args g slots cells heap p changed grown =
-    Calls (λ program h st. KnowsBlocks program blocks) (λ program h st. with_given g h (call_function (program.facts (block_of f)) f args h st))
-    slots cells heap p slots changed grown
+    CallsFor g (λ program h st. KnowsBlocks program blocks) (λ program h st. call_function (program.facts (block_of f)) f args h st)
+    slots cells heap p changed grown
 
 -- of the function that a value is
 unfoldable pub CallsFunctionAt : Blocks → Value → Args → Given → (slots : List Slot) (cells : List (Option Value)) (heap : List Object)
     → Progress → (changed : List (Option Value)) (grown : List Object) → Type 0
 CallsFunctionAt blocks v args g slots cells heap p changed grown =
-    Calls (λ program h st. KnowsBlocks program blocks)
-    (λ program h st. with_given g h (call_function_at program (object_of st.world.heap v) args h st)) slots cells heap p slots changed grown
+    CallsFor g (λ program h st. KnowsBlocks program blocks)
+    (λ program h st. call_function_at program (object_of st.world.heap v) args h st) slots cells heap p changed grown
 
 -- of a function that is written in Python
 unfoldable pub AsksHelper : Helper → Blocks → Args → Given → (slots : List Slot) (cells : List (Option Value)) (heap : List Object)
     → Progress → (changed : List (Option Value)) (grown : List Object) → Type 0
 AsksHelper f blocks args g slots cells heap p changed grown =
-    Calls (λ program h st. KnowsBlocks program blocks) (λ program h st. with_given g h (ask program f args h st)) slots cells heap p slots changed grown
+    CallsFor g (λ program h st. KnowsBlocks program blocks) (λ program h st. ask program f args h st) slots cells heap p changed grown
 
 -- the place that code finds for such a function
 unfoldable pub IsPlaceOf : Helper → Option ObjId → Type 0
@@ -129,7 +176,7 @@ MakesArguments a vs heap None grown = AreMade (objects_for a vs) heap None grown
 unfoldable pub AsksWith : Asked → List Value → Given → Blocks → (slots : List Slot) (cells : List (Option Value)) (heap : List Object)
     → Progress → (changed : List (Option Value)) (grown : List Object) → Type 0
 AsksWith a vs g blocks slots cells heap p changed grown =
-    Calls (λ program h st. KnowsBlocks program blocks) (λ program h st. with_given g h (ask_with program a vs h st)) slots cells heap p slots changed grown
+    CallsFor g (λ program h st. KnowsBlocks program blocks) (λ program h st. ask_with program a vs h st) slots cells heap p changed grown
 
 -- what an operation gives then
 abbrev pub by_truth : (inverted : Bool) → Given
@@ -147,15 +194,45 @@ in_place_given a vs b = by_truth b
 abbrev pub given_for : Op → Asked → List Value → (inverted : Bool) → Given
 given_for (op.Format c) a vs b = format_given vs b
 given_for (op.InPlace o) a vs b = in_place_given a vs b
+given_for op.Truth a vs b = given.Itself
+given_for op.Iter a vs b = given.Itself
 given_for o a vs b = by_truth b
 
 -- of what an operation answered, which may ask such a function in its place, and of an operation
 unfoldable pub CallsAnswered : Op → PrimAns → Blocks → (old : List Slot) (cells : List (Option Value)) (heap : List Object)
     → Progress → (new : List Slot) (changed : List (Option Value)) (grown : List Object) → Type 0
 CallsAnswered o a blocks old cells heap p new changed grown =
-    Calls (λ program h st. KnowsBlocks program blocks) (λ program h st. asked_in_place program o a h st) old cells heap p new changed grown
+    Calls (λ program h st. KnowsBlocks program blocks) (λ program h st. asked_in_place program one_value o a h st) old cells heap p new changed grown
 
 unfoldable pub OperatesOrAsks : Op → List Value → Blocks → (old : List Slot) (cells : List (Option Value)) (heap : List Object)
     → Progress → (new : List Slot) (changed : List (Option Value)) (grown : List Object) → Type 0
 OperatesOrAsks o vs blocks old cells heap p new changed grown =
     Calls (λ program h st. KnowsBlocks program blocks) (λ program h st. by_prim_or_helper program o vs h st) old cells heap p new changed grown
+
+-- an operation that code asked for: its answer, which asks no function of the prelude, or what asking such a function came to
+abbrev pub is_help : PrimAns → Bool
+is_help (prim.Help a vs inverted) = true
+is_help a = false
+
+unfoldable pub AsksFor : Op → List Value → Given → Blocks → (cells : List (Option Value)) (heap : List Object)
+    → Result PrimAns Progress → (changed : List (Option Value)) (grown : List Object) → Type 0
+AsksFor o vs g blocks cells heap (Ok a) changed grown =
+    ((a ≡ prim_answer o vs heap) × (is_help a ≡ false)) × ((grown ≡ prim_heap o vs heap) × (changed ≡ cells))
+AsksFor o vs g blocks cells heap (Err p) changed grown =
+    (a : Asked) × ((us : List Value) × ((b : Bool) × ((prim_answer o vs heap ≡ prim.Help a us b)
+    × ((slots : List Slot) → AsksWith a us g blocks slots cells (prim_heap o vs heap) p changed grown))))
+
+-- what code did with the slots, the cells and the heap is the row of an instruction, in programs with these blocks
+unfoldable pub RowsOperation : Instr → Blocks → (old : List Slot) (cells : List (Option Value)) (heap : List Object)
+    → Progress → (new : List Slot) (changed : List (Option Value)) (grown : List Object) → Type 0
+RowsOperation j blocks old cells heap p new changed grown =
+    (st : Stores) → RowsIn (λ s. KnowsBlocks s.program blocks) j old (with_parts cells heap st) p new (with_parts changed grown st)
+
+-- what code did with the slots below what was taken, the cells and the heap is where the answer to an ask leads
+unfoldable pub AnswersAsk : (a : Ask Value) → (CodeObject Value → Ins → Slots Value → Answer Value a → State Value) → Blocks
+    → (old : List Slot) (cells : List (Option Value)) (heap : List Object)
+    → Progress → (new : List Slot) (changed : List (Option Value)) (grown : List Object) → Type 0
+AnswersAsk a next blocks old cells heap p new changed grown =
+    (program : Program) (code : CodeObject Value) (i : Ins) (h : Here Value) (st : Stores) → KnowsBlocks program blocks
+    → told program code i h p (slots_view new) (with_parts changed grown st)
+    ≡ by_tree code i (found a (next code i (slots_view old))) (slots_view old) (answers program a h (with_parts cells heap st))

@@ -1,6 +1,7 @@
 //! Functions of the prelude that operations ask (Language Reference 3.3).
 ghost use Rattle.std.specs.Prelude.{◌≡◌, List, IfOk, OnOk};
-ghost use Rattle.pt_block_calls.specs.BlockCalls.{AsksHelper, AsksWith, CallsAnswered, IsPlaceOf};
+ghost use Rattle.pt_block_calls.specs.BlockCalls.{AsksFor, AsksHelper, AsksWith, CallsAnswered};
+ghost use Rattle.pt_block_calls.specs.BlockCalls.{IsPlaceOf};
 ghost use Rattle.pt_block_calls.specs.BlockCalls.{OperatesOrAsks, by_truth, given_for};
 ghost use Rattle.pt_block_calls.specs.BlockCalls.{format_given, in_place_given};
 ghost use Rattle.pt_frames.specs.Slots.{active_in};
@@ -92,13 +93,14 @@ fn given_for(op: Op, asked: Asked, operands: &[Value], inverted: bool) -> Given
     match op {
         Op::Format(_) => format_given(operands, inverted),
         Op::InPlace(_) => in_place_given(asked, operands, inverted),
+        Op::Truth | Op::Iter => Given::Itself,
         _ => by_truth(inverted),
     }
 }
 
 /// Calls the function that an operation asks.
 #[tactic(auto, using(crate::proofs::AskLemmas::lacks_room))]
-fn ask_with(
+pub fn ask_with(
     alloc: Global,
     asked: Asked,
     operands: &[Value],
@@ -156,7 +158,7 @@ pub fn answer_or_ask(
 }
 
 /// An operation on values that were taken off the slots, or the function that it asks.
-#[tactic(auto, using(crate::proofs::AskLemmas::operated))]
+#[tactic(auto, using(crate::proofs::AskLemmas::operation_answered))]
 pub fn operate_or_ask(
     alloc: Global,
     op: Op,
@@ -173,4 +175,32 @@ pub fn operate_or_ask(
 {
     let answer = prim(alloc, op, operands, heap)?;
     answer_or_ask(alloc, op, answer, blocks, cells, slots, heap)
+}
+
+/// The answer of an operation, if that asks no function of the prelude; else what comes of the call
+/// of that function for this purpose.
+#[tactic(auto, using(crate::proofs::AskLemmas::answered_alone))]
+pub fn answer_unless_asked(
+    alloc: Global,
+    op: Op,
+    operands: &[Value],
+    given: Given,
+    blocks: &Blocks,
+    cells: &mut Seq<Option<Value>>,
+    heap: &mut Heap,
+) -> Result<Result<PrimAns, Progress>, Memory>
+    ensures { IfOk result
+        (λ r. AsksFor op operands.now given blocks.now cells.old heap.old r cells.new heap.new) }
+{
+    match prim(alloc, op, operands, heap)? {
+        PrimAns::Help {
+            helper,
+            operands,
+            inverted: _,
+        } => {
+            let operands = operands.as_slice();
+            Ok(Err(ask_with(alloc, helper, operands, given, blocks, cells, heap)?))
+        }
+        answer => Ok(Ok(answer)),
+    }
 }

@@ -9,7 +9,7 @@ ghost use Rattle.pt_class_rows.specs.Calls.{is_memory};
 ghost use Rattle.pt_frames.specs.declared.slot.Slot.{Slot};
 ghost use Rattle.pt_operators.specs.pt_moves.sem_rows.pt_host.Calls.{with_receiver};
 
-use pt_base::{Dup, Memory, Seq, What};
+use pt_base::{Dup, Memory, Pc, Seq, What};
 use pt_bind::{Args, BindErr, Locals, bind_with};
 use pt_class_rows::refuses;
 use pt_content::object_at;
@@ -25,11 +25,41 @@ pub enum Given {
     /// That value.
     Itself,
     /// Another one: the instance that was made, or the list that was changed.
-    Made { made: Value },
+    Made {
+        made: Value,
+    },
     /// The opposite truth value.
     Opposite,
     /// The text by a spec.
-    Laid { spec: Value },
+    Laid {
+        spec: Value,
+    },
+    /// None: its truth decides where the run goes on. Where it is as wanted, that is this place, with
+    /// the value that is kept, if one is.
+    Truth {
+        wanted: bool,
+        target: Pc,
+        kept: Option<Value>,
+    },
+    /// An iterator.
+    Iterate,
+    /// The next item of an iterator, or the end, where a StopIteration leaves the block.
+    Item {
+        iterator: Value,
+        end: Pc,
+    },
+    /// So many items of it; where a target has a star, so many before that and behind it, and a list
+    /// of the others for it.
+    Unpack {
+        before: u32,
+        after: Option<u32>,
+    },
+    /// None: it is dropped.
+    Discard,
+    /// That value, above what is called as the context manager is left.
+    Enter {
+        exit: Value,
+    },
 }
 
 /// The function that a value is, if it is one.
@@ -73,6 +103,20 @@ fn purpose_of(given: Given) -> Purpose
         Given::Made { made } => Purpose::Init { made },
         Given::Opposite => Purpose::Opposite,
         Given::Laid { spec } => Purpose::Format { spec },
+        Given::Truth {
+            wanted,
+            target,
+            kept,
+        } => Purpose::Truth {
+            wanted,
+            target,
+            kept,
+        },
+        Given::Iterate => Purpose::Iterate,
+        Given::Item { iterator, end } => Purpose::Item { iterator, end },
+        Given::Unpack { before, after } => Purpose::Unpack { before, after },
+        Given::Discard => Purpose::Discard,
+        Given::Enter { exit } => Purpose::Enter { exit },
     }
 }
 

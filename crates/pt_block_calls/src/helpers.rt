@@ -24,11 +24,23 @@ fn named_argument(alloc: Global, name: &str, value: Value) -> Result<Binding, Me
 }
 
 /// Values as arguments without names.
-fn without_names(alloc: Global, values: &[Value]) -> Result<Args, Memory>
+pub fn without_names(alloc: Global, values: &[Value]) -> Result<Args, Memory>
     ensures { IfOk result (λ args. args ≡ without_names values.now) }
 {
     Ok(Args {
         plain: Seq::from_slice(alloc, values)?,
+        named: Seq::new(alloc),
+    })
+}
+
+/// A value and others behind it as arguments without names.
+pub fn with_first(alloc: Global, first: Value, rest: &[Value]) -> Result<Args, Memory>
+    ensures { IfOk result (λ args. args ≡ without_names (first ∷ rest.now)) }
+{
+    let mut plain = Seq::from_slice(alloc, &[first])?;
+    append(&mut plain, rest)?;
+    Ok(Args {
+        plain,
         named: Seq::new(alloc),
     })
 }

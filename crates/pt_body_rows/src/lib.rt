@@ -8,6 +8,6 @@ mod own;
 pub use bodies::{delete_name, name, set_name};
 pub use pt_name_rows::{
     cell, constant, copy, copy_two, delete_cell, delete_global, delete_local, fresh_cell,
-    fresh_local, global, jump, jump_if, jump_if_keep, jump_unless, jump_unless_keep, leave, local,
-    nop, pop, push_cell, return_value, rotate_three, set_cell, set_global, set_local, swap,
+    fresh_local, global, jump, leave, local, nop, pop, push_cell, return_value, rotate_three,
+    set_cell, set_global, set_local, swap,
 };

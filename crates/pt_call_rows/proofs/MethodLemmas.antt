@@ -21,7 +21,7 @@ use Rattle.pt_content.specs.pt_attrs.declared.look.Found.TheVariants as found
 use Rattle.pt_block_calls.specs.pt_operators.pt_prims.Classes.{derives}
 use Rattle.pt_bind.specs.declared.arguments.Args.{Args}
 use Rattle.pt_frames.specs.declared.slot.Slot.{Slot}
-use Rattle.sem_run.specs.run.Host.{Here, made, beyond}
+use Rattle.sem_run.specs.run.Host.{Here, answer, made, beyond}
 use Rattle.pt_block_calls.specs.pt_operators.pt_moves.sem_rows.pt_host.declared.places.TheConstants.{BASE_EXCEPTION}
 use Rattle.pt_block_calls.specs.pt_operators.pt_moves.sem_rows.pt_host.World.{Allotted, IsAllotted, Program, Stores, allot}
 use Rattle.pt_block_calls.specs.pt_operators.pt_moves.sem_rows.pt_host.Trees.{Tree, answer_with, then_with}
@@ -36,7 +36,7 @@ use Rattle.pt_block_calls.specs.pt_class_rows.Instances.{CallsClass, GivesObject
 use Rattle.pt_block_calls.specs.pt_class_rows.Supers.{GivesSuper}
 use Rattle.pt_call_rows.specs.CallRows.{CallsAnyClass, CallsMethod, CallsOperation, CallsOtherClass, CallsScripted, MakesException, exception_at}
 use Rattle.pt_block_calls.specs.declared.blocks.Given.TheVariants as gives
-use Rattle.pt_block_calls.specs.BlockCalls.{AsksHelper, CallsFunctionAt, OperatesOrAsks, with_given}
+use Rattle.pt_block_calls.specs.BlockCalls.{AsksHelper, CallsFunctionAt, OperatesOrAsks}
 
 -- of a method
 
@@ -77,13 +77,13 @@ module _ (blocks : Blocks) (id : ObjId) (args : Args) (slots : List Slot) (cells
   -- where the instance is there
   then-initialized : (a : Allotted) (f v : Value) (between : List Object) (program : Program) (h : Here Value) (st : Stores) → IsAllotted a (Some v) between
       → ◌≡◌ {A = Tree Value}
-      (with_given (gives.Made v) h (call_function_at program (object_of between f) (with_receiver v args) h (with_parts cells between st)))
+      (then_with (call_function_at program (object_of between f) (with_receiver v args) h (with_parts cells between st)) (λ r st1. answer v st1))
       (then_with (answer_with a (with_parts cells heap st)) (λ w st1. initialized program f w args h st1))
   unfolding then_with
   then-initialized (made w k) f v between program h st (e, g) =
       let one : v ≡ w = cc in
-      ap (λ (x : List Object). with_given (gives.Made v) h (call_function_at program (object_of x f) (with_receiver v args) h (with_parts cells x st))) g
-      ∙ ap (λ u. with_given (gives.Made u) h (call_function_at program (object_of k f) (with_receiver u args) h (with_parts cells k st))) one
+      ap (λ (x : List Object). then_with (call_function_at program (object_of x f) (with_receiver v args) h (with_parts cells x st)) (λ r st1. answer v st1)) g
+      ∙ ap (λ u. then_with (call_function_at program (object_of k f) (with_receiver u args) h (with_parts cells k st)) (λ r st1. answer u st1)) one
   then-initialized (beyond what) f v between program h st e = absurd (cc)
 
   pub scripted_initialized : (f v : Value) (all : Args) (between : List Object) (p : Progress) (changed : List (Option Value)) (grown : List Object)
@@ -93,7 +93,7 @@ module _ (blocks : Blocks) (id : ObjId) (args : Args) (slots : List Slot) (cells
   scripted_initialized f v all between p changed grown is receives done c at program code i h st knows =
       done program code i h st knows
       ∙ (ap (λ a. by_tree code i (giving code i (slots_view slots)) (slots_view slots)
-      (with_given (gives.Made v) h (call_function_at program (object_of between f) a h (with_parts cells between st)))) receives
+      (then_with (call_function_at program (object_of between f) a h (with_parts cells between st)) (λ r st1. answer v st1))) receives
       ∙ (ap (λ (t : Tree Value). by_tree code i (giving code i (slots_view slots)) (slots_view slots) t)
       (then-initialized (allot (instance (derives heap BASE_EXCEPTION id) id args.plain) heap) f v between program h st is.made_so)
       ∙ ap (λ (o : Option Found). by_tree code i (giving code i (slots_view slots)) (slots_view slots)

@@ -38,7 +38,8 @@ use Rattle.pt_block_calls.specs.pt_function_rows.pt_code_facts.declared.facts.Bl
 use Rattle.pt_block_calls.specs.pt_class_rows.Calls.{Calls, Running, with_parts}
 use Rattle.pt_block_calls.specs.declared.blocks.Given.TheVariants as gives
 use Rattle.pt_block_calls.specs.BlockCalls.{CallsFunctionAt, function_in, function_of}
-use Rattle.pt_call_rows.specs.CallRows.{CallsAnyClass, CallsBuiltin, CallsMethod, CallsOnce, CallsValue, bound_in, bound_of, builtin_in, builtin_of, class_id_of, class_in_place, function_by, last_by, last_callee, method_by, method_in, method_of, next_callee, not_callable, plain_in, special_of, too_deep}
+use Rattle.pt_block_calls.specs.pt_operators.pt_moves.sem_rows.pt_host.Attributes.{bound_in, bound_of}
+use Rattle.pt_call_rows.specs.CallRows.{CallsAnyClass, CallsBuiltin, CallsMethod, CallsOnce, CallsValue, builtin_in, builtin_of, class_id_of, class_in_place, function_by, last_by, last_callee, method_by, method_in, method_of, next_callee, not_callable, plain_in, special_of, too_deep}
 
 -- how many values may be called in turn
 

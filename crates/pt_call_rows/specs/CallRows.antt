@@ -8,7 +8,6 @@ use Rattle.pt_heap.specs.declared.value.Value.TheVariants as value
 use Rattle.pt_heap.specs.declared.object.Object.{Object}
 use Rattle.pt_heap.specs.declared.object.Object.TheVariants as object
 use Rattle.pt_heap.specs.declared.object.Class.{Class}
-use Rattle.pt_heap.specs.declared.object.Method.{Method}
 use Rattle.pt_content.specs.pt_attrs.pt_dicts.Chain.{class_in}
 use Rattle.pt_content.specs.pt_attrs.declared.look.Found.{Found}
 use Rattle.pt_content.specs.pt_attrs.declared.look.Found.TheVariants as found
@@ -72,15 +71,6 @@ class_in_place id o = None
 abbrev pub class_id_of : List Object → Value → Option ObjId
 class_id_of heap (value.Obj id) = class_in_place id (slice_get heap id.0)
 class_id_of heap v = None
-
--- a method of an instance
-abbrev pub bound_in : Option Object → Option Method
-bound_in (Some (object.Method m)) = Some m
-bound_in o = None
-
-abbrev pub bound_of : List Object → Value → Option Method
-bound_of heap (value.Obj id) = bound_in (slice_get heap id.0)
-bound_of heap v = None
 
 -- a class of exceptions by its place
 abbrev pub exception_at : List Object → ObjId → Option ObjId

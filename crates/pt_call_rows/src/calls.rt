@@ -1,10 +1,11 @@
 //! Calls (Language Reference 6.3.4).
 ghost use Rattle.std.specs.Prelude.{◌≡◌, slice_get, None, IfOk, OnOk};
 ghost use Rattle.pt_block_calls.specs.BlockCalls.{function_of};
+ghost use Rattle.pt_block_calls.specs.pt_operators.pt_moves.sem_rows.pt_host.Attributes.{bound_of};
 ghost use Rattle.pt_call_rows.specs.CallRows.{CallsAnyClass, CallsBuiltin, CallsMethod, CallsOnce};
 ghost use Rattle.pt_call_rows.specs.CallRows.{CallsOperation, CallsOtherClass, CallsScripted, CallsValue};
 ghost use Rattle.pt_call_rows.specs.CallRows.{MakesException, RowsCall, RowsNamedCall};
-ghost use Rattle.pt_call_rows.specs.CallRows.{bound_of, builtin_of, class_id_of, exception_at};
+ghost use Rattle.pt_call_rows.specs.CallRows.{builtin_of, class_id_of, exception_at};
 ghost use Rattle.pt_call_rows.specs.CallRows.{function_by, is_setattr, last_callee};
 ghost use Rattle.pt_call_rows.specs.CallRows.{method_by, method_of, next_callee, not_callable, too_deep};
 ghost use Rattle.pt_block_calls.specs.pt_class_rows.Calls.{running};
@@ -20,7 +21,7 @@ use pt_base::{Memory, ObjId, Seq, Text, What};
 use pt_bind::Args;
 use pt_block_calls::{
     BASE_EXCEPTION, BlockFacts, Blocks, Given, Instance, Names, Progress, TYPE_ERROR, ask,
-    call_function, call_setattr, derives, error, function_of, make_instance, make_object,
+    bound_of, call_function, call_setattr, derives, error, function_of, make_instance, make_object,
     make_super, method_of as special_of, named_last, not_callable_text, of_method_number,
     operate_or_ask, place, take_one, take_values, with_receiver,
 };
@@ -29,7 +30,7 @@ use pt_content::{
     of_class, of_function,
 };
 use pt_frames::Slots;
-use pt_heap::{Heap, Method, Object, Value};
+use pt_heap::{Heap, Object, Value};
 use pt_instr::ListNo;
 use std::alloc::Global;
 
@@ -85,19 +86,6 @@ fn class_id_of(heap: &Heap, value: Value) -> Option<ObjId>
     match value {
         Value::Obj(id) => match object_at(heap, id) {
             Some(Object::Class(_)) => Some(id),
-            _ => None,
-        },
-        _ => None,
-    }
-}
-
-/// The method of an instance that a value is, if it is one.
-fn bound_of(heap: &Heap, value: Value) -> Option<Method>
-    ensures { result ≡ bound_of heap.now value }
-{
-    match value {
-        Value::Obj(id) => match object_at(heap, id) {
-            Some(Object::Method(method)) => Some(*method),
             _ => None,
         },
         _ => None,

@@ -8,6 +8,7 @@ mod roles;
 
 pub use calls::{call, call_value, call_with_names, call_with_roles};
 pub use pt_block_calls::{
-    BlockFacts, Blocks, Given, Names, Progress, append, call_function, make_class, make_function,
-    method_of, operate_or_ask, take_one, take_two, take_values, with_receiver,
+    BlockFacts, Blocks, Given, Names, Progress, answer_unless_asked, call_function, give,
+    make_class, make_function, method_of, operate_or_ask, take_one, take_two, take_values,
+    with_first, with_receiver, without_names,
 };

@@ -1,6 +1,4 @@
-pub mod TakeLemmas
-pub mod ChangeLemmas
-pub mod IteratorLemmas
-pub mod UnpackLemmas
-pub mod AttributeLemmas
-pub mod ImportLemmas
+mod TakeLemmas
+mod ChangeLemmas
+mod IteratorLemmas
+mod UnpackLemmas

@@ -1,6 +1,6 @@
 -- Iterators on top of slots, and values that stand further down.
-use Rattle.std.proofs.Common.{◌≡◌, ℕ, zero, suc, List, [], ◌∷◌, Some, None, refl, sym, ap}
-use Rattle.std.specs.Prelude.{drop, slice_get}
+use Rattle.std.proofs.Common.{◌≡◌, ℕ, zero, suc, List, [], ◌∷◌, Option, Some, None, refl, sym, ap}
+use Rattle.std.specs.Prelude.{drop, slice_get, MatchOption}
 use Rattle.pt_heap.specs.declared.value.Value.{Value}
 use Rattle.pt_frames.specs.declared.slot.Slot.{Slot}
 use Rattle.pt_frames.specs.declared.slot.Slot.TheVariants as slot
@@ -8,7 +8,8 @@ use Rattle.pt_frames.specs.Slots.{active_in}
 use Rattle.sem_control.specs.control.Turn.{Turn, stuck}
 use Rattle.sem_code.specs.slots.Slots.{State}
 use Rattle.sem_code.specs.slots.Pops.{Next, an_iterator, the_value}
-use Rattle.sem_rows.specs.heap_rows.Views.{slots_view}
+use Rattle.pt_block_calls.specs.pt_operators.pt_moves.sem_rows.heap_rows.Views.{slots_view}
+use Rattle.pt_block_calls.proofs.pt_operators.pt_moves.TakeLemmas.{popped}
 use Rattle.pt_container_rows.specs.Operands.{iterator_in, one_iterator, value_down}
 
 pub first_iterator : (slots : List Slot) → iterator_in (slice_get slots 0) ≡ one_iterator slots
@@ -19,6 +20,9 @@ first_iterator (slot.Iter v ∷ slots) = refl
 first_iterator (slot.Exc v ∷ slots) = refl
 first_iterator (slot.Pending c ∷ slots) = refl
 first_iterator (slot.With v ∷ slots) = refl
+
+pub taken_off : (top : Option Slot) (old new : List Slot) → MatchOption top ((old ≡ []) × (new ≡ [])) (λ s. old ≡ s ∷ new) → new ≡ drop 1 old
+taken_off top old new e = popped top old new e
 
 pub iterator_on : (slots : List Slot) (v : Value) → one_iterator slots ≡ Some v → slots ≡ slot.Iter v ∷ drop 1 slots
 iterator_on [] v e = absurd (cc)

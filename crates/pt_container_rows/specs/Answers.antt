@@ -7,9 +7,9 @@ use Rattle.pt_frames.specs.declared.slot.Slot.{Slot}
 use Rattle.pt_frames.specs.declared.slot.Slot.TheVariants as slot
 use Rattle.pt_content.specs.declared.answer.PrimAns.{PrimAns}
 use Rattle.pt_content.specs.declared.answer.PrimAns.TheVariants as prim
-use Rattle.sem_rows.specs.declared.heap_rows.progress.Progress.{Progress}
-use Rattle.sem_rows.specs.declared.heap_rows.progress.Progress.TheVariants as progress
-use Rattle.pt_operators.specs.Operates.{progress_of}
+use Rattle.pt_block_calls.specs.pt_operators.pt_moves.sem_rows.declared.heap_rows.progress.Progress.{Progress}
+use Rattle.pt_block_calls.specs.pt_operators.pt_moves.sem_rows.declared.heap_rows.progress.Progress.TheVariants as progress
+use Rattle.pt_block_calls.specs.pt_operators.Operates.{progress_of}
 
 -- an iterator that is given lies above the slots, and an item above its iterator
 abbrev pub over_iterator : Option Value → List Slot → List Slot

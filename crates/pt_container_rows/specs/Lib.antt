@@ -1,5 +1,3 @@
 pub mod Operands
 pub mod Answers
 pub mod Rows
-pub mod Attributes
-pub mod Imports

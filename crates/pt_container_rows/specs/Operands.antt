@@ -3,7 +3,7 @@ use Rattle.std.specs.Prelude.{ℕ, zero, suc, List, ◌∷◌, Option, Some, Non
 use Rattle.pt_heap.specs.declared.value.Value.{Value}
 use Rattle.pt_frames.specs.declared.slot.Slot.{Slot}
 use Rattle.pt_frames.specs.declared.slot.Slot.TheVariants as slot
-use Rattle.pt_operators.specs.pt_moves.Operands.{value_in}
+use Rattle.pt_block_calls.specs.pt_operators.pt_moves.Operands.{value_in}
 
 abbrev pub iterator_in : Option Slot → Option Value
 iterator_in (Some (slot.Iter v)) = Some v

@@ -1,19 +1,17 @@
-//! Iterators (Language Reference 8.3).
+//! Iterators and their items, of instances by their methods (Language Reference 3.3.7, 8.3).
 ghost use Rattle.std.specs.Prelude.{◌≡◌, IfOk, OnOk};
 ghost use Rattle.pt_container_rows.specs.Answers.{over_item, over_iterator, progress_of_item};
 ghost use Rattle.pt_frames.specs.Slots.{active_in};
 ghost use Rattle.pt_instr.specs.declared.Instr.TheVariants as instr;
-ghost use Rattle.pt_operators.specs.pt_moves.Operands.{RowsHeap};
-ghost use Rattle.pt_operators.specs.Operates.{value_given};
+ghost use Rattle.pt_block_calls.specs.BlockCalls.{RowsOperation};
+ghost use Rattle.pt_block_calls.specs.pt_operators.Operates.{value_given};
 
 use crate::taking::take_iterator;
-use pt_base::{Memory, Pc};
+use pt_base::{Memory, Pc, Seq};
+use pt_block_calls::{Blocks, Given, Outcome, Progress, answer_unless_asked, outcome_of, take_one};
 use pt_content::{Op, PrimAns};
 use pt_frames::{Slot, Slots};
 use pt_heap::{Heap, Value};
-use pt_operators::{Outcome, ask, outcome_of, take_one};
-use pt_prims::prim;
-use sem_rows::heap_rows::Progress;
 use std::alloc::Global;
 
 /// Puts an iterator on the slots, if there is one.
@@ -29,18 +27,37 @@ fn give_iterator(iterator: Option<Value>, slots: &mut Slots) -> Result<(), Memor
 }
 
 /// The iterator over a value (Language Reference 8.3).
-#[tactic(auto, using(crate::proofs::IteratorLemmas::iter_row, crate::proofs::IteratorLemmas::iter_lacks))]
-pub fn iter(alloc: Global, slots: &mut Slots, heap: &mut Heap) -> Result<Progress, Memory>
-    ensures row { IfOk result (λ p. RowsHeap instr.Iter slots.old heap.old p slots.new heap.new) }
+#[tactic(auto, using(crate::proofs::IteratorLemmas::iter_answered, crate::proofs::IteratorLemmas::iter_asked, crate::proofs::IteratorLemmas::iter_lacks))]
+pub fn iter(
+    alloc: Global,
+    blocks: &Blocks,
+    cells: &mut Seq<Option<Value>>,
+    slots: &mut Slots,
+    heap: &mut Heap,
+) -> Result<Progress, Memory>
+    ensures row { IfOk result (λ p. RowsOperation instr.Iter blocks.now slots.old cells.old heap.old
+        p slots.new cells.new heap.new) }
     ensures active { OnOk result (active_in slots.new ≡ active_in slots.old) }
 {
-    match take_one(slots) {
-        Some(iterable) => {
-            let outcome = ask(alloc, Op::Iter, &[iterable], heap)?;
+    let Some(iterable) = take_one(slots) else {
+        return Ok(Progress::Lacks);
+    };
+    let operands = [iterable];
+    match answer_unless_asked(
+        alloc,
+        Op::Iter,
+        &operands,
+        Given::Iterate,
+        blocks,
+        cells,
+        heap,
+    )? {
+        Ok(answer) => {
+            let outcome = outcome_of(answer);
             give_iterator(outcome.value, slots)?;
             Ok(outcome.progress)
         }
-        None => Ok(Progress::Lacks),
+        Err(asked) => Ok(asked),
     }
 }
 
@@ -74,19 +91,29 @@ fn item_outcome(to: Pc, answer: PrimAns) -> Outcome
 }
 
 /// The next item of the iterator on top, or a place to go to without that (Language Reference 8.3).
-#[tactic(auto, using(crate::proofs::IteratorLemmas::next_row, crate::proofs::IteratorLemmas::next_lacks))]
-pub fn next(alloc: Global, to: Pc, slots: &mut Slots, heap: &mut Heap) -> Result<Progress, Memory>
-    ensures row { IfOk result
-        (λ p. RowsHeap (instr.Next to) slots.old heap.old p slots.new heap.new) }
+#[tactic(auto, using(crate::proofs::IteratorLemmas::next_answered, crate::proofs::IteratorLemmas::next_asked, crate::proofs::IteratorLemmas::next_lacks))]
+pub fn next(
+    alloc: Global,
+    to: Pc,
+    blocks: &Blocks,
+    cells: &mut Seq<Option<Value>>,
+    slots: &mut Slots,
+    heap: &mut Heap,
+) -> Result<Progress, Memory>
+    ensures row { IfOk result (λ p. RowsOperation (instr.Next to) blocks.now slots.old cells.old
+        heap.old p slots.new cells.new heap.new) }
     ensures active { OnOk result (active_in slots.new ≡ active_in slots.old) }
 {
-    match take_iterator(slots) {
-        Some(iterator) => {
-            let answer = prim(alloc, Op::Next, &[iterator], heap)?;
+    let Some(iterator) = take_iterator(slots) else {
+        return Ok(Progress::Lacks);
+    };
+    let given = Given::Item { iterator, end: to };
+    match answer_unless_asked(alloc, Op::Next, &[iterator], given, blocks, cells, heap)? {
+        Ok(answer) => {
             let outcome = item_outcome(to, answer);
             give_item(iterator, outcome.value, slots)?;
             Ok(outcome.progress)
         }
-        None => Ok(Progress::Lacks),
+        Err(asked) => Ok(asked),
     }
 }

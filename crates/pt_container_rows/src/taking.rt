@@ -2,7 +2,7 @@
 ghost use Rattle.std.specs.Prelude.{◌≡◌, drop, IfSome};
 ghost use Rattle.pt_container_rows.specs.Operands.{iterator_in, one_iterator, value_down};
 ghost use Rattle.pt_frames.specs.Slots.{active_in};
-ghost use Rattle.pt_operators.specs.pt_moves.Operands.{value_in};
+ghost use Rattle.pt_block_calls.specs.pt_operators.pt_moves.Operands.{value_in};
 
 use pt_frames::{Slot, Slots};
 use pt_heap::Value;
@@ -18,7 +18,7 @@ fn iterator_in(slot: Option<Slot>) -> Option<Value>
 }
 
 /// Takes an iterator off, or answers None where none is on top.
-#[tactic(auto, using(crate::proofs::TakeLemmas::first_iterator, pt_moves::proofs::TakeLemmas::popped, crate::proofs::TakeLemmas::quiet_iterator))]
+#[tactic(auto, using(crate::proofs::TakeLemmas::first_iterator, crate::proofs::TakeLemmas::taken_off, crate::proofs::TakeLemmas::quiet_iterator))]
 pub fn take_iterator(slots: &mut Slots) -> Option<Value>
     ensures iterator { result ≡ one_iterator slots.old }
     ensures below { IfSome result (λ _. slots.new ≡ drop 1 slots.old) }

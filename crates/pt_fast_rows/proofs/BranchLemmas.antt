@@ -9,10 +9,8 @@ use Rattle.pt_frames.specs.declared.slot.Slot.TheVariants as slot
 use Rattle.pt_frames.specs.Slots.{active_in}
 use Rattle.pt_operators.specs.pt_moves.sem_rows.declared.heap_rows.progress.Progress.TheVariants as progress
 use Rattle.pt_operators.specs.pt_moves.Operands.{one_value}
-use Rattle.pt_operators.specs.pt_moves.Truth.{branch}
 use Rattle.pt_operators.proofs.pt_moves.TakeLemmas.{quiet_one}
-use Rattle.pt_operators.proofs.pt_moves.TruthLemmas.{known_truth, known_tested}
-use Rattle.pt_operators.proofs.pt_moves.BranchLemmas.{jump_if_row, jump_unless_row}
+use Rattle.pt_operators.proofs.pt_moves.BranchLemmas.{jump_if_known, jump_unless_known}
 use Rattle.pt_fast_rows.specs.FastPaths.{FastRow, Led, truth_in}
 use Rattle.pt_fast_rows.proofs.ValueLemmas.{at_next}
 
@@ -39,32 +37,16 @@ no_truth None old new t e = t
 
 module _ (to next : Pc) (old new : List Slot) where
   if_true : Taken (Some true) old new → FastRow (instr.JumpIf to) (progress.Goto to) old new
-  if_true t = (
-    λ heap. jump_if_row to old heap (progress.Goto to) new heap (value.Bool true) t.0 t.1
-        (known_tested true heap) (ap (branch (progress.Goto to) progress.Next) (known_truth true heap)),
-    ap active_in t.1 ∙ quiet_one old _ t.0,
-  )
+  if_true t = (λ heap. jump_if_known to true old new heap t.0 t.1, ap active_in t.1 ∙ quiet_one old _ t.0)
 
   if_false : Taken (Some false) old new → FastRow (instr.JumpIf to) progress.Next old new
-  if_false t = (
-    λ heap. jump_if_row to old heap progress.Next new heap (value.Bool false) t.0 t.1
-        (known_tested false heap) (ap (branch (progress.Goto to) progress.Next) (known_truth false heap)),
-    ap active_in t.1 ∙ quiet_one old _ t.0,
-  )
+  if_false t = (λ heap. jump_if_known to false old new heap t.0 t.1, ap active_in t.1 ∙ quiet_one old _ t.0)
 
   unless_true : Taken (Some true) old new → FastRow (instr.JumpUnless to) progress.Next old new
-  unless_true t = (
-    λ heap. jump_unless_row to old heap progress.Next new heap (value.Bool true) t.0 t.1
-        (known_tested true heap) (ap (branch progress.Next (progress.Goto to)) (known_truth true heap)),
-    ap active_in t.1 ∙ quiet_one old _ t.0,
-  )
+  unless_true t = (λ heap. jump_unless_known to true old new heap t.0 t.1, ap active_in t.1 ∙ quiet_one old _ t.0)
 
   unless_false : Taken (Some false) old new → FastRow (instr.JumpUnless to) (progress.Goto to) old new
-  unless_false t = (
-    λ heap. jump_unless_row to old heap (progress.Goto to) new heap (value.Bool false) t.0 t.1
-        (known_tested false heap) (ap (branch progress.Next (progress.Goto to)) (known_truth false heap)),
-    ap active_in t.1 ∙ quiet_one old _ t.0,
-  )
+  unless_false t = (λ heap. jump_unless_known to false old new heap t.0 t.1, ap active_in t.1 ∙ quiet_one old _ t.0)
 
   pub jumped_if : (o : Option Bool) → Taken o old new → o ≡ Some true → Led next to (λ p. FastRow (instr.JumpIf to) p old new)
   jumped_if (Some true) t e = record { progress = progress.Goto to; to = refl; row = if_true t }

@@ -21,7 +21,7 @@ use Rattle.pt_code_tables.specs.pt_builtins.pt_host.HeapHost.{heap_host}
 use Rattle.sem_code_machine.specs.rows.Rows.{row_of}
 use Rattle.sem_code_machine.specs.code_machine.CodeBlocks.{CodeBlocks}
 use Rattle.pt_operation_rows.specs.pt_call_rows.CallRows.{KnowsRunning, RowsCall, RowsNamedCall}
-use Rattle.pt_operation_rows.specs.OperationRows.{RowsOperation}
+use Rattle.pt_operation_rows.specs.pt_call_rows.pt_block_calls.BlockCalls.{RowsOperation}
 use Rattle.pt_operation_rows.specs.pt_call_rows.pt_class_rows.Calls.{Running, running}
 use Rattle.pt_operation_rows.specs.pt_call_rows.pt_class_rows.Classes.{RowsClass}
 use Rattle.pt_operation_rows.specs.pt_call_rows.pt_function_rows.FunctionRows.{RowsFunction}

@@ -22,8 +22,8 @@ use Rattle.pt_code_tables.specs.pt_machine_state.pt_code_facts.sem_rows.heap_row
 use Rattle.pt_code_tables.specs.pt_machine_state.pt_code_facts.sem_rows.variables.Numbers.{KnowsNames}
 use Rattle.pt_code_tables.specs.pt_machine_state.pt_code_facts.declared.facts.BlockFacts.{BlockFacts}
 use Rattle.pt_code_tables.specs.pt_machine_state.pt_code_facts.Facts.{facts_view, facts_at}
-use Rattle.pt_container_rows.specs.Attributes.{RowsAttribute, RowsNamed}
-use Rattle.pt_container_rows.specs.Imports.{RowsImport, RowsImportName}
+use Rattle.pt_attribute_rows.specs.Attributes.{RowsAttribute, RowsNamed}
+use Rattle.pt_attribute_rows.specs.Imports.{RowsImport, RowsImportName}
 use Rattle.pt_body_rows.specs.pt_name_rows.Names.{RowsLocal, RowsCell, RowsOwnCell, RowsGlobal, RowsLoadGlobal}
 use Rattle.pt_code_tables.specs.pt_machine_state.declared.machine.Machine.{Machine}
 use Rattle.pt_code_tables.specs.pt_machine_state.Views.{block_of, stores_of}

@@ -58,6 +58,12 @@ uses_containers instr.Iter = true
 uses_containers (instr.Next t) = true
 uses_containers j = false
 
+-- a context manager, which is entered or left
+abbrev pub manages : Instr → Bool
+manages instr.Enter = true
+manages instr.Exit = true
+manages j = false
+
 -- an attribute, whose name the operand names
 abbrev pub of_attributes : Instr → Bool
 of_attributes (instr.Attr t) = true

@@ -13,7 +13,7 @@ use pt_operation_rows::{dict, format, item, join, list, set, slice, spread, spre
 
 /// Does the row of an instruction of containers, of iterators, of f-strings or of
 /// arguments that are spread.
-#[tactic(auto, using(crate::proofs::RowLemmas::heap_row, crate::proofs::CallRows::operated, crate::proofs::CallRows::called))]
+#[tactic(auto, using(crate::proofs::CallRows::operated, crate::proofs::CallRows::called))]
 pub fn perform_container(
     tables: &CodeTables,
     machine: &mut Machine,
@@ -25,6 +25,7 @@ pub fn perform_container(
     let alloc = machine.alloc;
     let facts = &tables.facts;
     let here = facts.get(machine.here.block, machine.here.hidden);
+    let cells = &mut machine.frames.cells;
     let slots = &mut machine.here.slots;
     let heap = &mut machine.heap;
     match instr {
@@ -35,35 +36,30 @@ pub fn perform_container(
             &machine.here.locals,
             &machine.here.cells,
             &machine.here.names,
-            &mut machine.frames.cells,
+            cells,
             slots,
             heap,
         ),
-        Instr::SetItem => set_item(alloc, slots, heap),
-        Instr::DelItem => delete_item(alloc, slots, heap),
-        Instr::Slice => slice(alloc, facts, &mut machine.frames.cells, slots, heap),
-        Instr::Tuple(count) => tuple(alloc, count, facts, &mut machine.frames.cells, slots, heap),
-        Instr::List(count) => list(alloc, count, facts, &mut machine.frames.cells, slots, heap),
-        Instr::Set(count) => set(alloc, count, facts, &mut machine.frames.cells, slots, heap),
-        Instr::Dict(count) => dict(alloc, count, facts, &mut machine.frames.cells, slots, heap),
-        Instr::ListAdd(count) => add_to_list(alloc, count, slots, heap),
-        Instr::SetAdd(count) => add_to_set(alloc, count, slots, heap),
-        Instr::DictAdd(count) => add_to_dict(alloc, count, slots, heap),
-        Instr::Format(conversion) => format(
-            alloc,
-            conversion,
-            facts,
-            &mut machine.frames.cells,
-            slots,
-            heap,
-        ),
-        Instr::Join(count) => join(alloc, count, facts, &mut machine.frames.cells, slots, heap),
-        Instr::Unpack(count) => unpack(alloc, count, slots, heap),
-        Instr::UnpackStar(before, after) => unpack_star(alloc, before, after, slots, heap),
-        Instr::Spread => spread(alloc, facts, &mut machine.frames.cells, slots, heap),
-        Instr::SpreadMap => spread_named(alloc, facts, &mut machine.frames.cells, slots, heap),
-        Instr::Iter => iter(alloc, slots, heap),
-        Instr::Next(to) => next(alloc, to, slots, heap),
+        Instr::SetItem => set_item(alloc, facts, cells, slots, heap),
+        Instr::DelItem => delete_item(alloc, facts, cells, slots, heap),
+        Instr::Slice => slice(alloc, facts, cells, slots, heap),
+        Instr::Tuple(count) => tuple(alloc, count, facts, cells, slots, heap),
+        Instr::List(count) => list(alloc, count, facts, cells, slots, heap),
+        Instr::Set(count) => set(alloc, count, facts, cells, slots, heap),
+        Instr::Dict(count) => dict(alloc, count, facts, cells, slots, heap),
+        Instr::ListAdd(count) => add_to_list(alloc, count, facts, cells, slots, heap),
+        Instr::SetAdd(count) => add_to_set(alloc, count, facts, cells, slots, heap),
+        Instr::DictAdd(count) => add_to_dict(alloc, count, facts, cells, slots, heap),
+        Instr::Format(conversion) => format(alloc, conversion, facts, cells, slots, heap),
+        Instr::Join(count) => join(alloc, count, facts, cells, slots, heap),
+        Instr::Unpack(count) => unpack(alloc, count, facts, cells, slots, heap),
+        Instr::UnpackStar(before, after) => {
+            unpack_star(alloc, before, after, facts, cells, slots, heap)
+        }
+        Instr::Spread => spread(alloc, facts, cells, slots, heap),
+        Instr::SpreadMap => spread_named(alloc, facts, cells, slots, heap),
+        Instr::Iter => iter(alloc, facts, cells, slots, heap),
+        Instr::Next(to) => next(alloc, to, facts, cells, slots, heap),
         _ => unreachable!(),
     }
 }

@@ -3,9 +3,9 @@ ghost use Rattle.std.specs.Prelude.{◌≡◌, true, IfOk};
 ghost use Rattle.pt_machine.specs.Groups.{imports};
 ghost use Rattle.pt_machine.specs.Performing.{Performs};
 
+use pt_attribute_rows::{import, import_name};
 use pt_base::Memory;
 use pt_code_tables::{CodeTables, Machine, Progress};
-use pt_container_rows::{import, import_name};
 use pt_instr::Instr;
 
 /// Does the row of an instruction of modules.

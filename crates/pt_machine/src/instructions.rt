@@ -10,6 +10,7 @@ use crate::containers::perform_container;
 use crate::globals::perform_global;
 use crate::imports::perform_import;
 use crate::locals::perform_local;
+use crate::managers::perform_manager;
 use crate::moves::perform_move;
 use crate::operations::perform_operation;
 use crate::raises::perform_raise;
@@ -95,6 +96,7 @@ pub fn perform(tables: &CodeTables, machine: &mut Machine, instr: Instr) -> Resu
         | Instr::MakeClass(_) => perform_call(tables, machine, instr),
         Instr::Raise | Instr::RaiseFrom | Instr::RaiseAgain | Instr::AssertFail(_) | Instr::Match =>
             perform_raise(tables, machine, instr),
+        Instr::Enter | Instr::Exit => perform_manager(tables, machine, instr),
         _ => Ok(not_supported()),
     }
 }

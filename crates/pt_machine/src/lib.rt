@@ -13,6 +13,7 @@ mod globals;
 mod imports;
 mod instructions;
 mod locals;
+mod managers;
 mod moves;
 mod operations;
 mod raises;

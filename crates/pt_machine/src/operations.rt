@@ -4,13 +4,14 @@ ghost use Rattle.pt_machine.specs.Groups.{operates};
 ghost use Rattle.pt_machine.specs.Performing.{Performs};
 
 use pt_base::Memory;
-use pt_body_rows::{jump_if, jump_if_keep, jump_unless, jump_unless_keep};
 use pt_code_tables::{CodeTables, Machine, Progress};
 use pt_instr::Instr;
-use pt_operation_rows::{binary, compare, in_place, not, unary};
+use pt_operation_rows::{
+    binary, compare, in_place, jump_if, jump_if_keep, jump_unless, jump_unless_keep, not, unary,
+};
 
 /// Does the row of an instruction of an operator or of a test.
-#[tactic(auto, using(crate::proofs::RowLemmas::heap_row, crate::proofs::CallRows::operated, crate::proofs::CallRows::called))]
+#[tactic(auto, using(crate::proofs::CallRows::operated, crate::proofs::CallRows::called))]
 pub fn perform_operation(
     tables: &CodeTables,
     machine: &mut Machine,
@@ -22,6 +23,7 @@ pub fn perform_operation(
     let alloc = machine.alloc;
     let facts = &tables.facts;
     let here = facts.get(machine.here.block, machine.here.hidden);
+    let cells = &mut machine.frames.cells;
     let slots = &mut machine.here.slots;
     let heap = &mut machine.heap;
     match instr {
@@ -33,18 +35,18 @@ pub fn perform_operation(
             &machine.here.locals,
             &machine.here.cells,
             &machine.here.names,
-            &mut machine.frames.cells,
+            cells,
             slots,
             heap,
         ),
-        Instr::Not => not(alloc, facts, &mut machine.frames.cells, slots, heap),
-        Instr::Binary(op) => binary(alloc, op, facts, &mut machine.frames.cells, slots, heap),
-        Instr::InPlace(op) => in_place(alloc, op, facts, &mut machine.frames.cells, slots, heap),
-        Instr::Compare(op) => compare(alloc, op, facts, &mut machine.frames.cells, slots, heap),
-        Instr::JumpIf(to) => jump_if(alloc, to, slots, heap),
-        Instr::JumpUnless(to) => jump_unless(alloc, to, slots, heap),
-        Instr::JumpIfKeep(to) => jump_if_keep(alloc, to, slots, heap),
-        Instr::JumpUnlessKeep(to) => jump_unless_keep(alloc, to, slots, heap),
+        Instr::Not => not(alloc, facts, cells, slots, heap),
+        Instr::Binary(op) => binary(alloc, op, facts, cells, slots, heap),
+        Instr::InPlace(op) => in_place(alloc, op, facts, cells, slots, heap),
+        Instr::Compare(op) => compare(alloc, op, facts, cells, slots, heap),
+        Instr::JumpIf(to) => jump_if(alloc, to, facts, cells, slots, heap),
+        Instr::JumpUnless(to) => jump_unless(alloc, to, facts, cells, slots, heap),
+        Instr::JumpIfKeep(to) => jump_if_keep(alloc, to, facts, cells, slots, heap),
+        Instr::JumpUnlessKeep(to) => jump_unless_keep(alloc, to, facts, cells, slots, heap),
         _ => unreachable!(),
     }
 }

@@ -13,7 +13,7 @@ pub use locals::{delete_local, fresh_local, local, put_at, set_local, value_at};
 pub use pt_builtins::BuiltinLookup;
 pub use pt_code_facts::BlockFacts;
 pub use pt_moves::{
-    Progress, constant, copy, copy_two, is_left_out, jump, jump_if, jump_if_keep, jump_unless,
-    jump_unless_keep, leave, nop, pop, return_value, rotate_three, swap, take_one,
+    Progress, constant, copy, copy_two, is_left_out, jump, leave, nop, pop, return_value,
+    rotate_three, swap, take_one,
 };
 pub use unbound::unbound_global;

@@ -1,3 +1,4 @@
+mod BranchLemmas
 mod GatherLemmas
 mod RowLemmas
 mod SpecialLemmas

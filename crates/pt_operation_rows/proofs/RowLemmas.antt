@@ -27,7 +27,8 @@ use Rattle.pt_call_rows.proofs.pt_operators.pt_moves.sem_rows.heap_rows.RowLemma
 use Rattle.pt_call_rows.specs.pt_function_rows.pt_code_facts.declared.facts.Blocks.{Blocks}
 use Rattle.pt_call_rows.specs.pt_class_rows.Calls.{Calls, Running, with_parts}
 use Rattle.pt_call_rows.specs.CallRows.{RowsCall}
-use Rattle.pt_operation_rows.specs.OperationRows.{AsksSpecial, Gathers, RowsOperation}
+use Rattle.pt_call_rows.specs.pt_block_calls.BlockCalls.{RowsOperation}
+use Rattle.pt_operation_rows.specs.OperationRows.{AsksSpecial, Gathers}
 
 module _ (blocks : Blocks) (old : List Slot) (cells : List (Option Value)) (heap : List Object) (p : Progress) (new : List Slot)
     (changed : List (Option Value)) (grown : List Object) where

@@ -1,7 +1,6 @@
 -- When code does with operations on values what rows say, which may ask methods of a script's classes (Language Reference 3.3, 6).
 use Rattle.std.specs.Prelude.{◌≡◌, ℕ, List, Option}
 use Rattle.sem_control.specs.control.Turn.{Operation}
-use Rattle.pt_instr.specs.declared.Instr.{Instr}
 use Rattle.pt_heap.specs.declared.value.Value.{Value}
 use Rattle.pt_heap.specs.declared.object.Object.{Object}
 use Rattle.pt_frames.specs.declared.slot.Slot.{Slot}
@@ -17,19 +16,12 @@ use Rattle.pt_call_rows.specs.pt_operators.pt_moves.sem_rows.pt_host.Trees.{Tree
 use Rattle.pt_call_rows.specs.pt_operators.pt_moves.sem_rows.pt_host.World.{Program, Stores}
 use Rattle.pt_call_rows.specs.pt_operators.pt_moves.sem_rows.declared.heap_rows.progress.Progress.{Progress}
 use Rattle.pt_call_rows.specs.pt_operators.pt_moves.sem_rows.heap_rows.Laws.{reached}
-use Rattle.pt_call_rows.specs.pt_operators.pt_moves.sem_rows.heap_rows.RowsIn.{RowsIn}
 use Rattle.pt_call_rows.specs.pt_operators.pt_moves.sem_rows.heap_rows.Told.{told}
 use Rattle.pt_call_rows.specs.pt_operators.pt_moves.sem_rows.heap_rows.Views.{slots_view}
 use Rattle.pt_call_rows.specs.pt_function_rows.pt_code_facts.declared.facts.Blocks.{Blocks}
 use Rattle.pt_call_rows.specs.pt_function_rows.pt_code_facts.Facts.{KnowsBlocks}
 use Rattle.pt_call_rows.specs.pt_class_rows.Calls.{Calls, Running, with_parts}
 use Rattle.pt_call_rows.specs.CallRows.{KnowsRunning}
-
--- what code did with the slots, the cells and the heap is the row of an instruction, in programs with these blocks
-unfoldable pub RowsOperation : Instr → Blocks → (old : List Slot) (cells : List (Option Value)) (heap : List Object)
-    → Progress → (new : List Slot) (changed : List (Option Value)) (grown : List Object) → Type 0
-RowsOperation j blocks old cells heap p new changed grown =
-    (st : Stores) → RowsIn (λ s. KnowsBlocks s.program blocks) j old (with_parts cells heap st) p new (with_parts changed grown st)
 
 -- the host does an operation of control by one on values
 abbrev pub IsDoneBy : Operation → Op → Type 0

@@ -1,7 +1,8 @@
 //! Operations on so many values: displays, f-strings, slices and arguments that are spread (Language
 //! Reference 2.4.3, 6.2.5 to 6.2.7, 6.3.3, 6.3.4, 6.15).
 ghost use Rattle.std.specs.Prelude.{◌≡◌, IfOk, OnOk};
-ghost use Rattle.pt_operation_rows.specs.OperationRows.{Gathers, RowsOperation};
+ghost use Rattle.pt_call_rows.specs.pt_block_calls.BlockCalls.{RowsOperation};
+ghost use Rattle.pt_operation_rows.specs.OperationRows.{Gathers};
 ghost use Rattle.pt_frames.specs.Slots.{active_in};
 ghost use Rattle.pt_instr.specs.declared.Instr.TheVariants as instr;
 ghost use Rattle.sem_code.specs.slots.Instructions.{conversion_of};

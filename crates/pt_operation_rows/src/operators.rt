@@ -1,7 +1,7 @@
 //! Operators and comparisons (Language Reference 6.5 to 6.12, 7.2.1).
 ghost use Rattle.std.specs.Prelude.{◌≡◌, IfOk, OnOk};
 ghost use Rattle.pt_call_rows.specs.pt_class_rows.Calls.{running};
-ghost use Rattle.pt_operation_rows.specs.OperationRows.{RowsOperation};
+ghost use Rattle.pt_call_rows.specs.pt_block_calls.BlockCalls.{RowsOperation};
 ghost use Rattle.pt_call_rows.specs.CallRows.{RowsCall};
 ghost use Rattle.pt_frames.specs.Slots.{active_in};
 ghost use Rattle.pt_instr.specs.declared.Instr.TheVariants as instr;

@@ -1,42 +1,18 @@
 //! Operations that an instance of a script's class has a method for (Language Reference 3.3).
-ghost use Rattle.std.specs.Prelude.{◌≡◌, ◌∷◌, IfOk, OnOk};
-ghost use Rattle.pt_call_rows.specs.pt_block_calls.BlockCalls.{without_names};
+ghost use Rattle.std.specs.Prelude.{◌≡◌, IfOk, OnOk};
 ghost use Rattle.pt_call_rows.specs.pt_class_rows.Calls.{running};
 ghost use Rattle.pt_frames.specs.Slots.{active_in};
 ghost use Rattle.pt_operation_rows.specs.OperationRows.{AsksSpecial};
 
 use pt_base::{Memory, Seq};
-use pt_bind::Args;
 use pt_call_rows::{
-    BlockFacts, Blocks, Given, Names, Progress, append, call_function, call_value, method_of,
-    operate_or_ask,
+    BlockFacts, Blocks, Given, Names, Progress, call_function, call_value, method_of,
+    operate_or_ask, with_first, without_names,
 };
 use pt_content::{Found, Op};
 use pt_frames::Slots;
 use pt_heap::{Heap, Value};
 use std::alloc::Global;
-
-/// Values as arguments without names.
-fn without_names(alloc: Global, values: &[Value]) -> Result<Args, Memory>
-    ensures { IfOk result (λ args. args ≡ without_names values.now) }
-{
-    Ok(Args {
-        plain: Seq::from_slice(alloc, values)?,
-        named: Seq::new(alloc),
-    })
-}
-
-/// A value and others behind it as arguments without names.
-fn with_first(alloc: Global, first: Value, rest: &[Value]) -> Result<Args, Memory>
-    ensures { IfOk result (λ args. args ≡ without_names (first ∷ rest.now)) }
-{
-    let mut plain = Seq::from_slice(alloc, &[first])?;
-    append(&mut plain, rest)?;
-    Ok(Args {
-        plain,
-        named: Seq::new(alloc),
-    })
-}
 
 /// Calls the method of this name that an instance has, with these arguments. What has none is
 /// operated on.

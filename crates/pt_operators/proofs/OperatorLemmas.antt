@@ -21,7 +21,7 @@ use Rattle.pt_content.specs.declared.answer.PrimAns.TheVariants as prim
 use Rattle.pt_prims.specs.Operations.{prim_answer, prim_heap}
 use Rattle.pt_moves.specs.sem_rows.pt_host.World.{Program, Stores, with_objects}
 use Rattle.pt_moves.specs.sem_rows.pt_host.Trees.{Tree}
-use Rattle.pt_moves.specs.sem_rows.pt_host.Calls.{asked_in_place, by_prim_or_helper}
+use Rattle.pt_moves.specs.sem_rows.pt_host.Calls.{asked_in_place, by_prim_or_helper, operated}
 use Rattle.pt_moves.specs.sem_rows.pt_host.Primitives.{Awaited, of_prim, one_value, prim_asked}
 use Rattle.pt_moves.specs.sem_rows.declared.heap_rows.progress.Progress.{Progress}
 use Rattle.pt_moves.specs.sem_rows.heap_rows.Leads.{by_tree, giving}
@@ -71,10 +71,10 @@ operates o args old heap p new grown v is grows progresses stands =
 -- an operation that gives a value asks nothing else
 by_value : (program : Program) (o : Op) (vs : List Value) (h : Here Value) (st : Stores) (x : Value) → prim_answer o vs st.world.heap ≡ prim.Value x
     → ◌≡◌ {A = Tree Value} (prim_asked one_value o vs h st) (by_prim_or_helper program o vs h st)
-unfolding prim_asked by_prim_or_helper
+unfolding prim_asked operated
 by_value program o vs h st x e =
     ap (λ a. of_prim one_value a h (with_objects (prim_heap o vs st.world.heap) st)) e
-    ∙ sym (ap (λ a. asked_in_place program o a h (with_objects (prim_heap o vs st.world.heap) st)) e)
+    ∙ sym (ap (λ a. asked_in_place program one_value o a h (with_objects (prim_heap o vs st.world.heap) st)) e)
 
 module _ (below : List Slot) (heap : List Object) (p : Progress) (new : List Slot) (grown : List Object) (v w x : Value) where
   abbrev Gives : Op → Type 0

@@ -3,9 +3,9 @@
 
 mod operators;
 
-pub use operators::{Outcome, answered, ask, outcome_of};
+pub use operators::{Outcome, answered, ask, give, outcome_of};
 pub use pt_moves::{
-    BASE_EXCEPTION, Progress, TYPE_ERROR, allot, are_named, derives, error, not_callable_text,
-    take_one, take_three, take_two, values_given,
+    BASE_EXCEPTION, Manager, Progress, TYPE_ERROR, allot, are_named, bound_of, derives, error,
+    exit_arguments, manager_of, not_callable_text, take_one, take_three, take_two, values_given,
 };
 pub use pt_prims::{method_of, of_method_number, prim};

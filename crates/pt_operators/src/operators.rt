@@ -73,7 +73,7 @@ pub fn ask(alloc: Global, op: Op, args: &[Value], heap: &mut Heap) -> Result<Out
 
 /// Puts a value on the slots, if there is one.
 #[tactic(auto, using(pt_moves::proofs::TakeLemmas::quiet_over))]
-fn give(value: Option<Value>, slots: &mut Slots) -> Result<(), Memory>
+pub fn give(value: Option<Value>, slots: &mut Slots) -> Result<(), Memory>
     ensures slots { OnOk result (slots.new ≡ over_value value slots.old) }
     ensures active { OnOk result (active_in slots.new ≡ active_in slots.old) }
 {

@@ -1,0 +1,2 @@
+mod EnterLemmas
+mod LeaveLemmas
