@@ -9,17 +9,17 @@ use Rattle.pt_scopes.specs.declared.region.Mention.{Mention}
 use Rattle.pt_scopes.specs.declared.region.Region.{Region}
 use Rattle.pt_scopes.specs.declared.region.Role.{Role}
 use Rattle.pt_scopes.specs.declared.region.Role.TheVariants.{Bind, Global, Nonlocal, Parameter, Read}
-use Rattle.pt_scopes.specs.Mentions.{places_script, places_all, places_args, places_branches, places_clauses, places_decorators, places_entries, places_exp, places_formals, places_links, places_made, places_named_parameter, places_names, places_opt, places_params, places_pieces, places_place, places_stm, places_stms, places_target, places_targets, places_handlers, places_imports, places_named, bound_name}
+use Rattle.pt_scopes.specs.Mentions.{places_script, places_all, places_args, places_branches, places_clauses, places_decorators, places_entries, places_exp, places_formals, places_links, places_made, places_named_parameter, places_names, places_opt, places_params, places_pieces, places_place, places_stm, places_stms, places_target, places_targets, places_handlers, places_imports, places_items, places_named, places_opt_target, bound_name}
 use Rattle.pt_scopes.specs.Names.{underscore, is_private, is_empty, stripped, mangled}
 use Rattle.pt_scopes.specs.Places.{Part, ◌⨾◌, nothing, mention, misplaced, block, comprehension, class_context, comprehension_context, function_context, in_class, in_comprehension, in_function, loop_context, module_context}
 use Rattle.pt_tree.specs.declared.expression.NamedParameter.{NamedParameter}
 use Rattle.pt_tree.specs.declared.statement.Alias.{Alias}
 use Rattle.pt_tree.specs.Syntax as S
-use Rattle.pt_tree.specs.Syntax.{Name, Exp, Exps, Opt, Pieces, Entries, Links, Args, Made, Clauses, Params, Formals, Place, Tgt, Tgts, Decorators, Stm, Stms, Branches, Handlers}
+use Rattle.pt_tree.specs.Syntax.{Name, Exp, Exps, Opt, Pieces, Entries, Links, Args, Made, Clauses, Params, Formals, Place, Tgt, Tgts, Decorators, Items, Stm, Stms, Branches, Handlers}
 use Rattle.law_names.proofs.module_names.Homes.{behind_at, front_at}
 use Rattle.law_operands.proofs.law_files.code_files.Each.{both, weaken}
 use Rattle.std.specs.Option.{option_or}
-use Rattle.pt_supported.specs.Built.{Built, are_available, are_bound_available, class_word, is_available, is_available_if, is_either_available, is_meant, unbuilt_all, unbuilt_args, unbuilt_branches, unbuilt_clauses, unbuilt_decorators, unbuilt_entries, unbuilt_exp, unbuilt_formals, unbuilt_links, unbuilt_made, unbuilt_opt, unbuilt_params, unbuilt_pieces, unbuilt_place, unbuilt_star, unbuilt_stm, unbuilt_stms, unbuilt_target, unbuilt_targets, unless, unbuilt_handlers}
+use Rattle.pt_supported.specs.Built.{Built, are_available, are_bound_available, class_word, is_available, is_available_if, is_either_available, is_meant, unbuilt_all, unbuilt_args, unbuilt_branches, unbuilt_clauses, unbuilt_decorators, unbuilt_entries, unbuilt_exp, unbuilt_formals, unbuilt_items, unbuilt_links, unbuilt_made, unbuilt_opt, unbuilt_params, unbuilt_pieces, unbuilt_place, unbuilt_star, unbuilt_stm, unbuilt_stms, unbuilt_taken, unbuilt_target, unbuilt_targets, unless, unbuilt_handlers}
 use Rattle.pt_supported.proofs.Never.{first, second, told}
 
 -- a region is a block
@@ -306,6 +306,16 @@ imported : (a : Context) (c : Name) (l : ℕ) (xs : List Alias) → unless (are_
 imported a c l xs h =
     plain_imports a c l xs (none_among (list_any (λ (x : Alias). not (is_either_available x.name x.alias)) xs) (available (are_bound_available xs) l h))
 
+plain_taken : (a : Context) (c : Name) (t : Option Tgt) → unbuilt_taken t ≡ None → Plain (places_opt_target a c t)
+plain_taken a c None h = plain_nothing
+plain_taken a c (Some t) h = plain_target a c t h
+
+plain_items : (a : Context) (c : Name) (is : Items) → unbuilt_items is ≡ None → Plain (places_items a c is)
+plain_items a c S.no_items h = plain_nothing
+plain_items a c (S.with_item l e t r) h =
+    let behind = second _ _ h in
+    plain_then _ _ (plain_exp a c e (first _ _ h)) (plain_then _ _ (plain_taken a c t (first _ _ behind)) (plain_items a c r (second _ _ behind)))
+
 mutual
   plain_stm : (a : Context) (c : Name) (s : Stm) → unbuilt_stm s ≡ None → Plain (places_stm a c s)
   plain_stm a c (S.expr l e) h = plain_exp a c e h
@@ -349,7 +359,7 @@ mutual
       (plain_then _ _ (plain_stms a c els (first _ _ behind)) (plain_stms a c fin (second _ _ behind))))
   plain_stm a c (S.import l xs) h = imported a c l xs h
   plain_stm a c (S.import_from l m xs) h = imported a c l xs h
-  plain_stm a c (S.with l is body) h = told h
+  plain_stm a c (S.with l is body) h = plain_then _ _ (plain_items a c is (first _ _ h)) (plain_stms a c body (second _ _ h))
   plain_stm a c (S.class l ds k n x base body) h =
       let inner = option_or (unbuilt_opt base) (unbuilt_stms body) in
       let parts = second (unless (is_available x) l) (option_or (unbuilt_decorators ds) inner) h in

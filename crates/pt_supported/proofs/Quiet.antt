@@ -3,11 +3,11 @@ use Rattle.std.proofs.Common.{◌≡◌, ℕ, List, [], ◌∷◌, Bool, true, f
 use Rattle.pt_tree.specs.declared.act.ActKind.{ActKind}
 use Rattle.pt_tree.specs.declared.act.ActKind.TheVariants as A
 use Rattle.pt_tree.specs.declared.act.ActRow.{ActRow}
-use Rattle.pt_tree.specs.Acts.{again, acts_exp, acts_all, acts_operands, acts_opt, acts_join, acts_pieces, acts_entries, acts_links, acts_args, acts_params, acts_formals, acts_made, acts_clauses, acts_place, acts_target, acts_targets, acts_got, acts_put, acts_deleted, acts_all_deleted, acts_decorators, acts_decorator_calls, acts_annotated, acts_stm, acts_stms, acts_branches, acts_handlers, acts_imports, acts_import_names, acts_named}
+use Rattle.pt_tree.specs.Acts.{again, acts_exp, acts_all, acts_operands, acts_opt, acts_join, acts_pieces, acts_entries, acts_links, acts_args, acts_params, acts_formals, acts_made, acts_clauses, acts_place, acts_target, acts_targets, acts_got, acts_put, acts_deleted, acts_all_deleted, acts_decorators, acts_decorator_calls, acts_opt_target, acts_items, acts_annotated, acts_stm, acts_stms, acts_branches, acts_handlers, acts_imports, acts_import_names, acts_named}
 use Rattle.pt_tree.specs.declared.statement.Alias.{Alias}
 use Rattle.pt_tree.specs.Syntax as S
-use Rattle.pt_tree.specs.Syntax.{Exp, Exps, Opt, Pieces, Entries, Links, Args, Made, Clauses, Params, Formals, Place, Tgt, Tgts, Decorators, Stm, Stms, Branches, Handlers}
-use Rattle.pt_supported.specs.Built.{unbuilt_all, unbuilt_args, unbuilt_branches, unbuilt_clauses, unbuilt_decorators, unbuilt_entries, unbuilt_exp, unbuilt_formals, unbuilt_links, unbuilt_made, unbuilt_opt, unbuilt_params, unbuilt_pieces, unbuilt_place, unbuilt_stm, unbuilt_stms, unbuilt_target, unbuilt_targets, unbuilt_handlers}
+use Rattle.pt_tree.specs.Syntax.{Exp, Exps, Opt, Pieces, Entries, Links, Args, Made, Clauses, Params, Formals, Place, Tgt, Tgts, Decorators, Items, Stm, Stms, Branches, Handlers}
+use Rattle.pt_supported.specs.Built.{unbuilt_all, unbuilt_args, unbuilt_branches, unbuilt_clauses, unbuilt_decorators, unbuilt_entries, unbuilt_exp, unbuilt_formals, unbuilt_items, unbuilt_links, unbuilt_made, unbuilt_opt, unbuilt_params, unbuilt_pieces, unbuilt_place, unbuilt_stm, unbuilt_stms, unbuilt_taken, unbuilt_target, unbuilt_targets, unbuilt_handlers}
 use Rattle.pt_supported.proofs.Never.{Never, nothing, item, both, first, second, told}
 
 -- the kinds of acts by which a block gives values on, as `yields` has them
@@ -171,6 +171,16 @@ quiet_calls : (ds : Decorators) → Quiet (acts_decorator_calls ds)
 quiet_calls S.no_decorators = nothing
 quiet_calls (S.decorator l e r) = both (quiet_calls r) (row refl)
 
+quiet_taken : (t : Option Tgt) → unbuilt_taken t ≡ None → Quiet (acts_opt_target t)
+quiet_taken None h = nothing
+quiet_taken (Some t) h = quiet_target t h
+
+quiet_items : (is : Items) → unbuilt_items is ≡ None → {inside : List ActRow} → Quiet inside → Quiet (acts_items is inside)
+quiet_items S.no_items h q = q
+quiet_items (S.with_item l e t r) h q =
+    let behind = second _ _ h in
+    both (both (both (both (quiet_exp e (first _ _ h)) (row refl)) (quiet_taken t (first _ _ behind))) (quiet_items r (second _ _ behind) q)) (row refl)
+
 quiet_annotated : (l : ℕ) (p : Place) (v : Opt) → unbuilt_place p ≡ None → unbuilt_opt v ≡ None → Quiet (acts_annotated l p v)
 quiet_annotated l p S.absent hp hv = row refl
 quiet_annotated l p (S.given e) hp hv = both (quiet_exp e hv) (quiet_place p hp)
@@ -223,7 +233,7 @@ mutual
       (quiet_stms fin (second _ _ behind))
   quiet_stm (S.import l xs) h = quiet_imports l xs
   quiet_stm (S.import_from l m xs) h = item refl (quiet_import_names l xs)
-  quiet_stm (S.with l is body) h = told h
+  quiet_stm (S.with l is body) h = quiet_items is (first _ _ h) (quiet_stms body (second _ _ h))
   quiet_stm (S.class l ds k n x base body) h =
       let parts = second _ _ h in
       both (both (both (both (quiet_decorators ds (first _ _ parts)) (quiet_opt base (first _ _ (second _ _ parts)))) (row refl)) (quiet_calls ds)) (row refl)

@@ -1,11 +1,11 @@
 -- The blocks of supported parts give no value on.
-use Rattle.std.proofs.Common.{◌≡◌, ◌++◌, ℕ, List, [], ◌∷◌, map, Bool, true, false, None, refl}
+use Rattle.std.proofs.Common.{◌≡◌, ◌++◌, ℕ, List, [], ◌∷◌, map, Bool, true, false, Option, Some, None, refl}
 use Rattle.std.specs.Prelude.{cond}
-use Rattle.pt_tree.specs.Blocks.{Block, function_body, inside_class, is_string, yields, blocks_exp, blocks_all, blocks_opt, blocks_pieces, blocks_entries, blocks_links, blocks_args, blocks_params, blocks_formals, blocks_made, blocks_clauses, blocks_place, blocks_target, blocks_targets, blocks_decorators, blocks_stm, blocks_stms, blocks_branches, blocks_script, blocks_handlers}
+use Rattle.pt_tree.specs.Blocks.{Block, function_body, inside_class, is_string, yields, blocks_exp, blocks_all, blocks_opt, blocks_pieces, blocks_entries, blocks_links, blocks_args, blocks_params, blocks_formals, blocks_made, blocks_clauses, blocks_place, blocks_target, blocks_targets, blocks_decorators, blocks_opt_target, blocks_items, blocks_stm, blocks_stms, blocks_branches, blocks_script, blocks_handlers}
 use Rattle.pt_tree.specs.Acts.{acts_stm, acts_stms}
 use Rattle.pt_tree.specs.Syntax as S
-use Rattle.pt_tree.specs.Syntax.{Name, Exp, Exps, Opt, Pieces, Entries, Links, Args, Made, Clauses, Params, Formals, Place, Tgt, Tgts, Decorators, Stm, Stms, Branches, Handlers}
-use Rattle.pt_supported.specs.Built.{unbuilt_all, unbuilt_args, unbuilt_branches, unbuilt_clauses, unbuilt_decorators, unbuilt_entries, unbuilt_exp, unbuilt_formals, unbuilt_links, unbuilt_made, unbuilt_opt, unbuilt_params, unbuilt_pieces, unbuilt_place, unbuilt_stm, unbuilt_stms, unbuilt_target, unbuilt_targets, unbuilt_handlers}
+use Rattle.pt_tree.specs.Syntax.{Name, Exp, Exps, Opt, Pieces, Entries, Links, Args, Made, Clauses, Params, Formals, Place, Tgt, Tgts, Decorators, Items, Stm, Stms, Branches, Handlers}
+use Rattle.pt_supported.specs.Built.{unbuilt_all, unbuilt_args, unbuilt_branches, unbuilt_clauses, unbuilt_decorators, unbuilt_entries, unbuilt_exp, unbuilt_formals, unbuilt_items, unbuilt_links, unbuilt_made, unbuilt_opt, unbuilt_params, unbuilt_pieces, unbuilt_place, unbuilt_stm, unbuilt_stms, unbuilt_taken, unbuilt_target, unbuilt_targets, unbuilt_handlers}
 use Rattle.pt_supported.specs.Laws.{BuiltBlocksGiveNothingOn}
 use Rattle.pt_supported.proofs.Never.{Never, nothing, item, both, none_passes, at_its_place, first, second, told}
 use Rattle.pt_supported.proofs.Quiet.{Quiet, quiet_exp, quiet_stm, quiet_stms}
@@ -129,6 +129,15 @@ silent_decorators : (ds : Decorators) → unbuilt_decorators ds ≡ None → Sil
 silent_decorators S.no_decorators h = nothing
 silent_decorators (S.decorator l e r) h = both (silent_exp e (first _ _ h)) (silent_decorators r (second _ _ h))
 
+silent_taken : (t : Option Tgt) → unbuilt_taken t ≡ None → Silent (blocks_opt_target t)
+silent_taken None h = nothing
+silent_taken (Some t) h = silent_target t h
+
+silent_items : (is : Items) → unbuilt_items is ≡ None → Silent (blocks_items is)
+silent_items S.no_items h = nothing
+silent_items (S.with_item l e t r) h =
+    let behind = second _ _ h in both (both (silent_exp e (first _ _ h)) (silent_taken t (first _ _ behind))) (silent_items r (second _ _ behind))
+
 mutual
   silent_stm : (s : Stm) → unbuilt_stm s ≡ None → Silent (blocks_stm s)
   silent_stm (S.expr l e) h = silent_exp e h
@@ -165,7 +174,7 @@ mutual
       (silent_stms fin (second _ _ behind))
   silent_stm (S.import l xs) h = nothing
   silent_stm (S.import_from l m xs) h = nothing
-  silent_stm (S.with l is body) h = told h
+  silent_stm (S.with l is body) h = both (silent_items is (first _ _ h)) (silent_stms body (second _ _ h))
   silent_stm (S.class l ds k n x base body) h =
       let parts = second _ _ h in
       let inside = second _ _ parts in

@@ -7,7 +7,7 @@ use Rattle.std.specs.Option.{option_or}
 use Rattle.pt_tree.specs.declared.expression.NamedParameter.{NamedParameter}
 use Rattle.pt_tree.specs.declared.statement.Alias.{Alias}
 use Rattle.pt_tree.specs.Syntax as S
-use Rattle.pt_tree.specs.Syntax.{Name, Exp, Exps, Opt, Pieces, Entries, Links, Args, Made, Clauses, Place, Tgt, Tgts, Params, Formals, Decorators, Stm, Stms, Branches, Handlers}
+use Rattle.pt_tree.specs.Syntax.{Name, Exp, Exps, Opt, Pieces, Entries, Links, Args, Made, Clauses, Place, Tgt, Tgts, Params, Formals, Decorators, Items, Stm, Stms, Branches, Handlers}
 use Rattle.pt_builtins.specs.pt_host.Builtins as builtins
 use Rattle.pt_builtins.specs.pt_host.Builtins.{Builtin, builtin}
 use Rattle.pt_builtins.specs.Lookups.{is_unbuilt_name}
@@ -149,6 +149,15 @@ abbrev pub unbuilt_decorators : Decorators → Option ℕ
 unbuilt_decorators S.no_decorators = None
 unbuilt_decorators (S.decorator l e r) = option_or (unbuilt_exp e) (unbuilt_decorators r)
 
+abbrev pub unbuilt_taken : Option Tgt → Option ℕ
+unbuilt_taken None = None
+unbuilt_taken (Some t) = unbuilt_target t
+
+-- the items of a `with`
+abbrev pub unbuilt_items : Items → Option ℕ
+unbuilt_items S.no_items = None
+unbuilt_items (S.with_item l e t r) = option_or (unbuilt_exp e) (option_or (unbuilt_taken t) (unbuilt_items r))
+
 abbrev mutual
   pub unbuilt_stm : Stm → Option ℕ
   unbuilt_stm (S.expr l e) = unbuilt_exp e
@@ -175,7 +184,7 @@ abbrev mutual
       option_or (unbuilt_stms body) (option_or (unbuilt_handlers hs) (option_or (unbuilt_stms els) (unbuilt_stms fin)))
   unbuilt_stm (S.import l xs) = unless (are_bound_available xs) l
   unbuilt_stm (S.import_from l m xs) = unless (are_bound_available xs) l
-  unbuilt_stm (S.with l is body) = Some l
+  unbuilt_stm (S.with l is body) = option_or (unbuilt_items is) (unbuilt_stms body)
   unbuilt_stm (S.class l ds k n x base body) =
       option_or (unless (is_available x) l) (option_or (unbuilt_decorators ds) (option_or (unbuilt_opt base) (unbuilt_stms body)))
 

@@ -1,19 +1,20 @@
 //! The first unsupported node of a statement and of a script.
 
 ghost use Rattle.std.specs.Prelude.{◌≡◌, Some, None, map, option_map};
-ghost use Rattle.pt_tree.specs.Fold.{chained, opt_exp};
-ghost use Rattle.pt_tree.specs.StatementFold.{branch_of, decorators_of, handler_of};
+ghost use Rattle.pt_tree.specs.Fold.{chained, opt_exp, target_of};
+ghost use Rattle.pt_tree.specs.StatementFold.{branch_of, decorators_of, handler_of, items_of};
 ghost use Rattle.pt_tree.specs.StatementFold.{script_of, stm_of, stms_of};
 ghost use Rattle.pt_tree.specs.Syntax.{no_branches, no_handlers};
 ghost use Rattle.pt_supported.specs.Built.{unbuilt_branches, unbuilt_decorators, unbuilt_handlers};
-ghost use Rattle.pt_supported.specs.Built.{unbuilt_of, unbuilt_opt, unbuilt_stm, unbuilt_stms};
+ghost use Rattle.pt_supported.specs.Built.{unbuilt_items, unbuilt_of, unbuilt_opt, unbuilt_stm};
+ghost use Rattle.pt_supported.specs.Built.{unbuilt_stms, unbuilt_taken};
 
 use crate::expressions::{
     unbuilt_expression, unbuilt_parameters, unbuilt_place, unbuilt_target, unbuilt_targets,
 };
 use crate::names::{are_available, are_bound_available, is_available, is_available_if, unless};
 use pt_base::Line;
-use pt_tree::{Branch, Decorator, Expr, Handler, Script, Stmt, StmtNode};
+use pt_tree::{Branch, Decorator, Expr, Handler, Script, Stmt, StmtNode, Target, WithItem};
 
 fn unbuilt_optional(e: &Option<Expr>) -> Option<Line>
     ensures { option_map (λ l. l.0) result ≡ unbuilt_opt (opt_exp e.now) }
@@ -30,6 +31,29 @@ fn unbuilt_decorators(decorators: &[Decorator]) -> Option<Line>
 {
     for decorator in decorators {
         let found = unbuilt_expression(&decorator.value);
+        if found.is_some() {
+            return found;
+        }
+    }
+    None
+}
+
+fn unbuilt_taken(target: &Option<Target>) -> Option<Line>
+    ensures { option_map (λ l. l.0) result ≡ unbuilt_taken (option_map target_of target.now) }
+{
+    match target {
+        Some(target) => unbuilt_target(target),
+        None => None,
+    }
+}
+
+/// The items of a `with`, each with what takes the value that it gives.
+fn unbuilt_items(items: &[WithItem]) -> Option<Line>
+    ensures { option_map (λ l. l.0) result ≡ unbuilt_items (items_of items.now) }
+{
+    for item in items {
+        let context = unbuilt_expression(&item.context);
+        let found = context.or(unbuilt_taken(&item.target));
         if found.is_some() {
             return found;
         }
@@ -131,7 +155,10 @@ fn unbuilt_statement(s: &Stmt) -> Option<Line>
             let name = unless(is_available(name.as_str()), s.line);
             name.or(parts)
         }
-        StmtNode::With { .. } => Some(s.line),
+        StmtNode::With { items, body } => {
+            let behind = unbuilt_statements(body.as_slice());
+            unbuilt_items(items.as_slice()).or(behind)
+        }
     }
 }
 

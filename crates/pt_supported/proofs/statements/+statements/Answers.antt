@@ -21,4 +21,4 @@ pub unbuilt_handlers-loop-handler-preserved : goal.unbuilt_handlers-loop-handler
 unbuilt_handlers-loop-handler-preserved t c = grind (arith, common_steps, or-assoc, handler_of-parts c.handler-item.result)
 
 pub unbuilt_statement-returns-in-With : goal.unbuilt_statement-returns-in-With
-unbuilt_statement-returns-in-With t c = sym (ap unbuilt_stm (stm_of-With c.args.s.now _ _ c.in-With.is))
+unbuilt_statement-returns-in-With t c = grind (arith, stm_of-With c.args.s.now _ _ c.in-With.is)
