@@ -28,23 +28,23 @@ use Rattle.sem_run.specs.run.Step.{step, by_phase, do_ask}
 use Rattle.sem_run.specs.transitions.Transitions.{of_open_ask, transition}
 use Rattle.sem_run.specs.transitions.Successors.{Successor, successor}
 use Rattle.sem_steps.specs.Steps.{stays, behind_step, minded}
-use Rattle.pt_turning.specs.pt_telling.pt_run_state.pt_purposes.sem_rows.pt_host.World.{Names, World, Stores, Program}
-use Rattle.pt_turning.specs.pt_telling.pt_run_state.pt_purposes.sem_rows.pt_host.HeapHost.{heap_host}
-use Rattle.pt_turning.specs.pt_telling.pt_run_state.pt_purposes.sem_rows.heap_rows.Views.{slots_view}
+use Rattle.pt_making.specs.pt_host.World.{Names, World, Stores, Program}
+use Rattle.pt_making.specs.pt_host.HeapHost.{heap_host}
+use Rattle.pt_making.specs.pt_purposes.sem_rows.heap_rows.Views.{slots_view}
 use Rattle.pt_pendings.specs.declared.reply.Callee.{Callee as Told}
 use Rattle.pt_pendings.specs.declared.pending.Pending.{Pending}
 use Rattle.pt_pendings.specs.declared.pending.Pending.TheVariants as pending
 use Rattle.pt_pendings.specs.Stands as pend
 use Rattle.pt_pendings.specs.Stands.{IsAsked, IsPending}
 use Rattle.pt_pendings.specs.Views.{callee_view}
-use Rattle.pt_turning.specs.pt_telling.pt_run_state.pt_purposes.declared.standing.Standing.TheVariants.{AtPlace}
-use Rattle.pt_turning.specs.pt_telling.pt_run_state.pt_purposes.Seen.{block_of}
-use Rattle.pt_turning.specs.pt_telling.pt_run_state.pt_purposes.Openers.{Ways, standpoint}
-use Rattle.pt_turning.specs.pt_telling.pt_run_state.declared.machine.Machine.{Machine as Held}
-use Rattle.pt_turning.specs.pt_telling.pt_run_state.Stands.{IsToTell}
-use Rattle.pt_turning.specs.pt_telling.Laws.{Comes}
-use Rattle.pt_turning.specs.Laws.{waiting}
-use Rattle.pt_turning.specs.Ways.{IsOfCode}
+use Rattle.pt_making.specs.pt_purposes.declared.standing.Standing.TheVariants.{AtPlace}
+use Rattle.pt_making.specs.pt_purposes.Seen.{block_of}
+use Rattle.pt_making.specs.pt_purposes.Openers.{Ways, standpoint}
+use Rattle.pt_making.specs.pt_turning.pt_telling.pt_run_state.declared.machine.Machine.{Machine as Held}
+use Rattle.pt_making.specs.pt_turning.pt_telling.pt_run_state.Stands.{IsToTell}
+use Rattle.pt_making.specs.pt_turning.pt_telling.Laws.{Comes}
+use Rattle.pt_making.specs.pt_turning.Laws.{waiting}
+use Rattle.pt_making.specs.pt_turning.Ways.{IsOfCode}
 use Rattle.law_doing.specs.Laws.{object_here, IsDone, ActsAsRun}
 use Rattle.law_doing.proofs.Successors.{turned, phase-alone}
 

@@ -22,19 +22,19 @@ use Rattle.sem_run.specs.run.State.{State, OpenAsk, at, store}
 use Rattle.sem_run.specs.run.Views.{here_of}
 use Rattle.sem_run.specs.transitions.Successors.{Successor}
 use Rattle.sem_steps.specs.Steps.{minded}
-use Rattle.pt_turning.specs.pt_telling.pt_run_state.pt_purposes.sem_rows.pt_host.World.{Names, World, Stores, Program}
-use Rattle.pt_turning.specs.pt_telling.pt_run_state.pt_purposes.sem_rows.pt_host.HeapHost.{heap_host}
-use Rattle.pt_turning.specs.pt_telling.pt_run_state.pt_purposes.sem_rows.heap_rows.Views.{slots_view}
+use Rattle.pt_making.specs.pt_host.World.{Names, World, Stores, Program}
+use Rattle.pt_making.specs.pt_host.HeapHost.{heap_host}
+use Rattle.pt_making.specs.pt_purposes.sem_rows.heap_rows.Views.{slots_view}
 use Rattle.pt_pendings.specs.declared.reply.Callee.{Callee}
 use Rattle.pt_pendings.specs.declared.pending.Pending.TheVariants.{Doing}
 use Rattle.pt_pendings.specs.Views.{callee_view}
-use Rattle.pt_turning.specs.pt_telling.pt_run_state.pt_purposes.declared.standing.Standing.TheVariants.{AtPlace}
-use Rattle.pt_turning.specs.pt_telling.pt_run_state.pt_purposes.Seen.{block_of}
-use Rattle.pt_turning.specs.pt_telling.pt_run_state.pt_purposes.Openers.{Ways}
-use Rattle.pt_turning.specs.pt_telling.pt_run_state.declared.machine.Machine.{Machine as Held}
-use Rattle.pt_turning.specs.pt_telling.pt_run_state.Stands.{IsToTell}
-use Rattle.pt_turning.specs.pt_telling.Laws.{Comes}
-use Rattle.pt_turning.specs.Laws.{waiting}
+use Rattle.pt_making.specs.pt_purposes.declared.standing.Standing.TheVariants.{AtPlace}
+use Rattle.pt_making.specs.pt_purposes.Seen.{block_of}
+use Rattle.pt_making.specs.pt_purposes.Openers.{Ways}
+use Rattle.pt_making.specs.pt_turning.pt_telling.pt_run_state.declared.machine.Machine.{Machine as Held}
+use Rattle.pt_making.specs.pt_turning.pt_telling.pt_run_state.Stands.{IsToTell}
+use Rattle.pt_making.specs.pt_turning.pt_telling.Laws.{Comes}
+use Rattle.pt_making.specs.pt_turning.Laws.{waiting}
 
 module _ {S : Type 0} (program : Program) (code : CodeBlocks Value) (machine : Machine S Value)
     (embed : CodeState Value → S) (ways : Ways S) (minds : Event Value → Bool) (n : ℕ)

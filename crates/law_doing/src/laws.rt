@@ -5,9 +5,9 @@ ghost use Rattle.sem_code.specs.slots.Slots.{State};
 ghost use Rattle.sem_code_machine.specs.code_machine.CodeBlocks.{CodeBlocks};
 ghost use Rattle.sem_run.specs.run.Events.{Event};
 ghost use Rattle.sem_run.specs.run.Machine.{Machine};
-ghost use Rattle.pt_turning.specs.pt_telling.pt_run_state.pt_purposes.sem_rows.pt_host.World.{Program};
-ghost use Rattle.pt_turning.specs.pt_telling.pt_run_state.pt_purposes.Openers.{Ways};
-ghost use Rattle.pt_turning.specs.Ways.{IsOfCode};
+ghost use Rattle.pt_making.specs.pt_host.World.{Program};
+ghost use Rattle.pt_making.specs.pt_purposes.Openers.{Ways};
+ghost use Rattle.pt_making.specs.pt_turning.Ways.{IsOfCode};
 ghost use Rattle.law_doing.specs.Laws.{ActsAsRun};
 
 /// Where nothing more is told before an act that waits in the machine, each run for which it stands

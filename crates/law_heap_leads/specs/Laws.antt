@@ -7,7 +7,8 @@ use Rattle.law_leads.specs.Leads.{AnswersSo}
 use Rattle.pt_host.specs.World.{Stores, Program}
 use Rattle.pt_host.specs.Answers.{answers}
 
--- where an iterator may be at its end by itself, each answer ends iterators as it may
+-- where an iterator may be at its end by itself, each answer ends iterators as it may; behind a
+-- request that is the exception that left what was requested
 abbrev pub IteratorsEndByThemselves : Type 0
 IteratorsEndByThemselves =
     (ends : Option Value → Bool) → ends None ≡ true → (program : Program) (a : Ask Value)

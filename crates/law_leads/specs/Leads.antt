@@ -2,13 +2,13 @@
 -- the answer: of an iterator at its end the exception that told so, if one did, and else nothing. So
 -- a machine that knows where an instruction leads knows what a run tells there (Language Reference
 -- 4.1, 6.2.9, 8.3).
-use Rattle.std.specs.Prelude.{◌≡◌, ℕ, Bool, true, List, [], ◌∷◌, Option, None}
+use Rattle.std.specs.Prelude.{◌≡◌, ℕ, Bool, true, List, [], ◌∷◌, Option, Some, None}
 use Rattle.sem_control.specs.control.Turn as T
-use Rattle.sem_control.specs.control.Turn.{Ask, Answer, Reply, got, raised}
+use Rattle.sem_control.specs.control.Turn.{Ask, Answer, Reply, got, raised, End, gave, left_by}
 use Rattle.sem_run.specs.run.Machine.{Machine}
 use Rattle.sem_run.specs.run.Events.{Happening}
 use Rattle.sem_run.specs.run.Host as H
-use Rattle.sem_run.specs.run.Host.{Host, Store, Response, Answering, Finding}
+use Rattle.sem_run.specs.run.Host.{Host, Store, Request, opens, resumes, ends_by, Response, Answering, Finding}
 use Rattle.sem_run.specs.run.State.{OpenAsk, OpenYield, of_ask, Phase, State, at, with_store}
 use Rattle.sem_run.specs.run.Views.{visible_line}
 use Rattle.sem_run.specs.run.Outcome as O
@@ -18,6 +18,21 @@ use Rattle.sem_run.specs.run.Step.{step, stop_event, reply_to, begin_yield}
 use Rattle.sem_run.specs.transitions.Transitions.{by_answer}
 use Rattle.sem_run.specs.transitions.Successors.{Successor, to, arises, behind_yield, behind_print, behind_request, outside, successor}
 use Rattle.sem_steps.specs.Steps.{Steps}
+
+-- the exception by which a block was left, and by which so was what was requested
+abbrev pub left_with : {V : Type 0} → End V → Option V
+left_with (gave v) = None
+left_with (left_by v) = Some v
+
+abbrev pub left_behind : {N V : Type 0} → (r : Request N V) → Response N V r → Option V
+left_behind (opens o) x = left_with x.end
+left_behind (resumes g h) (ends_by e) = left_with e
+left_behind r x = None
+
+-- an iterator is ended by this exception, or by itself
+abbrev pub FindsWith : {V : Type 0} → Option V → (a : Ask V) → Finding V a → Type 0
+FindsWith stop (T.next_of i) (H.no_item e) = e ≡ stop
+FindsWith stop a x = Unit {0}
 
 -- whether an exception may have ended an iterator, or none, where that was at its end by itself
 module _ {V : Type 0} (ends : Option V → Bool) where
@@ -30,15 +45,25 @@ module _ {V : Type 0} (ends : Option V → Bool) where
   FindsSo (T.next_of i) (H.no_item e) = ends e ≡ true
   FindsSo a x = Unit {0}
 
+module _ {N V W : Type 0} where
+  -- so ends an answer in the making, behind what was left by this exception
+  abbrev pub EndsWith : (a : Ask V) → Option V → Answering N V W (Finding V a) → Type 0
+  EndsWith a stop (H.answer x st) = FindsWith stop a x
+  EndsWith a stop (H.raise v st) = Unit {0}
+  EndsWith a stop (H.print t f) = EndsWith a stop f
+  EndsWith a stop (H.leave what) = Unit {0}
+  EndsWith a stop (H.request r st f) =
+      (x : Response N V r) (st1 : Store N W) → EndsWith a (left_behind r x) (f x st1)
+
 module _ {N V W : Type 0} (ends : Option V → Bool) where
-  -- so ends an answer in the making
+  -- and so one that has requested nothing yet
   abbrev pub AnswersSo : (a : Ask V) → Answering N V W (Finding V a) → Type 0
   AnswersSo a (H.answer x st) = FindsSo ends a x
   AnswersSo a (H.raise v st) = Unit {0}
   AnswersSo a (H.print t f) = AnswersSo a f
   AnswersSo a (H.leave what) = Unit {0}
   AnswersSo a (H.request r st f) =
-      (x : Response N V r) (st1 : Store N W) → AnswersSo a (f x st1)
+      (x : Response N V r) (st1 : Store N W) → EndsWith a (left_behind r x) (f x st1)
 
 -- an ask whose reply goes on in states that are parts of others, as those of code are of a machine's
 abbrev pub in_run : {C S V : Type 0} → (C → S) → OpenAsk C V → OpenAsk S V
@@ -78,7 +103,7 @@ module _ {C S N V W : Type 0} (machine : Machine S V) (host : Host N V W)
   Leads (behind_request r st k) t =
       (f : Response N V r → Store N W → Answering N V W (Finding V q.ask))
       × (((x : Response N V r) (st1 : Store N W) → successor (by_answer q (f x st1)) ≡ k x st1)
-      × (((x : Response N V r) (st1 : Store N W) → AnswersSo ends q.ask (f x st1))
+      × (((x : Response N V r) (st1 : Store N W) → EndsWith q.ask (left_behind r x) (f x st1))
       × Go t [] (perform machine host r (of_ask asked f) (with_store st t))))
   Leads (outside what) t =
       step machine host n t ≡ O.ends (O.outside what (visible_line host.first_line t))

@@ -22,34 +22,34 @@ use Rattle.sem_run.specs.run.Run.{Write, writes}
 use Rattle.sem_run.specs.run.Step.{reply_to}
 use Rattle.sem_steps.specs.Steps.{Steps, minded}
 use Rattle.sem_steps.proofs.Moves.{join}
-use Rattle.pt_replying.specs.pt_turning.pt_telling.pt_run_state.pt_purposes.sem_rows.pt_host.World.{Names, World, Stores, Program}
-use Rattle.pt_replying.specs.pt_turning.pt_telling.pt_run_state.pt_purposes.sem_rows.pt_host.HeapHost.{heap_host}
-use Rattle.pt_replying.specs.pt_turning.pt_telling.pt_run_state.pt_purposes.sem_rows.heap_rows.Views.{slots_view}
-use Rattle.pt_replying.specs.pt_turning.pt_telling.pt_run_state.pt_purposes.sem_rows.heap_rows.Told.{behind_leave}
-use Rattle.pt_replying.specs.pt_turning.pt_telling.pt_run_state.pt_purposes.sem_rows.declared.heap_rows.progress.Progress.{Progress}
-use Rattle.pt_replying.specs.pt_turning.pt_telling.pt_run_state.pt_purposes.sem_rows.declared.heap_rows.progress.Progress.TheVariants as progress
-use Rattle.pt_replying.specs.pt_turning.pt_telling.pt_transfers.pt_machine_state.declared.blocks.BlockCode.{BlockCode}
-use Rattle.pt_replying.specs.pt_turning.pt_telling.pt_transfers.pt_machine_state.declared.machine.Standing.{Standing as CodeStanding}
-use Rattle.pt_replying.specs.pt_turning.pt_telling.pt_transfers.pt_machine_state.declared.machine.Standing.TheVariants as code_standing
-use Rattle.pt_replying.specs.pt_turning.pt_telling.pt_transfers.pt_machine_state.Blocks.{IsBlockOf}
-use Rattle.pt_replying.specs.pt_turning.pt_telling.pt_transfers.pt_machine_state.Views.{state_of, stores_of}
-use Rattle.pt_replying.specs.pt_turning.pt_telling.pt_transfers.pt_machine_state.Changes.{left_place}
-use Rattle.pt_replying.proofs.pt_turning.pt_telling.pt_transfers.pt_machine_state.LandLemmas.{landed-state}
-use Rattle.pt_replying.specs.pt_turning.pt_telling.pt_run_state.pt_purposes.declared.standing.Standing.{Standing}
-use Rattle.pt_replying.specs.pt_turning.pt_telling.pt_run_state.pt_purposes.declared.standing.Standing.TheVariants.{AtPlace, Reraises}
-use Rattle.pt_replying.specs.pt_turning.pt_telling.pt_run_state.pt_purposes.Seen.{block_of}
-use Rattle.pt_replying.specs.pt_turning.pt_telling.pt_run_state.pt_purposes.Openers.{Ways, settled}
-use Rattle.pt_replying.specs.pt_turning.pt_telling.pt_run_state.declared.machine.Machine.{Machine as Held}
-use Rattle.pt_replying.specs.pt_turning.pt_telling.pt_run_state.Stands.{Stands, StandsAround}
-use Rattle.pt_replying.specs.pt_turning.pt_telling.Laws.{Comes}
-use Rattle.pt_replying.proofs.pt_turning.pt_telling.Asks.{writes-append}
-use Rattle.pt_replying.proofs.pt_turning.Turns.{around-at, settled-there}
-use Rattle.pt_replying.specs.pt_turning.Ways.{IsOfCode, rows_of, state_at}
-use Rattle.pt_replying.specs.pt_turning.Turning.{standing_of}
-use Rattle.pt_replying.specs.declared.replying.Decided.{Decided}
-use Rattle.pt_replying.specs.declared.replying.Decided.TheVariants as decided
-use Rattle.pt_replying.specs.Laws.{IfBranches, IsGiven}
-use Rattle.pt_replying.proofs.Replies.{replies_as_run}
+use Rattle.pt_arising.specs.pt_replying.pt_turning.sem_rows.pt_host.World.{Names, World, Stores, Program}
+use Rattle.pt_arising.specs.pt_replying.pt_turning.sem_rows.pt_host.HeapHost.{heap_host}
+use Rattle.pt_arising.specs.pt_replying.pt_turning.sem_rows.heap_rows.Views.{slots_view}
+use Rattle.pt_arising.specs.pt_replying.pt_turning.sem_rows.heap_rows.Told.{behind_leave}
+use Rattle.pt_arising.specs.pt_replying.pt_turning.sem_rows.declared.heap_rows.progress.Progress.{Progress}
+use Rattle.pt_arising.specs.pt_replying.pt_turning.sem_rows.declared.heap_rows.progress.Progress.TheVariants as progress
+use Rattle.pt_arising.specs.pt_replying.pt_turning.pt_telling.pt_transfers.pt_machine_state.declared.blocks.BlockCode.{BlockCode}
+use Rattle.pt_arising.specs.pt_replying.pt_turning.pt_telling.pt_transfers.pt_machine_state.declared.machine.Standing.{Standing as CodeStanding}
+use Rattle.pt_arising.specs.pt_replying.pt_turning.pt_telling.pt_transfers.pt_machine_state.declared.machine.Standing.TheVariants as code_standing
+use Rattle.pt_arising.specs.pt_replying.pt_turning.pt_telling.pt_transfers.pt_machine_state.Blocks.{IsBlockOf}
+use Rattle.pt_arising.specs.pt_replying.pt_turning.pt_telling.pt_transfers.pt_machine_state.Views.{state_of, stores_of}
+use Rattle.pt_arising.specs.pt_replying.pt_turning.pt_telling.pt_transfers.pt_machine_state.Changes.{left_place}
+use Rattle.pt_arising.proofs.pt_replying.pt_turning.pt_telling.pt_transfers.pt_machine_state.LandLemmas.{landed-state}
+use Rattle.pt_arising.specs.pt_replying.pt_turning.pt_telling.pt_run_state.pt_purposes.declared.standing.Standing.{Standing}
+use Rattle.pt_arising.specs.pt_replying.pt_turning.pt_telling.pt_run_state.pt_purposes.declared.standing.Standing.TheVariants.{AtPlace, Reraises}
+use Rattle.pt_arising.specs.pt_replying.pt_turning.pt_telling.pt_run_state.pt_purposes.Seen.{block_of}
+use Rattle.pt_arising.specs.pt_replying.pt_turning.pt_telling.pt_run_state.pt_purposes.Openers.{Ways, settled}
+use Rattle.pt_arising.specs.pt_replying.pt_turning.pt_telling.pt_run_state.declared.machine.Machine.{Machine as Held}
+use Rattle.pt_arising.specs.pt_replying.pt_turning.pt_telling.pt_run_state.Stands.{Stands, StandsAround}
+use Rattle.pt_arising.specs.pt_replying.pt_turning.pt_telling.Laws.{Comes}
+use Rattle.pt_arising.proofs.pt_replying.pt_turning.pt_telling.Asks.{writes-append}
+use Rattle.pt_arising.proofs.pt_replying.pt_turning.Turns.{around-at, settled-there}
+use Rattle.pt_arising.specs.pt_replying.pt_turning.Ways.{IsOfCode, rows_of, state_at}
+use Rattle.pt_arising.specs.pt_replying.pt_turning.Turning.{standing_of}
+use Rattle.pt_arising.specs.pt_replying.declared.replying.Decided.{Decided}
+use Rattle.pt_arising.specs.pt_replying.declared.replying.Decided.TheVariants as decided
+use Rattle.pt_arising.specs.pt_replying.Laws.{IfBranches, IsGiven}
+use Rattle.pt_arising.proofs.pt_replying.Replies.{replies_as_run}
 use Rattle.pt_answering.specs.declared.answering.Asked.{Asked}
 use Rattle.pt_answering.specs.Answering.{given_of, replied_there, at_pc, left_in, answered, answer_writes}
 use Rattle.pt_answering.specs.Laws.{by_itself, TellsOf, IsAnswered, BehindAnswer, goes_on, further, AnswersAsRun}

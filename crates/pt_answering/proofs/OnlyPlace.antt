@@ -6,11 +6,11 @@ use Rattle.pt_heap.specs.declared.completion.Completion.TheVariants.{Normal, Rai
 use Rattle.pt_unwind.specs.declared.Landing.{Landing}
 use Rattle.pt_unwind.specs.declared.Landing.TheVariants.{Enter, Jump, Out}
 use Rattle.pt_unwind.specs.Landings.{landing_of}
-use Rattle.pt_replying.specs.pt_turning.pt_telling.pt_transfers.pt_machine_state.declared.blocks.BlockCode.{BlockCode}
-use Rattle.pt_replying.specs.pt_turning.pt_telling.pt_transfers.pt_machine_state.declared.machine.Machine.{Machine as Code}
-use Rattle.pt_replying.specs.pt_turning.pt_telling.pt_transfers.pt_machine_state.declared.machine.Standing.TheVariants as code
-use Rattle.pt_replying.specs.pt_turning.pt_telling.pt_transfers.pt_machine_state.Changes.{landed_at, left_place}
-use Rattle.pt_replying.specs.pt_turning.pt_telling.pt_run_state.declared.machine.Machine.{Machine}
+use Rattle.pt_arising.specs.pt_replying.pt_turning.pt_telling.pt_transfers.pt_machine_state.declared.blocks.BlockCode.{BlockCode}
+use Rattle.pt_arising.specs.pt_replying.pt_turning.pt_telling.pt_transfers.pt_machine_state.declared.machine.Machine.{Machine as Code}
+use Rattle.pt_arising.specs.pt_replying.pt_turning.pt_telling.pt_transfers.pt_machine_state.declared.machine.Standing.TheVariants as code
+use Rattle.pt_arising.specs.pt_replying.pt_turning.pt_telling.pt_transfers.pt_machine_state.Changes.{landed_at, left_place}
+use Rattle.pt_arising.specs.pt_replying.pt_turning.pt_telling.pt_run_state.declared.machine.Machine.{Machine}
 use Rattle.pt_answering.specs.Answering.{left_in}
 
 abbrev only : Code → Code → Code

@@ -5,18 +5,18 @@ use Rattle.std.specs.Prelude.{List, [], ◌∷◌, None}
 use Rattle.pt_base.specs.declared.numbers.Pc.{Pc}
 use Rattle.pt_heap.specs.declared.completion.Completion.{Completion}
 use Rattle.sem_run.specs.run.Run.{Write}
-use Rattle.pt_replying.specs.pt_turning.pt_telling.pt_transfers.pt_machine_state.declared.blocks.BlockCode.{BlockCode}
-use Rattle.pt_replying.specs.pt_turning.pt_telling.pt_transfers.pt_machine_state.Changes.{left_place}
-use Rattle.pt_replying.specs.pt_turning.pt_telling.pt_transfers.pt_machine_state.Writing.{print_piece}
-use Rattle.pt_replying.specs.pt_turning.pt_telling.pt_run_state.pt_purposes.sem_rows.declared.heap_rows.progress.Progress.{Progress}
-use Rattle.pt_replying.specs.pt_turning.pt_telling.pt_run_state.pt_purposes.sem_rows.declared.heap_rows.progress.Progress.TheVariants as progress
-use Rattle.pt_replying.specs.pt_turning.pt_telling.pt_run_state.pt_purposes.declared.standing.Standing.{Standing}
-use Rattle.pt_replying.specs.pt_turning.pt_telling.pt_run_state.pt_purposes.declared.standing.Standing.TheVariants.{AtPlace, Reraises}
-use Rattle.pt_replying.specs.pt_turning.pt_telling.pt_run_state.declared.machine.Machine.{Machine}
-use Rattle.pt_replying.specs.pt_turning.pt_telling.Telling.{Told}
-use Rattle.pt_replying.specs.pt_turning.Turning.{standing_of}
-use Rattle.pt_replying.specs.declared.replying.Given.{Given}
-use Rattle.pt_replying.specs.Replying.{replied}
+use Rattle.pt_arising.specs.pt_replying.pt_turning.pt_telling.pt_transfers.pt_machine_state.declared.blocks.BlockCode.{BlockCode}
+use Rattle.pt_arising.specs.pt_replying.pt_turning.pt_telling.pt_transfers.pt_machine_state.Changes.{left_place}
+use Rattle.pt_arising.specs.pt_replying.pt_turning.pt_telling.pt_transfers.pt_machine_state.Writing.{print_piece}
+use Rattle.pt_arising.specs.pt_replying.pt_turning.sem_rows.declared.heap_rows.progress.Progress.{Progress}
+use Rattle.pt_arising.specs.pt_replying.pt_turning.sem_rows.declared.heap_rows.progress.Progress.TheVariants as progress
+use Rattle.pt_arising.specs.pt_replying.pt_turning.pt_telling.pt_run_state.pt_purposes.declared.standing.Standing.{Standing}
+use Rattle.pt_arising.specs.pt_replying.pt_turning.pt_telling.pt_run_state.pt_purposes.declared.standing.Standing.TheVariants.{AtPlace, Reraises}
+use Rattle.pt_arising.specs.pt_replying.pt_turning.pt_telling.pt_run_state.declared.machine.Machine.{Machine}
+use Rattle.pt_arising.specs.pt_replying.pt_turning.pt_telling.Telling.{Told}
+use Rattle.pt_arising.specs.pt_replying.pt_turning.Turning.{standing_of}
+use Rattle.pt_arising.specs.pt_replying.declared.replying.Given.{Given}
+use Rattle.pt_arising.specs.pt_replying.Replying.{replied}
 use Rattle.pt_answering.specs.declared.answering.Asked.{Asked}
 use Rattle.pt_answering.specs.declared.answering.Answered.{Answered}
 use Rattle.pt_answering.specs.declared.answering.Answered.TheVariants.{Goes, Further}

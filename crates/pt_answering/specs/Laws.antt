@@ -16,25 +16,25 @@ use Rattle.sem_run.specs.run.State.{State, OpenAsk, with_store}
 use Rattle.sem_run.specs.run.Run.{Write}
 use Rattle.sem_run.specs.run.Step.{of_call}
 use Rattle.sem_steps.specs.Steps.{minded}
-use Rattle.pt_replying.specs.pt_turning.pt_telling.pt_run_state.pt_purposes.sem_rows.pt_host.World.{Names, World, Program}
-use Rattle.pt_replying.specs.pt_turning.pt_telling.pt_run_state.pt_purposes.sem_rows.pt_host.HeapHost.{heap_host}
-use Rattle.pt_replying.specs.pt_turning.pt_telling.pt_run_state.pt_purposes.sem_rows.heap_rows.Views.{slots_view}
-use Rattle.pt_replying.specs.pt_turning.pt_telling.pt_run_state.pt_purposes.sem_rows.heap_rows.Told.{told}
-use Rattle.pt_replying.specs.pt_turning.pt_telling.pt_run_state.pt_purposes.sem_rows.declared.heap_rows.progress.Progress.{Progress}
-use Rattle.pt_replying.specs.pt_turning.pt_telling.pt_run_state.pt_purposes.sem_rows.declared.heap_rows.progress.Progress.TheVariants as progress
-use Rattle.pt_replying.specs.pt_turning.pt_telling.pt_transfers.pt_machine_state.declared.blocks.BlockCode.{BlockCode}
-use Rattle.pt_replying.specs.pt_turning.pt_telling.pt_transfers.pt_machine_state.Blocks.{IsBlockOf}
-use Rattle.pt_replying.specs.pt_turning.pt_telling.pt_transfers.pt_machine_state.Views.{stores_of}
-use Rattle.pt_replying.specs.pt_turning.pt_telling.pt_run_state.pt_purposes.declared.standing.Standing.{Standing}
-use Rattle.pt_replying.specs.pt_turning.pt_telling.pt_run_state.pt_purposes.Seen.{block_of}
-use Rattle.pt_replying.specs.pt_turning.pt_telling.pt_run_state.pt_purposes.Asks.{told_of_call}
-use Rattle.pt_replying.specs.pt_turning.pt_telling.pt_run_state.pt_purposes.Openers.{Ways}
-use Rattle.pt_replying.specs.pt_turning.pt_telling.pt_run_state.declared.machine.Machine.{Machine as Held}
-use Rattle.pt_replying.specs.pt_turning.pt_telling.pt_run_state.Stands.{Stands, StandsAround}
-use Rattle.pt_replying.specs.pt_turning.pt_telling.Laws.{Comes}
-use Rattle.pt_replying.specs.pt_turning.Ways.{rows_at, state_at}
-use Rattle.pt_replying.specs.Replying.{decided_events, reply_told}
-use Rattle.pt_replying.specs.Laws.{IfBranches, IsTold}
+use Rattle.pt_arising.specs.pt_replying.pt_turning.sem_rows.pt_host.World.{Names, World, Program}
+use Rattle.pt_arising.specs.pt_replying.pt_turning.sem_rows.pt_host.HeapHost.{heap_host}
+use Rattle.pt_arising.specs.pt_replying.pt_turning.sem_rows.heap_rows.Views.{slots_view}
+use Rattle.pt_arising.specs.pt_replying.pt_turning.sem_rows.heap_rows.Told.{told}
+use Rattle.pt_arising.specs.pt_replying.pt_turning.sem_rows.declared.heap_rows.progress.Progress.{Progress}
+use Rattle.pt_arising.specs.pt_replying.pt_turning.sem_rows.declared.heap_rows.progress.Progress.TheVariants as progress
+use Rattle.pt_arising.specs.pt_replying.pt_turning.pt_telling.pt_transfers.pt_machine_state.declared.blocks.BlockCode.{BlockCode}
+use Rattle.pt_arising.specs.pt_replying.pt_turning.pt_telling.pt_transfers.pt_machine_state.Blocks.{IsBlockOf}
+use Rattle.pt_arising.specs.pt_replying.pt_turning.pt_telling.pt_transfers.pt_machine_state.Views.{stores_of}
+use Rattle.pt_arising.specs.pt_replying.pt_turning.pt_telling.pt_run_state.pt_purposes.declared.standing.Standing.{Standing}
+use Rattle.pt_arising.specs.pt_replying.pt_turning.pt_telling.pt_run_state.pt_purposes.Seen.{block_of}
+use Rattle.pt_arising.specs.pt_replying.pt_turning.pt_telling.pt_run_state.pt_purposes.Asks.{told_of_call}
+use Rattle.pt_arising.specs.pt_replying.pt_turning.pt_telling.pt_run_state.pt_purposes.Openers.{Ways}
+use Rattle.pt_arising.specs.pt_replying.pt_turning.pt_telling.pt_run_state.declared.machine.Machine.{Machine as Held}
+use Rattle.pt_arising.specs.pt_replying.pt_turning.pt_telling.pt_run_state.Stands.{Stands, StandsAround}
+use Rattle.pt_arising.specs.pt_replying.pt_turning.pt_telling.Laws.{Comes}
+use Rattle.pt_arising.specs.pt_replying.pt_turning.Ways.{rows_at, state_at}
+use Rattle.pt_arising.specs.pt_replying.Replying.{decided_events, reply_told}
+use Rattle.pt_arising.specs.pt_replying.Laws.{IfBranches, IsTold}
 use Rattle.pt_answering.specs.declared.answering.Asked.{Asked}
 use Rattle.pt_answering.specs.declared.answering.Answered.TheVariants.{Goes, Further}
 use Rattle.pt_answering.specs.Answering.{AnsweredSo, given_of, moved, stands_by, answered, answer_writes}

@@ -1,19 +1,18 @@
 //! An instruction has its answer.
 ghost use Rattle.std.specs.Prelude.{◌≡◌, IfOk, OnOk};
-ghost use Rattle.pt_replying.specs.pt_turning.pt_telling.pt_transfers.pt_machine_state.Changes.{left_place};
-ghost use Rattle.pt_replying.specs.pt_turning.pt_telling.pt_transfers.pt_machine_state.Writing.{Adds};
-ghost use Rattle.pt_replying.specs.pt_turning.pt_telling.pt_transfers.pt_machine_state.declared.machine.Standing.TheVariants as code;
-ghost use Rattle.pt_replying.specs.pt_turning.Turning.{standing_of};
+ghost use Rattle.pt_arising.specs.pt_replying.pt_turning.pt_telling.pt_transfers.pt_machine_state.Changes.{left_place};
+ghost use Rattle.pt_arising.specs.pt_replying.pt_turning.pt_telling.pt_transfers.pt_machine_state.Writing.{Adds};
+ghost use Rattle.pt_arising.specs.pt_replying.pt_turning.pt_telling.pt_transfers.pt_machine_state.declared.machine.Standing.TheVariants as code;
+ghost use Rattle.pt_arising.specs.pt_replying.pt_turning.Turning.{standing_of};
 ghost use Rattle.pt_answering.specs.Answering.{answer_writes, answered, behind, goes, left_in, replied_there};
 
+use pt_arising::{
+    BlockCode, Called, CodeStanding, Decided, Given, Machine, Progress, Standing, Writes,
+    leave_place, print, reply,
+};
 use pt_base::{Memory, Pc};
 use pt_heap::{Completion, Value};
 use pt_pendings::Origin;
-use pt_replying::{
-    BlockCode, Called, CodeStanding, Decided, Given, Machine, Standing, Writes, leave_place, print,
-    reply,
-};
-use sem_rows::heap_rows::Progress;
 
 /// What is known of an ask as it is answered: what was called; what control tells of a value; whether
 /// it is an act; which exception was active in its activation; and from where a raise in place of a

@@ -5,9 +5,9 @@ ghost use Rattle.sem_code.specs.slots.Slots.{State};
 ghost use Rattle.sem_code_machine.specs.code_machine.CodeBlocks.{CodeBlocks};
 ghost use Rattle.sem_run.specs.run.Events.{Event};
 ghost use Rattle.sem_run.specs.run.Machine.{Machine};
-ghost use Rattle.pt_replying.specs.pt_turning.pt_telling.pt_run_state.pt_purposes.sem_rows.pt_host.World.{Program};
-ghost use Rattle.pt_replying.specs.pt_turning.pt_telling.pt_run_state.pt_purposes.Openers.{Ways};
-ghost use Rattle.pt_replying.specs.pt_turning.Ways.{IsOfCode};
+ghost use Rattle.pt_arising.specs.pt_replying.pt_turning.sem_rows.pt_host.World.{Program};
+ghost use Rattle.pt_arising.specs.pt_replying.pt_turning.pt_telling.pt_run_state.pt_purposes.Openers.{Ways};
+ghost use Rattle.pt_arising.specs.pt_replying.pt_turning.Ways.{IsOfCode};
 ghost use Rattle.pt_answering.specs.Laws.{AnswersAsRun};
 
 /// What an instruction's row tells goes on in the machine as in each run for which it stands, over any

@@ -36,44 +36,44 @@ use Rattle.sem_run.specs.run.Step.{of_call}
 use Rattle.sem_run.specs.transitions.Successors as to
 use Rattle.sem_steps.specs.Steps.{minded}
 use Rattle.sem_steps.proofs.Moves.{join}
-use Rattle.pt_failing.proofs.pt_arising.pt_replying.pt_turning.pt_telling.Asks.{writes-append}
+use Rattle.law_doing.proofs.pt_telling.Asks.{writes-append}
 use Rattle.pt_pendings.specs.declared.reply.Callee.{Callee}
 use Rattle.pt_pendings.specs.declared.pending.Pending.TheVariants.{Doing}
-use Rattle.pt_failing.specs.pt_arising.pt_replying.pt_turning.pt_telling.pt_run_state.pt_purposes.sem_rows.pt_host.World.{Names, World, Stores, Program}
-use Rattle.pt_failing.specs.pt_arising.pt_replying.pt_turning.pt_telling.pt_run_state.pt_purposes.sem_rows.pt_host.HeapHost.{heap_host}
-use Rattle.pt_failing.specs.pt_arising.pt_replying.pt_turning.pt_telling.pt_run_state.pt_purposes.sem_rows.heap_rows.Leads.{HeapSuccessor, IsStuck, giving}
-use Rattle.pt_failing.specs.pt_arising.pt_replying.pt_turning.pt_telling.pt_run_state.pt_purposes.sem_rows.heap_rows.Told.{told, KeepsActive}
-use Rattle.pt_failing.specs.pt_arising.pt_replying.pt_turning.pt_telling.pt_run_state.pt_purposes.sem_rows.heap_rows.Views.{slots_view, slot_view, names_view}
-use Rattle.pt_failing.specs.pt_arising.pt_replying.pt_turning.pt_telling.pt_run_state.pt_purposes.sem_rows.declared.heap_rows.progress.Progress.{Progress}
-use Rattle.pt_failing.specs.pt_arising.pt_replying.pt_turning.pt_telling.pt_run_state.pt_purposes.sem_rows.declared.heap_rows.progress.Progress.TheVariants as progress
-use Rattle.pt_failing.specs.pt_arising.pt_replying.pt_turning.pt_telling.pt_transfers.pt_machine_state.declared.blocks.BlockCode.{BlockCode}
-use Rattle.pt_failing.specs.pt_arising.pt_replying.pt_turning.pt_telling.pt_transfers.pt_machine_state.declared.blocks.Blocks.{Blocks}
-use Rattle.pt_failing.specs.pt_arising.pt_replying.pt_turning.pt_telling.pt_transfers.pt_machine_state.Blocks.{IsBlockOf, AreBlocksOf}
-use Rattle.pt_failing.specs.pt_arising.pt_replying.pt_turning.pt_telling.pt_transfers.pt_machine_state.Laws.{RowDone, row_at}
-use Rattle.pt_failing.specs.pt_arising.pt_replying.pt_turning.pt_telling.pt_transfers.pt_machine_state.Views.{IsPlain, stores_of}
-use Rattle.pt_failing.proofs.pt_arising.pt_replying.pt_turning.pt_telling.pt_transfers.pt_machine_state.PlainLemmas.{Plainly, plain_instruction}
-use Rattle.pt_failing.specs.pt_arising.pt_replying.pt_turning.pt_telling.pt_run_state.pt_purposes.declared.standing.Standing.TheVariants.{AtPlace}
-use Rattle.pt_failing.specs.pt_arising.pt_replying.pt_turning.pt_telling.pt_run_state.pt_purposes.Seen.{block_of}
-use Rattle.pt_failing.specs.pt_arising.pt_replying.pt_turning.pt_telling.pt_run_state.pt_purposes.Asks.{told_by_control, told_of_call}
-use Rattle.pt_failing.specs.pt_arising.pt_replying.pt_turning.pt_telling.pt_run_state.pt_purposes.Openers.{Ways, origin_in, given_in}
-use Rattle.pt_failing.specs.pt_arising.pt_replying.pt_turning.pt_telling.pt_run_state.declared.machine.Machine.{Machine as Held}
-use Rattle.pt_failing.specs.pt_arising.pt_replying.pt_turning.pt_telling.pt_run_state.Stands.{IsToTell, StandsAround}
-use Rattle.pt_failing.specs.pt_arising.pt_replying.pt_turning.pt_telling.Laws.{Comes}
-use Rattle.pt_failing.specs.pt_arising.pt_replying.pt_turning.Ways.{IsOfCode, rows_of, state_at}
-use Rattle.pt_failing.specs.pt_arising.pt_replying.pt_turning.Laws.{waiting}
-use Rattle.pt_failing.specs.pt_arising.pt_replying.Replying.{decided_events, given_told, reply_told}
-use Rattle.pt_failing.specs.pt_arising.pt_replying.Laws.{IfBranches, IsTold}
-use Rattle.pt_failing.specs.Laws.{IsFailing}
-use Rattle.pt_answering.specs.declared.answering.Asked.{Asked}
-use Rattle.pt_answering.specs.Answering.{given_of, moved, stands_by, answer_writes}
-use Rattle.pt_answering.specs.Laws.{by_itself, IfGiven, TellsOf, IsAnswered}
+use Rattle.law_doing.specs.pt_answering.pt_opening.pt_host.World.{Names, World, Stores, Program}
+use Rattle.law_doing.specs.pt_answering.pt_opening.pt_host.HeapHost.{heap_host}
+use Rattle.law_doing.specs.pt_machine_state.pt_code_facts.sem_rows.heap_rows.Leads.{HeapSuccessor, IsStuck}
+use Rattle.law_doing.specs.pt_machine_state.pt_code_facts.sem_rows.heap_rows.Told.{told, KeepsActive}
+use Rattle.law_doing.specs.pt_machine_state.pt_code_facts.sem_rows.heap_rows.Views.{slots_view, slot_view, names_view}
+use Rattle.law_doing.specs.pt_machine_state.pt_code_facts.sem_rows.declared.heap_rows.progress.Progress.{Progress}
+use Rattle.law_doing.specs.pt_machine_state.pt_code_facts.sem_rows.declared.heap_rows.progress.Progress.TheVariants as progress
+use Rattle.law_doing.specs.pt_machine_state.declared.blocks.BlockCode.{BlockCode}
+use Rattle.law_doing.specs.pt_machine_state.declared.blocks.Blocks.{Blocks}
+use Rattle.law_doing.specs.pt_machine_state.Blocks.{IsBlockOf, AreBlocksOf}
+use Rattle.law_doing.specs.pt_machine_state.Laws.{RowDone, row_at}
+use Rattle.law_doing.specs.pt_machine_state.Views.{IsPlain, stores_of}
+use Rattle.law_doing.proofs.pt_telling.pt_transfers.pt_machine_state.PlainLemmas.{Plainly, plain_instruction}
+use Rattle.law_doing.specs.pt_answering.pt_opening.pt_purposes.declared.standing.Standing.TheVariants.{AtPlace}
+use Rattle.law_doing.specs.pt_answering.pt_opening.pt_purposes.Seen.{block_of}
+use Rattle.law_doing.specs.pt_answering.pt_opening.pt_purposes.Asks.{told_by_control, told_of_call}
+use Rattle.law_doing.specs.pt_answering.pt_opening.pt_purposes.Openers.{Ways, origin_in}
+use Rattle.law_doing.specs.pt_answering.pt_opening.pt_run_state.declared.machine.Machine.{Machine as Held}
+use Rattle.law_doing.specs.pt_answering.pt_opening.pt_run_state.Stands.{IsToTell, StandsAround}
+use Rattle.law_doing.specs.pt_answering.pt_opening.pt_telling.Laws.{Comes}
+use Rattle.law_doing.specs.pt_answering.pt_replying.pt_turning.Ways.{IsOfCode, rows_of, state_at}
+use Rattle.law_doing.specs.pt_answering.pt_replying.pt_turning.Laws.{waiting}
+use Rattle.law_doing.specs.pt_answering.pt_replying.Replying.{decided_events, given_told, reply_told}
+use Rattle.law_doing.specs.pt_answering.pt_replying.Laws.{IfBranches, IsTold}
+use Rattle.law_doing.specs.pt_failing.Laws.{IsFailing}
+use Rattle.law_doing.specs.pt_answering.declared.answering.Asked.{Asked}
+use Rattle.law_doing.specs.pt_answering.Answering.{given_of, moved, stands_by, answer_writes}
+use Rattle.law_doing.specs.pt_answering.Laws.{by_itself, IfGiven, TellsOf, IsAnswered}
 use Rattle.law_doing.specs.Laws.{IsDone}
 use Rattle.law_doing.proofs.Acts.{acts_as_run}
 use Rattle.pt_applying.specs.declared.applying.Applied.{Applied}
 use Rattle.pt_applying.specs.Applying.{failing_of, AppliesSo}
 use Rattle.pt_applying.specs.Laws.{IsApplied, BehindApplied, goes_on, leaves, lacks}
 use Rattle.pt_applying.specs.Known.{CalledSo}
-use Rattle.pt_applying.specs.Acting.{RaisesAsItself, IfCalls, IfLeaves, GivesOn, behind_act, IsAskedSo, ActsApply}
+use Rattle.pt_applying.specs.Acting.{RaisesAsItself, IfLeaves, GivesOn, behind_act, IsAskedSo, ActsApply}
 use Rattle.pt_applying.proofs.Known.{tells_instruction}
 use Rattle.pt_applying.proofs.AsksTold.{TellsTurn, calls-so, raises-told, untold, gives-so}
 use Rattle.pt_applying.proofs.Applies.{applies_as_run}
@@ -338,39 +338,38 @@ module _ {S : Type 0} (program : Program) (code : CodeBlocks Value) (machine : M
   applied : (p : Progress) → RaisesAsItself i.instr p → IfLeaves p ((given_told (given_of d) ≡ []) × (i.instr ≡ instr.Match → ⊥))
       → KeepsActive p m.code.here.slots done.slots → Tells p (T.act is_done.mark q.ask q.next)
       → IfGiven p (Destined (there_of p))
-      → IfCalls p ((v : Value) → (given_in ways k.code.here).value v ≡ Some (embed (giving obj i over v)))
       → Told p → Is p
-  applied progress.Next again none same tells dest given leads = answers progress.Next leads (record {
+  applied progress.Next again none same tells dest leads = answers progress.Next leads (record {
     call = λ x e. call-told (got x);
     control = tells.1.0;
     destination = destined (there_of progress.Next) dest;
     lands = lands-at next.0 tells.1.0;
   })
-  applied (progress.Goto pc) again none same tells dest given leads = answers (progress.Goto pc) leads (record {
+  applied (progress.Goto pc) again none same tells dest leads = answers (progress.Goto pc) leads (record {
     call = λ x e. call-told (got x);
     control = tells.1.0;
     destination = destined (there_of (progress.Goto pc)) dest;
     lands = lands-at pc.0 tells.1.0;
   })
-  applied (progress.Print x) again none same tells dest given leads = answers (progress.Print x) leads (record {
+  applied (progress.Print x) again none same tells dest leads = answers (progress.Print x) leads (record {
     call = λ x e. call-told (got x);
     control = tells.1.0;
     destination = destined (there_of (progress.Print x)) dest;
     lands = lands-at next.0 tells.1.0;
   })
-  applied (progress.Leaves how) again none same tells dest given leads = answers (progress.Leaves how) leads (record {
+  applied (progress.Leaves how) again none same tells dest leads = answers (progress.Leaves how) leads (record {
     call = λ x e. call-told (got x);
     control = tells.1.0;
     destination = destined (there_of (progress.Leaves how)) dest;
     lands = lands-nowhere (there_of (progress.Leaves how)) (slots_view (moved block next (progress.Leaves how) k).code.here.slots) none.0;
   })
-  applied (progress.Reraises e) again none same tells dest given leads = answers (progress.Reraises e) leads (record {
+  applied (progress.Reraises e) again none same tells dest leads = answers (progress.Reraises e) leads (record {
     call = λ x e. call-told (got x);
     control = tells.1.0;
     destination = destined (there_of (progress.Reraises e)) dest;
     lands = lands-nowhere (there_of (progress.Reraises e)) over none.0;
   })
-  applied (progress.Calls b hidden ls why) again none same tells dest given leads = record {
+  applied (progress.Calls b hidden ls why) again none same tells dest leads = record {
     around = around;
     active_is = active_is;
     keeps_active = same ∙ active-there;
@@ -380,10 +379,9 @@ module _ {S : Type 0} (program : Program) (code : CodeBlocks Value) (machine : M
       control = told-so (plain again) tells.1.1;
     };
     there = there;
-    given = given;
     leads = leads;
   }
-  applied progress.RaisesAgain again none same tells dest given leads = record {
+  applied progress.RaisesAgain again none same tells dest leads = record {
     around = around;
     active_is = active_is;
     tells = record {
@@ -396,11 +394,11 @@ module _ {S : Type 0} (program : Program) (code : CodeBlocks Value) (machine : M
     raises = is_done.takes.raises;
     leads = leads;
   }
-  applied (progress.Raises e) again none same tells dest given leads = fails (progress.Raises e) leads (plain again)
-  applied (progress.Fails c a) again none same tells dest given leads = fails (progress.Fails c a) leads (plain again)
-  applied (progress.FailsSaying c x) again none same tells dest given leads = fails (progress.FailsSaying c x) leads (plain again)
-  applied (progress.Outside what) again none same tells dest given leads = fails (progress.Outside what) leads (plain again)
-  applied progress.Lacks again none same tells dest given leads = tt
+  applied (progress.Raises e) again none same tells dest leads = fails (progress.Raises e) leads (plain again)
+  applied (progress.Fails c a) again none same tells dest leads = fails (progress.Fails c a) leads (plain again)
+  applied (progress.FailsSaying c x) again none same tells dest leads = fails (progress.FailsSaying c x) leads (plain again)
+  applied (progress.Outside what) again none same tells dest leads = fails (progress.Outside what) leads (plain again)
+  applied progress.Lacks again none same tells dest leads = tt
 
   comes-behind : (ws : List Write) (u : Run) → Comes program machine ways minds n t ws u
       → Comes program machine ways minds n s ws u
@@ -425,7 +423,7 @@ module _ {S : Type 0} (program : Program) (code : CodeBlocks Value) (machine : M
     by-row (inl stuck) = inl (only-given row stuck (leads-by row refl))
     by-row (inr e) = inr (behind (answer_writes done.progress) r new
         (applies_as_run program code machine embed ways is_of minds n k q i next done.progress d block t
-        (applied done.progress asked.again asked.leaves keeps turn-tells asked.destination asked.given (leads-by _ e))
+        (applied done.progress asked.again asked.leaves keeps turn-tells asked.destination (leads-by _ e))
         known blocks are r new did))
 
 pub acts_apply : {S : Type 0} (program : Program) (code : CodeBlocks Value) (machine : Machine S Value)

@@ -3,6 +3,7 @@ use Rattle.std.proofs.Common.{◌≡◌, ◌∙◌, ℕ, List, [], Bool, false, 
 use Rattle.pt_base.specs.declared.numbers.Pc.{Pc}
 use Rattle.pt_heap.specs.declared.value.Value.{Value}
 use Rattle.pt_code.specs.View.{Ins}
+use Rattle.pt_frames.specs.declared.purpose.Purpose.{Purpose as For}
 use Rattle.sem_code.specs.slots.Slots.{State as CodeState}
 use Rattle.sem_code_machine.specs.code_machine.CodeBlocks.{CodeBlocks}
 use Rattle.sem_run.specs.run.Machine.{Machine}
@@ -11,33 +12,33 @@ use Rattle.sem_run.specs.run.State.{State, OpenAsk}
 use Rattle.sem_run.specs.run.Run.{Write}
 use Rattle.sem_run.specs.run.Views.{here_of}
 use Rattle.sem_steps.specs.Steps.{stays}
-use Rattle.pt_failing.specs.pt_arising.pt_replying.pt_turning.pt_telling.pt_run_state.pt_purposes.sem_rows.pt_host.World.{Names, World, Program}
-use Rattle.pt_failing.specs.pt_arising.pt_replying.pt_turning.pt_telling.pt_run_state.pt_purposes.sem_rows.declared.heap_rows.progress.Progress.{Progress}
-use Rattle.pt_failing.specs.pt_arising.pt_replying.pt_turning.pt_telling.pt_run_state.pt_purposes.sem_rows.declared.heap_rows.progress.Progress.TheVariants as progress
-use Rattle.pt_failing.specs.pt_arising.pt_replying.pt_turning.pt_telling.pt_transfers.pt_machine_state.declared.blocks.BlockCode.{BlockCode}
-use Rattle.pt_failing.specs.pt_arising.pt_replying.pt_turning.pt_telling.pt_transfers.pt_machine_state.declared.blocks.Blocks.{Blocks}
-use Rattle.pt_failing.specs.pt_arising.pt_replying.pt_turning.pt_telling.pt_transfers.pt_machine_state.Blocks.{IsBlockOf, AreBlocksOf}
-use Rattle.pt_failing.specs.pt_arising.pt_replying.pt_turning.pt_telling.pt_run_state.pt_purposes.Seen.{block_of}
-use Rattle.pt_failing.specs.pt_arising.pt_replying.pt_turning.pt_telling.pt_run_state.pt_purposes.Openers.{Ways}
-use Rattle.pt_failing.specs.pt_arising.pt_replying.pt_turning.pt_telling.pt_run_state.declared.machine.Machine.{Machine as Held}
-use Rattle.pt_failing.specs.pt_arising.pt_replying.pt_turning.Ways.{IsOfCode}
-use Rattle.pt_answering.specs.declared.answering.Asked.{Asked}
-use Rattle.pt_answering.specs.declared.answering.Answered.{Answered}
-use Rattle.pt_answering.specs.declared.answering.Answered.TheVariants as answer
-use Rattle.pt_answering.specs.Answering.{AnsweredSo, answered, answer_writes}
-use Rattle.pt_answering.specs.Laws as answers
-use Rattle.pt_answering.specs.Laws.{by_itself, BehindAnswer}
-use Rattle.pt_answering.proofs.Answers.{answers_as_run}
-use Rattle.pt_failing.specs.declared.failing.Failed.{Failed}
-use Rattle.pt_failing.specs.declared.failing.Failed.TheVariants as failed
-use Rattle.pt_failing.specs.declared.failing.Failing.{Failing}
-use Rattle.pt_failing.specs.Laws as fails
-use Rattle.pt_failing.specs.Laws.{BehindFailure}
-use Rattle.pt_failing.proofs.Fails.{fails_as_run}
-use Rattle.pt_calling.specs.Laws as calls
-use Rattle.pt_calling.specs.Laws.{BehindCall}
-use Rattle.pt_calling.proofs.Calls.{calls_as_run}
-use Rattle.pt_reraising.proofs.Raises.{raises_again_as_run}
+use Rattle.law_doing.specs.pt_answering.pt_opening.pt_host.World.{Names, World, Program}
+use Rattle.law_doing.specs.pt_machine_state.pt_code_facts.sem_rows.declared.heap_rows.progress.Progress.{Progress}
+use Rattle.law_doing.specs.pt_machine_state.pt_code_facts.sem_rows.declared.heap_rows.progress.Progress.TheVariants as progress
+use Rattle.law_doing.specs.pt_machine_state.declared.blocks.BlockCode.{BlockCode}
+use Rattle.law_doing.specs.pt_machine_state.declared.blocks.Blocks.{Blocks}
+use Rattle.law_doing.specs.pt_machine_state.Blocks.{IsBlockOf, AreBlocksOf}
+use Rattle.law_doing.specs.pt_answering.pt_opening.pt_purposes.Seen.{block_of}
+use Rattle.law_doing.specs.pt_answering.pt_opening.pt_purposes.Openers.{Ways}
+use Rattle.law_doing.specs.pt_answering.pt_opening.pt_run_state.declared.machine.Machine.{Machine as Held}
+use Rattle.law_doing.specs.pt_answering.pt_replying.pt_turning.Ways.{IsOfCode}
+use Rattle.law_doing.specs.pt_answering.declared.answering.Asked.{Asked}
+use Rattle.law_doing.specs.pt_answering.declared.answering.Answered.{Answered}
+use Rattle.law_doing.specs.pt_answering.declared.answering.Answered.TheVariants as answer
+use Rattle.law_doing.specs.pt_answering.Answering.{AnsweredSo, answered, answer_writes}
+use Rattle.law_doing.specs.pt_answering.Laws as answers
+use Rattle.law_doing.specs.pt_answering.Laws.{by_itself, BehindAnswer}
+use Rattle.law_doing.proofs.pt_answering.Answers.{answers_as_run}
+use Rattle.law_doing.specs.pt_failing.declared.failing.Failed.{Failed}
+use Rattle.law_doing.specs.pt_failing.declared.failing.Failed.TheVariants as failed
+use Rattle.law_doing.specs.pt_failing.declared.failing.Failing.{Failing}
+use Rattle.law_doing.specs.pt_failing.Laws as fails
+use Rattle.law_doing.specs.pt_failing.Laws.{BehindFailure}
+use Rattle.law_doing.proofs.pt_failing.Fails.{fails_as_run}
+use Rattle.law_doing.specs.pt_calling.Laws as calls
+use Rattle.law_doing.specs.pt_calling.Laws.{BehindCall}
+use Rattle.law_doing.proofs.pt_calling.Calls.{calls_as_run}
+use Rattle.law_doing.proofs.pt_reraising.Raises.{raises_again_as_run}
 use Rattle.pt_applying.specs.declared.applying.Applied.{Applied}
 use Rattle.pt_applying.specs.declared.applying.Applied.TheVariants as applied
 use Rattle.pt_applying.specs.Applying.{failing_of, of_failed, AppliesBehind, AppliesSo}
@@ -80,11 +81,12 @@ module _ {S : Type 0} (program : Program) (code : CodeBlocks Value) (machine : M
       leaves what k s (record { outputs = []; steps = stays s; written = refl }) e
   of-failure _ _ (fails.further p k) = lacks k
 
-  of-call : (x : Failed) (new : Held)
-      → BehindCall program code machine embed ways minds n by_itself s x new
+  of-call : (why : For) (x : Failed) (new : Held)
+      → BehindCall program code machine embed ways minds n by_itself why s x new
       → Behind [] (of_failed x) new
-  of-call _ _ (calls.goes_on event k t c stands) = goes_on event k t c stands
-  of-call _ _ (calls.leaves what k t c e) = leaves what k t c e
+  of-call why _ _ (calls.goes_on event k t c stands) = goes_on event k t c stands
+  of-call why _ _ (calls.leaves what k t c e) = leaves what k t c e
+  of-call why _ _ (calls.further p k item) = lacks k
 
   abbrev Is : Progress → Type 0
   Is p = IsApplied program code machine embed ways minds n m q i next p d block s
@@ -109,7 +111,7 @@ module _ {S : Type 0} (program : Program) (code : CodeBlocks Value) (machine : M
   applies (progress.Print t) is r new did = replies (progress.Print t) is tt r new did
   applies (progress.Calls b hidden ls why) is r new did =
       subst (λ x. Behind [] x new) (sym did.1.0)
-      (of-call did.0 new (calls_as_run program code machine embed ways is_of minds n by_itself never-ends m q i b hidden ls why f s is blocks are block known did.0 new did.1.1))
+      (of-call why did.0 new (calls_as_run program code machine embed ways is_of minds n by_itself never-ends m q i b hidden ls why f s is blocks are block known did.0 new did.1.1))
   applies (progress.Raises e) is r new did =
       subst (λ x. Behind [] x new) (sym did.1.0)
       (of-failure did.0 new (fails_as_run program code machine embed ways is_of minds n by_itself m q i (progress.Raises e) f s is block known did.0 new did.1.1))

@@ -10,16 +10,16 @@ use Rattle.law_takes.specs.Taking.{Gives}
 use Rattle.sem_run.specs.run.Step.{of_call}
 use Rattle.pt_pendings.specs.declared.reply.Callee.{Callee}
 use Rattle.pt_pendings.specs.Views.{callee_view}
-use Rattle.pt_failing.specs.pt_arising.pt_replying.pt_turning.pt_telling.pt_run_state.pt_purposes.declared.purpose.Called.{Called}
-use Rattle.pt_failing.specs.pt_arising.pt_replying.pt_turning.pt_telling.pt_run_state.pt_purposes.Asks.{told_of_call, told_by_control}
-use Rattle.pt_failing.specs.pt_arising.pt_replying.pt_turning.pt_telling.pt_run_state.pt_purposes.sem_rows.declared.heap_rows.progress.Progress.{Progress}
-use Rattle.pt_failing.specs.pt_arising.pt_replying.declared.replying.Decided.{Decided}
-use Rattle.pt_failing.specs.pt_arising.pt_replying.declared.replying.Decided.TheVariants as decided
-use Rattle.pt_failing.specs.pt_arising.pt_replying.Replying.{decided_events, given_told, reply_told}
-use Rattle.pt_failing.specs.pt_arising.pt_replying.Laws.{IsTold}
-use Rattle.pt_answering.specs.declared.answering.Asked.{Asked}
-use Rattle.pt_answering.specs.Answering.{given_of}
-use Rattle.pt_answering.specs.Laws.{IfGiven}
+use Rattle.law_doing.specs.pt_answering.pt_opening.pt_purposes.declared.purpose.Called.{Called}
+use Rattle.law_doing.specs.pt_answering.pt_opening.pt_purposes.Asks.{told_of_call, told_by_control}
+use Rattle.law_doing.specs.pt_machine_state.pt_code_facts.sem_rows.declared.heap_rows.progress.Progress.{Progress}
+use Rattle.law_doing.specs.pt_answering.pt_replying.declared.replying.Decided.{Decided}
+use Rattle.law_doing.specs.pt_answering.pt_replying.declared.replying.Decided.TheVariants as decided
+use Rattle.law_doing.specs.pt_answering.pt_replying.Replying.{decided_events, given_told, reply_told}
+use Rattle.law_doing.specs.pt_answering.pt_replying.Laws.{IsTold}
+use Rattle.law_doing.specs.pt_answering.declared.answering.Asked.{Asked}
+use Rattle.law_doing.specs.pt_answering.Answering.{given_of}
+use Rattle.law_doing.specs.pt_answering.Laws.{IfGiven}
 use Rattle.pt_applying.specs.Known.{CalledSo}
 use Rattle.pt_applying.specs.Acting.{IfCalls}
 

@@ -1,17 +1,17 @@
 -- What is left behind an answer is done.
 use Rattle.std.proofs.Common.{◌≡◌, Bool, refl, sym, subst}
 use Rattle.pt_base.specs.declared.numbers.Pc.{Pc}
-use Rattle.pt_failing.specs.pt_arising.pt_replying.pt_turning.pt_telling.pt_transfers.pt_machine_state.declared.blocks.BlockCode.{BlockCode}
-use Rattle.pt_failing.specs.pt_arising.pt_replying.pt_turning.pt_telling.pt_transfers.pt_machine_state.declared.blocks.Blocks.{Blocks}
-use Rattle.pt_failing.specs.pt_arising.pt_replying.pt_turning.pt_telling.pt_transfers.pt_machine_state.declared.machine.Standing.TheVariants as code
-use Rattle.pt_failing.specs.pt_arising.pt_replying.pt_turning.pt_telling.pt_run_state.pt_purposes.sem_rows.declared.heap_rows.progress.Progress.{Progress}
-use Rattle.pt_failing.specs.pt_arising.pt_replying.pt_turning.pt_telling.pt_run_state.pt_purposes.sem_rows.declared.heap_rows.progress.Progress.TheVariants as progress
-use Rattle.pt_failing.specs.pt_arising.pt_replying.pt_turning.pt_telling.pt_run_state.declared.machine.Machine.{Machine}
-use Rattle.pt_answering.specs.declared.answering.Asked.{Asked}
-use Rattle.pt_answering.specs.declared.answering.Answered.{Answered}
-use Rattle.pt_answering.specs.declared.answering.Answered.TheVariants as answer
-use Rattle.pt_answering.specs.Answering.{AnsweredSo, answered}
-use Rattle.pt_failing.specs.declared.failing.Failed.{Failed}
+use Rattle.law_doing.specs.pt_machine_state.declared.blocks.BlockCode.{BlockCode}
+use Rattle.law_doing.specs.pt_machine_state.declared.blocks.Blocks.{Blocks}
+use Rattle.law_doing.specs.pt_machine_state.declared.machine.Standing.TheVariants as code
+use Rattle.law_doing.specs.pt_machine_state.pt_code_facts.sem_rows.declared.heap_rows.progress.Progress.{Progress}
+use Rattle.law_doing.specs.pt_machine_state.pt_code_facts.sem_rows.declared.heap_rows.progress.Progress.TheVariants as progress
+use Rattle.law_doing.specs.pt_answering.pt_opening.pt_run_state.declared.machine.Machine.{Machine}
+use Rattle.law_doing.specs.pt_answering.declared.answering.Asked.{Asked}
+use Rattle.law_doing.specs.pt_answering.declared.answering.Answered.{Answered}
+use Rattle.law_doing.specs.pt_answering.declared.answering.Answered.TheVariants as answer
+use Rattle.law_doing.specs.pt_answering.Answering.{AnsweredSo, answered}
+use Rattle.law_doing.specs.pt_failing.declared.failing.Failed.{Failed}
 use Rattle.pt_applying.specs.declared.applying.Applied.TheVariants.{Goes}
 use Rattle.pt_applying.specs.Applying.{failing_of, of_failed, DoesSo, AppliesBehind, AppliesSo}
 

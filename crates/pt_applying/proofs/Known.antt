@@ -19,18 +19,18 @@ use Rattle.sem_code.specs.slots.CodeObject.{CodeObject}
 use Rattle.sem_code.specs.slots.Pops.{Next, values, cells, one, two, three, an_iterator, movable, an_exception, a_completion, an_exit, the_value}
 use Rattle.sem_code.specs.slots.Steps.{unmarked, known, gives, gives_known, branches, lets_go}
 use Rattle.sem_code.specs.slots.Instructions.{all_positional, last_named, role_of, perform}
-use Rattle.pt_failing.specs.pt_arising.pt_replying.pt_turning.pt_telling.pt_run_state.pt_purposes.sem_rows.heap_rows.Leads.{HasHeapTruths}
-use Rattle.pt_failing.specs.pt_arising.pt_replying.pt_turning.pt_telling.pt_run_state.pt_purposes.sem_rows.heap_rows.Views.{slots_view}
-use Rattle.pt_failing.specs.pt_arising.pt_replying.pt_turning.pt_telling.pt_run_state.pt_purposes.sem_rows.declared.heap_rows.progress.Progress.{Progress}
-use Rattle.pt_failing.specs.pt_arising.pt_replying.pt_turning.pt_telling.pt_run_state.pt_purposes.sem_rows.declared.heap_rows.progress.Progress.TheVariants as progress
-use Rattle.pt_failing.specs.pt_arising.pt_replying.pt_turning.pt_telling.pt_run_state.pt_purposes.Asks.{told_by_control}
-use Rattle.pt_failing.specs.pt_arising.pt_replying.pt_turning.pt_telling.pt_run_state.pt_purposes.declared.purpose.Called.{Called}
-use Rattle.pt_failing.specs.pt_arising.pt_replying.declared.replying.Decided.{Decided}
-use Rattle.pt_failing.specs.pt_arising.pt_replying.declared.replying.Decided.TheVariants as decided
-use Rattle.pt_failing.specs.pt_arising.pt_replying.Replying.{decided_events}
+use Rattle.law_doing.specs.pt_machine_state.pt_code_facts.sem_rows.heap_rows.Leads.{HasHeapTruths}
+use Rattle.law_doing.specs.pt_machine_state.pt_code_facts.sem_rows.heap_rows.Views.{slots_view}
+use Rattle.law_doing.specs.pt_machine_state.pt_code_facts.sem_rows.declared.heap_rows.progress.Progress.{Progress}
+use Rattle.law_doing.specs.pt_machine_state.pt_code_facts.sem_rows.declared.heap_rows.progress.Progress.TheVariants as progress
+use Rattle.law_doing.specs.pt_answering.pt_opening.pt_purposes.Asks.{told_by_control}
+use Rattle.law_doing.specs.pt_answering.pt_opening.pt_purposes.declared.purpose.Called.{Called}
+use Rattle.law_doing.specs.pt_answering.pt_replying.declared.replying.Decided.{Decided}
+use Rattle.law_doing.specs.pt_answering.pt_replying.declared.replying.Decided.TheVariants as decided
+use Rattle.law_doing.specs.pt_answering.pt_replying.Replying.{decided_events}
 use Rattle.pt_pendings.specs.declared.reply.Callee.{Callee}
-use Rattle.pt_answering.specs.declared.answering.Asked.{Asked}
-use Rattle.pt_answering.specs.Laws.{IfGiven}
+use Rattle.law_doing.specs.pt_answering.declared.answering.Asked.{Asked}
+use Rattle.law_doing.specs.pt_answering.Laws.{IfGiven}
 use Rattle.pt_applying.specs.Known.{CalledSo, HasSilentExtras, value_at, call_of, known_call, tested_in, handled_by, is_decision, known_decision}
 use Rattle.pt_applying.specs.Acting.{IfCalls}
 use Rattle.pt_applying.proofs.AsksTold.{TellsTurn}

@@ -17,28 +17,27 @@ use Rattle.sem_run.specs.run.Views.{here_of}
 use Rattle.sem_run.specs.transitions.Successors.{behind_yield}
 use Rattle.pt_pendings.specs.declared.reply.Callee.{Callee}
 use Rattle.pt_pendings.specs.declared.pending.Pending.TheVariants.{Doing}
-use Rattle.pt_failing.specs.pt_arising.pt_replying.pt_turning.pt_telling.pt_run_state.pt_purposes.sem_rows.pt_host.World.{Names, World, Program}
-use Rattle.pt_failing.specs.pt_arising.pt_replying.pt_turning.pt_telling.pt_run_state.pt_purposes.sem_rows.heap_rows.Leads.{HeapSuccessor, giving}
-use Rattle.pt_failing.specs.pt_arising.pt_replying.pt_turning.pt_telling.pt_run_state.pt_purposes.sem_rows.heap_rows.Told.{KeepsActive}
-use Rattle.pt_failing.specs.pt_arising.pt_replying.pt_turning.pt_telling.pt_run_state.pt_purposes.sem_rows.heap_rows.Views.{slots_view}
-use Rattle.pt_failing.specs.pt_arising.pt_replying.pt_turning.pt_telling.pt_run_state.pt_purposes.sem_rows.declared.heap_rows.progress.Progress.{Progress}
-use Rattle.pt_failing.specs.pt_arising.pt_replying.pt_turning.pt_telling.pt_run_state.pt_purposes.sem_rows.declared.heap_rows.progress.Progress.TheVariants as progress
-use Rattle.pt_failing.specs.pt_arising.pt_replying.pt_turning.pt_telling.pt_transfers.pt_machine_state.declared.blocks.BlockCode.{BlockCode}
-use Rattle.pt_failing.specs.pt_arising.pt_replying.pt_turning.pt_telling.pt_transfers.pt_machine_state.declared.blocks.Blocks.{Blocks}
-use Rattle.pt_failing.specs.pt_arising.pt_replying.pt_turning.pt_telling.pt_transfers.pt_machine_state.Blocks.{IsBlockOf, AreBlocksOf}
-use Rattle.pt_failing.specs.pt_arising.pt_replying.pt_turning.pt_telling.pt_transfers.pt_machine_state.Laws.{RowDone, behind_row, row_at, IsRow}
-use Rattle.pt_failing.specs.pt_arising.pt_replying.pt_turning.pt_telling.pt_run_state.pt_purposes.declared.standing.Standing.TheVariants.{AtPlace}
-use Rattle.pt_failing.specs.pt_arising.pt_replying.pt_turning.pt_telling.pt_run_state.pt_purposes.Seen.{block_of}
-use Rattle.pt_failing.specs.pt_arising.pt_replying.pt_turning.pt_telling.pt_run_state.pt_purposes.Openers.{Ways, origin_in, given_in}
-use Rattle.pt_failing.specs.pt_arising.pt_replying.pt_turning.pt_telling.pt_run_state.declared.machine.Machine.{Machine as Held}
-use Rattle.pt_failing.specs.pt_arising.pt_replying.pt_turning.pt_telling.pt_run_state.Stands.{IsToTell}
-use Rattle.pt_failing.specs.pt_arising.pt_replying.pt_turning.Ways.{state_at}
-use Rattle.pt_failing.specs.pt_arising.pt_replying.pt_turning.Laws.{waiting}
-use Rattle.pt_failing.specs.pt_arising.pt_replying.Replying.{given_told}
-use Rattle.pt_failing.specs.pt_arising.pt_replying.Laws.{IfBranches}
-use Rattle.pt_answering.specs.declared.answering.Asked.{Asked}
-use Rattle.pt_answering.specs.Answering.{given_of, moved, stands_by, answer_writes}
-use Rattle.pt_answering.specs.Laws.{IfGiven}
+use Rattle.law_doing.specs.pt_answering.pt_opening.pt_host.World.{Names, World, Program}
+use Rattle.law_doing.specs.pt_machine_state.pt_code_facts.sem_rows.heap_rows.Leads.{HeapSuccessor}
+use Rattle.law_doing.specs.pt_machine_state.pt_code_facts.sem_rows.heap_rows.Told.{KeepsActive}
+use Rattle.law_doing.specs.pt_machine_state.pt_code_facts.sem_rows.declared.heap_rows.progress.Progress.{Progress}
+use Rattle.law_doing.specs.pt_machine_state.pt_code_facts.sem_rows.declared.heap_rows.progress.Progress.TheVariants as progress
+use Rattle.law_doing.specs.pt_machine_state.declared.blocks.BlockCode.{BlockCode}
+use Rattle.law_doing.specs.pt_machine_state.declared.blocks.Blocks.{Blocks}
+use Rattle.law_doing.specs.pt_machine_state.Blocks.{IsBlockOf, AreBlocksOf}
+use Rattle.law_doing.specs.pt_machine_state.Laws.{RowDone, behind_row, row_at, IsRow}
+use Rattle.law_doing.specs.pt_answering.pt_opening.pt_purposes.declared.standing.Standing.TheVariants.{AtPlace}
+use Rattle.law_doing.specs.pt_answering.pt_opening.pt_purposes.Seen.{block_of}
+use Rattle.law_doing.specs.pt_answering.pt_opening.pt_purposes.Openers.{Ways, origin_in}
+use Rattle.law_doing.specs.pt_answering.pt_opening.pt_run_state.declared.machine.Machine.{Machine as Held}
+use Rattle.law_doing.specs.pt_answering.pt_opening.pt_run_state.Stands.{IsToTell}
+use Rattle.law_doing.specs.pt_answering.pt_replying.pt_turning.Ways.{state_at}
+use Rattle.law_doing.specs.pt_answering.pt_replying.pt_turning.Laws.{waiting}
+use Rattle.law_doing.specs.pt_answering.pt_replying.Replying.{given_told}
+use Rattle.law_doing.specs.pt_answering.pt_replying.Laws.{IfBranches}
+use Rattle.law_doing.specs.pt_answering.declared.answering.Asked.{Asked}
+use Rattle.law_doing.specs.pt_answering.Answering.{given_of, moved, stands_by, answer_writes}
+use Rattle.law_doing.specs.pt_answering.Laws.{IfGiven}
 use Rattle.pt_applying.specs.declared.applying.Applied.{Applied}
 use Rattle.pt_applying.specs.Applying.{AppliesSo}
 use Rattle.pt_applying.specs.Known.{HasSilentExtras, is_decision, known_call, known_decision}
@@ -71,7 +70,7 @@ module _ {S : Type 0} (program : Program) (code : CodeBlocks Value) (machine : M
     (embed : CodeState Value → S) (ways : Ways S) where
   -- what is known of an act by its instruction and the slots before and behind the row. A raise in place
   -- of its reply comes from its place, with the slots below those that it takes. What leaves its place
-  -- tells nothing, and of a call of a block is known where its value goes on and whether it decides
+  -- tells nothing, and of a call of a block is known whether it decides
   pub record IsAskedSo (m : Held) (i : Ins) (next : Pc) (block : BlockCode)
       (callee : Option Callee) (active : Option Value) (done : RowDone) (d : Asked) : Type 0 where
     pub is_act : d.is_act ≡ is_some i.mark
@@ -93,9 +92,6 @@ module _ {S : Type 0} (program : Program) (code : CodeBlocks Value) (machine : M
         (λ k. machine.destination (block_of m.code.here)
         (embed (state_at code (stands_by block next done.progress (behind_act done m))
         (moved block next done.progress (behind_act done m)).code.here)) ≡ k.0))
-    pub given : IfCalls done.progress ((v : Value)
-        → (given_in ways (behind_act done m).code.here).value v
-        ≡ Some (embed (giving (code.object (block_of m.code.here)) i (slots_view done.slots) v)))
 
 module _ {S : Type 0} (program : Program) (code : CodeBlocks Value) (machine : Machine S Value)
     (embed : CodeState Value → S) (ways : Ways S) (minds : Event Value → Bool) (n : ℕ) where

@@ -13,9 +13,9 @@ use Rattle.sem_control.specs.control.Turn as T
 use Rattle.sem_control.specs.control.Turn.{Ask, Operation}
 use Rattle.sem_code.specs.slots.CodeObject.{CodeObject}
 use Rattle.pt_pendings.specs.declared.reply.Callee.{Callee}
-use Rattle.pt_failing.specs.pt_arising.pt_replying.pt_turning.pt_telling.pt_run_state.pt_purposes.declared.purpose.Called.{Called}
-use Rattle.pt_failing.specs.pt_arising.pt_replying.declared.replying.Decided.{Decided}
-use Rattle.pt_failing.specs.pt_arising.pt_replying.declared.replying.Decided.TheVariants.{Nothing, Branches, Handles}
+use Rattle.law_doing.specs.pt_answering.pt_opening.pt_purposes.declared.purpose.Called.{Called}
+use Rattle.law_doing.specs.pt_answering.pt_replying.declared.replying.Decided.{Decided}
+use Rattle.law_doing.specs.pt_answering.pt_replying.declared.replying.Decided.TheVariants.{Nothing, Branches, Handles}
 
 -- a call is known with what is called, and nothing else is one
 abbrev pub CalledSo : Ask Value → Option Callee → Option Called → Type 0

@@ -15,24 +15,24 @@ use Rattle.sem_run.specs.run.Views.{here_of, visible_line}
 use Rattle.sem_run.specs.run.Outcome as O
 use Rattle.sem_run.specs.run.Run.{Write}
 use Rattle.sem_run.specs.run.Step.{step}
-use Rattle.pt_failing.specs.pt_arising.pt_replying.pt_turning.pt_telling.pt_run_state.pt_purposes.sem_rows.pt_host.World.{Names, World, Program}
-use Rattle.pt_failing.specs.pt_arising.pt_replying.pt_turning.pt_telling.pt_run_state.pt_purposes.sem_rows.pt_host.HeapHost.{heap_host}
-use Rattle.pt_failing.specs.pt_arising.pt_replying.pt_turning.pt_telling.pt_run_state.pt_purposes.sem_rows.declared.heap_rows.progress.Progress.{Progress}
-use Rattle.pt_failing.specs.pt_arising.pt_replying.pt_turning.pt_telling.pt_run_state.pt_purposes.sem_rows.declared.heap_rows.progress.Progress.TheVariants as progress
-use Rattle.pt_failing.specs.pt_arising.pt_replying.pt_turning.pt_telling.pt_transfers.pt_machine_state.declared.blocks.BlockCode.{BlockCode}
-use Rattle.pt_failing.specs.pt_arising.pt_replying.pt_turning.pt_telling.pt_transfers.pt_machine_state.declared.blocks.Blocks.{Blocks}
-use Rattle.pt_failing.specs.pt_arising.pt_replying.pt_turning.pt_telling.pt_transfers.pt_machine_state.Blocks.{IsBlockOf, AreBlocksOf}
-use Rattle.pt_failing.specs.pt_arising.pt_replying.pt_turning.pt_telling.pt_run_state.pt_purposes.Seen.{block_of}
-use Rattle.pt_failing.specs.pt_arising.pt_replying.pt_turning.pt_telling.pt_run_state.pt_purposes.Openers.{Ways}
-use Rattle.pt_failing.specs.pt_arising.pt_replying.pt_turning.pt_telling.pt_run_state.declared.machine.Machine.{Machine as Held}
-use Rattle.pt_failing.specs.pt_arising.pt_replying.pt_turning.pt_telling.pt_run_state.Stands.{Stands}
-use Rattle.pt_failing.specs.pt_arising.pt_replying.pt_turning.pt_telling.Laws.{Comes}
-use Rattle.pt_answering.specs.declared.answering.Asked.{Asked}
-use Rattle.pt_answering.specs.Answering.{answer_writes}
-use Rattle.pt_answering.specs.Laws.{by_itself, IsAnswered}
-use Rattle.pt_failing.specs.Laws.{IsFailing}
-use Rattle.pt_calling.specs.Laws.{IsCalling}
-use Rattle.pt_reraising.specs.Laws.{IsRaising}
+use Rattle.law_doing.specs.pt_answering.pt_opening.pt_host.World.{Names, World, Program}
+use Rattle.law_doing.specs.pt_answering.pt_opening.pt_host.HeapHost.{heap_host}
+use Rattle.law_doing.specs.pt_machine_state.pt_code_facts.sem_rows.declared.heap_rows.progress.Progress.{Progress}
+use Rattle.law_doing.specs.pt_machine_state.pt_code_facts.sem_rows.declared.heap_rows.progress.Progress.TheVariants as progress
+use Rattle.law_doing.specs.pt_machine_state.declared.blocks.BlockCode.{BlockCode}
+use Rattle.law_doing.specs.pt_machine_state.declared.blocks.Blocks.{Blocks}
+use Rattle.law_doing.specs.pt_machine_state.Blocks.{IsBlockOf, AreBlocksOf}
+use Rattle.law_doing.specs.pt_answering.pt_opening.pt_purposes.Seen.{block_of}
+use Rattle.law_doing.specs.pt_answering.pt_opening.pt_purposes.Openers.{Ways}
+use Rattle.law_doing.specs.pt_answering.pt_opening.pt_run_state.declared.machine.Machine.{Machine as Held}
+use Rattle.law_doing.specs.pt_answering.pt_opening.pt_run_state.Stands.{Stands}
+use Rattle.law_doing.specs.pt_answering.pt_opening.pt_telling.Laws.{Comes}
+use Rattle.law_doing.specs.pt_answering.declared.answering.Asked.{Asked}
+use Rattle.law_doing.specs.pt_answering.Answering.{answer_writes}
+use Rattle.law_doing.specs.pt_answering.Laws.{by_itself, IsAnswered}
+use Rattle.law_doing.specs.pt_failing.Laws.{IsFailing}
+use Rattle.law_doing.specs.pt_calling.Laws.{IsCalling}
+use Rattle.law_doing.specs.pt_reraising.Laws.{IsRaising}
 use Rattle.pt_applying.specs.declared.applying.Applied.{Applied}
 use Rattle.pt_applying.specs.declared.applying.Applied.TheVariants.{Goes, Leaves, Lacks}
 use Rattle.pt_applying.specs.Applying.{failing_of, AppliesSo}
@@ -73,7 +73,8 @@ module _ {S : Type 0} (program : Program) (code : CodeBlocks Value) (machine : M
   IsApplied m q i next p d block s = Answers m q i next p d block s
 
   -- the run goes on, and this is written; it comes to where it leaves the profile, at the line that is
-  -- visible; or the slots lack what the instruction needs
+  -- visible; or nothing is said, where the slots lack what the instruction needs, or one activation too
+  -- many was to give the next item of an iterator
   pub data BehindApplied (s : Run) (ws : List Write) : Applied → Held → Type 0 where
     goes_on : (event : Bool) (m : Held) (t : Run) → Comes program machine ways minds n s ws t
         → Stands program machine ways m t → BehindApplied s ws (Goes event) m

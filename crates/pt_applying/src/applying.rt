@@ -1,15 +1,15 @@
 //! What an instruction came to is done.
 ghost use Rattle.std.specs.Prelude.{◌≡◌, IfOk, OnOk};
-ghost use Rattle.pt_failing.specs.pt_arising.pt_replying.pt_turning.pt_telling.pt_transfers.pt_machine_state.Writing.{Adds};
-ghost use Rattle.pt_failing.specs.pt_arising.pt_replying.pt_turning.pt_telling.pt_transfers.pt_machine_state.declared.machine.Standing.TheVariants as code;
-ghost use Rattle.pt_answering.specs.Answering.{answer_writes};
+ghost use Rattle.law_doing.specs.pt_machine_state.Writing.{Adds};
+ghost use Rattle.law_doing.specs.pt_machine_state.declared.machine.Standing.TheVariants as code;
+ghost use Rattle.law_doing.specs.pt_answering.Answering.{answer_writes};
 ghost use Rattle.pt_applying.specs.Applying.{AppliesSo, DoesSo, failing_of, of_failed};
 
-use pt_answering::{Answered, Asked, Writes, answer};
+use law_doing::{
+    Answered, Asked, BlockCode, Blocks, Failed, Failing, Machine, Progress, Writes, answer, call,
+    fail, raise_again,
+};
 use pt_base::{Memory, Pc, What};
-use pt_calling::{BlockCode, Blocks, Failed, Failing, Machine, call, fail};
-use pt_reraising::raise_again;
-use sem_rows::heap_rows::Progress;
 
 /// What comes of what an instruction came to.
 #[derive(Clone, Copy)]
@@ -19,7 +19,8 @@ pub enum Applied {
     Goes { event: bool },
     /// The run leaves the profile of the language.
     Leaves(What),
-    /// The slots lack what the instruction needs.
+    /// The slots lack what the instruction needs, or one activation too many was to give the next item of
+    /// an iterator.
     Lacks,
 }
 

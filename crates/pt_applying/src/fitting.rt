@@ -1,14 +1,12 @@
 //! Whether an instruction comes to what it may come to.
 ghost use Rattle.std.specs.Prelude.{◌≡◌, [], IsTrue, MatchBool};
 ghost use Rattle.pt_instr.specs.declared.Instr.TheVariants as j;
-ghost use Rattle.pt_failing.specs.pt_arising.pt_replying.Replying.{given_told};
-ghost use Rattle.pt_answering.specs.Answering.{given_of};
+ghost use Rattle.law_doing.specs.pt_answering.pt_replying.Replying.{given_told};
+ghost use Rattle.law_doing.specs.pt_answering.Answering.{given_of};
 ghost use Rattle.pt_applying.specs.Acting.{IfLeaves, RaisesAsItself};
 
-use pt_answering::Asked;
+use law_doing::{Asked, Decided, Progress};
 use pt_instr::Instr;
-use pt_replying::Decided;
-use sem_rows::heap_rows::Progress;
 
 /// Whether this is `raise` alone.
 fn is_raise_again(instr: Instr) -> bool

@@ -2,12 +2,12 @@
 ghost use Rattle.std.specs.Prelude.{◌≡◌};
 ghost use Rattle.pt_applying.specs.Known.{call_of, decision_of, handled_by, known_call, tested, tested_in, value_at, what_is_called};
 
+use law_doing::{Called, Decided};
 use pt_base::ActNo;
 use pt_frames::{Slot, Slots};
 use pt_heap::Value;
 use pt_instr::Instr;
 use pt_pendings::Callee;
-use pt_replying::{Called, Decided};
 
 /// The value in a slot, if there is one.
 fn value_at(slot: Option<Slot>) -> Option<Value>

@@ -5,9 +5,9 @@ ghost use Rattle.sem_code.specs.slots.Slots.{State};
 ghost use Rattle.sem_code_machine.specs.code_machine.CodeBlocks.{CodeBlocks};
 ghost use Rattle.sem_run.specs.run.Events.{Event};
 ghost use Rattle.sem_run.specs.run.Machine.{Machine};
-ghost use Rattle.pt_failing.specs.pt_arising.pt_replying.pt_turning.pt_telling.pt_run_state.pt_purposes.sem_rows.pt_host.World.{Program};
-ghost use Rattle.pt_failing.specs.pt_arising.pt_replying.pt_turning.pt_telling.pt_run_state.pt_purposes.Openers.{Ways};
-ghost use Rattle.pt_failing.specs.pt_arising.pt_replying.pt_turning.Ways.{IsOfCode};
+ghost use Rattle.law_doing.specs.pt_answering.pt_opening.pt_host.World.{Program};
+ghost use Rattle.law_doing.specs.pt_answering.pt_opening.pt_purposes.Openers.{Ways};
+ghost use Rattle.law_doing.specs.pt_answering.pt_replying.pt_turning.Ways.{IsOfCode};
 ghost use Rattle.pt_applying.specs.Acting.{ActsApply};
 ghost use Rattle.pt_applying.specs.Laws.{AppliesAsRun};
 

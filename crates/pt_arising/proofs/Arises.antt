@@ -16,9 +16,9 @@ use Rattle.sem_run.specs.run.State as run
 use Rattle.sem_run.specs.run.State.{State, OpenAsk, at}
 use Rattle.sem_run.specs.run.Views as views
 use Rattle.sem_run.specs.run.Step.{reply_to, reply_and_tell, happening, destination, of_call, only_raises, events_behind}
-use Rattle.pt_replying.specs.pt_turning.pt_telling.pt_run_state.pt_purposes.sem_rows.pt_host.World.{Names, World, Program}
-use Rattle.pt_replying.specs.pt_turning.pt_telling.pt_run_state.pt_purposes.sem_rows.pt_host.HeapHost.{heap_host}
-use Rattle.pt_replying.specs.pt_turning.pt_telling.pt_run_state.pt_purposes.sem_rows.heap_rows.Views.{slots_view}
+use Rattle.pt_replying.specs.pt_turning.sem_rows.pt_host.World.{Names, World, Program}
+use Rattle.pt_replying.specs.pt_turning.sem_rows.pt_host.HeapHost.{heap_host}
+use Rattle.pt_replying.specs.pt_turning.sem_rows.heap_rows.Views.{slots_view}
 use Rattle.pt_happenings.specs.declared.happening.Happening.{Happening}
 use Rattle.pt_happenings.specs.Views.{happening_view}
 use Rattle.pt_pendings.specs.declared.pending.Origin.{Origin}

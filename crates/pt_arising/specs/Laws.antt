@@ -12,9 +12,9 @@ use Rattle.sem_run.specs.run.Events.{Event}
 use Rattle.sem_run.specs.run.State.{State, OpenAsk}
 use Rattle.sem_run.specs.run.Views as views
 use Rattle.sem_run.specs.run.Step.{reply_to, of_call}
-use Rattle.pt_replying.specs.pt_turning.pt_telling.pt_run_state.pt_purposes.sem_rows.pt_host.World.{Names, World, Program}
-use Rattle.pt_replying.specs.pt_turning.pt_telling.pt_run_state.pt_purposes.sem_rows.pt_host.HeapHost.{heap_host}
-use Rattle.pt_replying.specs.pt_turning.pt_telling.pt_run_state.pt_purposes.sem_rows.heap_rows.Views.{slots_view}
+use Rattle.pt_replying.specs.pt_turning.sem_rows.pt_host.World.{Names, World, Program}
+use Rattle.pt_replying.specs.pt_turning.sem_rows.pt_host.HeapHost.{heap_host}
+use Rattle.pt_replying.specs.pt_turning.sem_rows.heap_rows.Views.{slots_view}
 use Rattle.pt_replying.specs.pt_turning.pt_telling.pt_transfers.pt_machine_state.declared.blocks.BlockCode.{BlockCode}
 use Rattle.pt_replying.specs.pt_turning.pt_telling.pt_transfers.pt_machine_state.Blocks.{IsBlockOf}
 use Rattle.pt_replying.specs.pt_turning.pt_telling.pt_run_state.pt_purposes.declared.purpose.Called.{Called}

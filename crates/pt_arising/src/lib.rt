@@ -7,7 +7,12 @@ mod raising;
 
 pub use laws::exceptions_arise_as_in_a_run;
 pub use pt_replying::{
-    BlockCode, Blocks, Called, Decided, Given, Machine, Purpose, Standing, Step, Waiting,
-    below_top, give_back, land_raise, reply, tell_on,
+    Base, BlockCode, Blocks, Called, CodeStanding, Course, Decided, Found, Given, Hook, Machine,
+    MachineEnd, Opener, Phase, Progress, Purpose, RECURSION_ERROR, RUNTIME_ERROR, Raised, Returned,
+    Running, Standing, TYPE_ERROR, Turn, Waiting, Wanted, Writes, allot, arise_while, ask, base_of,
+    begin_act, begin_block, below_top, class_object, close, end_block, enter_told, error,
+    error_saying, give_back, go_on, hook_raised, is_silent, is_told, land, land_raise, leave_place,
+    line, module_end, open, print, put_line, raise_in_place, reply, reraise, tell, tell_on,
+    trace_answered, trace_failed,
 };
 pub use raising::arise;

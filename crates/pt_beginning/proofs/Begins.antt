@@ -20,24 +20,24 @@ use Rattle.sem_run.specs.run.Outcome as O
 use Rattle.sem_run.specs.run.Outcome.{Output}
 use Rattle.sem_run.specs.run.Step.{step, by_phase, begin_turn, act_with, jump_line, happening, callee_of, leads_to, events_before, take_unit}
 use Rattle.sem_steps.specs.Steps.{Steps, behind_step}
-use Rattle.pt_telling.specs.pt_run_state.pt_purposes.sem_rows.pt_host.World.{Names, World, Program}
-use Rattle.pt_telling.specs.pt_run_state.pt_purposes.sem_rows.pt_host.HeapHost.{heap_host}
+use Rattle.pt_turning.specs.pt_telling.pt_run_state.pt_purposes.sem_rows.pt_host.World.{Names, World, Program}
+use Rattle.pt_turning.specs.pt_telling.pt_run_state.pt_purposes.sem_rows.pt_host.HeapHost.{heap_host}
 use Rattle.pt_happenings.specs.declared.happening.Happening.{Happening}
 use Rattle.pt_happenings.specs.declared.happening.Happening.TheVariants as happening_of
 use Rattle.pt_happenings.specs.Views.{happening_view}
 use Rattle.pt_pendings.specs.declared.reply.Callee.{Callee}
 use Rattle.pt_pendings.specs.Stands as pend
-use Rattle.pt_telling.specs.pt_transfers.pt_machine_state.declared.blocks.BlockCode.{BlockCode}
-use Rattle.pt_telling.specs.pt_run_state.pt_purposes.declared.standing.Standing.{Standing}
-use Rattle.pt_telling.specs.pt_run_state.pt_purposes.Seen.{block_of, active_at, frame_of}
-use Rattle.pt_telling.specs.pt_run_state.pt_purposes.Openers.{Ways}
-use Rattle.pt_telling.specs.pt_run_state.declared.machine.Machine.{Machine as Held}
-use Rattle.pt_telling.specs.pt_run_state.declared.machine.Phase.{Phase}
-use Rattle.pt_telling.specs.pt_run_state.declared.machine.Phase.TheVariants.{Turning, Telling}
-use Rattle.pt_telling.specs.pt_run_state.Stands as stands
-use Rattle.pt_telling.specs.pt_run_state.Stands.{newest, Stands, StandsAround, IsPhase, IsToTell}
-use Rattle.pt_telling.specs.Laws.{IsNamed, Comes, BehindTold}
-use Rattle.pt_telling.proofs.Tells.{tells_as_run}
+use Rattle.pt_turning.specs.pt_telling.pt_transfers.pt_machine_state.declared.blocks.BlockCode.{BlockCode}
+use Rattle.pt_turning.specs.pt_telling.pt_run_state.pt_purposes.declared.standing.Standing.{Standing}
+use Rattle.pt_turning.specs.pt_telling.pt_run_state.pt_purposes.Seen.{block_of, active_at, frame_of}
+use Rattle.pt_turning.specs.pt_telling.pt_run_state.pt_purposes.Openers.{Ways}
+use Rattle.pt_turning.specs.pt_telling.pt_run_state.declared.machine.Machine.{Machine as Held}
+use Rattle.pt_turning.specs.pt_telling.pt_run_state.declared.machine.Phase.{Phase}
+use Rattle.pt_turning.specs.pt_telling.pt_run_state.declared.machine.Phase.TheVariants.{Turning, Telling}
+use Rattle.pt_turning.specs.pt_telling.pt_run_state.Stands as stands
+use Rattle.pt_turning.specs.pt_telling.pt_run_state.Stands.{newest, Stands, StandsAround, IsPhase, IsToTell}
+use Rattle.pt_turning.specs.pt_telling.Laws.{IsNamed, Comes, BehindTold}
+use Rattle.pt_turning.proofs.pt_telling.Tells.{tells_as_run}
 use Rattle.pt_beginning.specs.Acts.{act_taken, line_before, line_told, listed, doing, act_begun}
 use Rattle.pt_beginning.specs.Laws.{IsAct, StandByPlace, BeginsAsRun, EndsWithoutUnits}
 

@@ -12,13 +12,13 @@ use Rattle.pt_happenings.specs.declared.happening.Happening.{Happening}
 use Rattle.pt_happenings.specs.declared.happening.Happening.TheVariants.{Line}
 use Rattle.pt_pendings.specs.declared.reply.Callee.{Callee}
 use Rattle.pt_pendings.specs.declared.pending.Pending.TheVariants.{Doing}
-use Rattle.pt_telling.specs.pt_transfers.pt_machine_state.declared.blocks.BlockCode.{BlockCode}
-use Rattle.pt_telling.specs.pt_transfers.pt_machine_state.Changes.{at_act}
-use Rattle.pt_telling.specs.pt_run_state.pt_purposes.declared.standing.Standing.{Standing}
-use Rattle.pt_telling.specs.pt_run_state.pt_purposes.Seen.{active_at}
-use Rattle.pt_telling.specs.pt_run_state.declared.machine.Machine.{Machine}
-use Rattle.pt_telling.specs.pt_run_state.declared.machine.Waiting.{Waiting}
-use Rattle.pt_telling.specs.Telling.{Told, told as tell}
+use Rattle.pt_turning.specs.pt_telling.pt_transfers.pt_machine_state.declared.blocks.BlockCode.{BlockCode}
+use Rattle.pt_turning.specs.pt_telling.pt_transfers.pt_machine_state.Changes.{at_act}
+use Rattle.pt_turning.specs.pt_telling.pt_run_state.pt_purposes.declared.standing.Standing.{Standing}
+use Rattle.pt_turning.specs.pt_telling.pt_run_state.pt_purposes.Seen.{active_at}
+use Rattle.pt_turning.specs.pt_telling.pt_run_state.declared.machine.Machine.{Machine}
+use Rattle.pt_turning.specs.pt_telling.pt_run_state.declared.machine.Waiting.{Waiting}
+use Rattle.pt_turning.specs.pt_telling.Telling.{Told, told as tell}
 
 -- the unit is taken
 abbrev pub act_taken : ActMark → Machine → Machine

@@ -14,20 +14,20 @@ use Rattle.sem_run.specs.run.Host.{Host}
 use Rattle.sem_run.specs.run.State.{State}
 use Rattle.sem_run.specs.run.Outcome as O
 use Rattle.sem_run.specs.run.Step.{step, happening, callee_of, leads_to}
-use Rattle.pt_telling.specs.pt_run_state.pt_purposes.sem_rows.pt_host.World.{Names, World, Program}
-use Rattle.pt_telling.specs.pt_run_state.pt_purposes.sem_rows.pt_host.HeapHost.{heap_host}
+use Rattle.pt_turning.specs.pt_telling.pt_run_state.pt_purposes.sem_rows.pt_host.World.{Names, World, Program}
+use Rattle.pt_turning.specs.pt_telling.pt_run_state.pt_purposes.sem_rows.pt_host.HeapHost.{heap_host}
 use Rattle.pt_happenings.specs.declared.happening.Happening.{Happening}
 use Rattle.pt_happenings.specs.Views.{happening_view}
 use Rattle.pt_pendings.specs.declared.reply.Callee.{Callee}
 use Rattle.pt_pendings.specs.Views.{callee_view}
-use Rattle.pt_telling.specs.pt_transfers.pt_machine_state.declared.blocks.BlockCode.{BlockCode}
-use Rattle.pt_telling.specs.pt_run_state.pt_purposes.declared.standing.Standing.{Standing}
-use Rattle.pt_telling.specs.pt_run_state.pt_purposes.Seen.{block_of}
-use Rattle.pt_telling.specs.pt_run_state.pt_purposes.Openers.{Ways}
-use Rattle.pt_telling.specs.pt_run_state.declared.machine.Machine.{Machine as Held}
-use Rattle.pt_telling.specs.pt_run_state.declared.machine.Phase.TheVariants.{Turning}
-use Rattle.pt_telling.specs.pt_run_state.Stands.{Stands}
-use Rattle.pt_telling.specs.Laws.{IsNamed, Comes, BehindTold}
+use Rattle.pt_turning.specs.pt_telling.pt_transfers.pt_machine_state.declared.blocks.BlockCode.{BlockCode}
+use Rattle.pt_turning.specs.pt_telling.pt_run_state.pt_purposes.declared.standing.Standing.{Standing}
+use Rattle.pt_turning.specs.pt_telling.pt_run_state.pt_purposes.Seen.{block_of}
+use Rattle.pt_turning.specs.pt_telling.pt_run_state.pt_purposes.Openers.{Ways}
+use Rattle.pt_turning.specs.pt_telling.pt_run_state.declared.machine.Machine.{Machine as Held}
+use Rattle.pt_turning.specs.pt_telling.pt_run_state.declared.machine.Phase.TheVariants.{Turning}
+use Rattle.pt_turning.specs.pt_telling.pt_run_state.Stands.{Stands}
+use Rattle.pt_turning.specs.pt_telling.Laws.{IsNamed, Comes, BehindTold}
 use Rattle.pt_beginning.specs.Acts.{act_taken, listed, doing, act_begun}
 
 -- two activations stand in one place of a block with the same slots, whatever their names and lines

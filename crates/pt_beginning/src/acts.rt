@@ -8,7 +8,7 @@ use pt_base::{Memory, Seq};
 use pt_happenings::Happening;
 use pt_pendings::{Callee, Pending};
 use pt_ranges::ActMark;
-use pt_telling::{BlockCode, Course, Machine, Standing, Waiting, is_told, tell};
+use pt_turning::{BlockCode, Course, Machine, Standing, Waiting, is_told, tell};
 
 /// Whether the line of an act is told: it is another than the frame's, or a jump came before it, or
 /// a test is made again (PEP 626).

@@ -3,8 +3,8 @@ ghost use Rattle.std.specs.Prelude.{ℕ, Bool};
 ghost use Rattle.pt_heap.specs.declared.value.Value.{Value};
 ghost use Rattle.sem_run.specs.run.Events.{Event};
 ghost use Rattle.sem_run.specs.run.Machine.{Machine};
-ghost use Rattle.pt_telling.specs.pt_run_state.pt_purposes.sem_rows.pt_host.World.{Program};
-ghost use Rattle.pt_telling.specs.pt_run_state.pt_purposes.Openers.{Ways};
+ghost use Rattle.pt_turning.specs.pt_telling.pt_run_state.pt_purposes.sem_rows.pt_host.World.{Program};
+ghost use Rattle.pt_turning.specs.pt_telling.pt_run_state.pt_purposes.Openers.{Ways};
 ghost use Rattle.pt_beginning.specs.Laws.{BeginsAsRun, EndsWithoutUnits, StandByPlace};
 
 /// An act begins in the machine as in each run for which it stands, over any machine of code in which

@@ -1,5 +1,5 @@
 -- Calls of blocks do as in a run.
-use Rattle.std.proofs.Common.{◌≡◌, ◌∙◌, ℕ, ◌+◌, suc, List, [], ◌∷◌, ◌++◌, Bool, true, false, Option, Some, None, refl, sym, ap, subst}
+use Rattle.std.proofs.Common.{◌≡◌, ◌∙◌, ℕ, ◌+◌, suc, List, [], ◌∷◌, ◌++◌, drop, Bool, true, false, true≢false, Option, Some, None, refl, sym, ap, subst}
 use Rattle.std.specs.Prelude.{if◌then◌else◌, length, codes}
 use Rattle.pt_base.specs.declared.numbers.BlockId.{BlockId}
 use Rattle.pt_base.specs.declared.what.What.TheVariants.{Heap}
@@ -8,6 +8,7 @@ use Rattle.pt_bind.specs.declared.arguments.Locals.{Locals}
 use Rattle.pt_code.specs.View.{Ins}
 use Rattle.pt_frames.specs.declared.slot.Slot.{Slot}
 use Rattle.pt_frames.specs.declared.purpose.Purpose.{Purpose as For}
+use Rattle.pt_frames.specs.declared.purpose.Purpose.TheVariants as aim
 use Rattle.sem_control.specs.control.Bases.{or_else}
 use Rattle.sem_control.specs.control.Turn as T
 use Rattle.sem_control.specs.control.Turn.{raised}
@@ -18,7 +19,7 @@ use Rattle.sem_code.specs.slots.Landing.{land}
 use Rattle.sem_code_machine.specs.code_machine.CodeBlocks.{CodeBlocks}
 use Rattle.law_origins.specs.Landings.{lands_with}
 use Rattle.law_origins.proofs.Landing.{below_what_is_given}
-use Rattle.law_leads.specs.Leads.{AnswersSo, Leads, in_run}
+use Rattle.law_leads.specs.Leads.{left_with, EndsWith, Leads, in_run}
 use Rattle.law_leads.proofs.Leading.{answers_lead}
 use Rattle.law_steps.proofs.waiting.Telling.{seen_tells}
 use Rattle.sem_run.specs.run.Machine.{Machine}
@@ -37,57 +38,60 @@ use Rattle.sem_run.specs.transitions.Successors as leads
 use Rattle.sem_run.specs.transitions.Successors.{successor}
 use Rattle.sem_steps.specs.Steps.{Steps, stays, minded}
 use Rattle.sem_steps.proofs.Moves.{join}
-use Rattle.pt_failing.specs.pt_arising.pt_replying.pt_turning.pt_telling.pt_run_state.pt_purposes.sem_rows.pt_host.World.{Names, World, Stores, CodeFacts, Program, Allotted, with_objects}
-use Rattle.pt_failing.specs.pt_arising.pt_replying.pt_turning.pt_telling.pt_run_state.pt_purposes.sem_rows.pt_host.Errors.{error_saying, in_heap_of}
-use Rattle.pt_failing.specs.pt_arising.pt_replying.pt_turning.pt_telling.pt_run_state.pt_purposes.sem_rows.pt_host.Trees.{Tree, raise_with}
-use Rattle.pt_failing.specs.pt_arising.pt_replying.pt_turning.pt_telling.pt_run_state.pt_purposes.sem_rows.pt_host.HeapHost.{heap_host}
-use Rattle.pt_failing.specs.pt_arising.pt_replying.pt_turning.pt_telling.pt_run_state.pt_purposes.sem_rows.pt_host.declared.places.TheConstants.{RECURSION_ERROR}
-use Rattle.pt_failing.specs.pt_arising.pt_replying.pt_turning.pt_telling.pt_run_state.pt_purposes.sem_rows.heap_rows.Leads as rows
-use Rattle.pt_failing.specs.pt_arising.pt_replying.pt_turning.pt_telling.pt_run_state.pt_purposes.sem_rows.heap_rows.Leads.{giving}
-use Rattle.pt_failing.specs.pt_arising.pt_replying.pt_turning.pt_telling.pt_run_state.pt_purposes.sem_rows.heap_rows.Views.{slots_view}
-use Rattle.pt_failing.specs.pt_arising.pt_replying.pt_turning.pt_telling.pt_run_state.pt_purposes.sem_rows.heap_rows.Told.{block_id, opening_of, taken, told}
-use Rattle.pt_failing.specs.pt_arising.pt_replying.pt_turning.pt_telling.pt_run_state.pt_purposes.sem_rows.declared.heap_rows.progress.Progress.{Progress}
+use Rattle.pt_reraising.specs.pt_machine_state.pt_code_facts.sem_rows.pt_host.World.{Names, World, Stores, CodeFacts, Program, Allotted, with_objects}
+use Rattle.pt_reraising.specs.pt_machine_state.pt_code_facts.sem_rows.pt_host.Errors.{error_saying, in_heap_of}
+use Rattle.pt_reraising.specs.pt_machine_state.pt_code_facts.sem_rows.pt_host.Trees.{Tree, raise_with}
+use Rattle.pt_reraising.specs.pt_machine_state.pt_code_facts.sem_rows.pt_host.HeapHost.{heap_host}
+use Rattle.pt_reraising.specs.pt_machine_state.pt_code_facts.sem_rows.pt_host.Leaving.{is_stop}
+use Rattle.pt_reraising.specs.pt_machine_state.pt_code_facts.sem_rows.pt_host.declared.places.TheConstants.{RECURSION_ERROR}
+use Rattle.pt_reraising.specs.pt_machine_state.pt_code_facts.sem_rows.heap_rows.Leads as rows
+use Rattle.pt_reraising.specs.pt_machine_state.pt_code_facts.sem_rows.heap_rows.Leads.{giving}
+use Rattle.pt_reraising.specs.pt_machine_state.pt_code_facts.sem_rows.heap_rows.Views.{slots_view}
+use Rattle.pt_reraising.specs.pt_machine_state.pt_code_facts.sem_rows.heap_rows.Told.{block_id, opening_of, resumed, told}
+use Rattle.pt_reraising.specs.pt_machine_state.pt_code_facts.sem_rows.declared.heap_rows.progress.Progress.{Progress}
 use Rattle.pt_happenings.specs.declared.happening.Happening.TheVariants.{Starts}
 use Rattle.pt_pendings.specs.declared.pending.Origin.{Origin}
 use Rattle.pt_openers.specs.Openers.{is_full, active_in}
-use Rattle.pt_failing.specs.pt_arising.pt_replying.pt_turning.pt_telling.pt_transfers.pt_machine_state.declared.blocks.BlockCode.{BlockCode}
-use Rattle.pt_failing.specs.pt_arising.pt_replying.pt_turning.pt_telling.pt_transfers.pt_machine_state.declared.blocks.Blocks.{Blocks}
-use Rattle.pt_failing.specs.pt_arising.pt_replying.pt_turning.pt_telling.pt_transfers.pt_machine_state.Blocks.{IsBlockOf, AreBlocksOf, block_at}
-use Rattle.pt_failing.specs.pt_arising.pt_replying.pt_turning.pt_telling.pt_transfers.pt_machine_state.Views.{stores_of}
-use Rattle.pt_steps.specs.pt_host.Primitives.{Awaited}
-use Rattle.pt_steps.specs.Steps.{run_result}
-use Rattle.pt_failing.specs.pt_arising.pt_replying.pt_turning.pt_telling.pt_run_state.pt_purposes.declared.standing.Standing.TheVariants.{AtPlace}
-use Rattle.pt_failing.specs.pt_arising.pt_replying.pt_turning.pt_telling.pt_run_state.pt_purposes.Seen.{block_of, active_of}
-use Rattle.pt_failing.specs.pt_arising.pt_replying.pt_turning.pt_telling.pt_run_state.pt_purposes.Openers as openers
-use Rattle.pt_failing.specs.pt_arising.pt_replying.pt_turning.pt_telling.pt_run_state.pt_purposes.Openers.{Ways, origin_in, IsWaiting, LeadsOn, given_in, BlockLeads, IsOpenFor, asked_in}
-use Rattle.pt_failing.proofs.pt_arising.pt_replying.pt_turning.pt_telling.pt_run_state.pt_purposes.Seeing.{parts_tell}
-use Rattle.pt_failing.specs.pt_arising.pt_replying.pt_turning.pt_telling.pt_run_state.declared.machine.Machine.{Machine as Held}
-use Rattle.pt_failing.specs.pt_arising.pt_replying.pt_turning.pt_telling.pt_run_state.Stands.{Stands, StandsAround}
-use Rattle.pt_failing.specs.pt_arising.pt_replying.pt_turning.pt_telling.Telling as telling
-use Rattle.pt_failing.specs.pt_arising.pt_replying.pt_turning.pt_telling.Laws as laws
-use Rattle.pt_failing.specs.pt_arising.pt_replying.pt_turning.pt_telling.Laws.{Comes, BehindTold}
-use Rattle.pt_failing.proofs.pt_arising.pt_replying.pt_turning.pt_telling.Around.{are-seen}
-use Rattle.pt_failing.proofs.pt_arising.pt_replying.pt_turning.pt_telling.Tells.{tells_as_run}
-use Rattle.pt_failing.proofs.pt_arising.pt_replying.pt_turning.pt_telling.Asks.{writes-append}
-use Rattle.pt_failing.specs.pt_arising.pt_replying.pt_turning.Ways.{IsOfCode, rows_of, rows_at}
-use Rattle.pt_failing.proofs.pt_arising.pt_replying.pt_turning.Turns.{around-at, named-by, begins_as_run}
-use Rattle.pt_failing.specs.pt_arising.pt_replying.Replying.{beyond as beyond_told}
-use Rattle.pt_opening.specs.declared.opening.Wanted.{Wanted}
-use Rattle.pt_opening.specs.Opening.{opened, beginning}
-use Rattle.pt_opening.specs.Laws.{IsWanted}
-use Rattle.pt_opening.proofs.Opens.{opens_as_run}
-use Rattle.pt_failing.specs.declared.failing.Failed.{Failed}
-use Rattle.pt_failing.specs.declared.failing.Failed.TheVariants.{Goes, Leaves, Further}
-use Rattle.pt_failing.specs.declared.failing.Failing.{Failing}
-use Rattle.pt_failing.specs.Failing.{FailedSo, context_of, arisen_by, failed_by, with_heap as with_objects_of, FailsSo}
-use Rattle.pt_failing.specs.Laws as failing
-use Rattle.pt_failing.specs.Laws.{IsFailing, BehindFailure}
-use Rattle.pt_failing.proofs.pt_arising.Arises.{tells_raise}
-use Rattle.pt_failing.proofs.Fails.{fails_as_run}
-use Rattle.pt_calling.specs.Calling.{steps_for, wanted_for, called_in, too_many, CallsIn}
-use Rattle.pt_calling.specs.Laws.{IsCalling, BehindCall, goes_on, leaves, CallsAsRun}
+use Rattle.pt_reraising.specs.pt_machine_state.declared.blocks.BlockCode.{BlockCode}
+use Rattle.pt_reraising.specs.pt_machine_state.declared.blocks.Blocks.{Blocks}
+use Rattle.pt_reraising.specs.pt_machine_state.Blocks.{IsBlockOf, AreBlocksOf, block_at}
+use Rattle.pt_reraising.specs.pt_machine_state.Views.{stores_of}
+use Rattle.pt_reraising.specs.pt_machine_state.Changes.{left_slots}
+use Rattle.pt_reraising.specs.pt_failing.pt_arising.pt_replying.pt_turning.pt_telling.pt_run_state.pt_purposes.declared.standing.Standing.TheVariants.{AtPlace}
+use Rattle.pt_reraising.specs.pt_failing.pt_arising.pt_replying.pt_turning.pt_telling.pt_run_state.pt_purposes.Seen.{block_of, active_of}
+use Rattle.pt_reraising.specs.pt_failing.pt_arising.pt_replying.pt_turning.pt_telling.pt_run_state.pt_purposes.Asks.{led_in, DoneSo}
+use Rattle.pt_reraising.specs.pt_failing.pt_arising.pt_replying.pt_turning.pt_telling.pt_run_state.pt_purposes.Laws.{IsAnswered}
+use Rattle.pt_reraising.specs.pt_failing.pt_arising.pt_replying.pt_turning.pt_telling.pt_run_state.pt_purposes.Openers as openers
+use Rattle.pt_reraising.specs.pt_failing.pt_arising.pt_replying.pt_turning.pt_telling.pt_run_state.pt_purposes.Openers.{Ways, origin_in, origin_for, IsWaiting, BlockLeads, asked_in}
+use Rattle.pt_reraising.proofs.pt_purposes.Doing.{results_go_on}
+use Rattle.pt_reraising.proofs.pt_purposes.Seeing.{parts_tell}
+use Rattle.pt_reraising.specs.pt_failing.pt_arising.pt_replying.pt_turning.pt_telling.pt_run_state.declared.machine.Machine.{Machine as Held}
+use Rattle.pt_reraising.specs.pt_failing.pt_arising.pt_replying.pt_turning.pt_telling.pt_run_state.Stands.{Stands, StandsAround}
+use Rattle.pt_reraising.specs.pt_failing.pt_arising.pt_replying.pt_turning.pt_telling.Telling as telling
+use Rattle.pt_reraising.specs.pt_failing.pt_arising.pt_replying.pt_turning.pt_telling.Laws as laws
+use Rattle.pt_reraising.specs.pt_failing.pt_arising.pt_replying.pt_turning.pt_telling.Laws.{Comes, BehindTold}
+use Rattle.pt_reraising.proofs.pt_telling.Around.{are-seen}
+use Rattle.pt_reraising.proofs.pt_telling.Tells.{tells_as_run}
+use Rattle.pt_reraising.proofs.pt_telling.Asks.{writes-append}
+use Rattle.pt_reraising.specs.pt_failing.pt_arising.pt_replying.pt_turning.Ways.{IsOfCode, resumed_by, rows_of, rows_at}
+use Rattle.pt_reraising.proofs.pt_turning.Turns.{around-at, named-by, begins_as_run}
+use Rattle.pt_reraising.specs.pt_failing.pt_arising.pt_replying.Replying.{beyond as beyond_told}
+use Rattle.pt_reraising.specs.pt_opening.declared.opening.Wanted.{Wanted}
+use Rattle.pt_reraising.specs.pt_opening.Opening.{opened, beginning}
+use Rattle.pt_reraising.specs.pt_opening.Laws.{IsWanted}
+use Rattle.pt_reraising.proofs.pt_opening.Opens.{opens_as_run}
+use Rattle.pt_reraising.specs.pt_failing.declared.failing.Failed.{Failed}
+use Rattle.pt_reraising.specs.pt_failing.declared.failing.Failed.TheVariants.{Goes, Leaves, Further}
+use Rattle.pt_reraising.specs.pt_failing.declared.failing.Failing.{Failing}
+use Rattle.pt_reraising.specs.pt_failing.Failing.{FailedSo, context_of, arisen_by, failed_by, with_heap as with_objects_of, FailsSo}
+use Rattle.pt_reraising.specs.pt_failing.Laws as failing
+use Rattle.pt_reraising.specs.pt_failing.Laws.{IsFailing, BehindFailure}
+use Rattle.pt_reraising.proofs.pt_arising.Arises.{tells_raise}
+use Rattle.pt_reraising.proofs.pt_failing.Fails.{fails_as_run}
+use Rattle.pt_calling.specs.Calling.{wanted_for, called_in, cleared, is_item, too_many, RefusesIf, CallsIn}
+use Rattle.pt_calling.specs.Laws.{IsCalling, BehindCall, goes_on, leaves, further, CallsAsRun}
 use Rattle.pt_calling.proofs.Replies as replies
-use Rattle.pt_calling.proofs.Results.{Alike, taken-alike, taken-left}
+use Rattle.pt_calling.proofs.Results.{no_stop, two_off, cut_two, result_answers, left_lands}
 
 -- one that was made for a failure is nothing that is left to be done
 never-left : (block : BlockCode) (o : Option Value) (f : Failing) (m new : Held)
@@ -122,7 +126,7 @@ module _ {S : Type 0} (program : Program) (code : CodeBlocks Value) (machine : M
   Comes_to u t = Comes program machine ways minds n u [] t
 
   abbrev Behind : Failed → Held → Type 0
-  Behind r k = BehindCall program code machine embed ways minds n ends s r k
+  Behind r k = BehindCall program code machine embed ways minds n ends why s r k
 
   abbrev BehindSo : FailedSo → Type 0
   BehindSo x = Behind x.failed x.machine
@@ -146,9 +150,6 @@ module _ {S : Type 0} (program : Program) (code : CodeBlocks Value) (machine : M
   abbrev from : Origin
   from = origin_in m.code.here
 
-  abbrev given : Awaited S
-  given = given_in ways m.code.here
-
   abbrev facts : CodeFacts
   facts = program.facts (block_id b hidden)
 
@@ -165,70 +166,97 @@ module _ {S : Type 0} (program : Program) (code : CodeBlocks Value) (machine : M
   abbrev h : Here Value
   h = here_of machine s
 
-  abbrev state_with : Value → S
-  state_with v = embed (giving obj i ss v)
-
   leads-so : (r : BlockResult Names Value) (u : Stores)
-      → successor (by_answer q (rest r u)) ≡ rows.by_tree obj i (giving obj i ss) ss (taken facts why r h u)
+      → successor (by_answer q (rest r u)) ≡ resumed program obj i facts why ss r h u
   leads-so r u = is.leads.1.0 r u
 
-  answers-so : (r : BlockResult Names Value) (u : Stores) → AnswersSo ends q.ask (rest r u)
-  answers-so r u = is.leads.1.1.0 r u
+  ends-so : (r : BlockResult Names Value) (u : Stores)
+      → EndsWith q.ask (left_with r.end) (rest r u)
+  ends-so r u = is.leads.1.1.0 r u
+
+  answered-so : (r : BlockResult Names Value) (u : Stores)
+      → IsAnswered (successor (by_answer q (rest r u)))
+  answered-so r u =
+      subst (λ l. IsAnswered l) (sym (leads-so r u)) (result_answers obj i program facts m.code.here.slots h why r u)
 
   -- the exception that leaves the block
-  abbrev left_with : Value → BlockResult Names Value
-  left_with v = record { end = T.left_by v; names = opening.names }
+  abbrev left_result : Value → BlockResult Names Value
+  left_result v = record { end = T.left_by v; names = opening.names }
 
-  left-leads : (v : Value) (u : Stores) → successor (by_answer q (rest (left_with v) u))
-      ≡ leads.arises v (land obj i.rows (C.raise v) ss) u
-  left-leads v u =
-      leads-so (left_with v) u
-      ∙ ap (λ t. rows.by_tree obj i (giving obj i ss) ss t) (taken-left state_with given is.given h facts why v opening.names u)
+  -- the slots below what is taken, as a raise finds them
+  abbrev slots_below : For → Slots Value
+  slots_below w = slots_view (left_slots w m.code.here.slots)
 
-  raises-so : (v : Value) → q.next (raised v) ≡ land obj i.rows (C.raise v) ss
+  abbrev below : Slots Value
+  below = slots_below why
+
+  left-leads : (v : Value) (u : Stores) → (is_item why ≡ true → is_stop v u.world ≡ false)
+      → successor (by_answer q (rest (left_result v) u))
+      ≡ leads.arises v (land obj i.rows (C.raise v) below) u
+  left-leads v u unstopped =
+      leads-so (left_result v) u ∙ left_lands obj i program facts m.code.here.slots h why v opening.names u unstopped
+
+  -- so it does whatever it is, for it would without objects
+  raises-so : (v : Value) → q.next (raised v) ≡ land obj i.rows (C.raise v) below
   raises-so v =
-      (replies.raising embed ends never q (rest (left_with v) st) v (land obj i.rows (C.raise v) ss) st (left-leads v st)).leads
+      replies.raising q (rest (left_result v) (with_objects [] st)) v (land obj i.rows (C.raise v) below) (with_objects [] st)
+      (left-leads v (with_objects [] st) (λ item. no_stop v))
 
   rows-are : rows_at code m.code.here m.code.here.pc ≡ i.rows
   rows-are = ap rows_of is.there
 
-  lands-so : (v : Value) → ways.lands m.code.here from v ≡ embed (land obj i.rows (C.raise v) ss)
-  lands-so v =
+  abbrev Lands_for : For → Value → Type 0
+  Lands_for w v =
+      ways.lands m.code.here (origin_for w m.code.here) v ≡ embed (land obj i.rows (C.raise v) (slots_below w))
+
+  lands-below : (v : Value)
+      → ways.lands m.code.here from v ≡ embed (land obj i.rows (C.raise v) ss)
+  lands-below v =
       is_of.lands m.code.here from v
       ∙ ap embed
       (ap (λ k. lands_with obj (rows_at code m.code.here m.code.here.pc) k ss v) (sym (length-view m.code.here.slots))
       ∙ below_what_is_given obj (rows_at code m.code.here m.code.here.pc) [] ss v
       ∙ ap (λ rs. land obj rs (C.raise v) ss) rows-are)
 
-  abbrev Lead : (u : Tree S) (t : Tree (Finding Value q.ask)) → Type 0
-  Lead u t = LeadsOn ways m.code.here asked u t
+  lands-for : (w : For) (v : Value) → Lands_for w v
+  lands-for aim.Result v = lands-below v
+  lands-for aim.Discard v = lands-below v
+  lands-for (aim.Class base cell) v = lands-below v
+  lands-for (aim.Init x) v = lands-below v
+  lands-for aim.Opposite v = lands-below v
+  lands-for (aim.Truth wanted target kept) v = lands-below v
+  lands-for aim.Iterate v = lands-below v
+  lands-for (aim.Item it end) v = lands-below v
+  lands-for (aim.Unpack before after) v = lands-below v
+  lands-for (aim.Enter exit) v = lands-below v
+  lands-for (aim.Exit completion) v =
+      is_of.lands m.code.here (origin_for (aim.Exit completion) m.code.here) v
+      ∙ ap embed
+      (ap (λ k. land obj (rows_at code m.code.here m.code.here.pc) (C.raise v) k) (cut_two m.code.here.slots)
+      ∙ ap (λ rs. land obj rs (C.raise v) (slots_view (drop 2 m.code.here.slots))) rows-are)
+  lands-for (aim.Format spec) v = lands-below v
+  lands-for (aim.Resume g) v = lands-below v
+  lands-for (aim.Answer hook event block act args pending) v = lands-below v
 
-  leads-on : (t : Tree (Finding Value q.ask)) (k : Tree Value) (u : Tree S)
-      → Alike state_with given is.given h facts k u → AnswersSo ends q.ask t
-      → successor (by_answer q t) ≡ rows.by_tree obj i (giving obj i ss) ss k → Lead u t
-  leads-on t (H.answer v w) u alike z e =
-      let r = replies.answered embed ends never q t (giving obj i ss v) w z e in
-      subst (λ x. Lead x t) (sym alike) (r.answer, (r.replied, ap embed r.leads))
-  leads-on t (H.raise v w) u alike z e =
-      let r = replies.raising embed ends never q t v (land obj i.rows (C.raise v) ss) w e in
-      subst (λ x. Lead x t) (sym alike) (r.replied, ap embed r.leads ∙ sym (lands-so v))
-  leads-on t (H.leave what) u alike z e =
-      subst (λ x. Lead x t) (sym alike) (replies.leaving embed ends never q t what e)
-  leads-on t (H.print x k) u alike z e = absurd alike
-  leads-on t (H.request r w k) u alike z e = absurd alike
+  resumes-so : (r : BlockResult Names Value) (u : Stores)
+      → ways.resumed m.code.here facts why r h u
+      ≡ led_in embed (resumed program obj i facts why ss r h u)
+  resumes-so r u =
+      is_of.resumes program m.code.here facts why r h u
+      ∙ ap (λ o. led_in embed (resumed_by code o program m.code.here facts why r h u)) is.there
 
-  abbrev todo_leads : Here Value → Type 0
-  todo_leads x = BlockLeads ways m.code.here asked x facts (steps_for why) rest
+  abbrev Leads_so : Here Value → Type 0
+  Leads_so x = BlockLeads ways m.code.here asked x facts why rest
 
-  block-leads : todo_leads h
+  block-leads : Leads_so h
   block-leads r u =
-      leads-on (rest r u) (taken facts why r h u) (run_result given h facts (steps_for why) r u)
-      (taken-alike state_with given is.given h facts why r u)
-      (answers-so r u) (leads-so r u)
+      subst (λ l. DoneSo asked (left_with r.end) l (by_answer asked (rest r u)))
+      (ap (λ l. led_in embed l) (leads-so r u) ∙ sym (resumes-so r u))
+      (results_go_on embed q (left_with r.end) (rest r u) (ends-so r u) (answered-so r u))
 
-  waits-so : IsWaiting ways m.code.here f.called f.is_act asked
+  waits-so : IsWaiting ways m.code.here why f.called f.is_act asked
   waits-so = record {
-    raises = λ v. ap embed (raises-so v) ∙ sym (lands-so v);
+    raises = λ v. ap embed (raises-so v) ∙ sym (lands-for why v);
     told = is.tells;
   }
 
@@ -248,7 +276,7 @@ module _ {S : Type 0} (program : Program) (code : CodeBlocks Value) (machine : M
   wanted-so : IsWanted program code machine ways m (block_id b hidden) wanted here_s (of_ask asked rest)
   wanted-so = record {
     active = is.active_is ∙ sym is.keeps_active;
-    purpose = openers.block_of_ask f.called f.is_act asked rest waits-so (subst todo_leads here-is block-leads);
+    purpose = openers.block_of_ask f.called f.is_act asked rest waits-so (subst Leads_so here-is block-leads);
   }
 
   full-is : run.is_full here_s ≡ is_full m.openers
@@ -298,7 +326,7 @@ module _ {S : Type 0} (program : Program) (code : CodeBlocks Value) (machine : M
 
   -- in place of one too many an exception is made
   abbrev instead : Allotted → Run
-  instead a = fail_opening machine host (of_ask asked rest) (λ v. left_with v) (in_heap_of st.world a) here_s
+  instead a = fail_opening machine host (of_ask asked rest) (λ v. left_result v) (in_heap_of st.world a) here_s
 
   abbrev too_deep_in : Option Value → Allotted
   too_deep_in o = error_saying RECURSION_ERROR (codes "too many activations") None o st.world.heap
@@ -315,13 +343,15 @@ module _ {S : Type 0} (program : Program) (code : CodeBlocks Value) (machine : M
   abbrev Leading : leads.Successor (CodeState Value) Names Value World → Run → Type 0
   Leading l t = Leads machine host (minded minds) n ends embed q l t
 
-  instead-leads : (a : Allotted)
-      → Leading (rows.by_tree obj i (giving obj i ss) ss (raise_with a st)) (instead a)
-  instead-leads (made v k) =
-      subst (λ l. Leading l (instead (made v k))) (left-leads v (with_objects k st))
-      (answers_lead machine host (minded minds) n ends embed q (rest (left_with v) (with_objects k st))
-      (record here_s { world = (with_objects k st).world }) (answers-so (left_with v) (with_objects k st)))
-  instead-leads (beyond what) = refl
+  instead-leads : is_item why ≡ false → (a : Allotted)
+      → Leading (rows.by_tree obj i (giving obj i below) below (raise_with a st)) (instead a)
+  instead-leads other (made v k) =
+      let e = left-leads v (with_objects k st) (λ item. absurd (true≢false (sym item ∙ other))) in
+      subst (λ l. Leading l (instead (made v k))) e
+      (answers_lead machine host (minded minds) n ends embed q (rest (left_result v) (with_objects k st))
+      (record here_s { world = (with_objects k st).world })
+      (replies.raises_so ends q (rest (left_result v) (with_objects k st)) v (land obj i.rows (C.raise v) below) (with_objects k st) e))
+  instead-leads other (beyond what) = refl
 
   instead-here : (a : Allotted) → here_of machine (instead a) ≡ h
   instead-here (made v k) = refl
@@ -331,26 +361,50 @@ module _ {S : Type 0} (program : Program) (code : CodeBlocks Value) (machine : M
   instead-active (made v k) = is.active_is
   instead-active (beyond what) = is.active_is
 
+  -- the machine without the slots that an exit has left on
+  abbrev m2 : Held
+  m2 = cleared why m
+
+  around-cleared : (t : Run) → StandsAround program machine ways m t
+      → StandsAround program machine ways m2 t
+  around-cleared t around = record {
+    at_place = around.at_place;
+    here = record {
+      frame = around.here.frame;
+      act = around.here.act;
+      behind_jump = around.here.behind_jump;
+    };
+    openers = around.openers;
+    generators = around.generators;
+    world = around.world;
+    trace = around.trace;
+    tools = around.tools;
+    units = around.units;
+    frames = around.frames;
+    numbers = around.numbers;
+    untraced = around.untraced;
+  }
+
   instead-around : (a : Allotted) → StandsAround program machine ways m (with_store st (instead a))
   instead-around (made v k) =
       around-at program code machine embed ways is_of minds n m here_s (instead (made v k)).phase is.around
   instead-around (beyond what) =
       around-at program code machine embed ways is_of minds n m here_s (instead (beyond what)).phase is.around
 
-  fails-so : (a : Allotted) → a ≡ too_deep_in h.active
-      → IsFailing program code machine embed ways minds n ends m q i too_many f (instead a)
-  fails-so a e = record {
-    around = instead-around a;
+  fails-so : is_item why ≡ false → (a : Allotted) → a ≡ too_deep_in h.active
+      → IsFailing program code machine embed ways minds n ends m2 q i too_many f (instead a)
+  fails-so other a e = record {
+    around = around-cleared (with_store st (instead a)) (instead-around a);
     active_is = instead-active a;
     tells = tells_raise asked f.called f.is_act (ways.decides m.code.here from) (active machine (instead a)) is.tells;
     there = is.there;
-    below = ss;
+    below = below;
     raises = raises-so;
-    leads = subst (λ x. Leading (told program obj i x too_many ss st) (instead a)) (sym (instead-here a))
-        (subst (λ y. Leading (rows.by_tree obj i (giving obj i ss) ss (raise_with y st)) (instead a)) e (instead-leads a));
+    leads = subst (λ x. Leading (told program obj i x too_many below st) (instead a)) (sym (instead-here a))
+        (subst (λ y. Leading (rows.by_tree obj i (giving obj i below) below (raise_with y st)) (instead a)) e (instead-leads other a));
   }
 
-  of-failure : (r : Failed) (new : Held) → FailsSo block too_many f m r new → Go s [] (instead (too_deep_in h.active))
+  of-failure : (r : Failed) (new : Held) → FailsSo block too_many f m2 r new → Go s [] (instead (too_deep_in h.active))
       → BehindFailure program code machine embed ways minds n ends (instead (too_deep_in h.active)) r new
       → Behind r new
   of-failure _ _ did g (failing.goes_on event k t c stands) =
@@ -359,14 +413,19 @@ module _ {S : Type 0} (program : Program) (code : CodeBlocks Value) (machine : M
       leaves what k (instead (too_deep_in h.active))
       (record { outputs = []; steps = g; written = refl }) e
   of-failure _ _ did g (failing.further p k) =
-      absurd (never-left block did.exception f (with_objects_of did.heap m) k p did.comes)
+      absurd (never-left block did.exception f (with_objects_of did.heap m2) k p did.comes)
+
+  refuses : (item : Bool) → is_item why ≡ item → Go s [] (instead (too_deep_in h.active))
+      → (r : Failed) (new : Held) → RefusesIf item block why f m r new → Behind r new
+  refuses true item g r new did = subst BehindSo (sym did) (further too_many m item)
+  refuses false other g r new did =
+      of-failure r new did g
+      (fails_as_run program code machine embed ways is_of minds n ends m2 q i too_many f (instead (too_deep_in h.active)) (fails-so other (too_deep_in h.active) refl) block known r new did)
 
   calls : (full : Bool) → is_full m.openers ≡ full → (blocks : Blocks) → AreBlocksOf program code blocks
       → (r : Failed) (new : Held) → CallsIn full blocks block b hidden ls why f m r new → Behind r new
   calls true full blocks are r new did =
-      let g : Go s [] (instead (too_deep_in h.active)) = subst (λ u. Go s [] u) (instead-is full) is.leads.1.1.1 in
-      of-failure r new did g
-      (fails_as_run program code machine embed ways is_of minds n ends m q i too_many f (instead (too_deep_in h.active)) (fails-so (too_deep_in h.active) refl) block known r new did)
+      refuses (is_item why) refl (subst (λ u. Go s [] u) (instead-is full) is.leads.1.1.1) r new did
   calls false room blocks are r new did =
       let to = opens room (block_at blocks (block_id b hidden)) (are (block_id b hidden)) in
       subst BehindSo (sym did) (goes_on _ _ to.0 (behind requested to.0 is.leads.1.1.1 to.1.0) to.1.1)

@@ -1,135 +1,152 @@
--- What is done on the result of a block is what it was called for.
-use Rattle.std.proofs.Common.{◌≡◌, ℕ, [], ◌∷◌, Option, Some, None, refl, ap}
-use Rattle.std.specs.Prelude.{codes}
+-- Where the result of a block leads that was called: it answers, and what leaves the block arises,
+-- unless it ends an iterator.
+use Rattle.std.proofs.Common.{◌≡◌, ◌∙◌, ℕ, suc, ◌-◌, List, [], ◌∷◌, Bool, true, false, Option, Some, None, length, drop, arith, refl, sym, ap, if◌then◌else◌}
 use Rattle.pt_heap.specs.declared.value.Value.{Value}
-use Rattle.pt_content.specs.declared.answer.PrimAns.{PrimAns}
-use Rattle.pt_content.specs.declared.answer.PrimAns.TheVariants as prim
+use Rattle.pt_heap.specs.declared.value.Value.TheVariants as value
+use Rattle.pt_code.specs.View.{Ins}
 use Rattle.pt_content.specs.declared.op.Op.TheVariants as op
+use Rattle.pt_frames.specs.declared.slot.Slot.{Slot}
 use Rattle.pt_frames.specs.declared.purpose.Purpose.{Purpose as For}
 use Rattle.pt_frames.specs.declared.purpose.Purpose.TheVariants as why
-use Rattle.sem_control.specs.control.Turn.{End, gave, left_by}
+use Rattle.sem_control.specs.control.Turn as T
+use Rattle.sem_control.specs.control.Turn.{left_by}
+use Rattle.sem_code.specs.slots.Slots as C
+use Rattle.sem_code.specs.slots.Slots.{Slots, State as CodeState, on}
+use Rattle.sem_code.specs.slots.CodeObject.{CodeObject}
+use Rattle.sem_code.specs.slots.Landing.{cut, land}
+use Rattle.sem_code.specs.slots.Pops.{giving as row_over}
+use Rattle.sem_code.specs.slots.Steps.{with_item}
+use Rattle.law_origins.proofs.Landing.{cut_given}
 use Rattle.sem_run.specs.run.Host as H
-use Rattle.sem_run.specs.run.Host.{Here, BlockResult, made, beyond}
-use Rattle.pt_steps.specs.pt_host.declared.places.TheConstants.{TYPE_ERROR}
-use Rattle.pt_steps.specs.pt_host.declared.classes.Base.{Base}
-use Rattle.pt_steps.specs.pt_host.declared.classes.Base.TheVariants.{On, Unavailable, NoBase}
-use Rattle.pt_steps.specs.pt_host.World.{Names, Stores, CodeFacts, Allotted, allot, with_objects}
-use Rattle.pt_steps.specs.pt_host.Variables.{with_cell}
-use Rattle.pt_steps.specs.pt_host.Trees.{Tree, raise_with, then_with}
-use Rattle.pt_steps.specs.pt_host.Errors.{error, error_saying}
-use Rattle.pt_steps.specs.pt_host.Primitives.{Awaited, answer_if, arguments_of, by_prim, of_prim, one_value, prim_asked}
-use Rattle.pt_steps.specs.pt_host.Calls.{opposite, result_of}
-use Rattle.pt_steps.specs.pt_host.Classes as classes
-use Rattle.pt_steps.specs.pt_prims.Operations.{prim_answer, prim_heap}
-use Rattle.pt_steps.specs.Steps.{behind_prim, operated, run_steps, class_made, class_on, class_by, run_result}
-use Rattle.pt_failing.specs.pt_arising.pt_replying.pt_turning.pt_telling.pt_run_state.pt_purposes.sem_rows.heap_rows.Told.{taken}
-use Rattle.pt_calling.specs.Calling.{steps_for}
-use Rattle.pt_calling.proofs.Formats.{IsOne, formats-give-one}
+use Rattle.sem_run.specs.run.Host.{Here, BlockResult, an_item, no_item}
+use Rattle.sem_run.specs.transitions.Successors as leads
+use Rattle.pt_reraising.specs.pt_opening.pt_host.World.{Names, Stores, CodeFacts, Program}
+use Rattle.pt_reraising.specs.pt_opening.pt_host.Trees.{Tree, then_with}
+use Rattle.pt_reraising.specs.pt_opening.pt_host.Leaving.{is_stop, is_stop_in}
+use Rattle.pt_reraising.specs.pt_opening.pt_host.Answers.{or_end, swallows}
+use Rattle.pt_reraising.specs.pt_opening.pt_host.Calls.{by_prim, opposite, result_of}
+use Rattle.pt_reraising.specs.pt_opening.pt_host.Classes.{class_by}
+use Rattle.pt_reraising.specs.pt_opening.pt_host.Primitives.{answer_if, prim_asked, so_many, truth_in}
+use Rattle.pt_reraising.specs.pt_machine_state.pt_code_facts.sem_rows.heap_rows.Leads.{HeapSuccessor, behind, by_tree, found, giving}
+use Rattle.pt_reraising.specs.pt_machine_state.pt_code_facts.sem_rows.heap_rows.Told.{branched, resumed, row_count, unpacks}
+use Rattle.pt_reraising.specs.pt_machine_state.pt_code_facts.sem_rows.heap_rows.Views.{completion_view, slots_view}
+use Rattle.pt_reraising.specs.pt_machine_state.Changes.{left_slots}
+use Rattle.pt_reraising.specs.pt_opening.pt_purposes.Laws.{IsAnswered}
+use Rattle.pt_calling.specs.Calling.{is_item}
 
-module _ {S : Type 0} (state_with : Value → S) (given : Awaited S)
-    (gives : (v : Value) → given.value v ≡ Some (state_with v)) (h : Here Value)
-    (facts : CodeFacts) where
-  -- they come to one value, or to the same else, at once
-  abbrev pub Alike : Tree Value → Tree S → Type 0
-  Alike (H.answer v st) u = u ≡ H.answer (state_with v) st
-  Alike (H.raise v st) u = u ≡ H.raise v st
-  Alike (H.leave what) u = u ≡ H.leave what
-  Alike t u = ⊥
+-- no exception is a StopIteration where there are no objects
+pub no_stop : (v : Value) → is_stop_in [] v ≡ false
+no_stop value.None = refl
+no_stop (value.Bool b) = refl
+no_stop (value.Int z) = refl
+no_stop value.Ellipsis = refl
+no_stop value.NotImplemented = refl
+no_stop (value.Obj id) = refl
 
-  is-given : (v : Value) (st : Stores)
-      → answer_if (given.value v) st ≡ H.answer (state_with v) st
-  is-given v st = ap (λ o. answer_if o st) (gives v)
+-- two slots come off
+pub two_off : (slots : List Slot) → slots_view (drop 2 slots) ≡ drop 2 (slots_view slots)
+two_off [] = refl
+two_off (a ∷ []) = refl
+two_off (a ∷ b ∷ slots) = refl
 
-  raised-with : (a : Allotted) (st : Stores) → Alike (raise_with a st) (raise_with a st)
-  raised-with (made v k) st = refl
-  raised-with (beyond what) st = refl
+length-view : (slots : List Slot) → length (slots_view slots) ≡ length slots
+length-view [] = refl
+length-view (s ∷ ss) = ap suc (length-view ss)
 
-  -- the value of the call
-  of-result : (e : End Value) (st : Stores) → Alike (result_of e st) (run_steps given h [] e st)
-  of-result (gave v) st = is-given v st
-  of-result (left_by v) st = refl
+pub cut_two : (slots : List Slot)
+    → cut (length slots - 2) (slots_view slots) ≡ slots_view (drop 2 slots)
+cut_two [] = cut_given [] []
+cut_two (a ∷ []) = cut_given (slots_view (a ∷ [])) []
+cut_two (a ∷ b ∷ slots) =
+    let n : suc (suc (length slots)) - 2 ≡ length (slots_view slots) =
+    omega (arith, length-view slots) in
+    ap (λ k. cut k (slots_view (a ∷ b ∷ slots))) n
+    ∙ cut_given (slots_view (a ∷ b ∷ [])) (slots_view slots)
 
-  of-instance : (i : Value) (e : End Value) (st : Stores)
-      → Alike (then_with (result_of e st) (λ v st1. H.answer i st1))
-      (run_steps given h (steps_for (why.Init i)) e st)
-  unfolding then_with
-  of-instance i (gave v) st = is-given i st
-  of-instance i (left_by v) st = refl
+module _ (code : CodeObject Value) (i : Ins) where
+  pub tree_answers : {A : Type 0} (next : A → CodeState Value) (ss : Slots Value) (t : Tree A)
+      → IsAnswered (by_tree code i next ss t)
+  tree_answers next ss (H.answer x st) = tt
+  tree_answers next ss (H.raise v st) = tt
+  tree_answers next ss (H.print x f) = tree_answers next ss f
+  tree_answers next ss (H.leave what) = tt
+  tree_answers next ss (H.request r st k) = λ x st1. tree_answers next ss (k x st1)
 
-  of-opposite : (e : End Value) (st : Stores)
-      → Alike (then_with (result_of e st) (λ v st1. H.answer (opposite v) st1))
-      (run_steps given h (steps_for why.Opposite) e st)
-  unfolding then_with
-  of-opposite (gave v) st = is-given (opposite v) st
-  of-opposite (left_by v) st = refl
+  module _ (program : Program) (facts : CodeFacts) (slots : List Slot) (h : Here Value) where
+    abbrev ss : Slots Value
+    ss = slots_view slots
 
-  of-prim : (a : PrimAns) → IsOne a → (st : Stores)
-      → Alike (of_prim one_value a h st) (behind_prim given h (λ v st1. run_steps given h [] (gave v) st1) [] a st)
-  of-prim (prim.Value v) one st = is-given v st
-  of-prim (prim.Values vs) one st = absurd one
-  of-prim prim.End one st = absurd one
-  of-prim (prim.Raise class v) one st =
-      raised-with (allot (error class (arguments_of v) None h.active) st.world.heap) st
-  of-prim (prim.Help helper vs inverted) one st = refl
-  of-prim (prim.Print t) one st = absurd one
-  of-prim (prim.Outside what) one st = refl
+    pub result_answers : (w : For) (r : BlockResult Names Value) (st : Stores)
+        → IsAnswered (resumed program code i facts w ss r h st)
+    result_answers why.Result r st =
+        tree_answers (giving code i ss) ss
+        (result_of r.end st)
+    result_answers why.Discard r st =
+        tree_answers (behind code i ss) ss
+        (then_with (result_of r.end st) (λ v st1. H.answer tt st1))
+    result_answers (why.Class base cell) r st =
+        tree_answers (giving code i ss) ss
+        (class_by r.end base facts cell r.names.values h st)
+    result_answers (why.Init made) r st =
+        tree_answers (giving code i ss) ss
+        (then_with (result_of r.end st) (λ v st1. H.answer made st1))
+    result_answers why.Opposite r st =
+        tree_answers (giving code i ss) ss
+        (then_with (result_of r.end st) (λ v st1. H.answer (opposite v) st1))
+    result_answers (why.Truth wanted target kept) r st =
+        tree_answers (branched program code i wanted target kept ss) ss
+        (then_with (result_of r.end st) (λ v st1. answer_if (truth_in v) st1))
+    result_answers why.Iterate r st =
+        tree_answers (λ v. on i.next (C.iterator v ∷ ss)) ss
+        (result_of r.end st)
+    result_answers (why.Item it end) r st =
+        tree_answers (found (T.next_of it) (with_item code i end.0 it ss)) ss
+        (or_end (then_with (result_of r.end st) (λ v st1. H.answer (an_item v) st1)))
+    result_answers (why.Unpack before after) r st =
+        tree_answers (λ vs. on i.next (row_over (row_count before after) vs ss)) ss
+        (then_with (result_of r.end st) (λ v st1. prim_asked (so_many (row_count before after)) (unpacks before after) (v ∷ []) h st1))
+    result_answers (why.Enter exit) r st =
+        tree_answers (λ (p : Value × Value). on i.next (C.value p.1 ∷ C.exit p.0 ∷ ss)) ss
+        (then_with (result_of r.end st) (λ v st1. H.answer (exit, v) st1))
+    result_answers (why.Exit completion) r st =
+        tree_answers (λ b. on i.next (C.pending (C.left_of b (completion_view completion)) ∷ drop 2 ss)) (drop 2 ss)
+        (then_with (result_of r.end st) (λ v st1. swallows (C.raise_of (completion_view completion)) v h st1))
+    result_answers (why.Format spec) r st =
+        tree_answers (giving code i ss) ss
+        (then_with (result_of r.end st) (λ v st1. by_prim (op.Format None) (v ∷ spec ∷ []) h st1))
+    result_answers (why.Resume g) r st =
+        tree_answers (giving code i ss) ss
+        (result_of r.end st)
+    result_answers (why.Answer hook event block act args pending) r st =
+        tree_answers (giving code i ss) ss
+        (result_of r.end st)
 
-  of-format : (spec : Value) (e : End Value) (st : Stores)
-      → Alike (then_with (result_of e st) (λ v st1. by_prim (op.Format None) (v ∷ spec ∷ []) h st1))
-      (run_steps given h (steps_for (why.Format spec)) e st)
-  unfolding then_with prim_asked operated
-  of-format spec (gave v) st =
-      of-prim (prim_answer (op.Format None) (v ∷ spec ∷ []) st.world.heap)
-      (formats-give-one v spec st.world.heap)
-      (with_objects (prim_heap (op.Format None) (v ∷ spec ∷ []) st.world.heap) st)
-  of-format spec (left_by v) st = refl
+    -- where an exception lands that leaves it
+    abbrev landed : For → Value → Stores → HeapSuccessor
+    landed w v st =
+        leads.arises v (land code i.rows (C.raise v) (slots_view (left_slots w slots))) st
 
-  abbrev rest : Value → Stores → Tree S
-  rest v st = run_steps given h [] (gave v) st
+    abbrev left_with : Value → Names → BlockResult Names Value
+    left_with v ns = record { end = left_by v; names = ns }
 
-  module _ (cell : Option ℕ) (ns : Names) where
-    made-so : (a : Allotted) (st : Stores)
-        → Alike (classes.class_made cell a st) (class_made given h rest cell a st)
-    made-so (made v k) st = is-given v (with_cell cell (Some v) (with_objects k st))
-    made-so (beyond what) st = refl
-
-    based : (b : Base) (st : Stores)
-        → Alike (classes.class_on b facts cell ns.values h st)
-        (class_on given h rest b facts cell ns st)
-    based (On base) st =
-        made-so (allot (classes.class_object facts base ns.values) st.world.heap) st
-    based Unavailable st = refl
-    based NoBase st =
-        raised-with (error_saying TYPE_ERROR (codes "bad argument") None h.active st.world.heap) st
-
-    of-class : (base : Value) (e : End Value) (st : Stores)
-        → Alike (classes.class_by e base facts cell ns.values h st)
-        (class_by given h rest base facts cell ns e st)
-    of-class base (gave v) st = based (classes.base_of st.world.heap base) st
-    of-class base (left_by v) st = refl
-
-  pub taken-alike : (w : For) (r : BlockResult Names Value) (st : Stores)
-      → Alike (taken facts w r h st) (run_result given h facts (steps_for w) r st)
-  taken-alike why.Result r st = of-result r.end st
-  taken-alike why.Discard r st = of-result r.end st
-  taken-alike (why.Class base cell) r st = of-class cell r.names base r.end st
-  taken-alike (why.Init i) r st = of-instance i r.end st
-  taken-alike why.Opposite r st = of-opposite r.end st
-  taken-alike why.Truth r st = of-result r.end st
-  taken-alike (why.Format spec) r st = of-format spec r.end st
-  taken-alike (why.Resume g) r st = of-result r.end st
-  taken-alike (why.Answer hook event block act args pending) r st = of-result r.end st
-
-  -- what leaves the block arises, whatever it was called for
-  pub taken-left : (w : For) (v : Value) (ns : Names) (st : Stores)
-      → taken facts w (record { end = left_by v; names = ns }) h st ≡ H.raise v st
-  unfolding then_with
-  taken-left why.Result v ns st = refl
-  taken-left why.Discard v ns st = refl
-  taken-left (why.Class base cell) v ns st = refl
-  taken-left (why.Init i) v ns st = refl
-  taken-left why.Opposite v ns st = refl
-  taken-left why.Truth v ns st = refl
-  taken-left (why.Format spec) v ns st = refl
-  taken-left (why.Resume g) v ns st = refl
-  taken-left (why.Answer hook event block act args pending) v ns st = refl
+    pub left_lands : (w : For) (v : Value) (ns : Names) (st : Stores)
+        → (is_item w ≡ true → is_stop v st.world ≡ false)
+        → resumed program code i facts w ss (left_with v ns) h st ≡ landed w v st
+    unfolding then_with or_end
+    left_lands why.Result v ns st n = refl
+    left_lands why.Discard v ns st n = refl
+    left_lands (why.Class base cell) v ns st n = refl
+    left_lands (why.Init made) v ns st n = refl
+    left_lands why.Opposite v ns st n = refl
+    left_lands (why.Truth wanted target kept) v ns st n = refl
+    left_lands why.Iterate v ns st n = refl
+    left_lands (why.Item it end) v ns st n =
+        ap (λ b. by_tree code i (found (T.next_of it) (with_item code i end.0 it ss)) ss (if b then H.answer (no_item (Some v)) st else H.raise v st))
+        (n refl)
+    left_lands (why.Unpack before after) v ns st n = refl
+    left_lands (why.Enter exit) v ns st n = refl
+    left_lands (why.Exit completion) v ns st n =
+        ap (λ k. leads.arises v (land code i.rows (C.raise v) k) st) (sym (two_off slots))
+    left_lands (why.Format spec) v ns st n = refl
+    left_lands (why.Resume g) v ns st n = refl
+    left_lands (why.Answer hook event block act args pending) v ns st n = refl

@@ -1,55 +1,33 @@
 //! A block is called.
-ghost use Rattle.std.specs.Prelude.{◌≡◌, ◌<◌, suc, length, IfOk};
+ghost use Rattle.std.specs.Prelude.{◌≡◌, ◌<◌, suc, length, drop, IfOk};
 ghost use Rattle.sem_run.specs.run.State.{most_activations};
-ghost use Rattle.pt_failing.specs.pt_arising.pt_replying.pt_turning.pt_telling.pt_transfers.pt_machine_state.declared.machine.Standing.TheVariants as code;
-ghost use Rattle.pt_failing.specs.Failing.{FailsSo};
-ghost use Rattle.pt_calling.specs.Calling.{CallsSo, called_in, steps_for, too_many, wanted_for};
+ghost use Rattle.pt_reraising.specs.pt_machine_state.declared.machine.Standing.TheVariants as code;
+ghost use Rattle.pt_reraising.specs.pt_failing.Failing.{FailsSo};
+ghost use Rattle.pt_calling.specs.Calling.{CallsSo, RefusesSo, called_in, cleared, is_item, too_many, wanted_for};
 
 use pt_base::{BlockId, Memory, Seq, Text};
 use pt_bind::Locals;
-use pt_content::Op;
-use pt_failing::{
-    BlockCode, Blocks, Failed, Failing, Machine, Purpose, Standing, Step, Waiting, context_of,
-    fail, tell_on,
-};
-use pt_frames::Purpose as For;
+use pt_frames::{Purpose as For, Slots};
 use pt_happenings::Happening;
-use pt_opening::{Wanted, open};
 use pt_pendings::Pending;
-use sem_rows::RECURSION_ERROR;
-use sem_rows::heap_rows::Progress;
+use pt_reraising::{
+    BlockCode, Blocks, Failed, Failing, Machine, Progress, Purpose, RECURSION_ERROR, Standing,
+    Waiting, Wanted, context_of, fail, open, tell_on,
+};
 use std::alloc::Global;
 
-/// What is done on the result of a block that is called for this.
-fn steps_for(alloc: Global, why: For) -> Result<Seq<Step>, Memory>
-    ensures { IfOk result (λ todo. todo ≡ steps_for why) }
-{
-    let mut todo = Seq::new(alloc);
-    match why {
-        For::Opposite => todo.push(Step::Inverts)?,
-        For::Format { spec } => todo.push(Step::Operates {
-            op: Op::Format(None),
-            behind: Seq::from_slice(alloc, &[spec])?,
-        })?,
-        For::Class { base, cell } => todo.push(Step::BindsClass { base, cell })?,
-        For::Init { made } => todo.push(Step::Makes(made))?,
-        _ => {}
-    }
-    Ok(todo)
-}
-
 /// The newest activation is to wait for a block's that is called for this.
-fn wanted_for(machine: &Machine, why: For, failing: Failing) -> Result<Wanted, Memory>
-    ensures { IfOk result (λ wanted. wanted ≡ wanted_for why failing machine.now) }
+fn wanted_for(machine: &Machine, why: For, failing: Failing) -> Wanted
+    ensures { result ≡ wanted_for why failing machine.now }
 {
-    Ok(Wanted {
+    Wanted {
         purpose: Purpose::Ask {
             called: failing.called,
             is_act: failing.is_act,
         },
-        todo: steps_for(machine.code.alloc, why)?,
+        why,
         context: context_of(machine, failing.active),
-    })
+    }
 }
 
 /// A block opens above the newest activation, which waits for its result, and that is told; it
@@ -67,7 +45,7 @@ fn call_above(
     ensures { IfOk result (λ event. record { event = event; machine = machine.new }
         ≡ called_in callee.now called hidden locals why failing machine.old) }
 {
-    let wanted = wanted_for(machine, why, failing)?;
+    let wanted = wanted_for(machine, why, failing);
     open(machine, callee.iterates, called, hidden, locals, wanted)?;
     let told = Seq::from_slice(machine.code.alloc, &[Happening::Starts])?;
     let waiting = Waiting {
@@ -78,23 +56,94 @@ fn call_above(
     tell_on(machine, callee, told, waiting)
 }
 
-/// As many activations are open as may be: a RecursionError arises.
-fn refuse(machine: &mut Machine, block: &BlockCode, failing: Failing) -> Result<Failed, Memory>
-    requires { machine.old.code.standing ≡ code.AtPlace }
-    ensures { IfOk result (λ r. FailsSo block.now too_many failing machine.old r machine.new) }
+/// What a call comes to where as many activations are open as may be.
+fn too_many(alloc: Global) -> Result<Progress, Memory>
+    ensures { IfOk result (λ p. p ≡ too_many) }
 {
-    let text = Text::from_str(machine.code.alloc, "too many activations")?;
-    let failure = Progress::FailsSaying {
+    let text = Text::from_str(alloc, "too many activations")?;
+    Ok(Progress::FailsSaying {
         class: RECURSION_ERROR,
         text,
-    };
+    })
+}
+
+/// Whether a block is to give the next item of an iterator.
+fn is_item(why: &For) -> bool
+    ensures { result ≡ is_item why.now }
+{
+    match why {
+        For::Item {
+            iterator: _,
+            end: _,
+        } => true,
+        _ => false,
+    }
+}
+
+/// The two slots on top come off.
+fn drop_two(slots: &mut Slots)
+    ensures { slots.new ≡ drop 2 slots.old }
+{
+    match slots.pop() {
+        Some(_) => {
+            slots.pop();
+        }
+        None => {}
+    }
+}
+
+/// The slots of an exit come off, which were to stay on while its block runs.
+fn clear(machine: &mut Machine, why: &For)
+    ensures { machine.new ≡ cleared why.now machine.old }
+{
+    match why {
+        For::Exit { completion: _ } => drop_two(&mut machine.code.here.slots),
+        _ => {}
+    }
+}
+
+/// A RecursionError arises.
+#[tactic(auto, using(crate::proofs::Rooms::said_so))]
+fn fail_below(
+    machine: &mut Machine,
+    block: &BlockCode,
+    why: &For,
+    failing: Failing,
+) -> Result<Failed, Memory>
+    requires { machine.old.code.standing ≡ code.AtPlace }
+    ensures { IfOk result (λ r. FailsSo block.now too_many failing (cleared why.now machine.old) r
+        machine.new) }
+{
+    let failure = too_many(machine.code.alloc)?;
+    clear(machine, why);
     let failed = fail(machine, block, failure, failing)?;
+    Ok(failed)
+}
+
+/// As many activations are open as may be: a RecursionError arises, but nothing is done where the next
+/// item of an iterator is asked for.
+#[tactic(auto, using(crate::proofs::Rooms::where_item, crate::proofs::Rooms::where_other))]
+fn refuse(
+    machine: &mut Machine,
+    block: &BlockCode,
+    why: &For,
+    failing: Failing,
+) -> Result<Failed, Memory>
+    requires { machine.old.code.standing ≡ code.AtPlace }
+    ensures { IfOk result (λ r. RefusesSo block.now why.now failing machine.old r machine.new) }
+{
+    if is_item(why) {
+        let failure = too_many(machine.code.alloc)?;
+        return Ok(Failed::Further(failure));
+    }
+    let failed = fail_below(machine, block, why, failing)?;
     Ok(failed)
 }
 
 /// Does what the instruction came to that the newest activation has asked of its host, of this block,
 /// if it calls a block, with the slots and stores as its row leaves them: that opens, and its
-/// result is for this. Where as many activations are open as may be, a RecursionError arises.
+/// result is for this. Where as many activations are open as may be, a RecursionError arises; what
+/// comes of that where the next item of an iterator is asked for is left to be done.
 ///
 /// # Errors
 ///
@@ -115,7 +164,7 @@ pub fn call(
         machine.old r machine.new) }
 {
     if machine.openers.is_full() {
-        let failed = refuse(machine, block, failing)?;
+        let failed = refuse(machine, block, &why, failing)?;
         return Ok(failed);
     }
     let callee = blocks.at(called, hidden);

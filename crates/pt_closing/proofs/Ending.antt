@@ -15,28 +15,28 @@ use Rattle.sem_run.specs.run.Views as views
 use Rattle.sem_run.specs.run.Views.{line_or, line_of_first}
 use Rattle.sem_run.specs.run.Step.{step, by_phase, close, close_frame, end_by_exception, end_of_module}
 use Rattle.sem_steps.specs.Steps.{Steps, stays, behind_step, minded}
-use Rattle.pt_telling.specs.pt_run_state.pt_purposes.sem_rows.pt_host.World.{Names, World, Program}
-use Rattle.pt_telling.specs.pt_run_state.pt_purposes.sem_rows.pt_host.Leaving.{leaving}
-use Rattle.pt_telling.specs.pt_run_state.pt_purposes.sem_rows.pt_host.HeapHost.{heap_host}
+use Rattle.pt_beginning.specs.pt_host.World.{Names, World, Program}
+use Rattle.pt_beginning.specs.pt_host.Leaving.{leaving}
+use Rattle.pt_beginning.specs.pt_host.HeapHost.{heap_host}
 use Rattle.pt_pendings.specs.declared.reply.End.{End}
 use Rattle.pt_pendings.specs.declared.reply.End.TheVariants.{Gave, LeftBy}
 use Rattle.pt_pendings.specs.declared.pending.Pending.{Pending}
 use Rattle.pt_pendings.specs.declared.pending.Pending.TheVariants as pending
 use Rattle.pt_pendings.specs.Stands as pend
 use Rattle.pt_pendings.specs.Views.{end_view}
-use Rattle.pt_telling.specs.pt_transfers.pt_machine_state.declared.blocks.BlockCode.{BlockCode}
-use Rattle.pt_telling.specs.pt_transfers.pt_machine_state.Changes.{line_of}
-use Rattle.pt_telling.specs.pt_run_state.pt_purposes.declared.standing.Standing.{Standing}
-use Rattle.pt_telling.specs.pt_run_state.pt_purposes.declared.opener.Opener.{Opener}
-use Rattle.pt_telling.specs.pt_run_state.pt_purposes.Seen.{block_of, frame_of}
-use Rattle.pt_telling.specs.pt_run_state.pt_purposes.Openers as openers
-use Rattle.pt_telling.specs.pt_run_state.pt_purposes.Openers.{Ways, AreOpeners, standpoint}
-use Rattle.pt_telling.specs.pt_run_state.declared.machine.Machine.{Machine as Held}
-use Rattle.pt_telling.specs.pt_run_state.declared.machine.Turn.TheVariants.{Ends}
-use Rattle.pt_telling.specs.pt_run_state.Stands.{world_of, newest, StandsAround, IsToTell}
-use Rattle.pt_telling.specs.pt_run_state.Advances as advances
-use Rattle.pt_telling.specs.pt_run_state.Advances.{IsEnding, Behind}
-use Rattle.pt_telling.specs.Laws.{IsNamed, Comes}
+use Rattle.pt_beginning.specs.pt_machine_state.declared.blocks.BlockCode.{BlockCode}
+use Rattle.pt_beginning.specs.pt_machine_state.Changes.{line_of}
+use Rattle.pt_beginning.specs.pt_purposes.declared.standing.Standing.{Standing}
+use Rattle.pt_beginning.specs.pt_purposes.declared.opener.Opener.{Opener}
+use Rattle.pt_beginning.specs.pt_purposes.Seen.{block_of, frame_of}
+use Rattle.pt_beginning.specs.pt_purposes.Openers as openers
+use Rattle.pt_beginning.specs.pt_purposes.Openers.{Ways, AreOpeners, standpoint}
+use Rattle.pt_beginning.specs.pt_run_state.declared.machine.Machine.{Machine as Held}
+use Rattle.pt_beginning.specs.pt_run_state.declared.machine.Turn.TheVariants.{Ends}
+use Rattle.pt_beginning.specs.pt_run_state.Stands.{world_of, newest, StandsAround, IsToTell}
+use Rattle.pt_beginning.specs.pt_run_state.Advances as advances
+use Rattle.pt_beginning.specs.pt_run_state.Advances.{IsEnding, Behind}
+use Rattle.pt_beginning.specs.pt_telling.Laws.{IsNamed, Comes}
 use Rattle.pt_closing.specs.Ending.{module_end}
 use Rattle.pt_closing.specs.Laws.{ending_so, ModuleEndsAsRun}
 

@@ -5,20 +5,20 @@ use Rattle.sem_run.specs.run.Machine.{Machine}
 use Rattle.sem_run.specs.run.Events.{Event}
 use Rattle.sem_run.specs.run.State.{State}
 use Rattle.sem_steps.specs.Steps.{minded}
-use Rattle.pt_telling.specs.pt_run_state.pt_purposes.sem_rows.pt_host.World.{Names, World, Program}
-use Rattle.pt_telling.specs.pt_run_state.pt_purposes.sem_rows.pt_host.HeapHost.{heap_host}
+use Rattle.pt_beginning.specs.pt_host.World.{Names, World, Program}
+use Rattle.pt_beginning.specs.pt_host.HeapHost.{heap_host}
 use Rattle.pt_pendings.specs.declared.reply.End.{End}
 use Rattle.pt_pendings.specs.declared.pending.Pending.TheVariants.{Ending}
-use Rattle.pt_telling.specs.pt_transfers.pt_machine_state.declared.blocks.BlockCode.{BlockCode}
-use Rattle.pt_telling.specs.pt_run_state.pt_purposes.declared.standing.Standing.{Standing}
-use Rattle.pt_telling.specs.pt_run_state.pt_purposes.Seen.{block_of}
-use Rattle.pt_telling.specs.pt_run_state.pt_purposes.Openers.{Ways}
-use Rattle.pt_telling.specs.pt_run_state.declared.machine.Machine.{Machine as Held}
-use Rattle.pt_telling.specs.pt_run_state.declared.machine.Waiting.{Waiting}
-use Rattle.pt_telling.specs.pt_run_state.declared.machine.Turn.TheVariants.{Ends}
-use Rattle.pt_telling.specs.pt_run_state.Stands.{IsToTell}
-use Rattle.pt_telling.specs.pt_run_state.Advances.{Behind}
-use Rattle.pt_telling.specs.Laws.{IsNamed, Comes}
+use Rattle.pt_beginning.specs.pt_machine_state.declared.blocks.BlockCode.{BlockCode}
+use Rattle.pt_beginning.specs.pt_purposes.declared.standing.Standing.{Standing}
+use Rattle.pt_beginning.specs.pt_purposes.Seen.{block_of}
+use Rattle.pt_beginning.specs.pt_purposes.Openers.{Ways}
+use Rattle.pt_beginning.specs.pt_run_state.declared.machine.Machine.{Machine as Held}
+use Rattle.pt_beginning.specs.pt_run_state.declared.machine.Waiting.{Waiting}
+use Rattle.pt_beginning.specs.pt_run_state.declared.machine.Turn.TheVariants.{Ends}
+use Rattle.pt_beginning.specs.pt_run_state.Stands.{IsToTell}
+use Rattle.pt_beginning.specs.pt_run_state.Advances.{Behind}
+use Rattle.pt_beginning.specs.pt_telling.Laws.{IsNamed, Comes}
 use Rattle.pt_closing.specs.Ending.{module_end}
 
 abbrev pub ending_so : Standing → Option Value → End → Waiting

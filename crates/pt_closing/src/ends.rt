@@ -2,8 +2,8 @@
 ghost use Rattle.std.specs.Prelude.{◌≡◌};
 ghost use Rattle.pt_closing.specs.Ending.{module_end};
 
+use pt_beginning::{BlockCode, Machine, MachineEnd, line};
 use pt_pendings::End;
-use pt_telling::{BlockCode, Machine, MachineEnd, line};
 
 /// How the run ends with the module, of this block.
 pub fn module_end(machine: &Machine, block: &BlockCode, end: End) -> MachineEnd

@@ -3,8 +3,8 @@ ghost use Rattle.std.specs.Prelude.{ℕ, Bool};
 ghost use Rattle.pt_heap.specs.declared.value.Value.{Value};
 ghost use Rattle.sem_run.specs.run.Events.{Event};
 ghost use Rattle.sem_run.specs.run.Machine.{Machine};
-ghost use Rattle.pt_telling.specs.pt_run_state.pt_purposes.sem_rows.pt_host.World.{Program};
-ghost use Rattle.pt_telling.specs.pt_run_state.pt_purposes.Openers.{Ways};
+ghost use Rattle.pt_beginning.specs.pt_host.World.{Program};
+ghost use Rattle.pt_beginning.specs.pt_purposes.Openers.{Ways};
 ghost use Rattle.pt_closing.specs.Laws.{ModuleEndsAsRun};
 
 /// With the module's block the run ends as the machine says, in each run for which it stands

@@ -29,29 +29,29 @@ use Rattle.sem_run.specs.transitions.Successors as leads
 use Rattle.sem_steps.specs.Steps.{Steps, minded}
 use Rattle.sem_steps.proofs.Moves.{join}
 use Rattle.pt_openers.specs.Openers.{active_in}
-use Rattle.pt_arising.specs.pt_replying.pt_turning.pt_telling.pt_run_state.pt_purposes.sem_rows.pt_host.World.{Names, World, Stores, Program, Allotted, IsAllotted, allot, with_objects}
-use Rattle.pt_arising.specs.pt_replying.pt_turning.pt_telling.pt_run_state.pt_purposes.sem_rows.pt_host.Calls.{arguments_of}
-use Rattle.pt_arising.specs.pt_replying.pt_turning.pt_telling.pt_run_state.pt_purposes.sem_rows.pt_host.Errors.{arise_while, error, error_saying, object_place}
-use Rattle.pt_arising.specs.pt_replying.pt_turning.pt_telling.pt_run_state.pt_purposes.sem_rows.pt_host.Trees.{raise_with}
-use Rattle.pt_arising.specs.pt_replying.pt_turning.pt_telling.pt_run_state.pt_purposes.sem_rows.pt_host.HeapHost.{heap_host}
-use Rattle.pt_arising.specs.pt_replying.pt_turning.pt_telling.pt_run_state.pt_purposes.sem_rows.heap_rows.Leads.{by_tree, giving}
-use Rattle.pt_arising.specs.pt_replying.pt_turning.pt_telling.pt_run_state.pt_purposes.sem_rows.heap_rows.Views.{slots_view}
-use Rattle.pt_arising.specs.pt_replying.pt_turning.pt_telling.pt_run_state.pt_purposes.sem_rows.declared.heap_rows.progress.Progress.{Progress}
-use Rattle.pt_arising.specs.pt_replying.pt_turning.pt_telling.pt_run_state.pt_purposes.sem_rows.declared.heap_rows.progress.Progress.TheVariants as progress
-use Rattle.pt_arising.specs.pt_replying.pt_turning.pt_telling.pt_transfers.pt_machine_state.declared.blocks.BlockCode.{BlockCode}
-use Rattle.pt_arising.specs.pt_replying.pt_turning.pt_telling.pt_transfers.pt_machine_state.Blocks.{IsBlockOf}
-use Rattle.pt_arising.specs.pt_replying.pt_turning.pt_telling.pt_transfers.pt_machine_state.Views.{stores_of}
-use Rattle.pt_arising.specs.pt_replying.pt_turning.pt_telling.pt_run_state.pt_purposes.Seen.{block_of, active_of}
-use Rattle.pt_arising.specs.pt_replying.pt_turning.pt_telling.pt_run_state.pt_purposes.Openers.{Ways}
-use Rattle.pt_arising.proofs.pt_replying.pt_turning.pt_telling.pt_transfers.pt_machine_state.FailLemmas.{saying-heap}
-use Rattle.pt_arising.proofs.pt_replying.pt_turning.pt_telling.pt_run_state.pt_purposes.Seeing.{parts_tell}
-use Rattle.pt_arising.proofs.pt_replying.pt_turning.pt_telling.Around.{are-seen}
-use Rattle.pt_arising.specs.pt_replying.pt_turning.pt_telling.pt_run_state.declared.machine.Machine.{Machine as Held}
-use Rattle.pt_arising.specs.pt_replying.pt_turning.pt_telling.pt_run_state.Stands.{Stands, StandsAround}
-use Rattle.pt_arising.specs.pt_replying.pt_turning.pt_telling.Laws.{Comes}
-use Rattle.pt_arising.specs.pt_replying.pt_turning.Ways.{IsOfCode, rows_of, rows_at}
-use Rattle.pt_arising.specs.Laws.{IsReplied}
-use Rattle.pt_arising.proofs.Arises.{arises_as_run}
+use Rattle.pt_answering.specs.pt_replying.pt_turning.sem_rows.pt_host.World.{Names, World, Stores, Program, Allotted, IsAllotted, allot, with_objects}
+use Rattle.pt_answering.specs.pt_replying.pt_turning.sem_rows.pt_host.Calls.{arguments_of}
+use Rattle.pt_answering.specs.pt_replying.pt_turning.sem_rows.pt_host.Errors.{arise_while, error, error_saying, object_place}
+use Rattle.pt_answering.specs.pt_replying.pt_turning.sem_rows.pt_host.Trees.{raise_with}
+use Rattle.pt_answering.specs.pt_replying.pt_turning.sem_rows.pt_host.HeapHost.{heap_host}
+use Rattle.pt_answering.specs.pt_replying.pt_turning.sem_rows.heap_rows.Leads.{by_tree, giving}
+use Rattle.pt_answering.specs.pt_replying.pt_turning.sem_rows.heap_rows.Views.{slots_view}
+use Rattle.pt_answering.specs.pt_replying.pt_turning.sem_rows.declared.heap_rows.progress.Progress.{Progress}
+use Rattle.pt_answering.specs.pt_replying.pt_turning.sem_rows.declared.heap_rows.progress.Progress.TheVariants as progress
+use Rattle.pt_answering.specs.pt_replying.pt_turning.pt_telling.pt_transfers.pt_machine_state.declared.blocks.BlockCode.{BlockCode}
+use Rattle.pt_answering.specs.pt_replying.pt_turning.pt_telling.pt_transfers.pt_machine_state.Blocks.{IsBlockOf}
+use Rattle.pt_answering.specs.pt_replying.pt_turning.pt_telling.pt_transfers.pt_machine_state.Views.{stores_of}
+use Rattle.pt_answering.specs.pt_replying.pt_turning.pt_telling.pt_run_state.pt_purposes.Seen.{block_of, active_of}
+use Rattle.pt_answering.specs.pt_replying.pt_turning.pt_telling.pt_run_state.pt_purposes.Openers.{Ways}
+use Rattle.pt_answering.proofs.pt_machine_state.FailLemmas.{saying-heap}
+use Rattle.pt_answering.proofs.pt_purposes.Seeing.{parts_tell}
+use Rattle.pt_answering.proofs.pt_telling.Around.{are-seen}
+use Rattle.pt_answering.specs.pt_replying.pt_turning.pt_telling.pt_run_state.declared.machine.Machine.{Machine as Held}
+use Rattle.pt_answering.specs.pt_replying.pt_turning.pt_telling.pt_run_state.Stands.{Stands, StandsAround}
+use Rattle.pt_answering.specs.pt_replying.pt_turning.pt_telling.Laws.{Comes}
+use Rattle.pt_answering.specs.pt_replying.pt_turning.Ways.{IsOfCode, rows_of, rows_at}
+use Rattle.pt_answering.specs.pt_arising.Laws.{IsReplied}
+use Rattle.pt_answering.proofs.pt_arising.Arises.{arises_as_run}
 use Rattle.pt_failing.specs.declared.failing.Failed.{Failed}
 use Rattle.pt_failing.specs.declared.failing.Failing.{Failing}
 use Rattle.pt_failing.specs.Failing.{FailedSo, context_of, with_heap, arisen_by, failed_by, FailsOf, FailsSo}

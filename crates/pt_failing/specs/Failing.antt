@@ -10,16 +10,16 @@ use Rattle.pt_heap.specs.declared.value.Value.TheVariants.{Obj}
 use Rattle.pt_heap.specs.declared.object.Object.{Object}
 use Rattle.sem_control.specs.control.Bases.{or_else}
 use Rattle.pt_openers.specs.Openers.{active_in}
-use Rattle.pt_arising.specs.pt_replying.pt_turning.pt_telling.pt_run_state.pt_purposes.sem_rows.pt_host.World.{Allotted, IsAllotted, allot}
-use Rattle.pt_arising.specs.pt_replying.pt_turning.pt_telling.pt_run_state.pt_purposes.sem_rows.pt_host.Calls.{arguments_of}
-use Rattle.pt_arising.specs.pt_replying.pt_turning.pt_telling.pt_run_state.pt_purposes.sem_rows.pt_host.Errors.{arise_while, error, error_saying, object_place}
-use Rattle.pt_arising.specs.pt_replying.pt_turning.pt_telling.pt_run_state.pt_purposes.sem_rows.declared.heap_rows.progress.Progress.{Progress}
-use Rattle.pt_arising.specs.pt_replying.pt_turning.pt_telling.pt_run_state.pt_purposes.sem_rows.declared.heap_rows.progress.Progress.TheVariants as progress
-use Rattle.pt_arising.specs.pt_replying.pt_turning.pt_telling.pt_transfers.pt_machine_state.declared.blocks.BlockCode.{BlockCode}
-use Rattle.pt_arising.specs.pt_replying.pt_turning.pt_telling.pt_run_state.pt_purposes.Seen.{active_of}
-use Rattle.pt_arising.specs.pt_replying.pt_turning.pt_telling.pt_run_state.declared.machine.Machine.{Machine}
-use Rattle.pt_arising.specs.pt_replying.pt_turning.pt_telling.Telling.{Told}
-use Rattle.pt_arising.specs.Arising.{arisen}
+use Rattle.pt_answering.specs.pt_replying.pt_turning.sem_rows.pt_host.World.{Allotted, IsAllotted, allot}
+use Rattle.pt_answering.specs.pt_replying.pt_turning.sem_rows.pt_host.Calls.{arguments_of}
+use Rattle.pt_answering.specs.pt_replying.pt_turning.sem_rows.pt_host.Errors.{arise_while, error, error_saying, object_place}
+use Rattle.pt_answering.specs.pt_replying.pt_turning.sem_rows.declared.heap_rows.progress.Progress.{Progress}
+use Rattle.pt_answering.specs.pt_replying.pt_turning.sem_rows.declared.heap_rows.progress.Progress.TheVariants as progress
+use Rattle.pt_answering.specs.pt_replying.pt_turning.pt_telling.pt_transfers.pt_machine_state.declared.blocks.BlockCode.{BlockCode}
+use Rattle.pt_answering.specs.pt_replying.pt_turning.pt_telling.pt_run_state.pt_purposes.Seen.{active_of}
+use Rattle.pt_answering.specs.pt_replying.pt_turning.pt_telling.pt_run_state.declared.machine.Machine.{Machine}
+use Rattle.pt_answering.specs.pt_replying.pt_turning.pt_telling.Telling.{Told}
+use Rattle.pt_answering.specs.pt_arising.Arising.{arisen}
 use Rattle.pt_failing.specs.declared.failing.Failed.{Failed}
 use Rattle.pt_failing.specs.declared.failing.Failed.TheVariants.{Goes, Leaves, Further}
 use Rattle.pt_failing.specs.declared.failing.Failing.{Failing}

@@ -16,23 +16,23 @@ use Rattle.sem_run.specs.run.Views.{active, here_of, visible_line}
 use Rattle.sem_run.specs.run.Outcome as O
 use Rattle.sem_run.specs.run.Step.{step}
 use Rattle.sem_steps.specs.Steps.{minded}
-use Rattle.pt_arising.specs.pt_replying.pt_turning.pt_telling.pt_run_state.pt_purposes.sem_rows.pt_host.World.{Names, World, Program}
-use Rattle.pt_arising.specs.pt_replying.pt_turning.pt_telling.pt_run_state.pt_purposes.sem_rows.pt_host.HeapHost.{heap_host}
-use Rattle.pt_arising.specs.pt_replying.pt_turning.pt_telling.pt_run_state.pt_purposes.sem_rows.heap_rows.Views.{slots_view}
-use Rattle.pt_arising.specs.pt_replying.pt_turning.pt_telling.pt_run_state.pt_purposes.sem_rows.heap_rows.Told.{told}
-use Rattle.pt_arising.specs.pt_replying.pt_turning.pt_telling.pt_run_state.pt_purposes.sem_rows.declared.heap_rows.progress.Progress.{Progress}
-use Rattle.pt_arising.specs.pt_replying.pt_turning.pt_telling.pt_transfers.pt_machine_state.declared.blocks.BlockCode.{BlockCode}
-use Rattle.pt_arising.specs.pt_replying.pt_turning.pt_telling.pt_transfers.pt_machine_state.Blocks.{IsBlockOf}
-use Rattle.pt_arising.specs.pt_replying.pt_turning.pt_telling.pt_transfers.pt_machine_state.Views.{stores_of}
-use Rattle.pt_arising.specs.pt_replying.pt_turning.pt_telling.pt_run_state.pt_purposes.Seen.{block_of}
-use Rattle.pt_arising.specs.pt_replying.pt_turning.pt_telling.pt_run_state.pt_purposes.Openers.{Ways}
-use Rattle.pt_arising.specs.pt_replying.pt_turning.pt_telling.pt_run_state.declared.machine.Machine.{Machine as Held}
-use Rattle.pt_arising.specs.pt_replying.pt_turning.pt_telling.pt_run_state.Stands.{Stands, StandsAround}
-use Rattle.pt_arising.specs.pt_replying.pt_turning.pt_telling.Laws.{Comes}
+use Rattle.pt_answering.specs.pt_replying.pt_turning.sem_rows.pt_host.World.{Names, World, Program}
+use Rattle.pt_answering.specs.pt_replying.pt_turning.sem_rows.pt_host.HeapHost.{heap_host}
+use Rattle.pt_answering.specs.pt_replying.pt_turning.sem_rows.heap_rows.Views.{slots_view}
+use Rattle.pt_answering.specs.pt_replying.pt_turning.sem_rows.heap_rows.Told.{told}
+use Rattle.pt_answering.specs.pt_replying.pt_turning.sem_rows.declared.heap_rows.progress.Progress.{Progress}
+use Rattle.pt_answering.specs.pt_replying.pt_turning.pt_telling.pt_transfers.pt_machine_state.declared.blocks.BlockCode.{BlockCode}
+use Rattle.pt_answering.specs.pt_replying.pt_turning.pt_telling.pt_transfers.pt_machine_state.Blocks.{IsBlockOf}
+use Rattle.pt_answering.specs.pt_replying.pt_turning.pt_telling.pt_transfers.pt_machine_state.Views.{stores_of}
+use Rattle.pt_answering.specs.pt_replying.pt_turning.pt_telling.pt_run_state.pt_purposes.Seen.{block_of}
+use Rattle.pt_answering.specs.pt_replying.pt_turning.pt_telling.pt_run_state.pt_purposes.Openers.{Ways}
+use Rattle.pt_answering.specs.pt_replying.pt_turning.pt_telling.pt_run_state.declared.machine.Machine.{Machine as Held}
+use Rattle.pt_answering.specs.pt_replying.pt_turning.pt_telling.pt_run_state.Stands.{Stands, StandsAround}
+use Rattle.pt_answering.specs.pt_replying.pt_turning.pt_telling.Laws.{Comes}
 use Rattle.pt_failing.specs.declared.failing.Failed.{Failed}
 use Rattle.pt_failing.specs.declared.failing.Failed.TheVariants.{Goes, Leaves, Further}
 use Rattle.pt_failing.specs.declared.failing.Failing.{Failing}
-use Rattle.pt_arising.specs.Laws.{TellsRaise}
+use Rattle.pt_answering.specs.pt_arising.Laws.{TellsRaise}
 use Rattle.pt_failing.specs.Failing.{FailsSo}
 
 module _ {S : Type 0} (program : Program) (code : CodeBlocks Value) (machine : Machine S Value)

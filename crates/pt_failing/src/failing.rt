@@ -1,17 +1,17 @@
 //! An instruction fails.
 ghost use Rattle.std.specs.Prelude.{◌≡◌, None, IfOk};
-ghost use Rattle.pt_arising.specs.Arising.{arisen};
-ghost use Rattle.pt_arising.specs.pt_replying.pt_turning.pt_telling.pt_run_state.pt_purposes.sem_rows.pt_host.Calls.{arguments_of};
-ghost use Rattle.pt_arising.specs.pt_replying.pt_turning.pt_telling.pt_run_state.pt_purposes.sem_rows.pt_host.Errors.{error, error_saying, object_place};
-ghost use Rattle.pt_arising.specs.pt_replying.pt_turning.pt_telling.pt_run_state.pt_purposes.sem_rows.pt_host.World.{allot};
-ghost use Rattle.pt_arising.specs.pt_replying.pt_turning.pt_telling.pt_transfers.pt_machine_state.declared.machine.Standing.TheVariants as code;
+ghost use Rattle.pt_answering.specs.pt_arising.Arising.{arisen};
+ghost use Rattle.pt_answering.specs.pt_replying.pt_turning.sem_rows.pt_host.Calls.{arguments_of};
+ghost use Rattle.pt_answering.specs.pt_replying.pt_turning.sem_rows.pt_host.Errors.{error, error_saying, object_place};
+ghost use Rattle.pt_answering.specs.pt_replying.pt_turning.sem_rows.pt_host.World.{allot};
+ghost use Rattle.pt_answering.specs.pt_replying.pt_turning.pt_telling.pt_transfers.pt_machine_state.declared.machine.Standing.TheVariants as code;
 ghost use Rattle.pt_failing.specs.Failing.{FailsOf, FailsSo, context_of, failed_by, goes, raised_there};
 
-use pt_arising::{BlockCode, Called, Machine, arise};
+use pt_answering::{
+    BlockCode, Called, Machine, Progress, allot, arise, arise_while, error, error_saying,
+};
 use pt_base::{Memory, ObjId, Seq, Text, What};
 use pt_heap::Value;
-use sem_rows::heap_rows::Progress;
-use sem_rows::{allot, arise_while, error, error_saying};
 use std::alloc::Global;
 
 /// What comes of a failure.

@@ -7,6 +7,7 @@ use Rattle.pt_ranges.specs.declared.handlers.Handler.{Handler}
 use Rattle.pt_code.specs.View.{Ins}
 use Rattle.pt_frames.specs.declared.slot.Slot.{Slot}
 use Rattle.pt_frames.specs.Slots.{active_in}
+use Rattle.pt_frames.specs.declared.purpose.Purpose.{Purpose as For}
 use Rattle.sem_control.specs.control.Turn.{Reply, Answer, got, raised}
 use Rattle.sem_control.specs.control.Events as E
 use Rattle.sem_code.specs.slots.Slots as C
@@ -27,29 +28,29 @@ use Rattle.sem_run.specs.transitions.Transitions.{by_answer, replies}
 use Rattle.sem_run.specs.transitions.Laws.{Does}
 use Rattle.pt_giving.proofs.AnswersDone.{answers_done}
 use Rattle.sem_steps.specs.Steps.{behind_step}
-use Rattle.pt_arising.specs.pt_replying.pt_turning.pt_telling.pt_run_state.pt_purposes.sem_rows.pt_host.World.{Names, World, Stores, Program}
-use Rattle.pt_arising.specs.pt_replying.pt_turning.pt_telling.pt_run_state.pt_purposes.sem_rows.pt_host.Trees.{Tree}
-use Rattle.pt_arising.specs.pt_replying.pt_turning.pt_telling.pt_run_state.pt_purposes.sem_rows.pt_host.HeapHost.{heap_host}
-use Rattle.pt_arising.specs.pt_replying.pt_turning.pt_telling.pt_run_state.pt_purposes.sem_rows.heap_rows.Leads.{giving}
-use Rattle.pt_arising.specs.pt_replying.pt_turning.pt_telling.pt_run_state.pt_purposes.sem_rows.heap_rows.Views.{slots_view}
+use Rattle.pt_calling.specs.pt_arising.pt_opening.pt_host.World.{Names, World, Stores, Program}
+use Rattle.pt_calling.specs.pt_arising.pt_opening.pt_host.Trees.{Tree}
+use Rattle.pt_calling.specs.pt_arising.pt_opening.pt_host.HeapHost.{heap_host}
+use Rattle.pt_calling.specs.pt_machine_state.pt_code_facts.sem_rows.heap_rows.Leads.{giving}
+use Rattle.pt_calling.specs.pt_machine_state.pt_code_facts.sem_rows.heap_rows.Views.{slots_view}
 use Rattle.pt_pendings.specs.declared.pending.Origin.{Origin}
-use Rattle.pt_arising.specs.pt_replying.pt_turning.pt_telling.pt_transfers.pt_machine_state.declared.blocks.BlockCode.{BlockCode}
-use Rattle.pt_arising.specs.pt_replying.pt_turning.pt_telling.pt_transfers.pt_machine_state.Blocks.{IsBlockOf}
-use Rattle.pt_arising.specs.pt_replying.pt_turning.pt_telling.pt_run_state.pt_purposes.declared.purpose.Called.{Called}
-use Rattle.pt_arising.specs.pt_replying.pt_turning.pt_telling.pt_run_state.pt_purposes.declared.standing.Standing.TheVariants.{AtPlace}
-use Rattle.pt_arising.specs.pt_replying.pt_turning.pt_telling.pt_run_state.pt_purposes.Seen.{block_of}
-use Rattle.pt_arising.specs.pt_replying.pt_turning.pt_telling.pt_run_state.pt_purposes.Asks.{told_by_control}
-use Rattle.pt_arising.specs.pt_replying.pt_turning.pt_telling.pt_run_state.pt_purposes.Openers.{Ways, origin_in, IsWaiting}
-use Rattle.pt_arising.specs.pt_replying.pt_turning.pt_telling.pt_run_state.declared.machine.Machine.{Machine as Held}
-use Rattle.pt_arising.specs.pt_replying.pt_turning.pt_telling.pt_run_state.Stands.{Stands, StandsAround}
-use Rattle.pt_arising.specs.pt_replying.pt_turning.pt_telling.Telling.{Told}
-use Rattle.pt_arising.specs.pt_replying.pt_turning.pt_telling.Laws.{Comes}
-use Rattle.pt_arising.specs.pt_replying.pt_turning.Ways.{IsOfCode, rows_at}
-use Rattle.pt_arising.specs.pt_replying.Laws.{IsGiven}
-use Rattle.pt_arising.proofs.pt_replying.Replies.{replies_as_run}
-use Rattle.pt_arising.specs.Laws.{IsReplied}
-use Rattle.pt_arising.specs.Arising.{arisen}
-use Rattle.pt_arising.proofs.Arises.{arises_as_run, tells_raise}
+use Rattle.pt_calling.specs.pt_machine_state.declared.blocks.BlockCode.{BlockCode}
+use Rattle.pt_calling.specs.pt_machine_state.Blocks.{IsBlockOf}
+use Rattle.pt_calling.specs.pt_arising.pt_opening.pt_purposes.declared.purpose.Called.{Called}
+use Rattle.pt_calling.specs.pt_arising.pt_opening.pt_purposes.declared.standing.Standing.TheVariants.{AtPlace}
+use Rattle.pt_calling.specs.pt_arising.pt_opening.pt_purposes.Seen.{block_of}
+use Rattle.pt_calling.specs.pt_arising.pt_opening.pt_purposes.Asks.{told_by_control}
+use Rattle.pt_calling.specs.pt_arising.pt_opening.pt_purposes.Openers.{Ways, origin_in, origin_for, IsWaiting}
+use Rattle.pt_calling.specs.pt_arising.pt_opening.pt_run_state.declared.machine.Machine.{Machine as Held}
+use Rattle.pt_calling.specs.pt_arising.pt_opening.pt_run_state.Stands.{Stands, StandsAround}
+use Rattle.pt_calling.specs.pt_arising.pt_opening.pt_telling.Telling.{Told}
+use Rattle.pt_calling.specs.pt_arising.pt_opening.pt_telling.Laws.{Comes}
+use Rattle.pt_calling.specs.pt_arising.pt_replying.pt_turning.Ways.{IsOfCode, rows_at}
+use Rattle.pt_calling.specs.pt_arising.pt_replying.Laws.{IsGiven}
+use Rattle.pt_calling.proofs.pt_replying.Replies.{replies_as_run}
+use Rattle.pt_calling.specs.pt_arising.Laws.{IsReplied}
+use Rattle.pt_calling.specs.pt_arising.Arising.{arisen}
+use Rattle.pt_calling.proofs.pt_arising.Arises.{arises_as_run, tells_raise}
 use Rattle.pt_giving.specs.Giving.{given_above, plainly, given_to}
 
 length-view : (slots : List Slot) → length (slots_view slots) ≡ length slots
@@ -63,7 +64,9 @@ module _ {S : Type 0} (program : Program) (code : CodeBlocks Value) (machine : M
     (s : State S Names Value World) (st : Stores)
     (around : StandsAround program machine ways m (with_store st (at (answering q u) s)))
     (active_is : machine.active s.here.state ≡ active_in m.code.here.slots)
-    (phase : s.phase ≡ answering q u) (waits : IsWaiting ways m.code.here called acts q)
+    (phase : s.phase ≡ answering q u) (why : For)
+    (waits : IsWaiting ways m.code.here why called acts q)
+    (plain : origin_for why m.code.here ≡ origin_in m.code.here)
     (there : (code.object (block_of m.code.here)).at m.code.here.pc.0 ≡ Some i)
     (block : BlockCode) (known : IsBlockOf program code (block_of m.code.here) block) where
   abbrev Run : Type 0
@@ -101,13 +104,13 @@ module _ {S : Type 0} (program : Program) (code : CodeBlocks Value) (machine : M
   To r = (t : Run) × (Comes program machine ways minds n s [] t × Stands program machine ways r.machine t)
 
   -- the reply is taken
-  taken : (x : Reply Value (Answer Value q.ask)) → by_answer q u ≡ replies q x None st
+  pub taken : (x : Reply Value (Answer Value q.ask)) → by_answer q u ≡ replies q x None st
       → step machine host n s ≡ O.goes [] (reply_to machine host q x [] then_s)
   taken x is_reply =
       ap (λ t. step machine host n t) there-is
       ∙ subst (λ t. Does machine host n t there_s) is_reply (answers_done machine host n q u there_s)
 
-  behind : (t1 t : Run) → step machine host n s ≡ O.goes [] t1
+  pub behind : (t1 t : Run) → step machine host n s ≡ O.goes [] t1
       → Comes program machine ways minds n t1 [] t → Comes program machine ways minds n s [] t
   behind t1 t is_step c = record {
     outputs = c.outputs;
@@ -116,14 +119,16 @@ module _ {S : Type 0} (program : Program) (code : CodeBlocks Value) (machine : M
   }
 
   -- a raise lands by the slots that are left, whatever lies above them
-  lands-below : (over : Slots Value) (v : Value)
+  pub lands-below : (over : Slots Value) (v : Value)
       → lands_with obj rows (length m.code.here.slots) (over ++ ss) v ≡ land obj rows (C.raise v) ss
   lands-below over v =
       ap (λ k. lands_with obj rows k (over ++ ss) v) (sym (length-view m.code.here.slots))
       ∙ below_what_is_given obj rows over ss v
 
-  raises-so : (v : Value) → q.next (raised v) ≡ embed (land obj rows (C.raise v) ss)
-  raises-so v = waits.raises v ∙ is_of.lands m.code.here from v ∙ ap embed (lands-below [] v)
+  pub raises-so : (v : Value) → q.next (raised v) ≡ embed (land obj rows (C.raise v) ss)
+  raises-so v =
+      waits.raises v ∙ ap (λ o. ways.lands m.code.here o v) plain ∙ is_of.lands m.code.here from v
+      ∙ ap embed (lands-below [] v)
 
   -- a value is given, which lies above the slots then
   module _ (next : Pc) (next_is : i.next ≡ next.0) (decides : ways.decides m.code.here from ≡ false)

@@ -1,31 +1,28 @@
 -- What the law says of results that are given: so they are in each run for which the machine stands.
-use Rattle.std.specs.Prelude.{◌≡◌, ℕ, List, [], Bool, false, Option, Some}
+use Rattle.std.specs.Prelude.{◌≡◌, ℕ, [], Bool, false, Option, Some}
 use Rattle.pt_base.specs.declared.numbers.Pc.{Pc}
 use Rattle.pt_heap.specs.declared.value.Value.{Value}
 use Rattle.pt_code.specs.View.{Ins}
 use Rattle.pt_frames.specs.Slots.{active_in}
+use Rattle.pt_frames.specs.declared.purpose.Purpose.{Purpose as For}
 use Rattle.sem_code.specs.slots.Slots.{State as CodeState}
 use Rattle.sem_code_machine.specs.code_machine.CodeBlocks.{CodeBlocks}
 use Rattle.sem_run.specs.run.Machine.{Machine}
 use Rattle.sem_run.specs.run.Events.{Event}
 use Rattle.sem_run.specs.run.Host.{Here, BlockResult, Finding}
 use Rattle.sem_run.specs.run.State.{State, OpenAsk, answering, store}
-use Rattle.pt_arising.specs.pt_replying.pt_turning.pt_telling.pt_run_state.pt_purposes.sem_rows.pt_host.World.{Names, World, CodeFacts, Program}
-use Rattle.pt_arising.specs.pt_replying.pt_turning.pt_telling.pt_run_state.pt_purposes.sem_rows.pt_host.Trees.{Tree}
-use Rattle.pt_arising.specs.pt_replying.pt_turning.pt_telling.pt_run_state.pt_purposes.sem_rows.heap_rows.Leads.{giving}
-use Rattle.pt_arising.specs.pt_replying.pt_turning.pt_telling.pt_run_state.pt_purposes.sem_rows.heap_rows.Views.{slots_view}
+use Rattle.pt_calling.specs.pt_arising.pt_opening.pt_host.World.{Names, World, CodeFacts, Program}
+use Rattle.pt_calling.specs.pt_arising.pt_opening.pt_host.Trees.{Tree}
 use Rattle.pt_pendings.specs.declared.reply.End.{End}
 use Rattle.pt_pendings.specs.Views.{end_view}
-use Rattle.pt_steps.specs.declared.step.Step.{Step}
-use Rattle.pt_steps.specs.Steps.{run_result}
-use Rattle.pt_arising.specs.pt_replying.pt_turning.pt_telling.pt_transfers.pt_machine_state.declared.blocks.BlockCode.{BlockCode}
-use Rattle.pt_arising.specs.pt_replying.pt_turning.pt_telling.pt_transfers.pt_machine_state.Blocks.{IsBlockOf}
-use Rattle.pt_arising.specs.pt_replying.pt_turning.pt_telling.pt_run_state.pt_purposes.declared.purpose.Called.{Called}
-use Rattle.pt_arising.specs.pt_replying.pt_turning.pt_telling.pt_run_state.pt_purposes.Seen.{block_of}
-use Rattle.pt_arising.specs.pt_replying.pt_turning.pt_telling.pt_run_state.pt_purposes.Openers.{Ways, origin_in, given_in, IsWaiting, LeadsOn}
-use Rattle.pt_arising.specs.pt_replying.pt_turning.pt_telling.pt_run_state.declared.machine.Machine.{Machine as Held}
-use Rattle.pt_arising.specs.pt_replying.pt_turning.pt_telling.pt_run_state.Stands.{Stands, StandsAround}
-use Rattle.pt_arising.specs.pt_replying.pt_turning.pt_telling.Laws.{Comes}
+use Rattle.pt_calling.specs.pt_machine_state.declared.blocks.BlockCode.{BlockCode}
+use Rattle.pt_calling.specs.pt_machine_state.Blocks.{IsBlockOf}
+use Rattle.pt_calling.specs.pt_arising.pt_opening.pt_purposes.declared.purpose.Called.{Called}
+use Rattle.pt_calling.specs.pt_arising.pt_opening.pt_purposes.Seen.{block_of}
+use Rattle.pt_calling.specs.pt_arising.pt_opening.pt_purposes.Openers.{Ways, origin_in, IsWaiting, LeadsOn}
+use Rattle.pt_calling.specs.pt_arising.pt_opening.pt_run_state.declared.machine.Machine.{Machine as Held}
+use Rattle.pt_calling.specs.pt_arising.pt_opening.pt_run_state.Stands.{Stands, StandsAround}
+use Rattle.pt_calling.specs.pt_arising.pt_opening.pt_telling.Laws.{Comes}
 use Rattle.pt_giving.specs.declared.giving.Received.TheVariants.{Goes, Further}
 use Rattle.pt_giving.specs.Giving.{ReceivedSo, received}
 
@@ -34,27 +31,22 @@ module _ {S : Type 0} (program : Program) (code : CodeBlocks Value) (machine : M
   abbrev Run : Type 0
   Run = State S Names Value World
 
-  -- an ask has waited in the newest activation for the result of a block, of which this is known, and
-  -- these steps are done on it, as was asked here. The ask decides nothing, and the value that it is
-  -- given lies above the slots behind the instruction
+  -- an ask has waited in the newest activation for the result of a block, of which this is known, for
+  -- this, as was asked here. It decides nothing
   pub record IsReceiving (m : Held) (q : OpenAsk S Value) (u : Tree (Finding Value q.ask)) (i : Ins)
-      (next : Pc) (e : End) (todo : List Step) (called : Option Called) (acts : Bool)
+      (next : Pc) (e : End) (why : For) (called : Option Called) (acts : Bool)
       (here : Here Value) (facts : CodeFacts) (r : BlockResult Names Value) (s : Run) : Type 0 where
     pub around : StandsAround program machine ways m s
     pub active_is : machine.active s.here.state ≡ active_in m.code.here.slots
     pub phase : s.phase ≡ answering q u
-    pub waits : IsWaiting ways m.code.here called acts q
-    pub leads : LeadsOn ways m.code.here q
-        (run_result (given_in ways m.code.here) here facts todo r (store s)) u
+    pub waits : IsWaiting ways m.code.here why called acts q
+    pub leads : LeadsOn ways m.code.here q here facts why r (store s) u
     pub ended : r.end ≡ end_view e
     pub there : (code.object (block_of m.code.here)).at m.code.here.pc.0 ≡ Some i
     pub next_is : i.next ≡ next.0
-    pub given : (v : Value) → (given_in ways m.code.here).value v
-        ≡ Some (embed (giving (code.object (block_of m.code.here)) i
-        (slots_view m.code.here.slots) v))
     pub decides : ways.decides m.code.here (origin_in m.code.here) ≡ false
 
-  -- the run goes on, or it is as it was, where steps are left to be done
+  -- the run goes on, or it is as it was, where something else is to be done
   pub data BehindResult (s : Run) : ReceivedSo → Type 0 where
     goes_on : (event : Bool) (m : Held) (t : Run) → Comes program machine ways minds n s [] t
         → Stands program machine ways m t
@@ -63,8 +55,8 @@ module _ {S : Type 0} (program : Program) (code : CodeBlocks Value) (machine : M
 
   abbrev pub GivesAsRun : Type 0
   GivesAsRun = (m : Held) (q : OpenAsk S Value) (u : Tree (Finding Value q.ask)) (i : Ins)
-      (next : Pc) (e : End) (todo : List Step) (called : Option Called) (acts : Bool)
+      (next : Pc) (e : End) (why : For) (called : Option Called) (acts : Bool)
       (here : Here Value) (facts : CodeFacts) (r : BlockResult Names Value) (s : Run)
-      → IsReceiving m q u i next e todo called acts here facts r s → (block : BlockCode)
+      → IsReceiving m q u i next e why called acts here facts r s → (block : BlockCode)
       → IsBlockOf program code (block_of m.code.here) block
-      → BehindResult s (received block next e todo called acts m)
+      → BehindResult s (received block next e why called acts m)

@@ -1,14 +1,13 @@
 //! A result is given to the ask that waited for it.
 ghost use Rattle.std.specs.Prelude.{◌≡◌, IfOk};
-ghost use Rattle.pt_arising.specs.pt_replying.pt_turning.pt_telling.pt_transfers.pt_machine_state.declared.machine.Standing.TheVariants as code;
-ghost use Rattle.pt_arising.specs.Arising.{arisen};
-ghost use Rattle.pt_steps.specs.pt_host.Calls.{opposite};
-ghost use Rattle.pt_giving.specs.Giving.{given_to, goes, is_stopped, received, value_behind};
+ghost use Rattle.pt_calling.specs.pt_machine_state.declared.machine.Standing.TheVariants as code;
+ghost use Rattle.pt_calling.specs.pt_arising.Arising.{arisen};
+ghost use Rattle.pt_calling.specs.pt_arising.pt_opening.pt_host.Calls.{opposite};
+ghost use Rattle.pt_giving.specs.Giving.{arises_there, given_to, goes, received, value_behind};
 
-use pt_arising::{
-    BlockCode, Called, Decided, Given, Machine, Standing, Step, arise, give_back, reply,
-};
-use pt_base::{Memory, Pc, Seq};
+use pt_base::{Memory, Pc};
+use pt_calling::{BlockCode, Called, Decided, Given, Machine, Standing, arise, give_back, reply};
+use pt_frames::Purpose as For;
 use pt_heap::Value;
 use pt_pendings::{End, Origin};
 
@@ -17,7 +16,7 @@ use pt_pendings::{End, Origin};
 pub enum Received {
     /// The activation goes on; whether an event is told, at which hooks are to be asked.
     Goes { event: bool },
-    /// Steps are left to be done on the result.
+    /// Something else is to be done.
     Further,
 }
 
@@ -31,28 +30,27 @@ fn opposite(value: Value) -> Value
     }
 }
 
-/// The value that is given where a block gave this one, if nothing has to be done on the heap first:
-/// that value, an instance whose `__init__` ran, or the opposite of an answer.
-fn value_behind(todo: &Seq<Step>, value: Value) -> Option<Value>
-    ensures { result ≡ value_behind todo.now value }
+/// The value that is given where a block that was called for this gave this one, if nothing has to be
+/// done on the heap first: that value, an instance whose `__init__` ran, or the opposite of an answer.
+fn value_behind(why: &For, value: Value) -> Option<Value>
+    ensures { result ≡ value_behind why.now value }
 {
-    let Some((first, behind)) = todo.as_slice().split_first() else {
-        return Some(value);
-    };
-    match first {
-        Step::Makes(made) if behind.is_empty() => Some(*made),
-        Step::Inverts if behind.is_empty() => Some(opposite(value)),
+    match why {
+        For::Result | For::Resume { .. } | For::Answer { .. } => Some(value),
+        For::Init { made } => Some(*made),
+        For::Opposite => Some(opposite(value)),
         _ => None,
     }
 }
 
-/// Whether an exception that leaves a block may be the end of an iterator.
-fn is_stopped(todo: &Seq<Step>) -> bool
-    ensures { result ≡ is_stopped todo.now }
+/// Whether an exception that leaves a block arises with the slots as they are: it may be the end of an
+/// iterator, and the slots of an exit come off.
+fn arises_there(why: &For) -> bool
+    ensures { result ≡ arises_there why.now }
 {
-    match todo.as_slice().first() {
-        Some(Step::EndsAtStop) => true,
-        _ => false,
+    match why {
+        For::Item { .. } | For::Exit { .. } => false,
+        _ => true,
     }
 }
 
@@ -99,8 +97,8 @@ pub fn give(
 }
 
 /// Gives the result of a block to the ask that waited for it in the newest activation, of this block,
-/// behind which this place stands, where no step has to be done on it but that an instance or its
-/// opposite is given in place of its value. What was called is this, if it was a call.
+/// behind which this place stands, where it was called for its value, an instance or the opposite of
+/// its answer, or its exception arises. What was called is this, if it was a call.
 ///
 /// # Errors
 ///
@@ -110,24 +108,24 @@ pub fn give_result(
     block: &BlockCode,
     next: Pc,
     end: End,
-    todo: &Seq<Step>,
+    why: &For,
     called: Option<Called>,
     is_act: bool,
 ) -> Result<Received, Memory>
     requires { machine.old.code.standing ≡ code.AtPlace }
     ensures { IfOk result (λ r. record { received = r; machine = machine.new }
-        ≡ received block.now next end todo.now called is_act machine.old) }
+        ≡ received block.now next end why.now called is_act machine.old) }
 {
     match end {
         End::Gave(value) => {
-            let Some(value) = value_behind(todo, value) else {
+            let Some(value) = value_behind(why, value) else {
                 return Ok(Received::Further);
             };
             let event = give(machine, block, next, value, called, is_act)?;
             Ok(Received::Goes { event })
         }
         End::LeftBy(exception) => {
-            if is_stopped(todo) {
+            if !arises_there(why) {
                 return Ok(Received::Further);
             }
             let active = machine.code.here.slots.active();

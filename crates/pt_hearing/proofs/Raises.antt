@@ -14,8 +14,8 @@ use Rattle.sem_run.specs.run.State as run
 use Rattle.sem_run.specs.run.State.{State, at, in_state}
 use Rattle.sem_run.specs.run.Hooks as hooks
 use Rattle.sem_steps.specs.Steps.{Steps, stays, minded}
-use Rattle.pt_turning.specs.pt_telling.pt_run_state.pt_purposes.sem_rows.pt_host.World.{Names, World, Program}
-use Rattle.pt_turning.specs.pt_telling.pt_run_state.pt_purposes.sem_rows.pt_host.HeapHost.{heap_host}
+use Rattle.pt_closing.specs.pt_host.World.{Names, World, Program}
+use Rattle.pt_closing.specs.pt_host.HeapHost.{heap_host}
 use Rattle.pt_happenings.specs.declared.happening.Happening.TheVariants as told
 use Rattle.pt_pendings.specs.declared.reply.End.TheVariants.{Gave, LeftBy}
 use Rattle.pt_pendings.specs.declared.pending.Origin.{Origin}
@@ -27,30 +27,30 @@ use Rattle.pt_pendings.specs.Pendings.{instead_of}
 use Rattle.pt_pendings.specs.Stands as pend
 use Rattle.pt_pendings.specs.Laws.{by_instead}
 use Rattle.pt_pendings.proofs.Raising.{raises_take_place}
-use Rattle.pt_turning.specs.pt_telling.pt_transfers.pt_machine_state.declared.blocks.BlockCode.{BlockCode}
-use Rattle.pt_turning.specs.pt_telling.pt_transfers.pt_machine_state.declared.machine.Standing.{Standing as CodeStanding}
-use Rattle.pt_turning.specs.pt_telling.pt_transfers.pt_machine_state.Blocks.{IsBlockOf}
-use Rattle.pt_turning.proofs.pt_telling.pt_transfers.pt_machine_state.LandLemmas.{cut-view}
-use Rattle.pt_turning.specs.pt_telling.pt_run_state.pt_purposes.declared.standing.Standing.{Standing}
-use Rattle.pt_turning.specs.pt_telling.pt_run_state.pt_purposes.Seen.{block_of}
-use Rattle.pt_turning.specs.pt_telling.pt_run_state.pt_purposes.Openers.{Ways, UnlessGone, settled, standpoint}
-use Rattle.pt_turning.specs.pt_telling.pt_run_state.declared.machine.Machine.{Machine as Held}
-use Rattle.pt_turning.specs.pt_telling.pt_run_state.declared.machine.Phase.TheVariants.{Turning}
-use Rattle.pt_turning.specs.pt_telling.pt_run_state.declared.machine.Waiting.{Waiting}
-use Rattle.pt_turning.specs.pt_telling.pt_run_state.Stands.{Stands, StandsAround, IsToTell}
-use Rattle.pt_asking.specs.declared.asked.Hook.{Hook}
-use Rattle.pt_asking.specs.declared.asked.Hook.TheVariants.{Tool, Tracer}
-use Rattle.pt_asking.specs.Asking.{hook_view}
-use Rattle.pt_tracing.proofs.Keeps.{fails_as_run}
-use Rattle.pt_turning.specs.pt_telling.Telling.{Told as Result, entered_by, told as tell}
-use Rattle.pt_turning.specs.pt_telling.Laws as telling
-use Rattle.pt_turning.specs.pt_telling.Laws.{IsNamed, Comes, BehindTold}
-use Rattle.pt_turning.proofs.pt_telling.Around.{around-told}
-use Rattle.pt_turning.proofs.pt_telling.Tells.{tells_as_run}
-use Rattle.pt_turning.specs.Ways.{rows_at, IsOfCode}
-use Rattle.pt_turning.specs.Turning.{standing_of, behind_raise, raised_in}
-use Rattle.pt_turning.specs.Laws.{waiting}
-use Rattle.pt_turning.proofs.Turns.{named-by, around-at, turning-so, onward-is, settled-there}
+use Rattle.pt_closing.specs.pt_turning.pt_telling.pt_transfers.pt_machine_state.declared.blocks.BlockCode.{BlockCode}
+use Rattle.pt_closing.specs.pt_turning.pt_telling.pt_transfers.pt_machine_state.declared.machine.Standing.{Standing as CodeStanding}
+use Rattle.pt_closing.specs.pt_turning.pt_telling.pt_transfers.pt_machine_state.Blocks.{IsBlockOf}
+use Rattle.pt_closing.proofs.pt_machine_state.LandLemmas.{cut-view}
+use Rattle.pt_closing.specs.pt_purposes.declared.standing.Standing.{Standing}
+use Rattle.pt_closing.specs.pt_purposes.Seen.{block_of}
+use Rattle.pt_closing.specs.pt_purposes.Openers.{Ways, UnlessGone, settled, standpoint}
+use Rattle.pt_closing.specs.pt_turning.pt_telling.pt_run_state.declared.machine.Machine.{Machine as Held}
+use Rattle.pt_closing.specs.pt_turning.pt_telling.pt_run_state.declared.machine.Phase.TheVariants.{Turning}
+use Rattle.pt_closing.specs.pt_turning.pt_telling.pt_run_state.declared.machine.Waiting.{Waiting}
+use Rattle.pt_closing.specs.pt_turning.pt_telling.pt_run_state.Stands.{Stands, StandsAround, IsToTell}
+use Rattle.pt_closing.specs.pt_asking.declared.asked.Hook.{Hook}
+use Rattle.pt_closing.specs.pt_asking.declared.asked.Hook.TheVariants.{Tool, Tracer}
+use Rattle.pt_closing.specs.pt_asking.Asking.{hook_view}
+use Rattle.pt_closing.proofs.pt_tracing.Keeps.{fails_as_run}
+use Rattle.pt_closing.specs.pt_turning.pt_telling.Telling.{Told as Result, entered_by, told as tell}
+use Rattle.pt_closing.specs.pt_turning.pt_telling.Laws as telling
+use Rattle.pt_closing.specs.pt_turning.pt_telling.Laws.{IsNamed, Comes, BehindTold}
+use Rattle.pt_closing.proofs.pt_telling.Around.{around-told}
+use Rattle.pt_closing.proofs.pt_telling.Tells.{tells_as_run}
+use Rattle.pt_closing.specs.pt_turning.Ways.{rows_at, IsOfCode}
+use Rattle.pt_closing.specs.pt_turning.Turning.{standing_of, behind_raise, raised_in}
+use Rattle.pt_closing.specs.pt_turning.Laws.{waiting}
+use Rattle.pt_closing.proofs.pt_turning.Turns.{named-by, around-at, turning-so, onward-is, settled-there}
 use Rattle.pt_hearing.specs.declared.raising.Raised.TheVariants as raised
 use Rattle.pt_hearing.specs.Raising.{RaisedSo, unset, at_origin, beyond, left_by, landed_from, in_place}
 use Rattle.pt_hearing.specs.Laws as laws

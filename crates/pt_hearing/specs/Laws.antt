@@ -9,25 +9,25 @@ use Rattle.sem_run.specs.run.Events.{Event}
 use Rattle.sem_run.specs.run.State as run
 use Rattle.sem_run.specs.run.State.{State, Hearing, closing}
 use Rattle.sem_run.specs.run.Hooks as hooks
-use Rattle.pt_turning.specs.pt_telling.pt_run_state.pt_purposes.sem_rows.pt_host.World.{Names, World, Program}
-use Rattle.pt_turning.specs.pt_telling.pt_run_state.pt_purposes.sem_rows.pt_host.HeapHost.{heap_host}
+use Rattle.pt_closing.specs.pt_host.World.{Names, World, Program}
+use Rattle.pt_closing.specs.pt_host.HeapHost.{heap_host}
 use Rattle.pt_pendings.specs.declared.pending.Origin.{Origin}
 use Rattle.pt_pendings.specs.declared.pending.Pending.{Pending}
 use Rattle.pt_pendings.specs.declared.pending.Instead.TheVariants.{Lands}
 use Rattle.pt_pendings.specs.Pendings.{instead_of}
 use Rattle.pt_pendings.specs.Stands.{IsPending}
-use Rattle.pt_asking.specs.declared.asked.Hook.{Hook}
-use Rattle.pt_asking.specs.Asking.{hook_view}
-use Rattle.pt_turning.specs.pt_telling.pt_transfers.pt_machine_state.declared.blocks.BlockCode.{BlockCode}
-use Rattle.pt_turning.specs.pt_telling.pt_transfers.pt_machine_state.Blocks.{IsBlockOf}
-use Rattle.pt_turning.specs.pt_telling.pt_run_state.pt_purposes.declared.standing.Standing.{Standing}
-use Rattle.pt_turning.specs.pt_telling.pt_run_state.pt_purposes.Seen.{block_of}
-use Rattle.pt_turning.specs.pt_telling.pt_run_state.pt_purposes.Openers.{Ways, UnlessGone, standpoint}
-use Rattle.pt_turning.specs.pt_telling.pt_run_state.declared.machine.Machine.{Machine as Held}
-use Rattle.pt_turning.specs.pt_telling.pt_run_state.declared.machine.Waiting.{Waiting}
-use Rattle.pt_turning.specs.pt_telling.pt_run_state.Stands.{Stands, StandsAround, IsToTell}
-use Rattle.pt_turning.specs.pt_telling.Laws.{Comes}
-use Rattle.pt_turning.specs.Laws.{waiting}
+use Rattle.pt_closing.specs.pt_asking.declared.asked.Hook.{Hook}
+use Rattle.pt_closing.specs.pt_asking.Asking.{hook_view}
+use Rattle.pt_closing.specs.pt_turning.pt_telling.pt_transfers.pt_machine_state.declared.blocks.BlockCode.{BlockCode}
+use Rattle.pt_closing.specs.pt_turning.pt_telling.pt_transfers.pt_machine_state.Blocks.{IsBlockOf}
+use Rattle.pt_closing.specs.pt_purposes.declared.standing.Standing.{Standing}
+use Rattle.pt_closing.specs.pt_purposes.Seen.{block_of}
+use Rattle.pt_closing.specs.pt_purposes.Openers.{Ways, UnlessGone, standpoint}
+use Rattle.pt_closing.specs.pt_turning.pt_telling.pt_run_state.declared.machine.Machine.{Machine as Held}
+use Rattle.pt_closing.specs.pt_turning.pt_telling.pt_run_state.declared.machine.Waiting.{Waiting}
+use Rattle.pt_closing.specs.pt_turning.pt_telling.pt_run_state.Stands.{Stands, StandsAround, IsToTell}
+use Rattle.pt_closing.specs.pt_turning.pt_telling.Laws.{Comes}
+use Rattle.pt_closing.specs.pt_turning.Laws.{waiting}
 use Rattle.pt_hearing.specs.declared.raising.Raised.TheVariants as raised
 use Rattle.pt_hearing.specs.Raising.{RaisedSo, in_place, hook_raised}
 

@@ -10,15 +10,15 @@ use Rattle.pt_pendings.specs.declared.pending.Instead.{Instead}
 use Rattle.pt_pendings.specs.declared.pending.Instead.TheVariants.{Lands, Unwinds, Closes}
 use Rattle.pt_pendings.specs.Pendings.{instead_of}
 use Rattle.pt_settrace.specs.Tracing.{Tracing}
-use Rattle.pt_asking.specs.declared.asked.Hook.{Hook}
-use Rattle.pt_asking.specs.declared.asked.Hook.TheVariants.{Tool, Tracer}
-use Rattle.pt_turning.specs.pt_telling.pt_transfers.pt_machine_state.declared.blocks.BlockCode.{BlockCode}
-use Rattle.pt_turning.specs.pt_telling.pt_transfers.pt_machine_state.Changes.{at_depth}
-use Rattle.pt_turning.specs.pt_telling.pt_run_state.declared.machine.Machine.{Machine}
-use Rattle.pt_turning.specs.pt_telling.pt_run_state.declared.machine.Phase.TheVariants.{Turning}
-use Rattle.pt_turning.specs.pt_telling.pt_run_state.declared.machine.Waiting.{Waiting}
-use Rattle.pt_turning.specs.pt_telling.Telling.{Told, entered_by, told as tell}
-use Rattle.pt_turning.specs.Turning.{standing_of, behind_raise, raised_in}
+use Rattle.pt_closing.specs.pt_asking.declared.asked.Hook.{Hook}
+use Rattle.pt_closing.specs.pt_asking.declared.asked.Hook.TheVariants.{Tool, Tracer}
+use Rattle.pt_closing.specs.pt_turning.pt_telling.pt_transfers.pt_machine_state.declared.blocks.BlockCode.{BlockCode}
+use Rattle.pt_closing.specs.pt_turning.pt_telling.pt_transfers.pt_machine_state.Changes.{at_depth}
+use Rattle.pt_closing.specs.pt_turning.pt_telling.pt_run_state.declared.machine.Machine.{Machine}
+use Rattle.pt_closing.specs.pt_turning.pt_telling.pt_run_state.declared.machine.Phase.TheVariants.{Turning}
+use Rattle.pt_closing.specs.pt_turning.pt_telling.pt_run_state.declared.machine.Waiting.{Waiting}
+use Rattle.pt_closing.specs.pt_turning.pt_telling.Telling.{Told, entered_by, told as tell}
+use Rattle.pt_closing.specs.pt_turning.Turning.{standing_of, behind_raise, raised_in}
 use Rattle.pt_hearing.specs.declared.raising.Raised.{Raised}
 use Rattle.pt_hearing.specs.declared.raising.Raised.TheVariants as raised
 

@@ -5,9 +5,9 @@ ghost use Rattle.sem_code.specs.slots.Slots.{State};
 ghost use Rattle.sem_code_machine.specs.code_machine.CodeBlocks.{CodeBlocks};
 ghost use Rattle.sem_run.specs.run.Events.{Event};
 ghost use Rattle.sem_run.specs.run.Machine.{Machine};
-ghost use Rattle.pt_turning.specs.pt_telling.pt_run_state.pt_purposes.sem_rows.pt_host.World.{Program};
-ghost use Rattle.pt_turning.specs.pt_telling.pt_run_state.pt_purposes.Openers.{Ways};
-ghost use Rattle.pt_turning.specs.Ways.{IsOfCode};
+ghost use Rattle.pt_closing.specs.pt_host.World.{Program};
+ghost use Rattle.pt_closing.specs.pt_purposes.Openers.{Ways};
+ghost use Rattle.pt_closing.specs.pt_turning.Ways.{IsOfCode};
 ghost use Rattle.pt_hearing.specs.Laws.{HookRaisesAsRun, RaisesAsRun};
 
 /// A hook's exception takes the place of what waits in the machine as in each run for which it

@@ -1,17 +1,17 @@
 //! An exception that a hook raises takes the place of what waits.
 ghost use Rattle.std.specs.Prelude.{◌≡◌, IfOk, OnOk};
-ghost use Rattle.pt_turning.specs.pt_telling.pt_transfers.pt_machine_state.declared.machine.Standing.TheVariants as code;
+ghost use Rattle.pt_closing.specs.pt_turning.pt_telling.pt_transfers.pt_machine_state.declared.machine.Standing.TheVariants as code;
 ghost use Rattle.pt_pendings.specs.Pendings.{instead_of};
 ghost use Rattle.pt_hearing.specs.Raising.{at_origin, hook_raised, in_place, landed_from};
 ghost use Rattle.pt_hearing.specs.Raising.{unset};
 
-use pt_asking::Hook;
 use pt_base::{Memory, Seq};
+use pt_closing::{
+    BlockCode, Hook, Machine, Phase, Waiting, enter_told, land_raise, tell, trace_failed,
+};
 use pt_happenings::Happening;
 use pt_heap::Value;
 use pt_pendings::{End, Instead, Origin, Pending};
-use pt_tracing::trace_failed;
-use pt_turning::{BlockCode, Machine, Phase, Waiting, enter_told, land_raise, tell};
 
 /// What came of a raise.
 #[derive(Clone, Copy)]

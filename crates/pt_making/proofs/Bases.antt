@@ -6,17 +6,17 @@ use Rattle.pt_base.specs.declared.numbers.Pc.{Pc}
 use Rattle.pt_base.specs.declared.what.What.TheVariants.{Feature}
 use Rattle.pt_heap.specs.declared.value.Value.{Value}
 use Rattle.pt_frames.specs.declared.activation.Activation.{Activation}
-use Rattle.pt_failing.specs.pt_arising.pt_replying.pt_turning.pt_telling.pt_transfers.pt_machine_state.declared.blocks.BlockCode.{BlockCode}
-use Rattle.pt_failing.specs.pt_arising.pt_replying.pt_turning.pt_telling.pt_run_state.pt_purposes.sem_rows.pt_host.declared.classes.Base.TheVariants.{On, Unavailable, NoBase}
-use Rattle.pt_failing.specs.pt_arising.pt_replying.pt_turning.pt_telling.pt_run_state.pt_purposes.sem_rows.pt_host.declared.places.TheConstants.{TYPE_ERROR}
-use Rattle.pt_failing.specs.pt_arising.pt_replying.pt_turning.pt_telling.pt_run_state.pt_purposes.sem_rows.pt_host.Classes.{base_of}
-use Rattle.pt_failing.specs.pt_arising.pt_replying.pt_turning.pt_telling.pt_run_state.pt_purposes.sem_rows.pt_host.Errors.{error_saying}
-use Rattle.pt_failing.specs.pt_arising.pt_replying.pt_turning.pt_telling.pt_run_state.pt_purposes.sem_rows.pt_host.World.{allot}
-use Rattle.pt_failing.specs.pt_arising.pt_replying.pt_turning.pt_telling.pt_run_state.pt_purposes.declared.purpose.Called.{Called}
-use Rattle.pt_failing.specs.pt_arising.pt_replying.pt_turning.pt_telling.pt_run_state.declared.machine.Machine.{Machine}
-use Rattle.pt_failing.specs.declared.failing.Failed.{Failed}
-use Rattle.pt_failing.specs.declared.failing.Failing.{Failing}
-use Rattle.pt_failing.specs.Failing.{FailsOf, leaving}
+use Rattle.pt_giving.specs.pt_turning.pt_telling.pt_transfers.pt_machine_state.declared.blocks.BlockCode.{BlockCode}
+use Rattle.pt_giving.specs.pt_host.declared.classes.Base.TheVariants.{On, Unavailable, NoBase}
+use Rattle.pt_giving.specs.pt_host.declared.places.TheConstants.{TYPE_ERROR}
+use Rattle.pt_giving.specs.pt_host.Classes.{base_of}
+use Rattle.pt_giving.specs.pt_host.Errors.{error_saying}
+use Rattle.pt_giving.specs.pt_host.World.{allot}
+use Rattle.pt_giving.specs.pt_purposes.declared.purpose.Called.{Called}
+use Rattle.pt_giving.specs.pt_turning.pt_telling.pt_run_state.declared.machine.Machine.{Machine}
+use Rattle.pt_giving.specs.pt_failing.declared.failing.Failed.{Failed}
+use Rattle.pt_giving.specs.pt_failing.declared.failing.Failing.{Failing}
+use Rattle.pt_giving.specs.pt_failing.Failing.{FailsOf, leaving}
 use Rattle.pt_making.specs.Making.{class_of_body, failing_here, MakesOf, MakesBy, MakesSo}
 
 pub said_so : (block : BlockCode) (f : Failing) (context : Option Value) (old : Machine)

@@ -11,7 +11,7 @@ use Rattle.pt_names.specs.Names.{bindings_of}
 use Rattle.pt_code.specs.View.{Ins}
 use Rattle.pt_frames.specs.declared.activation.Activation.{Activation}
 use Rattle.sem_control.specs.control.Turn as T
-use Rattle.sem_control.specs.control.Turn.{gave}
+use Rattle.sem_control.specs.control.Turn.{gave, got}
 use Rattle.sem_code.specs.slots.Slots.{Slots, State as CodeState}
 use Rattle.sem_code.specs.slots.CodeObject.{CodeObject}
 use Rattle.sem_code_machine.specs.code_machine.CodeBlocks.{CodeBlocks}
@@ -24,38 +24,40 @@ use Rattle.sem_run.specs.run.Views.{visible_line}
 use Rattle.sem_run.specs.run.Outcome as O
 use Rattle.sem_run.specs.run.Step.{step}
 use Rattle.sem_run.specs.transitions.Transitions as turns
-use Rattle.sem_run.specs.transitions.Transitions.{by_answer}
+use Rattle.sem_run.specs.transitions.Transitions.{by_answer, replies}
 use Rattle.sem_run.specs.transitions.Laws.{Does}
-use Rattle.pt_failing.specs.pt_arising.pt_replying.pt_turning.pt_telling.pt_run_state.pt_purposes.sem_rows.pt_host.declared.classes.Base.{Base}
-use Rattle.pt_failing.specs.pt_arising.pt_replying.pt_turning.pt_telling.pt_run_state.pt_purposes.sem_rows.pt_host.declared.classes.Base.TheVariants.{On, Unavailable, NoBase}
-use Rattle.pt_failing.specs.pt_arising.pt_replying.pt_turning.pt_telling.pt_run_state.pt_purposes.sem_rows.pt_host.declared.places.TheConstants.{TYPE_ERROR}
-use Rattle.pt_failing.specs.pt_arising.pt_replying.pt_turning.pt_telling.pt_run_state.pt_purposes.sem_rows.pt_host.Classes.{base_of, bound_entries, class_object, class_with, own_names}
-use Rattle.pt_failing.specs.pt_arising.pt_replying.pt_turning.pt_telling.pt_run_state.pt_purposes.sem_rows.pt_host.Errors.{error_saying}
-use Rattle.pt_failing.specs.pt_arising.pt_replying.pt_turning.pt_telling.pt_run_state.pt_purposes.sem_rows.pt_host.HeapHost.{heap_host}
-use Rattle.pt_failing.specs.pt_arising.pt_replying.pt_turning.pt_telling.pt_run_state.pt_purposes.sem_rows.pt_host.Primitives.{Awaited, answer_if}
-use Rattle.pt_failing.specs.pt_arising.pt_replying.pt_turning.pt_telling.pt_run_state.pt_purposes.sem_rows.pt_host.Trees.{Tree, raise_with}
-use Rattle.pt_failing.specs.pt_arising.pt_replying.pt_turning.pt_telling.pt_run_state.pt_purposes.sem_rows.pt_host.Variables.{with_cell}
-use Rattle.pt_failing.specs.pt_arising.pt_replying.pt_turning.pt_telling.pt_run_state.pt_purposes.sem_rows.pt_host.World.{Names, World, Stores, CodeFacts, Program, Allotted, IsAllotted, allot, with_objects, with_heap as in_heap}
-use Rattle.pt_failing.specs.pt_arising.pt_replying.pt_turning.pt_telling.pt_run_state.pt_purposes.sem_rows.heap_rows.Leads.{giving}
-use Rattle.pt_failing.specs.pt_arising.pt_replying.pt_turning.pt_telling.pt_run_state.pt_purposes.sem_rows.heap_rows.Views.{slots_view}
-use Rattle.pt_steps.specs.declared.step.Step.TheVariants.{BindsClass}
-use Rattle.pt_steps.specs.Steps as steps
-use Rattle.pt_steps.specs.Steps.{run_steps, run_result}
-use Rattle.pt_failing.specs.pt_arising.pt_replying.pt_turning.pt_telling.pt_transfers.pt_machine_state.declared.blocks.BlockCode.{BlockCode}
-use Rattle.pt_failing.specs.pt_arising.pt_replying.pt_turning.pt_telling.pt_transfers.pt_machine_state.Blocks.{IsBlockOf}
-use Rattle.pt_failing.proofs.pt_arising.pt_replying.pt_turning.pt_telling.pt_transfers.pt_machine_state.FailLemmas.{saying-heap}
-use Rattle.pt_failing.specs.pt_arising.pt_replying.pt_turning.pt_telling.pt_run_state.pt_purposes.declared.purpose.Called.{Called}
-use Rattle.pt_failing.specs.pt_arising.pt_replying.pt_turning.pt_telling.pt_run_state.pt_purposes.Seen.{block_of}
-use Rattle.pt_failing.specs.pt_arising.pt_replying.pt_turning.pt_telling.pt_run_state.pt_purposes.Openers.{Ways, given_in, LeadsOn}
-use Rattle.pt_failing.specs.pt_arising.pt_replying.pt_turning.pt_telling.pt_run_state.declared.machine.Machine.{Machine as Held}
-use Rattle.pt_failing.specs.pt_arising.pt_replying.pt_turning.pt_telling.pt_run_state.Stands.{world_of, Stands, StandsAround}
-use Rattle.pt_failing.specs.pt_arising.pt_replying.pt_turning.pt_telling.Laws.{Comes}
-use Rattle.pt_failing.specs.pt_arising.pt_replying.pt_turning.Ways.{IsOfCode}
-use Rattle.pt_failing.proofs.pt_arising.pt_replying.pt_turning.Turns.{around-at}
-use Rattle.pt_failing.specs.declared.failing.Failed.{Failed}
-use Rattle.pt_failing.specs.Failing.{FailedSo, failed_by, FailsOf, with_heap}
-use Rattle.pt_failing.proofs.Fails.{beyond-heap}
+use Rattle.pt_giving.specs.pt_host.declared.classes.Base.{Base}
+use Rattle.pt_giving.specs.pt_host.declared.classes.Base.TheVariants.{On, Unavailable, NoBase}
+use Rattle.pt_giving.specs.pt_host.declared.places.TheConstants.{TYPE_ERROR}
+use Rattle.pt_giving.specs.pt_host.Classes as classes
+use Rattle.pt_giving.specs.pt_host.Classes.{base_of, bound_entries, class_object, class_with, own_names}
+use Rattle.pt_giving.specs.pt_host.Errors.{error_saying}
+use Rattle.pt_giving.specs.pt_host.HeapHost.{heap_host}
+use Rattle.pt_giving.specs.pt_host.Trees.{Tree, raise_with}
+use Rattle.pt_giving.specs.pt_host.Variables.{with_cell}
+use Rattle.pt_giving.specs.pt_host.World.{Names, World, Stores, CodeFacts, Program, Allotted, IsAllotted, allot, with_objects, with_heap as in_heap}
+use Rattle.pt_giving.specs.pt_purposes.sem_rows.heap_rows.Leads.{HeapSuccessor, by_tree, giving}
+use Rattle.pt_giving.specs.pt_purposes.sem_rows.heap_rows.Told.{resumed}
+use Rattle.pt_giving.specs.pt_purposes.sem_rows.heap_rows.Views.{slots_view}
+use Rattle.pt_frames.specs.declared.purpose.Purpose.TheVariants.{Class}
+use Rattle.law_leads.specs.Leads.{left_with}
+use Rattle.pt_giving.specs.pt_turning.pt_telling.pt_transfers.pt_machine_state.declared.blocks.BlockCode.{BlockCode}
+use Rattle.pt_giving.specs.pt_turning.pt_telling.pt_transfers.pt_machine_state.Blocks.{IsBlockOf}
+use Rattle.pt_giving.proofs.pt_machine_state.FailLemmas.{saying-heap}
+use Rattle.pt_giving.specs.pt_purposes.declared.purpose.Called.{Called}
+use Rattle.pt_giving.specs.pt_purposes.Seen.{block_of}
+use Rattle.pt_giving.specs.pt_purposes.Asks.{led_in, DoneSo}
+use Rattle.pt_giving.specs.pt_purposes.Openers.{Ways}
+use Rattle.pt_giving.specs.pt_turning.pt_telling.pt_run_state.declared.machine.Machine.{Machine as Held}
+use Rattle.pt_giving.specs.pt_turning.pt_telling.pt_run_state.Stands.{world_of, Stands, StandsAround}
+use Rattle.pt_giving.specs.pt_turning.pt_telling.Laws.{Comes}
+use Rattle.pt_giving.specs.pt_turning.Ways.{IsOfCode, resumed_by}
+use Rattle.pt_giving.proofs.pt_turning.Turns.{around-at}
+use Rattle.pt_giving.specs.pt_failing.declared.failing.Failed.{Failed}
+use Rattle.pt_giving.specs.pt_failing.Failing.{FailedSo, failed_by, FailsOf, with_heap}
+use Rattle.pt_giving.proofs.pt_failing.Fails.{beyond-heap}
 use Rattle.pt_giving.proofs.AnswersDone.{answers_done}
+use Rattle.pt_giving.proofs.Gives.{none_stops}
 use Rattle.pt_giving.proofs.Taken.{gives, arises}
 use Rattle.pt_making.specs.Making.{class_of_body, filled, made_by, MakesOf, failing_here, MakesBy, MakesSo}
 use Rattle.pt_making.specs.Laws.{Body, IsMaking, BehindClass, goes_on, leaves, MakesAsRun}
@@ -74,11 +76,11 @@ module _ {S : Type 0} (program : Program) (code : CodeBlocks Value) (machine : M
   abbrev host : Host Names Value World
   host = heap_host program
 
-  abbrev given : Awaited S
-  given = given_in ways m.code.here
+  abbrev obj : CodeObject Value
+  obj = code.object (block_of m.code.here)
 
-  abbrev state_with : Value → S
-  state_with v = embed (giving (code.object (block_of m.code.here)) i (slots_view m.code.here.slots) v)
+  abbrev ss : Slots Value
+  ss = slots_view m.code.here.slots
 
   abbrev there_s : Run
   there_s = at (answering q u) s
@@ -89,8 +91,8 @@ module _ {S : Type 0} (program : Program) (code : CodeBlocks Value) (machine : M
   abbrev BehindSo : FailedSo → Type 0
   BehindSo f = Behind f.failed f.machine
 
-  abbrev Lead : Tree S → Type 0
-  Lead t = LeadsOn ways m.code.here q t u
+  abbrev Lead : Tree Value → Type 0
+  Lead t = DoneSo q None (led_in embed (by_tree obj i (giving obj i ss) ss t)) (by_answer q u)
 
   there-is : s ≡ there_s
   there-is = ap (λ p. at p s) is.phase
@@ -146,33 +148,33 @@ module _ {S : Type 0} (program : Program) (code : CodeBlocks Value) (machine : M
     untraced = is.around.untraced;
   }
 
-  abbrev rest : Value → Stores → Tree S
-  rest v st = run_steps given here [] (gave v) st
+  -- the run is given it
+  replied-so : (v : Value) (st : Stores) (l : Lead (H.answer v st))
+      → by_answer q u ≡ replies q (got l.0) None st
+  replied-so v st l = l.1.0 ∙ ap (λ o. replies q (got l.0) o st) (none_stops q.ask l.0)
 
   -- a class that was made
   made-filled : (cell : Option ℕ) (v : Value) (k : List Object)
-      → Lead (rest v (with_cell cell (Some v) (with_objects k (store s))))
+      → Lead (H.answer v (with_cell cell (Some v) (with_objects k (store s))))
       → BehindSo (made_by block next (Some v) cell called acts (with_heap k m))
   made-filled None v k l =
       let st : Stores = with_objects k (store s) in
-      let d = subst Lead (ap (λ o. answer_if o st) (is.given v)) l in
-      let to = gives program code machine embed ways is_of minds n (with_heap k m) q u i called acts s st (around-heap k) is.active_is is.phase is.waits is.there block known
-      next is.next_is is.decides v d.0 d.1.0 d.1.1 in
+      let to = gives program code machine embed ways is_of minds n (with_heap k m) q u i called acts s st (around-heap k) is.active_is is.phase (Class x.base x.cell) is.waits refl is.there block known
+      next is.next_is is.decides v l.0 (replied-so v st l) l.1.1 in
       goes_on _ _ to.0 to.1.0 to.1.1
   made-filled (Some c) v k l =
       let st : Stores = with_cell (Some c) (Some v) (with_objects k (store s)) in
-      let d = subst Lead (ap (λ o. answer_if o st) (is.given v)) l in
-      let to = gives program code machine embed ways is_of minds n (filled (Some c) v (with_heap k m)) q u i called acts s st (around-filled (Some c) v k) is.active_is is.phase is.waits is.there block known
-      next is.next_is is.decides v d.0 d.1.0 d.1.1 in
+      let to = gives program code machine embed ways is_of minds n (filled (Some c) v (with_heap k m)) q u i called acts s st (around-filled (Some c) v k) is.active_is is.phase (Class x.base x.cell) is.waits refl is.there block known
+      next is.next_is is.decides v l.0 (replied-so v st l) l.1.1 in
       goes_on _ _ to.0 to.1.0 to.1.1
 
   made-so : (a : Allotted) (o : Option Value) (k : List Object) → IsAllotted a o k
       → ((what : What) → a ≡ beyond what → what ≡ Heap)
-      → Lead (steps.class_made given here rest x.cell a (store s))
+      → Lead (classes.class_made x.cell a (store s))
       → BehindSo (made_by block next o x.cell called acts (with_heap k m))
   made-so (made v h) o k (e, d) only l =
       subst (λ y. BehindSo (made_by block next y x.cell called acts (with_heap k m))) (sym e)
-      (made-filled x.cell v k (subst (λ j. Lead (rest v (with_cell x.cell (Some v) (with_objects j (store s))))) (sym d) l))
+      (made-filled x.cell v k (subst (λ j. Lead (H.answer v (with_cell x.cell (Some v) (with_objects j (store s))))) (sym d) l))
   made-so (beyond what) o k e only l =
       subst (λ y. BehindSo (made_by block next y x.cell called acts (with_heap k m))) (sym e)
       (leaves Heap _ (subst (λ w. step machine host n s ≡ O.ends (O.outside w (visible_line host.first_line s))) (only what refl) (left-so what l)))
@@ -184,7 +186,7 @@ module _ {S : Type 0} (program : Program) (code : CodeBlocks Value) (machine : M
   raised-so (made v h) o k (e, d) only l =
       subst (λ y. BehindSo (failed_by block y (failing_here called acts m) (with_heap k m))) (sym e)
       (let l2 = subst (λ j. Lead (H.raise v (with_objects j (store s)))) (sym d) l in
-      let to = arises program code machine embed ways is_of minds n (with_heap k m) q u i called acts s (with_objects k (store s)) (around-heap k) is.active_is is.phase is.waits is.there block known v l2.0 in
+      let to = arises program code machine embed ways is_of minds n (with_heap k m) q u i called acts s (with_objects k (store s)) (around-heap k) is.active_is is.phase (Class x.base x.cell) is.waits refl is.there block known v l2.0 in
       goes_on _ _ to.0 to.1.0 to.1.1)
   raised-so (beyond what) o k e only l =
       subst (λ y. BehindSo (failed_by block y (failing_here called acts m) (with_heap k m))) (sym e)
@@ -199,13 +201,28 @@ module _ {S : Type 0} (program : Program) (code : CodeBlocks Value) (machine : M
   abbrev result_with : T.End Value → BlockResult Names Value
   result_with e = record { end = e; names = r.names }
 
-  leads-with : (e : T.End Value) → r.end ≡ e
-      → Lead (run_result given here facts (BindsClass x.base x.cell ∷ []) (result_with e) (store s))
+  abbrev st_here : Stores
+  st_here = store s
+
+  abbrev Done : T.End Value → HeapSuccessor → Type 0
+  Done e l = DoneSo q (left_with e) (led_in embed l) (by_answer q u)
+
+  abbrev led : BlockResult Names Value → HeapSuccessor
+  led y = resumed program obj i facts (Class x.base x.cell) ss y here st_here
+
+  resumes-so : ways.resumed m.code.here facts (Class x.base x.cell) r here st_here
+      ≡ led_in embed (led r)
+  resumes-so =
+      is_of.resumes program m.code.here facts (Class x.base x.cell) r here st_here
+      ∙ ap (λ o. led_in embed (resumed_by code o program m.code.here facts (Class x.base x.cell) r here st_here)) is.there
+
+  leads-with : (e : T.End Value) → r.end ≡ e → Done e (led (result_with e))
   leads-with e same =
-      subst (λ y. Lead (run_result given here facts (BindsClass x.base x.cell ∷ []) (result_with y) (store s))) same is.leads
+      subst (λ y. Done y (led (result_with y))) same
+      (subst (λ l. DoneSo q (left_with r.end) l (by_answer q u)) resumes-so is.leads)
 
   abbrev Leads_by : Base → Type 0
-  Leads_by b = Lead (steps.class_on given here rest b facts x.cell r.names (store s))
+  Leads_by b = Lead (classes.class_on b facts x.cell r.names.values here st_here)
 
   leads-by : Leads_by (base_of m.code.heap x.base)
   leads-by =
@@ -219,7 +236,7 @@ module _ {S : Type 0} (program : Program) (code : CodeBlocks Value) (machine : M
       subst BehindSo (sym did.comes)
       (made-so (allot (class_of_body x.closed x.block base) m.code.heap) did.class did.heap did.allotted
       (λ what. beyond-heap (class_of_body x.closed x.block base) m.code.heap what)
-      (subst (λ a. Lead (steps.class_made given here rest x.cell a (store s))) same l))
+      (subst (λ a. Lead (classes.class_made x.cell a (store s))) same l))
   by-base Unavailable l f new did = subst BehindSo (sym did) (leaves Feature m (left-so Feature l))
   by-base NoBase l f new did =
       subst BehindSo (sym did.comes)

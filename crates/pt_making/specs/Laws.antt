@@ -1,5 +1,5 @@
 -- What the law says of classes that are made: so they are in each run for which the machine stands.
-use Rattle.std.specs.Prelude.{◌≡◌, ℕ, [], ◌∷◌, Bool, false, Option, Some}
+use Rattle.std.specs.Prelude.{◌≡◌, ℕ, [], Bool, false, Option, Some}
 use Rattle.pt_base.specs.declared.numbers.Pc.{Pc}
 use Rattle.pt_base.specs.declared.what.What.{What}
 use Rattle.pt_heap.specs.declared.value.Value.{Value}
@@ -17,24 +17,21 @@ use Rattle.sem_run.specs.run.State.{State, OpenAsk, answering, store}
 use Rattle.sem_run.specs.run.Views.{visible_line}
 use Rattle.sem_run.specs.run.Outcome as O
 use Rattle.sem_run.specs.run.Step.{step}
-use Rattle.pt_failing.specs.pt_arising.pt_replying.pt_turning.pt_telling.pt_run_state.pt_purposes.sem_rows.pt_host.Classes.{own_names}
-use Rattle.pt_failing.specs.pt_arising.pt_replying.pt_turning.pt_telling.pt_run_state.pt_purposes.sem_rows.pt_host.HeapHost.{heap_host}
-use Rattle.pt_failing.specs.pt_arising.pt_replying.pt_turning.pt_telling.pt_run_state.pt_purposes.sem_rows.pt_host.Trees.{Tree}
-use Rattle.pt_failing.specs.pt_arising.pt_replying.pt_turning.pt_telling.pt_run_state.pt_purposes.sem_rows.pt_host.World.{Names, World, CodeFacts, Program}
-use Rattle.pt_failing.specs.pt_arising.pt_replying.pt_turning.pt_telling.pt_run_state.pt_purposes.sem_rows.heap_rows.Leads.{giving}
-use Rattle.pt_failing.specs.pt_arising.pt_replying.pt_turning.pt_telling.pt_run_state.pt_purposes.sem_rows.heap_rows.Views.{slots_view}
-use Rattle.pt_steps.specs.declared.step.Step.TheVariants.{BindsClass}
-use Rattle.pt_steps.specs.Steps.{run_result}
-use Rattle.pt_failing.specs.pt_arising.pt_replying.pt_turning.pt_telling.pt_transfers.pt_machine_state.declared.blocks.BlockCode.{BlockCode}
-use Rattle.pt_failing.specs.pt_arising.pt_replying.pt_turning.pt_telling.pt_transfers.pt_machine_state.Blocks.{IsBlockOf}
-use Rattle.pt_failing.specs.pt_arising.pt_replying.pt_turning.pt_telling.pt_run_state.pt_purposes.declared.purpose.Called.{Called}
-use Rattle.pt_failing.specs.pt_arising.pt_replying.pt_turning.pt_telling.pt_run_state.pt_purposes.Seen.{block_of}
-use Rattle.pt_failing.specs.pt_arising.pt_replying.pt_turning.pt_telling.pt_run_state.pt_purposes.Openers.{Ways, origin_in, given_in, IsWaiting, LeadsOn}
-use Rattle.pt_failing.specs.pt_arising.pt_replying.pt_turning.pt_telling.pt_run_state.declared.machine.Machine.{Machine as Held}
-use Rattle.pt_failing.specs.pt_arising.pt_replying.pt_turning.pt_telling.pt_run_state.Stands.{Stands, StandsAround}
-use Rattle.pt_failing.specs.pt_arising.pt_replying.pt_turning.pt_telling.Laws.{Comes}
-use Rattle.pt_failing.specs.declared.failing.Failed.{Failed}
-use Rattle.pt_failing.specs.declared.failing.Failed.TheVariants.{Goes, Leaves}
+use Rattle.pt_giving.specs.pt_host.Classes.{own_names}
+use Rattle.pt_giving.specs.pt_host.HeapHost.{heap_host}
+use Rattle.pt_giving.specs.pt_host.Trees.{Tree}
+use Rattle.pt_giving.specs.pt_host.World.{Names, World, CodeFacts, Program}
+use Rattle.pt_frames.specs.declared.purpose.Purpose.TheVariants.{Class}
+use Rattle.pt_giving.specs.pt_turning.pt_telling.pt_transfers.pt_machine_state.declared.blocks.BlockCode.{BlockCode}
+use Rattle.pt_giving.specs.pt_turning.pt_telling.pt_transfers.pt_machine_state.Blocks.{IsBlockOf}
+use Rattle.pt_giving.specs.pt_purposes.declared.purpose.Called.{Called}
+use Rattle.pt_giving.specs.pt_purposes.Seen.{block_of}
+use Rattle.pt_giving.specs.pt_purposes.Openers.{Ways, origin_in, IsWaiting, LeadsOn}
+use Rattle.pt_giving.specs.pt_turning.pt_telling.pt_run_state.declared.machine.Machine.{Machine as Held}
+use Rattle.pt_giving.specs.pt_turning.pt_telling.pt_run_state.Stands.{Stands, StandsAround}
+use Rattle.pt_giving.specs.pt_turning.pt_telling.Laws.{Comes}
+use Rattle.pt_giving.specs.pt_failing.declared.failing.Failed.{Failed}
+use Rattle.pt_giving.specs.pt_failing.declared.failing.Failed.TheVariants.{Goes, Leaves}
 use Rattle.pt_making.specs.Making.{MakesSo}
 
 -- what a class is made of
@@ -61,19 +58,14 @@ module _ {S : Type 0} (program : Program) (code : CodeBlocks Value) (machine : M
     pub around : StandsAround program machine ways m s
     pub active_is : machine.active s.here.state ≡ active_in m.code.here.slots
     pub phase : s.phase ≡ answering q u
-    pub waits : IsWaiting ways m.code.here called acts q
-    pub leads : LeadsOn ways m.code.here q
-        (run_result (given_in ways m.code.here) here facts (BindsClass x.base x.cell ∷ []) r
-        (store s)) u
+    pub waits : IsWaiting ways m.code.here (Class x.base x.cell) called acts q
+    pub leads : LeadsOn ways m.code.here q here facts (Class x.base x.cell) r (store s) u
     pub value : Value
     pub ended : r.end ≡ gave value
     pub name : x.block.name ≡ facts.name
     pub own : bindings_of (own_names facts.locals r.names.values) ≡ bindings_of x.closed.names
     pub there : (code.object (block_of m.code.here)).at m.code.here.pc.0 ≡ Some i
     pub next_is : i.next ≡ next.0
-    pub given : (v : Value) → (given_in ways m.code.here).value v
-        ≡ Some (embed (giving (code.object (block_of m.code.here)) i
-        (slots_view m.code.here.slots) v))
     pub decides : ways.decides m.code.here (origin_in m.code.here) ≡ false
 
   -- the run goes on, or leaves the profile, at the line that is visible

@@ -10,20 +10,20 @@ use Rattle.pt_heap.specs.declared.object.Object.{Object}
 use Rattle.pt_names.specs.Names.{bindings_of}
 use Rattle.pt_frames.specs.Slots.{active_in}
 use Rattle.pt_frames.specs.declared.activation.Activation.{Activation}
-use Rattle.pt_failing.specs.pt_arising.pt_replying.pt_turning.pt_telling.pt_transfers.pt_machine_state.declared.blocks.BlockCode.{BlockCode}
-use Rattle.pt_failing.specs.pt_arising.pt_replying.pt_turning.pt_telling.pt_transfers.pt_machine_state.Changes.{with_class}
-use Rattle.pt_failing.specs.pt_arising.pt_replying.pt_turning.pt_telling.pt_run_state.pt_purposes.sem_rows.pt_host.declared.classes.Base.{Base}
-use Rattle.pt_failing.specs.pt_arising.pt_replying.pt_turning.pt_telling.pt_run_state.pt_purposes.sem_rows.pt_host.declared.classes.Base.TheVariants.{On, Unavailable, NoBase}
-use Rattle.pt_failing.specs.pt_arising.pt_replying.pt_turning.pt_telling.pt_run_state.pt_purposes.sem_rows.pt_host.declared.places.TheConstants.{TYPE_ERROR}
-use Rattle.pt_failing.specs.pt_arising.pt_replying.pt_turning.pt_telling.pt_run_state.pt_purposes.sem_rows.pt_host.Classes.{base_of, bound_entries, class_with}
-use Rattle.pt_failing.specs.pt_arising.pt_replying.pt_turning.pt_telling.pt_run_state.pt_purposes.sem_rows.pt_host.Errors.{error_saying}
-use Rattle.pt_failing.specs.pt_arising.pt_replying.pt_turning.pt_telling.pt_run_state.pt_purposes.sem_rows.pt_host.World.{Allotted, IsAllotted, allot}
-use Rattle.pt_failing.specs.pt_arising.pt_replying.pt_turning.pt_telling.pt_run_state.pt_purposes.declared.purpose.Called.{Called}
-use Rattle.pt_failing.specs.pt_arising.pt_replying.pt_turning.pt_telling.pt_run_state.declared.machine.Machine.{Machine}
-use Rattle.pt_failing.specs.declared.failing.Failed.{Failed}
-use Rattle.pt_failing.specs.declared.failing.Failed.TheVariants.{Leaves}
-use Rattle.pt_failing.specs.declared.failing.Failing.{Failing}
-use Rattle.pt_failing.specs.Failing.{FailedSo, FailsOf, goes, leaving, with_heap}
+use Rattle.pt_giving.specs.pt_turning.pt_telling.pt_transfers.pt_machine_state.declared.blocks.BlockCode.{BlockCode}
+use Rattle.pt_giving.specs.pt_turning.pt_telling.pt_transfers.pt_machine_state.Changes.{with_class}
+use Rattle.pt_giving.specs.pt_host.declared.classes.Base.{Base}
+use Rattle.pt_giving.specs.pt_host.declared.classes.Base.TheVariants.{On, Unavailable, NoBase}
+use Rattle.pt_giving.specs.pt_host.declared.places.TheConstants.{TYPE_ERROR}
+use Rattle.pt_giving.specs.pt_host.Classes.{base_of, bound_entries, class_with}
+use Rattle.pt_giving.specs.pt_host.Errors.{error_saying}
+use Rattle.pt_giving.specs.pt_host.World.{Allotted, IsAllotted, allot}
+use Rattle.pt_giving.specs.pt_purposes.declared.purpose.Called.{Called}
+use Rattle.pt_giving.specs.pt_turning.pt_telling.pt_run_state.declared.machine.Machine.{Machine}
+use Rattle.pt_giving.specs.pt_failing.declared.failing.Failed.{Failed}
+use Rattle.pt_giving.specs.pt_failing.declared.failing.Failed.TheVariants.{Leaves}
+use Rattle.pt_giving.specs.pt_failing.declared.failing.Failing.{Failing}
+use Rattle.pt_giving.specs.pt_failing.Failing.{FailedSo, FailsOf, goes, leaving, with_heap}
 use Rattle.pt_giving.specs.Giving.{given_to}
 
 abbrev pub class_of_body : Activation → (body : BlockCode) → (base : ObjId) → Object

@@ -1,18 +1,19 @@
 //! The body of a class has ended.
 ghost use Rattle.std.specs.Prelude.{◌≡◌, None, codes, IfOk};
-ghost use Rattle.pt_failing.specs.pt_arising.pt_replying.pt_turning.pt_telling.pt_transfers.pt_machine_state.declared.machine.Standing.TheVariants as code;
-ghost use Rattle.pt_failing.specs.pt_arising.pt_replying.pt_turning.pt_telling.pt_run_state.pt_purposes.sem_rows.pt_host.Errors.{error_saying};
-ghost use Rattle.pt_failing.specs.pt_arising.pt_replying.pt_turning.pt_telling.pt_run_state.pt_purposes.sem_rows.pt_host.World.{allot};
-ghost use Rattle.pt_failing.specs.pt_arising.pt_replying.pt_turning.pt_telling.pt_run_state.pt_purposes.sem_rows.pt_host.declared.places.TheConstants.{TYPE_ERROR};
-ghost use Rattle.pt_failing.specs.Failing.{FailsOf, failed_by};
+ghost use Rattle.pt_giving.specs.pt_turning.pt_telling.pt_transfers.pt_machine_state.declared.machine.Standing.TheVariants as code;
+ghost use Rattle.pt_giving.specs.pt_host.Errors.{error_saying};
+ghost use Rattle.pt_giving.specs.pt_host.World.{allot};
+ghost use Rattle.pt_giving.specs.pt_host.declared.places.TheConstants.{TYPE_ERROR};
+ghost use Rattle.pt_giving.specs.pt_failing.Failing.{FailsOf, failed_by};
 ghost use Rattle.pt_making.specs.Making.{MakesOf, MakesSo, class_of_body, failing_here, filled, made_by};
 
 use pt_base::{Dup, Memory, ObjId, Pc, Text, What};
-use pt_failing::{BlockCode, Failed, Failing, Machine};
 use pt_frames::Activation;
-use pt_giving::{Called, arise, give};
+use pt_giving::{
+    Base, BlockCode, Called, Failed, Failing, Machine, TYPE_ERROR, allot, arise, base_of,
+    class_object, error_saying, give,
+};
 use pt_heap::{Object, Value};
-use sem_rows::{Base, TYPE_ERROR, allot, base_of, class_object, error_saying};
 
 /// The class of a cell stands in it.
 fn fill(machine: &mut Machine, cell: Option<u32>, class: Value)

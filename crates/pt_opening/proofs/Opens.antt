@@ -18,28 +18,28 @@ use Rattle.sem_run.specs.run.Host.{too_deep}
 use Rattle.sem_run.specs.run.Views.{here_of}
 use Rattle.sem_control.specs.control.Turn as T
 use Rattle.law_steps.proofs.waiting.Telling.{seen_tells}
-use Rattle.pt_turning.specs.pt_telling.pt_run_state.pt_purposes.sem_rows.pt_host.World.{Names, World, Program}
-use Rattle.pt_turning.specs.pt_telling.pt_run_state.pt_purposes.sem_rows.pt_host.HeapHost.{heap_host}
-use Rattle.pt_turning.specs.pt_telling.pt_run_state.pt_purposes.sem_rows.heap_rows.Told.{block_id, opening_of}
-use Rattle.pt_turning.specs.pt_telling.pt_run_state.pt_purposes.sem_rows.heap_rows.Views.{slots_view}
+use Rattle.pt_hearing.specs.pt_host.World.{Names, World, Program}
+use Rattle.pt_hearing.specs.pt_host.HeapHost.{heap_host}
+use Rattle.pt_hearing.specs.pt_purposes.sem_rows.heap_rows.Told.{block_id, opening_of}
+use Rattle.pt_hearing.specs.pt_purposes.sem_rows.heap_rows.Views.{slots_view}
 use Rattle.pt_settrace.specs.Frames.{untraced}
 use Rattle.pt_settrace.specs.Tracing.{tracing_in}
 use Rattle.pt_frames.specs.Slots.{active_in}
 use Rattle.pt_happenings.specs.declared.happening.Happening.TheVariants.{Starts}
 use Rattle.pt_pendings.specs.Stands as pend
 use Rattle.pt_openers.specs.Openers.{is_full}
-use Rattle.pt_turning.specs.pt_telling.pt_transfers.pt_machine_state.declared.blocks.BlockCode.{BlockCode}
-use Rattle.pt_turning.specs.pt_telling.pt_transfers.pt_machine_state.Blocks.{IsBlockOf}
-use Rattle.pt_turning.specs.pt_telling.pt_transfers.pt_machine_state.Changes.{slots_at_start}
-use Rattle.pt_turning.specs.pt_telling.pt_run_state.pt_purposes.declared.standing.Standing.TheVariants.{AtPlace}
-use Rattle.pt_turning.specs.pt_telling.pt_run_state.pt_purposes.Seen.{frame_of}
-use Rattle.pt_turning.specs.pt_telling.pt_run_state.pt_purposes.Openers as openers
-use Rattle.pt_turning.specs.pt_telling.pt_run_state.pt_purposes.Openers.{Ways}
-use Rattle.pt_turning.proofs.pt_telling.pt_run_state.pt_purposes.Seeing.{parts_tell}
-use Rattle.pt_turning.specs.pt_telling.pt_run_state.declared.machine.Machine.{Machine as Held}
-use Rattle.pt_turning.specs.pt_telling.pt_run_state.Stands.{newest, frame_numbers, IsNotAmong, AreGivenOnce, StandsAround, IsToTell}
-use Rattle.pt_turning.proofs.pt_telling.Around.{are-seen}
-use Rattle.pt_turning.specs.Ways.{state_at, IsOfCode}
+use Rattle.pt_hearing.specs.pt_turning.pt_telling.pt_transfers.pt_machine_state.declared.blocks.BlockCode.{BlockCode}
+use Rattle.pt_hearing.specs.pt_turning.pt_telling.pt_transfers.pt_machine_state.Blocks.{IsBlockOf}
+use Rattle.pt_hearing.specs.pt_turning.pt_telling.pt_transfers.pt_machine_state.Changes.{slots_at_start}
+use Rattle.pt_hearing.specs.pt_purposes.declared.standing.Standing.TheVariants.{AtPlace}
+use Rattle.pt_hearing.specs.pt_purposes.Seen.{frame_of}
+use Rattle.pt_hearing.specs.pt_purposes.Openers as openers
+use Rattle.pt_hearing.specs.pt_purposes.Openers.{Ways}
+use Rattle.pt_hearing.proofs.pt_purposes.Seeing.{parts_tell}
+use Rattle.pt_hearing.specs.pt_turning.pt_telling.pt_run_state.declared.machine.Machine.{Machine as Held}
+use Rattle.pt_hearing.specs.pt_turning.pt_telling.pt_run_state.Stands.{newest, frame_numbers, IsNotAmong, AreGivenOnce, StandsAround, IsToTell}
+use Rattle.pt_hearing.proofs.pt_telling.Around.{are-seen}
+use Rattle.pt_hearing.specs.pt_turning.Ways.{state_at, IsOfCode}
 use Rattle.pt_opening.specs.declared.opening.Wanted.{Wanted}
 use Rattle.pt_opening.specs.Opening.{opener_of, opened, beginning}
 use Rattle.pt_opening.specs.Laws.{IsWanted, OpensAsRun}

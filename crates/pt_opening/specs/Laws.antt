@@ -10,17 +10,17 @@ use Rattle.sem_run.specs.run.Host.{BlockResult}
 use Rattle.sem_run.specs.run.State as run
 use Rattle.sem_run.specs.run.State.{State, Rest, for_block}
 use Rattle.sem_run.specs.run.Requests.{run_block}
-use Rattle.pt_turning.specs.pt_telling.pt_run_state.pt_purposes.sem_rows.pt_host.World.{Names, World, Program}
-use Rattle.pt_turning.specs.pt_telling.pt_run_state.pt_purposes.sem_rows.pt_host.HeapHost.{heap_host}
-use Rattle.pt_turning.specs.pt_telling.pt_run_state.pt_purposes.sem_rows.heap_rows.Told.{block_id, opening_of}
+use Rattle.pt_hearing.specs.pt_host.World.{Names, World, Program}
+use Rattle.pt_hearing.specs.pt_host.HeapHost.{heap_host}
+use Rattle.pt_hearing.specs.pt_purposes.sem_rows.heap_rows.Told.{block_id, opening_of}
 use Rattle.pt_happenings.specs.declared.happening.Happening.TheVariants.{Starts}
 use Rattle.pt_openers.specs.Openers.{is_full}
-use Rattle.pt_turning.specs.pt_telling.pt_transfers.pt_machine_state.declared.blocks.BlockCode.{BlockCode}
-use Rattle.pt_turning.specs.pt_telling.pt_transfers.pt_machine_state.Blocks.{IsBlockOf}
-use Rattle.pt_turning.specs.pt_telling.pt_run_state.pt_purposes.Seen.{active_of}
-use Rattle.pt_turning.specs.pt_telling.pt_run_state.pt_purposes.Openers.{Ways, IsOpenFor, asked_in}
-use Rattle.pt_turning.specs.pt_telling.pt_run_state.declared.machine.Machine.{Machine as Held}
-use Rattle.pt_turning.specs.pt_telling.pt_run_state.Stands.{StandsAround, IsToTell}
+use Rattle.pt_hearing.specs.pt_turning.pt_telling.pt_transfers.pt_machine_state.declared.blocks.BlockCode.{BlockCode}
+use Rattle.pt_hearing.specs.pt_turning.pt_telling.pt_transfers.pt_machine_state.Blocks.{IsBlockOf}
+use Rattle.pt_hearing.specs.pt_purposes.Seen.{active_of}
+use Rattle.pt_hearing.specs.pt_purposes.Openers.{Ways, IsOpenFor, asked_in}
+use Rattle.pt_hearing.specs.pt_turning.pt_telling.pt_run_state.declared.machine.Machine.{Machine as Held}
+use Rattle.pt_hearing.specs.pt_turning.pt_telling.pt_run_state.Stands.{StandsAround, IsToTell}
 use Rattle.pt_opening.specs.declared.opening.Wanted.{Wanted}
 use Rattle.pt_opening.specs.Opening.{opener_of, opened, beginning}
 
@@ -33,7 +33,7 @@ module _ {S : Type 0} (program : Program) (code : CodeBlocks Value) (machine : M
   pub record IsWanted (m : Held) (above : M.BlockId) (w : Wanted) (s : Run)
       (r : Rest S Names Value World (BlockResult Names Value)) : Type 0 where
     pub active : machine.active s.here.state ≡ active_of (opener_of w m)
-    pub purpose : IsOpenFor machine ways m.code.here s.here.state w.todo
+    pub purpose : IsOpenFor machine ways m.code.here s.here.state w.why
         (asked_in m.code.here w.context) (program.facts above) None w.purpose
         (for_block r)
 

@@ -5,13 +5,13 @@ use Rattle.pt_heap.specs.declared.value.Value.{Value}
 use Rattle.pt_bind.specs.declared.arguments.Locals.{Locals}
 use Rattle.pt_frames.specs.Activations.{next_activation, with_next_number}
 use Rattle.pt_pendings.specs.declared.pending.Pending.TheVariants.{Starting}
-use Rattle.pt_turning.specs.pt_telling.pt_transfers.pt_machine_state.Changes.{slots_at_start, with_slots}
-use Rattle.pt_turning.specs.pt_telling.pt_run_state.pt_purposes.declared.opener.Opener.{Opener}
-use Rattle.pt_turning.specs.pt_telling.pt_run_state.pt_purposes.declared.opener.Course.{Course}
-use Rattle.pt_turning.specs.pt_telling.pt_run_state.pt_purposes.declared.standing.Standing.TheVariants.{AtPlace}
-use Rattle.pt_turning.specs.pt_telling.pt_run_state.declared.machine.Machine.{Machine}
-use Rattle.pt_turning.specs.pt_telling.pt_run_state.declared.machine.Waiting.{Waiting}
-use Rattle.pt_turning.specs.pt_telling.pt_run_state.Stands.{newest}
+use Rattle.pt_hearing.specs.pt_turning.pt_telling.pt_transfers.pt_machine_state.Changes.{slots_at_start, with_slots}
+use Rattle.pt_hearing.specs.pt_purposes.declared.opener.Opener.{Opener}
+use Rattle.pt_hearing.specs.pt_purposes.declared.opener.Course.{Course}
+use Rattle.pt_hearing.specs.pt_purposes.declared.standing.Standing.TheVariants.{AtPlace}
+use Rattle.pt_hearing.specs.pt_turning.pt_telling.pt_run_state.declared.machine.Machine.{Machine}
+use Rattle.pt_hearing.specs.pt_turning.pt_telling.pt_run_state.declared.machine.Waiting.{Waiting}
+use Rattle.pt_hearing.specs.pt_turning.pt_telling.pt_run_state.Stands.{newest}
 use Rattle.pt_opening.specs.declared.opening.Wanted.{Wanted}
 
 -- the newest activation waits for a block's
@@ -19,7 +19,7 @@ abbrev pub opener_of : Wanted → Machine → Opener
 opener_of w m = record {
   running = newest m;
   purpose = w.purpose;
-  todo = w.todo;
+  why = w.why;
   context = w.context;
   generator = None;
 }

@@ -3,9 +3,9 @@ ghost use Rattle.pt_heap.specs.declared.value.Value.{Value};
 ghost use Rattle.sem_code.specs.slots.Slots.{State};
 ghost use Rattle.sem_code_machine.specs.code_machine.CodeBlocks.{CodeBlocks};
 ghost use Rattle.sem_run.specs.run.Machine.{Machine};
-ghost use Rattle.pt_turning.specs.pt_telling.pt_run_state.pt_purposes.sem_rows.pt_host.World.{Program};
-ghost use Rattle.pt_turning.specs.pt_telling.pt_run_state.pt_purposes.Openers.{Ways};
-ghost use Rattle.pt_turning.specs.Ways.{IsOfCode};
+ghost use Rattle.pt_hearing.specs.pt_host.World.{Program};
+ghost use Rattle.pt_hearing.specs.pt_purposes.Openers.{Ways};
+ghost use Rattle.pt_hearing.specs.pt_turning.Ways.{IsOfCode};
 ghost use Rattle.pt_opening.specs.Laws.{OpensAsRun};
 
 /// A block opens in the machine as in each run for which it stands, over any machine whose turns are

@@ -3,19 +3,19 @@ ghost use Rattle.std.specs.Prelude.{◌≡◌, ◌<◌, suc, length, OnOk};
 ghost use Rattle.sem_run.specs.run.State.{most_activations};
 ghost use Rattle.pt_opening.specs.Opening.{opened};
 
-use pt_base::{ActNo, BlockId, Memory, Seq};
+use pt_base::{ActNo, BlockId, Memory};
 use pt_bind::Locals;
-use pt_frames::Slot;
+use pt_frames::{Purpose as For, Slot};
 use pt_heap::Value;
-use pt_turning::{Course, Machine, Opener, Purpose, Running, Step};
+use pt_hearing::{Course, Machine, Opener, Purpose, Running};
 use std::mem;
 
 /// What an activation waits for.
 #[derive(Drop)]
 pub struct Wanted {
     pub purpose: Purpose,
-    /// What is done on the result, and the context of an exception that arises then.
-    pub todo: Seq<Step>,
+    /// What the result is for, and the context of an exception that arises then.
+    pub why: For,
     pub context: Option<Value>,
 }
 
@@ -51,7 +51,7 @@ pub fn open(
     machine.openers.push(Opener {
         running: Running { activation, course },
         purpose: wanted.purpose,
-        todo: wanted.todo,
+        why: wanted.why,
         context: wanted.context,
         generator: None,
     })

@@ -9,11 +9,11 @@ use Rattle.sem_run.specs.run.State as run
 use Rattle.sem_run.specs.run.State.{is_hook_open, most_activations}
 use Rattle.law_steps.specs.waiting.Seen as seen
 use Rattle.law_steps.specs.waiting.Seen.{IsSeen, AllSeen, active_by, hook_runs_by}
-use Rattle.pt_steps.specs.pt_host.World.{Names, World, CodeFacts, Program}
+use Rattle.sem_rows.specs.pt_host.World.{Names, World, CodeFacts, Program}
 use Rattle.pt_settrace.specs.Tracing.{Tracing}
 use Rattle.pt_frames.specs.declared.activation.Activation.{Activation}
 use Rattle.pt_openers.specs.Openers.{active_in, hook_runs}
-use Rattle.pt_steps.specs.declared.step.Step.{Step}
+use Rattle.pt_frames.specs.declared.purpose.Purpose.{Purpose as For}
 use Rattle.pt_purposes.specs.declared.purpose.Purpose.{Purpose}
 use Rattle.pt_purposes.specs.declared.opener.Opener.{Opener}
 use Rattle.pt_purposes.specs.Seen.{block_of, waits_for_hook, active_of, has_hook, seen_of}
@@ -23,20 +23,20 @@ use Rattle.pt_purposes.specs.Laws.{OpenersAreSeen, PartsTell}
 
 module _ {S : Type 0} (program : Program) (machine : Machine S Value) (ways : Ways S)
     (h : Tracing) where
-  hook_seen : (a : Activation) (c : S) (todo : List Step) (here : Here Value) (facts : CodeFacts)
+  hook_seen : (a : Activation) (c : S) (why : For) (here : Here Value) (facts : CodeFacts)
       (g : Option ℕ) (p : Purpose) (q : run.Purpose S Names Value World)
-      → IsOpenFor machine ways a c todo here facts g p q → is_hook_open q ≡ waits_for_hook p
-  hook_seen a c todo here facts _ _ _ (block_of_ask called b q f x y) = refl
-  hook_seen a c todo here facts _ _ _ (generator_of_ask g called b q f x y) = refl
-  hook_seen a c todo here facts _ _ _ (generator_of_delegation g s i r k b f x y z) = refl
-  hook_seen a c todo here facts _ _ _ (block_of_hook hook s active t x f y z) = refl
+      → IsOpenFor machine ways a c why here facts g p q → is_hook_open q ≡ waits_for_hook p
+  hook_seen a c why here facts _ _ _ (block_of_ask called b q f x y) = refl
+  hook_seen a c why here facts _ _ _ (generator_of_ask g called b q f x y) = refl
+  hook_seen a c why here facts _ _ _ (generator_of_delegation g s i r k b f x y z) = refl
+  hook_seen a c why here facts _ _ _ (block_of_hook hook s active t x f y z) = refl
 
   one_seen : (above : BlockId) (e : Opener) (o : run.Opener S Names Value World)
       → IsOpener program machine ways h above e o → IsSeen machine (seen_of program h e) o
   one_seen above e o is = record {
     frame = is.running.frame;
     active = is.active;
-    hook = hook_seen e.running.activation o.activation.state e.todo
+    hook = hook_seen e.running.activation o.activation.state e.why
         (asked_in e.running.activation e.context) (program.facts above) e.generator e.purpose o.purpose is.purpose;
   }
 

@@ -1,21 +1,22 @@
 -- What is known of an ask that waits, whose slots are gone: where what it is given leads, and where
--- a raise does, whatever comes, and what is told of either (Language Reference 4.1, 6.3.4, 8.4).
+-- a raise does, whatever comes, and what is told of either (Language Reference 4.1, 6.3.4, 8.3,
+-- 8.4).
 use Rattle.std.specs.Prelude.{◌≡◌, List, [], ◌∷◌, Bool, true, false, Option, Some, None}
 use Rattle.pt_heap.specs.declared.value.Value.{Value}
-use Rattle.sem_control.specs.control.Turn.{Reply, got, raised, Answer}
+use Rattle.sem_control.specs.control.Turn as T
+use Rattle.sem_control.specs.control.Turn.{Ask, Reply, got, raised, Answer}
 use Rattle.sem_control.specs.control.Events as E
 use Rattle.sem_run.specs.run.Events.{Happening}
-use Rattle.sem_run.specs.run.Host as H
-use Rattle.sem_run.specs.run.Host.{Finding, Response}
+use Rattle.sem_run.specs.run.Host.{Response}
 use Rattle.sem_run.specs.run.State.{OpenAsk}
 use Rattle.sem_run.specs.run.Step.{of_call, of_builtin}
-use Rattle.sem_run.specs.transitions.Transitions.{Transition, by_answer, replies, prints}
+use Rattle.sem_run.specs.transitions.Transitions.{Transition, replies, prints}
 use Rattle.sem_run.specs.transitions.Transitions.{requests, leaves}
+use Rattle.sem_run.specs.transitions.Successors as leads
 use Rattle.sem_run.specs.transitions.Successors.{Successor, to, arises, behind_print}
 use Rattle.sem_run.specs.transitions.Successors.{behind_request, outside}
-use Rattle.pt_steps.specs.pt_host.World.{Names, World, Stores}
-use Rattle.pt_steps.specs.pt_host.Trees.{Tree}
-use Rattle.pt_steps.specs.pt_host.Primitives.{Awaited}
+use Rattle.law_leads.specs.Leads.{left_behind}
+use Rattle.sem_rows.specs.pt_host.World.{Names, World, Stores}
 use Rattle.pt_pendings.specs.Views.{callee_view}
 use Rattle.pt_purposes.specs.declared.purpose.Called.{Called}
 
@@ -33,49 +34,42 @@ told_by_control decides (raised v) = E.raises v ∷ []
 abbrev pub Led : Type 0 → Type 0
 Led S = Successor S Names Value World
 
-module _ {S : Type 0} where
-  -- where an answer in the making leads that is given as a state
-  abbrev pub by_tree : (lands : Value → S) → Tree S → Led S
-  by_tree lands (H.answer c st) = to c st
-  by_tree lands (H.raise v st) = arises v (lands v) st
-  by_tree lands (H.print t f) = behind_print t (by_tree lands f)
-  by_tree lands (H.leave what) = outside what
-  by_tree lands (H.request r st k) = behind_request r st (λ x st1. by_tree lands (k x st1))
+-- where code goes on, whose states are parts of those of the machine
+abbrev pub led_in : {C S : Type 0} → (C → S) → Led C → Led S
+led_in embed (to c st) = to (embed c) st
+led_in embed (arises v c st) = arises v (embed c) st
+led_in embed (leads.behind_yield v k st) = leads.behind_yield v (λ r. embed (k r)) st
+led_in embed (behind_print x l) = behind_print x (led_in embed l)
+led_in embed (behind_request r st k) = behind_request r st (λ x st1. led_in embed (k x st1))
+led_in embed (leads.behind_note a k) = leads.behind_note a (λ r. embed (k r))
+led_in embed (outside what) = outside what
+led_in embed (leads.end e) = leads.end e
+led_in embed leads.none = leads.none
 
-  -- so it is done in a run: the reply is there that leads on, with no exception that ended an
-  -- iterator; or something comes first
-  abbrev pub DoneSo : (q : OpenAsk S Value) → Led S → Transition S Names Value World → Type 0
-  DoneSo q (to c st) t =
+-- of a reply is told by which exception an iterator has ended, where this one left what was asked for
+-- its item
+abbrev pub stop_of : (a : Ask Value) → Answer Value a → (left : Option Value) → Option Value
+stop_of (T.next_of i) None left = left
+stop_of a x left = None
+
+module _ {S : Type 0} where
+  -- so it is done in a run, behind what was left by this exception: the reply is there that leads on,
+  -- or something comes first
+  abbrev pub DoneSo : (q : OpenAsk S Value) → (left : Option Value) → Led S
+      → Transition S Names Value World → Type 0
+  DoneSo q left (to c st) t =
       (x : Answer Value q.ask)
-      × ((t ≡ replies q (got x) None st) × (q.next (got x) ≡ c))
-  DoneSo q (arises v c st) t = (t ≡ replies q (raised v) None st) × (q.next (raised v) ≡ c)
-  DoneSo q (behind_print x next) t =
-      (u : Transition S Names Value World) × ((t ≡ prints x u) × DoneSo q next u)
-  DoneSo q (behind_request r st k) t =
+      × ((t ≡ replies q (got x) (stop_of q.ask x left) st) × (q.next (got x) ≡ c))
+  DoneSo q left (arises v c st) t = (t ≡ replies q (raised v) None st) × (q.next (raised v) ≡ c)
+  DoneSo q left (behind_print x next) t =
+      (u : Transition S Names Value World) × ((t ≡ prints x u) × DoneSo q left next u)
+  DoneSo q left (behind_request r st k) t =
       (f : Response Names Value r → Stores → Transition S Names Value World)
       × ((t ≡ requests r st f)
-      × ((x : Response Names Value r) (st1 : Stores) → DoneSo q (k x st1) (f x st1)))
-  DoneSo q (outside what) t = t ≡ leaves what
-  DoneSo q l t = ⊥
-
-  -- what is found is the answer by which the code goes on in a state
-  pub record AnsweredAs (q : OpenAsk S Value) (x : Finding Value q.ask) (c : S) : Type 0 where
-    pub answer : Answer Value q.ask
-    pub found : (st : Stores) → by_answer q (H.answer x st) ≡ replies q (got answer) None st
-    pub leads : q.next (got answer) ≡ c
-
-  -- what is found is awaited of the code too, and leads there
-  abbrev pub LeadsThere : (q : OpenAsk S Value) → Option (Finding Value q.ask) → Option S → Type 0
-  LeadsThere q (Some x) (Some c) = AnsweredAs q x c
-  LeadsThere q None None = Unit {0}
-  LeadsThere q o p = ⊥
-
-  pub record GoesOn (q : OpenAsk S Value) (w : Awaited (Finding Value q.ask)) (given : Awaited S)
-      (lands : Value → S) : Type 0 where
-    pub value : (v : Value) → LeadsThere q (w.value v) (given.value v)
-    pub values : (vs : List Value) → LeadsThere q (w.values vs) (given.values vs)
-    pub end : LeadsThere q w.end given.end
-    pub raises : (v : Value) → q.next (raised v) ≡ lands v
+      × ((x : Response Names Value r) (st1 : Stores)
+      → DoneSo q (left_behind r x) (k x st1) (f x st1)))
+  DoneSo q left (outside what) t = t ≡ leaves what
+  DoneSo q left l t = ⊥
 
   -- what is told of its reply
   pub record TellsSo (q : OpenAsk S Value) (called : Option Called) (acts decides : Bool) : Type 0

@@ -8,7 +8,7 @@ use Rattle.pt_gen.specs.declared.generator.Generator.TheVariants.{Fresh, Suspend
 use Rattle.sem_run.specs.run.Machine.{Machine}
 use Rattle.sem_run.specs.run.State as run
 use Rattle.sem_run.specs.run.State.{OpenYield}
-use Rattle.pt_steps.specs.pt_host.World.{Names, Program}
+use Rattle.sem_rows.specs.pt_host.World.{Names, Program}
 use Rattle.pt_settrace.specs.Tracing.{Tracing}
 use Rattle.pt_pendings.specs.Stands.{IsYield}
 use Rattle.pt_purposes.specs.declared.standing.Standing.TheVariants.{AtPlace}

@@ -1,22 +1,21 @@
 -- What laws say of activations that wait.
-use Rattle.std.specs.Prelude.{◌≡◌, List, map}
+use Rattle.std.specs.Prelude.{◌≡◌, List, map, Option}
 use Rattle.pt_heap.specs.declared.value.Value.{Value}
-use Rattle.sem_control.specs.control.Turn.{End}
 use Rattle.sem_run.specs.run.Machine.{BlockId, Machine}
-use Rattle.sem_run.specs.run.Host.{Here, BlockResult, Finding}
+use Rattle.sem_run.specs.run.Host.{Finding, Response}
 use Rattle.sem_run.specs.run.State as run
 use Rattle.sem_run.specs.run.State.{OpenAsk}
 use Rattle.sem_run.specs.transitions.Transitions.{by_answer}
+use Rattle.sem_run.specs.transitions.Successors.{behind_yield, behind_print, behind_request, successor}
+use Rattle.law_leads.specs.Leads.{EndsWith, in_run}
 use Rattle.law_steps.specs.waiting.Seen.{AllSeen, is_full_by, active_by, hook_runs_by}
-use Rattle.pt_steps.specs.pt_host.World.{Names, World, Stores, CodeFacts, Program}
-use Rattle.pt_steps.specs.pt_host.Primitives.{Awaited}
+use Rattle.sem_rows.specs.pt_host.World.{Names, World, Stores, Program}
+use Rattle.sem_rows.specs.pt_host.Trees.{Tree}
 use Rattle.pt_settrace.specs.Tracing.{Tracing}
 use Rattle.pt_openers.specs.Openers.{is_full, active_in, hook_runs}
-use Rattle.pt_steps.specs.declared.step.Step.{Step}
-use Rattle.pt_steps.specs.Steps.{run_steps, run_result}
 use Rattle.pt_purposes.specs.declared.opener.Opener.{Opener}
 use Rattle.pt_purposes.specs.Seen.{active_of, has_hook, seen_of}
-use Rattle.pt_purposes.specs.Asks.{by_tree, DoneSo, GoesOn}
+use Rattle.pt_purposes.specs.Asks.{Led, led_in, DoneSo}
 use Rattle.pt_purposes.specs.Openers.{Ways, AreOpeners}
 
 -- those that stand for the activations of a run are seen there as their parts tell
@@ -32,21 +31,17 @@ pub record PartsTell (program : Program) (h : Tracing) (es : List Opener) : Type
   pub hook : hook_runs has_hook es ≡ hook_runs_by (map (seen_of program h) es)
   pub active : active_in active_of es ≡ active_by (map (seen_of program h) es)
 
--- what is done on the result for an ask that waits leads there where the same leads the code
-abbrev pub ResultsAreDoneBySteps : Type 0 → Type 0
-ResultsAreDoneBySteps S =
-    (q : OpenAsk S Value) (w : Awaited (Finding Value q.ask)) (given : Awaited S)
-    (lands : Value → S) → GoesOn q w given lands
-    → (here : Here Value) (todo : List Step) (e : End Value) (st : Stores)
-    → DoneSo q (by_tree lands (run_steps given here todo e st))
-    (by_answer q (run_steps w here todo e st))
+-- what an answer comes to leads the run on where the code of an ask goes on, if it gives no value on
+abbrev pub IsAnswered : {C : Type 0} → Led C → Type 0
+IsAnswered (behind_yield v k st) = ⊥
+IsAnswered (behind_print x l) = IsAnswered l
+IsAnswered (behind_request r st k) =
+    (x : Response Names Value r) (st1 : Stores) → IsAnswered (k x st1)
+IsAnswered l = Unit {0}
 
--- and so does what is done on what a block gives
-abbrev pub BlocksAreDoneBySteps : Type 0 → Type 0
-BlocksAreDoneBySteps S =
-    (q : OpenAsk S Value) (w : Awaited (Finding Value q.ask)) (given : Awaited S)
-    (lands : Value → S) → GoesOn q w given lands
-    → (here : Here Value) (facts : CodeFacts) (todo : List Step) (r : BlockResult Names Value)
-    (st : Stores)
-    → DoneSo q (by_tree lands (run_result given here facts todo r st))
-    (by_answer q (run_result w here facts todo r st))
+abbrev pub ResultsGoOn : {C S : Type 0} → (C → S) → Type 0
+ResultsGoOn {C = C} embed =
+    (q : OpenAsk C Value) (left : Option Value) (t : Tree (Finding Value q.ask))
+    → EndsWith q.ask left t → IsAnswered (successor (by_answer q t))
+    → DoneSo (in_run embed q) left (led_in embed (successor (by_answer q t)))
+    (by_answer (in_run embed q) t)

@@ -1,7 +1,7 @@
 -- When an entry of the machine's stack stands for an activation of a run that waits, over any
 -- machine of code (Language Reference 4.1, 6.2.9; Library Reference, `sys.settrace`,
 -- `sys.monitoring`).
-use Rattle.std.specs.Prelude.{◌≡◌, ℕ, List, [], ◌∷◌, length, Bool, false, Option, Some, None}
+use Rattle.std.specs.Prelude.{◌≡◌, ℕ, ◌-◌, List, [], ◌∷◌, length, Bool, false, Option, Some, None}
 use Rattle.pt_heap.specs.declared.value.Value.{Value}
 use Rattle.pt_frames.specs.declared.activation.Activation.{Activation}
 use Rattle.sem_control.specs.control.Turn as T
@@ -12,9 +12,10 @@ use Rattle.sem_run.specs.run.Host.{Finding, Passing, passes_on, ends_with, answe
 use Rattle.sem_run.specs.transitions.Transitions.{by_answer}
 use Rattle.sem_run.specs.run.State as run
 use Rattle.sem_run.specs.run.State.{OpenAsk, Hearing, of_ask, of_hook, for_block, for_generator}
-use Rattle.pt_steps.specs.pt_host.World.{Names, World, Stores, CodeFacts, Program}
-use Rattle.pt_steps.specs.pt_host.Trees.{Tree}
-use Rattle.pt_steps.specs.pt_host.Primitives.{Awaited, one_value}
+use Rattle.sem_rows.specs.pt_host.World.{Names, World, Stores, CodeFacts, Program}
+use Rattle.sem_rows.specs.pt_host.Trees.{Tree}
+use Rattle.sem_rows.specs.heap_rows.Told.{taken}
+use Rattle.law_leads.specs.Leads.{left_with}
 use Rattle.pt_settrace.specs.Tracing.{Tracing}
 use Rattle.pt_happenings.specs.declared.event.Event.{Event}
 use Rattle.pt_pendings.specs.declared.pending.Origin.{Origin}
@@ -24,8 +25,8 @@ use Rattle.pt_pendings.specs.declared.telling.Telling.{Telling}
 use Rattle.pt_pendings.specs.Stands.{Standpoint, IsAsked, IsTold}
 use Rattle.pt_asking.specs.declared.asked.Hook.{Hook as HookOf}
 use Rattle.pt_asking.specs.Asking.{hook_view}
-use Rattle.pt_steps.specs.declared.step.Step.{Step}
-use Rattle.pt_steps.specs.Steps.{run_steps, run_ended, run_result}
+use Rattle.pt_frames.specs.declared.purpose.Purpose.{Purpose as For}
+use Rattle.pt_frames.specs.declared.purpose.Purpose.TheVariants.{Exit}
 use Rattle.pt_purposes.specs.declared.standing.Standing.{Standing}
 use Rattle.pt_purposes.specs.declared.standing.Standing.TheVariants.{AtPlace, Landed}
 use Rattle.pt_purposes.specs.declared.purpose.Called.{Called}
@@ -34,21 +35,28 @@ use Rattle.pt_purposes.specs.declared.purpose.Purpose.TheVariants.{Ask, Delegati
 use Rattle.pt_purposes.specs.declared.opener.Running.{Running}
 use Rattle.pt_purposes.specs.declared.opener.Opener.{Opener}
 use Rattle.pt_purposes.specs.Seen.{block_of, active_of, frame_of}
-use Rattle.pt_purposes.specs.Asks.{by_tree, DoneSo, TellsSo}
+use Rattle.pt_purposes.specs.Asks.{Led, DoneSo, TellsSo}
 
 -- what the code of an activation's block tells of where it stands: the state of its machine; the
--- origin of what its instruction asks; and of an origin where a raise leads that comes from there,
--- where its instruction goes on with what it is given, if it awaits that, and whether it decides
+-- origin of what its instruction asks; of an origin where a raise leads that comes from there, and
+-- whether its instruction decides; where the result of a block leads that was called for this, of
+-- which this is known, and where a generator's end with a value does
 pub record Ways (S : Type 0) : Type 0 where
   pub position : Standing → Activation → S
   pub asked : Activation → Origin
   pub lands : Activation → Origin → Value → S
-  pub given : Activation → Origin → Awaited S
   pub decides : Activation → Origin → Bool
+  pub resumed : Activation → CodeFacts → For → BlockResult Names Value → Here Value → Stores → Led S
+  pub ended : Activation → For → Value → Here Value → Stores → Led S
 
 -- what an activation asks comes from its place, with the slots below those that it took
 abbrev pub origin_in : Activation → Origin
 origin_in a = record { pc = a.pc; below = length a.slots }
+
+-- but the slots of an exit stay on while its block runs, for the raise that they hold is active (8.5)
+abbrev pub origin_for : For → Activation → Origin
+origin_for (Exit c) a = record { pc = a.pc; below = length a.slots - 2 }
+origin_for why a = origin_in a
 
 -- behind a jump that has landed the block goes on at its place
 abbrev pub settled : Standing → Standing
@@ -68,11 +76,11 @@ pub record IsEventIn (a : Activation) (e : Event) : Type 0 where
   pub block : e.block ≡ a.block
   pub visible : a.hidden ≡ false
 
--- what is done on the result of a block, of which this is known
-abbrev pub BlockBySteps : {A : Type 0} → Awaited A → Here Value → CodeFacts → List Step
-    → (BlockResult Names Value → Stores → Tree A) → Type 0
-BlockBySteps w here facts todo f =
-    (r : BlockResult Names Value) (st : Stores) → f r st ≡ run_result w here facts todo r st
+-- the value that is for this is the answer of a hook
+abbrev pub HookAnswers : Here Value → CodeFacts → For
+    → (BlockResult Names Value → Stores → Tree Value) → Type 0
+HookAnswers here facts why f =
+    (r : BlockResult Names Value) (st : Stores) → f r st ≡ taken facts why r here st
 
 -- a delegation gives on what a generator gives on, and goes on with the value with which that
 -- ends
@@ -100,39 +108,35 @@ module _ {S : Type 0} (ways : Ways S) where
     lands = ways.lands a;
   }
 
-  -- an ask waits: where a raise in place of its reply lands, and what is told of its reply
-  pub record IsWaiting (a : Activation) (called : Option Called) (is_act : Bool)
+  -- an ask waits for this: where a raise in place of its reply lands, and what is told of its reply
+  pub record IsWaiting (a : Activation) (why : For) (called : Option Called) (is_act : Bool)
       (q : OpenAsk S Value) : Type 0 where
-    pub raises : (v : Value) → q.next (raised v) ≡ ways.lands a (origin_in a) v
+    pub raises : (v : Value) → q.next (raised v) ≡ ways.lands a (origin_for why a) v
     pub told : TellsSo q called is_act (ways.decides a (origin_in a))
 
-  -- an answer in the making leads it on as one that is given as a state
-  abbrev pub LeadsOn : (a : Activation) (q : OpenAsk S Value) → Tree S
-      → Tree (Finding Value q.ask) → Type 0
-  LeadsOn a q u t = DoneSo q (by_tree (ways.lands a (origin_in a)) u) (by_answer q t)
+  -- what comes of the result of a block of which this is known leads it on where the code goes on
+  abbrev pub LeadsOn : (a : Activation) (q : OpenAsk S Value) → Here Value → CodeFacts → For
+      → BlockResult Names Value → Stores → Tree (Finding Value q.ask) → Type 0
+  LeadsOn a q here facts why r st t =
+      DoneSo q (left_with r.end) (ways.resumed a facts why r here st) (by_answer q t)
 
-  -- what it awaits
-  abbrev pub given_in : Activation → Awaited S
-  given_in a = ways.given a (origin_in a)
+  abbrev pub BlockLeads : (a : Activation) (q : OpenAsk S Value) → Here Value → CodeFacts → For
+      → (BlockResult Names Value → Stores → Tree (Finding Value q.ask)) → Type 0
+  BlockLeads a q here facts why f =
+      (r : BlockResult Names Value) (st : Stores) → LeadsOn a q here facts why r st (f r st)
 
-  -- what comes of a result leads it on as these steps on that do, for a block of which this is known
-  abbrev pub BlockLeads : (a : Activation) (q : OpenAsk S Value) → Here Value → CodeFacts
-      → List Step → (BlockResult Names Value → Stores → Tree (Finding Value q.ask)) → Type 0
-  BlockLeads a q here facts todo f =
-      (r : BlockResult Names Value) (st : Stores)
-      → LeadsOn a q (run_result (given_in a) here facts todo r st) (f r st)
-
-  -- and for a generator: what it gives on is a value, and the value that it ends with a
-  -- StopIteration's
+  -- and for a generator, whatever names it has: what it gives on is a value, and the value that it ends
+  -- with a StopIteration's
   pub record GeneratorLeads (a : Activation) (q : OpenAsk S Value) (here : Here Value)
-      (todo : List Step) (f : GeneratorResult Value → Stores → Tree (Finding Value q.ask))
-      : Type 0 where
-    pub gives : (v : Value) (st : Stores)
-        → LeadsOn a q (run_steps (given_in a) here todo (gave v) st) (f (gives_on v) st)
-    pub raises : (v : Value) (st : Stores)
-        → LeadsOn a q (run_steps (given_in a) here todo (left_by v) st) (f (ends_by (left_by v)) st)
+      (facts : CodeFacts) (why : For)
+      (f : GeneratorResult Value → Stores → Tree (Finding Value q.ask)) : Type 0 where
+    pub gives : (v : Value) (x : Names) (st : Stores)
+        → LeadsOn a q here facts why (record { end = gave v; names = x }) st (f (gives_on v) st)
+    pub raises : (v : Value) (x : Names) (st : Stores)
+        → LeadsOn a q here facts why (record { end = left_by v; names = x }) st
+        (f (ends_by (left_by v)) st)
     pub ends : (v : Value) (st : Stores)
-        → LeadsOn a q (run_ended (given_in a) here todo v st) (f (ends_by (gave v)) st)
+        → DoneSo q None (ways.ended a why v here st) (by_answer q (f (ends_by (gave v)) st))
 
 module _ {S : Type 0} (machine : Machine S Value) (ways : Ways S) where
   -- a hook was asked at an event of this activation
@@ -143,29 +147,30 @@ module _ {S : Type 0} (machine : Machine S Value) (ways : Ways S) where
     pub told : IsTold machine (standpoint ways c s a) t x.telling
     pub stands : UnlessGone t.pending s (c ≡ ways.position s a)
 
-  -- what an activation is open for, whose machine is in this state: these steps are done on what
-  -- comes back of a block of which this is known, as is asked here. No hook has a generator go on,
-  -- whose methods take other arguments
-  pub data IsOpenFor (a : Activation) (c : S) (todo : List Step) (here : Here Value)
+  -- what an activation is open for, whose machine is in this state: what comes back of a block of
+  -- which this is known is for this, as is asked here. No hook has a generator go on, whose methods
+  -- take other arguments
+  pub data IsOpenFor (a : Activation) (c : S) (why : For) (here : Here Value)
       (facts : CodeFacts) : Option ℕ → Purpose → run.Purpose S Names Value World → Type 0 where
     block_of_ask : (called : Option Called) (is_act : Bool) (q : OpenAsk S Value)
         (f : BlockResult Names Value → Stores → Tree (Finding Value q.ask))
-        → IsWaiting ways a called is_act q → BlockLeads ways a q here facts todo f
-        → IsOpenFor a c todo here facts None (Ask called is_act) (for_block (of_ask q f))
+        → IsWaiting ways a why called is_act q → BlockLeads ways a q here facts why f
+        → IsOpenFor a c why here facts None (Ask called is_act) (for_block (of_ask q f))
     generator_of_ask : (g : ℕ) (called : Option Called) (is_act : Bool) (q : OpenAsk S Value)
         (f : GeneratorResult Value → Stores → Tree (Finding Value q.ask))
-        → IsWaiting ways a called is_act q → GeneratorLeads ways a q here todo f
-        → IsOpenFor a c todo here facts (Some g) (Ask called is_act) (for_generator g (of_ask q f))
+        → IsWaiting ways a why called is_act q
+        → GeneratorLeads ways a q here facts why f
+        → IsOpenFor a c why here facts (Some g) (Ask called is_act) (for_generator g (of_ask q f))
     generator_of_delegation : (g : ℕ) (s : Standing) (i : Value) (r : Reply Value Value)
         (k : Reply Value (Delegated Value) → S) (b : Bool)
         (f : GeneratorResult Value → Stores → Tree (Passing Value)) → c ≡ ways.position s a
         → IsAsked machine (standpoint ways c s a) (delegating i r k b) → Delegates f
-        → IsOpenFor a c todo here facts (Some g) (Delegation s)
+        → IsOpenFor a c why here facts (Some g) (Delegation s)
         (for_generator g (of_ask (delegating i r k b) f))
     block_of_hook : (hook : HookOf) (s : Standing) (active : Option Value) (t : Telling)
         (x : Hearing S Value) (f : BlockResult Names Value → Stores → Tree Value)
-        → IsHearing a c hook s t x → BlockBySteps one_value here facts todo f
-        → IsOpenFor a c todo here facts None (Hook hook s active t) (for_block (of_hook x f))
+        → IsHearing a c hook s t x → HookAnswers here facts why f
+        → IsOpenFor a c why here facts None (Hook hook s active t) (for_block (of_hook x f))
 
 module _ {S : Type 0} (program : Program) (h : Tracing) where
   pub record IsRunning (r : Running) (a : run.Activation S Names Value) : Type 0 where
@@ -180,7 +185,7 @@ module _ {S : Type 0} (program : Program) (machine : Machine S Value) (ways : Wa
     where
       pub running : IsRunning program h e.running o.activation
       pub active : machine.active o.activation.state ≡ active_of e
-      pub purpose : IsOpenFor machine ways e.running.activation o.activation.state e.todo
+      pub purpose : IsOpenFor machine ways e.running.activation o.activation.state e.why
           (asked_in e.running.activation e.context) (program.facts above) e.generator e.purpose
           o.purpose
 

@@ -9,7 +9,7 @@ use Rattle.pt_frames.specs.Slots.{active_in}
 use Rattle.sem_run.specs.run.Machine.{BlockId}
 use Rattle.sem_run.specs.run.Host.{Frame}
 use Rattle.law_steps.specs.waiting.Seen.{Seen}
-use Rattle.pt_steps.specs.pt_host.World.{Names, Program}
+use Rattle.sem_rows.specs.pt_host.World.{Names, Program}
 use Rattle.sem_rows.specs.heap_rows.Told.{block_id}
 use Rattle.sem_rows.specs.heap_rows.Views.{names_view}
 use Rattle.pt_settrace.specs.Tracing.{Tracing, function_in, lines_in}

@@ -3,11 +3,11 @@
 ghost use Rattle.std.specs.Prelude.{List};
 ghost use Rattle.pt_heap.specs.declared.value.Value.{Value};
 ghost use Rattle.sem_run.specs.run.Machine.{Machine};
-ghost use Rattle.pt_steps.specs.pt_host.World.{Program};
+ghost use Rattle.sem_rows.specs.pt_host.World.{Program};
 ghost use Rattle.pt_settrace.specs.Tracing.{Tracing};
 ghost use Rattle.pt_purposes.specs.declared.opener.Opener.{Opener};
 ghost use Rattle.pt_purposes.specs.Openers.{Ways};
-ghost use Rattle.pt_purposes.specs.Laws.{BlocksAreDoneBySteps, OpenersAreSeen, PartsTell, ResultsAreDoneBySteps};
+ghost use Rattle.pt_purposes.specs.Laws.{OpenersAreSeen, PartsTell, ResultsGoOn};
 
 /// Entries that stand for the activations of a run are seen there as their parts tell, and so the
 /// machine tells by them whether another activation may open, whether a hook runs, and which
@@ -19,9 +19,9 @@ pub fn openers_are_seen<S>()
         → PartsTell program h es }
 {}
 
-/// The steps that are done on the result for an ask that waits, whatever that is, lead to the reply
-/// by which its code goes on where they lead there: so nothing else has to be known of it.
-pub fn results_are_done_by_steps<S>()
-    ensures steps { ResultsAreDoneBySteps S }
-    ensures blocks { BlocksAreDoneBySteps S }
+/// What comes of a result leads the run on where the code goes on, if its answer does so there, with
+/// the exception that ended an iterator: so nothing has to be known of the ask that waits but where
+/// its answer leads.
+pub fn results_go_on_where_answers_do<C, S>()
+    ensures { (embed : C → S) → ResultsGoOn embed }
 {}

@@ -8,8 +8,12 @@ mod opener;
 mod purpose;
 mod standing;
 
-pub use laws::{openers_are_seen, results_are_done_by_steps};
+pub use laws::{openers_are_seen, results_go_on_where_answers_do};
 pub use opener::{Course, Opener, Running};
-pub use pt_steps::Step;
 pub use purpose::{Called, Purpose};
+pub use sem_rows::heap_rows::Progress;
+pub use sem_rows::{
+    Base, RECURSION_ERROR, RUNTIME_ERROR, TYPE_ERROR, allot, arise_while, base_of, class_object,
+    error, error_saying,
+};
 pub use standing::Standing;

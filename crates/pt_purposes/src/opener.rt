@@ -1,9 +1,8 @@
 use crate::Purpose;
-use pt_base::{ActNo, Seq};
-use pt_frames::Activation;
+use pt_base::ActNo;
+use pt_frames::{Activation, Purpose as For};
 use pt_heap::Value;
 use pt_openers::Waits;
-use pt_steps::Step;
 
 /// What a run keeps of an activation beside its names and slots.
 #[derive(Clone, Copy, Debug, PartialEq, Eq)]
@@ -27,9 +26,9 @@ pub struct Running {
 pub struct Opener {
     pub running: Running,
     pub purpose: Purpose,
-    /// What is done on the result of the newer one, in this order, and the context of an exception
-    /// that arises then: the one that was active in the run as the newer one was asked for.
-    pub todo: Seq<Step>,
+    /// What the result of the newer one is for, and the context of an exception that arises then: the
+    /// one that was active in the run as the newer one was asked for.
+    pub why: For,
     pub context: Option<Value>,
     /// The generator that goes on in the newer one, if one does.
     pub generator: Option<u32>,

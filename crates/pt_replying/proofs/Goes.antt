@@ -10,27 +10,27 @@ use Rattle.sem_run.specs.run.State.{State}
 use Rattle.sem_run.specs.run.Run.{writes}
 use Rattle.sem_steps.specs.Steps.{stays, minded}
 use Rattle.sem_steps.proofs.Moves.{join}
-use Rattle.pt_turning.specs.pt_telling.pt_run_state.pt_purposes.sem_rows.pt_host.World.{Names, World, Program}
-use Rattle.pt_turning.specs.pt_telling.pt_run_state.pt_purposes.sem_rows.pt_host.HeapHost.{heap_host}
+use Rattle.pt_returning.specs.pt_host.World.{Names, World, Program}
+use Rattle.pt_returning.specs.pt_host.HeapHost.{heap_host}
 use Rattle.pt_happenings.specs.declared.happening.Happening.{Happening}
 use Rattle.pt_pendings.specs.declared.pending.Origin.{Origin}
 use Rattle.pt_pendings.specs.declared.pending.Pending.TheVariants.{Going}
-use Rattle.pt_turning.specs.pt_telling.pt_transfers.pt_machine_state.declared.blocks.BlockCode.{BlockCode}
-use Rattle.pt_turning.specs.pt_telling.pt_transfers.pt_machine_state.Blocks.{IsBlockOf}
-use Rattle.pt_turning.specs.pt_telling.pt_run_state.pt_purposes.declared.standing.Standing.{Standing}
-use Rattle.pt_turning.specs.pt_telling.pt_run_state.pt_purposes.Seen.{block_of}
-use Rattle.pt_turning.specs.pt_telling.pt_run_state.pt_purposes.Openers.{Ways}
-use Rattle.pt_turning.specs.pt_telling.pt_run_state.declared.machine.Machine.{Machine as Held}
-use Rattle.pt_turning.specs.pt_telling.pt_run_state.declared.machine.Waiting.{Waiting}
-use Rattle.pt_turning.specs.pt_telling.pt_run_state.Stands.{Stands, IsToTell}
-use Rattle.pt_turning.specs.pt_telling.Telling as telling
-use Rattle.pt_turning.specs.pt_telling.Laws as laws
-use Rattle.pt_turning.specs.pt_telling.Laws.{Comes, BehindTold}
-use Rattle.pt_turning.proofs.pt_telling.Tells.{tells_as_run}
-use Rattle.pt_turning.proofs.pt_telling.Asks.{writes-append}
-use Rattle.pt_turning.specs.Ways.{IsOfCode}
-use Rattle.pt_turning.specs.Laws.{waiting}
-use Rattle.pt_turning.proofs.Turns.{named-by, goes_on_as_run}
+use Rattle.pt_returning.specs.pt_turning.pt_telling.pt_transfers.pt_machine_state.declared.blocks.BlockCode.{BlockCode}
+use Rattle.pt_returning.specs.pt_turning.pt_telling.pt_transfers.pt_machine_state.Blocks.{IsBlockOf}
+use Rattle.pt_returning.specs.pt_purposes.declared.standing.Standing.{Standing}
+use Rattle.pt_returning.specs.pt_purposes.Seen.{block_of}
+use Rattle.pt_returning.specs.pt_purposes.Openers.{Ways}
+use Rattle.pt_returning.specs.pt_turning.pt_telling.pt_run_state.declared.machine.Machine.{Machine as Held}
+use Rattle.pt_returning.specs.pt_turning.pt_telling.pt_run_state.declared.machine.Waiting.{Waiting}
+use Rattle.pt_returning.specs.pt_turning.pt_telling.pt_run_state.Stands.{Stands, IsToTell}
+use Rattle.pt_returning.specs.pt_turning.pt_telling.Telling as telling
+use Rattle.pt_returning.specs.pt_turning.pt_telling.Laws as laws
+use Rattle.pt_returning.specs.pt_turning.pt_telling.Laws.{Comes, BehindTold}
+use Rattle.pt_returning.proofs.pt_telling.Tells.{tells_as_run}
+use Rattle.pt_returning.proofs.pt_telling.Asks.{writes-append}
+use Rattle.pt_returning.specs.pt_turning.Ways.{IsOfCode}
+use Rattle.pt_returning.specs.pt_turning.Laws.{waiting}
+use Rattle.pt_returning.proofs.pt_turning.Turns.{named-by, goes_on_as_run}
 use Rattle.pt_replying.specs.Replying.{beyond, told_on}
 use Rattle.pt_replying.specs.Laws.{TellsOnAsRun}
 

@@ -14,31 +14,31 @@ use Rattle.sem_run.specs.run.State as run
 use Rattle.sem_run.specs.run.State.{State, OpenAsk, at, in_state}
 use Rattle.sem_run.specs.run.Step.{by_phase, reply_to, happening, destination, only_raises, events_behind, stop_event}
 use Rattle.sem_steps.specs.Steps.{stays, behind_step}
-use Rattle.pt_turning.specs.pt_telling.pt_run_state.pt_purposes.sem_rows.pt_host.World.{Names, World, Program}
-use Rattle.pt_turning.specs.pt_telling.pt_run_state.pt_purposes.sem_rows.pt_host.HeapHost.{heap_host}
+use Rattle.pt_returning.specs.pt_host.World.{Names, World, Program}
+use Rattle.pt_returning.specs.pt_host.HeapHost.{heap_host}
 use Rattle.pt_happenings.specs.declared.happening.Happening.{Happening}
 use Rattle.pt_happenings.specs.declared.happening.Happening.TheVariants.{ReturnsFrom}
 use Rattle.pt_happenings.specs.Views.{happening_view}
 use Rattle.pt_pendings.specs.declared.pending.Origin.{Origin}
 use Rattle.pt_pendings.specs.declared.pending.Pending.TheVariants.{Going}
 use Rattle.pt_pendings.specs.Stands as pend
-use Rattle.pt_turning.specs.pt_telling.pt_transfers.pt_machine_state.declared.blocks.BlockCode.{BlockCode}
-use Rattle.pt_turning.specs.pt_telling.pt_transfers.pt_machine_state.Blocks.{IsBlockOf}
-use Rattle.pt_turning.specs.pt_telling.pt_run_state.pt_purposes.declared.purpose.Called.{Called}
-use Rattle.pt_turning.specs.pt_telling.pt_run_state.pt_purposes.declared.standing.Standing.{Standing}
-use Rattle.pt_turning.specs.pt_telling.pt_run_state.pt_purposes.declared.standing.Standing.TheVariants as standing
-use Rattle.pt_turning.specs.pt_telling.pt_run_state.pt_purposes.Seen.{block_of}
-use Rattle.pt_turning.specs.pt_telling.pt_run_state.pt_purposes.Asks.{told_of_call}
-use Rattle.pt_turning.specs.pt_telling.pt_run_state.pt_purposes.Openers.{Ways, UnlessGone, settled}
-use Rattle.pt_turning.specs.pt_telling.pt_run_state.declared.machine.Machine.{Machine as Held}
-use Rattle.pt_turning.specs.pt_telling.pt_run_state.declared.machine.Waiting.{Waiting}
-use Rattle.pt_turning.specs.pt_telling.pt_run_state.Stands.{Stands, StandsAround, IsToTell}
-use Rattle.pt_turning.specs.pt_telling.Telling.{is_silent, told_in}
-use Rattle.pt_turning.specs.pt_telling.Laws.{Comes}
-use Rattle.pt_turning.specs.Ways.{IsOfCode, state_at}
-use Rattle.pt_turning.specs.Turning.{gone_on}
-use Rattle.pt_turning.specs.Laws.{waiting}
-use Rattle.pt_turning.proofs.Turns.{around-at, turning-so}
+use Rattle.pt_returning.specs.pt_turning.pt_telling.pt_transfers.pt_machine_state.declared.blocks.BlockCode.{BlockCode}
+use Rattle.pt_returning.specs.pt_turning.pt_telling.pt_transfers.pt_machine_state.Blocks.{IsBlockOf}
+use Rattle.pt_returning.specs.pt_purposes.declared.purpose.Called.{Called}
+use Rattle.pt_returning.specs.pt_purposes.declared.standing.Standing.{Standing}
+use Rattle.pt_returning.specs.pt_purposes.declared.standing.Standing.TheVariants as standing
+use Rattle.pt_returning.specs.pt_purposes.Seen.{block_of}
+use Rattle.pt_returning.specs.pt_purposes.Asks.{told_of_call}
+use Rattle.pt_returning.specs.pt_purposes.Openers.{Ways, UnlessGone, settled}
+use Rattle.pt_returning.specs.pt_turning.pt_telling.pt_run_state.declared.machine.Machine.{Machine as Held}
+use Rattle.pt_returning.specs.pt_turning.pt_telling.pt_run_state.declared.machine.Waiting.{Waiting}
+use Rattle.pt_returning.specs.pt_turning.pt_telling.pt_run_state.Stands.{Stands, StandsAround, IsToTell}
+use Rattle.pt_returning.specs.pt_turning.pt_telling.Telling.{is_silent, told_in}
+use Rattle.pt_returning.specs.pt_turning.pt_telling.Laws.{Comes}
+use Rattle.pt_returning.specs.pt_turning.Ways.{IsOfCode, state_at}
+use Rattle.pt_returning.specs.pt_turning.Turning.{gone_on}
+use Rattle.pt_returning.specs.pt_turning.Laws.{waiting}
+use Rattle.pt_returning.proofs.pt_turning.Turns.{around-at, turning-so}
 use Rattle.pt_replying.specs.declared.replying.Decided.{Decided}
 use Rattle.pt_replying.specs.declared.replying.Decided.TheVariants as decided
 use Rattle.pt_replying.specs.declared.replying.Given.{Given}

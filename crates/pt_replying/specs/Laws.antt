@@ -11,23 +11,23 @@ use Rattle.sem_run.specs.run.Machine.{Machine}
 use Rattle.sem_run.specs.run.Events.{Event}
 use Rattle.sem_run.specs.run.State.{State, OpenAsk}
 use Rattle.sem_run.specs.run.Step.{reply_to, of_call, stop_event}
-use Rattle.pt_turning.specs.pt_telling.pt_run_state.pt_purposes.sem_rows.pt_host.World.{Names, World, Program}
-use Rattle.pt_turning.specs.pt_telling.pt_run_state.pt_purposes.sem_rows.pt_host.HeapHost.{heap_host}
-use Rattle.pt_turning.specs.pt_telling.pt_run_state.pt_purposes.sem_rows.heap_rows.Views.{slots_view}
+use Rattle.pt_returning.specs.pt_host.World.{Names, World, Program}
+use Rattle.pt_returning.specs.pt_host.HeapHost.{heap_host}
+use Rattle.pt_returning.specs.pt_purposes.sem_rows.heap_rows.Views.{slots_view}
 use Rattle.pt_happenings.specs.declared.happening.Happening.{Happening}
 use Rattle.pt_pendings.specs.declared.pending.Origin.{Origin}
 use Rattle.pt_pendings.specs.declared.pending.Pending.TheVariants.{Going}
-use Rattle.pt_turning.specs.pt_telling.pt_transfers.pt_machine_state.declared.blocks.BlockCode.{BlockCode}
-use Rattle.pt_turning.specs.pt_telling.pt_transfers.pt_machine_state.Blocks.{IsBlockOf}
-use Rattle.pt_turning.specs.pt_telling.pt_run_state.pt_purposes.declared.standing.Standing.{Standing}
-use Rattle.pt_turning.specs.pt_telling.pt_run_state.pt_purposes.Seen.{block_of}
-use Rattle.pt_turning.specs.pt_telling.pt_run_state.pt_purposes.Asks.{told_of_call}
-use Rattle.pt_turning.specs.pt_telling.pt_run_state.pt_purposes.Openers.{Ways, settled}
-use Rattle.pt_turning.specs.pt_telling.pt_run_state.declared.machine.Machine.{Machine as Held}
-use Rattle.pt_turning.specs.pt_telling.pt_run_state.Stands.{Stands, StandsAround, IsToTell}
-use Rattle.pt_turning.specs.pt_telling.Laws.{Comes}
-use Rattle.pt_turning.specs.Ways.{rows_at, state_at}
-use Rattle.pt_turning.specs.Laws.{waiting}
+use Rattle.pt_returning.specs.pt_turning.pt_telling.pt_transfers.pt_machine_state.declared.blocks.BlockCode.{BlockCode}
+use Rattle.pt_returning.specs.pt_turning.pt_telling.pt_transfers.pt_machine_state.Blocks.{IsBlockOf}
+use Rattle.pt_returning.specs.pt_purposes.declared.standing.Standing.{Standing}
+use Rattle.pt_returning.specs.pt_purposes.Seen.{block_of}
+use Rattle.pt_returning.specs.pt_purposes.Asks.{told_of_call}
+use Rattle.pt_returning.specs.pt_purposes.Openers.{Ways, settled}
+use Rattle.pt_returning.specs.pt_turning.pt_telling.pt_run_state.declared.machine.Machine.{Machine as Held}
+use Rattle.pt_returning.specs.pt_turning.pt_telling.pt_run_state.Stands.{Stands, StandsAround, IsToTell}
+use Rattle.pt_returning.specs.pt_turning.pt_telling.Laws.{Comes}
+use Rattle.pt_returning.specs.pt_turning.Ways.{rows_at, state_at}
+use Rattle.pt_returning.specs.pt_turning.Laws.{waiting}
 use Rattle.pt_replying.specs.declared.replying.Decided.{Decided}
 use Rattle.pt_replying.specs.declared.replying.Decided.TheVariants.{Branches}
 use Rattle.pt_replying.specs.declared.replying.Given.{Given}

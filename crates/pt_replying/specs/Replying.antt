@@ -8,14 +8,14 @@ use Rattle.pt_happenings.specs.declared.happening.Happening.{Happening}
 use Rattle.pt_happenings.specs.declared.happening.Happening.TheVariants.{ReturnsFrom, Stops, Branches, Handled}
 use Rattle.pt_pendings.specs.declared.pending.Origin.{Origin}
 use Rattle.pt_pendings.specs.declared.pending.Pending.TheVariants.{Going}
-use Rattle.pt_turning.specs.pt_telling.pt_transfers.pt_machine_state.declared.blocks.BlockCode.{BlockCode}
-use Rattle.pt_turning.specs.pt_telling.pt_run_state.pt_purposes.declared.purpose.Called.{Called}
-use Rattle.pt_turning.specs.pt_telling.pt_run_state.pt_purposes.declared.standing.Standing.{Standing}
-use Rattle.pt_turning.specs.pt_telling.pt_run_state.declared.machine.Machine.{Machine}
-use Rattle.pt_turning.specs.pt_telling.pt_run_state.declared.machine.Waiting.{Waiting}
-use Rattle.pt_turning.specs.pt_telling.Telling.{Told, told as tell}
-use Rattle.pt_turning.specs.Turning.{gone_on}
-use Rattle.pt_turning.specs.Laws.{waiting}
+use Rattle.pt_returning.specs.pt_turning.pt_telling.pt_transfers.pt_machine_state.declared.blocks.BlockCode.{BlockCode}
+use Rattle.pt_returning.specs.pt_purposes.declared.purpose.Called.{Called}
+use Rattle.pt_returning.specs.pt_purposes.declared.standing.Standing.{Standing}
+use Rattle.pt_returning.specs.pt_turning.pt_telling.pt_run_state.declared.machine.Machine.{Machine}
+use Rattle.pt_returning.specs.pt_turning.pt_telling.pt_run_state.declared.machine.Waiting.{Waiting}
+use Rattle.pt_returning.specs.pt_turning.pt_telling.Telling.{Told, told as tell}
+use Rattle.pt_returning.specs.pt_turning.Turning.{gone_on}
+use Rattle.pt_returning.specs.pt_turning.Laws.{waiting}
 use Rattle.pt_replying.specs.declared.replying.Decided.{Decided}
 use Rattle.pt_replying.specs.declared.replying.Decided.TheVariants as decided
 use Rattle.pt_replying.specs.declared.replying.Given.{Given}

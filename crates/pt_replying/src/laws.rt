@@ -5,9 +5,9 @@ ghost use Rattle.sem_code.specs.slots.Slots.{State};
 ghost use Rattle.sem_code_machine.specs.code_machine.CodeBlocks.{CodeBlocks};
 ghost use Rattle.sem_run.specs.run.Events.{Event};
 ghost use Rattle.sem_run.specs.run.Machine.{Machine};
-ghost use Rattle.pt_turning.specs.pt_telling.pt_run_state.pt_purposes.sem_rows.pt_host.World.{Program};
-ghost use Rattle.pt_turning.specs.pt_telling.pt_run_state.pt_purposes.Openers.{Ways};
-ghost use Rattle.pt_turning.specs.Ways.{IsOfCode};
+ghost use Rattle.pt_returning.specs.pt_host.World.{Program};
+ghost use Rattle.pt_returning.specs.pt_purposes.Openers.{Ways};
+ghost use Rattle.pt_returning.specs.pt_turning.Ways.{IsOfCode};
 ghost use Rattle.pt_replying.specs.Laws.{RepliesAsRun, TellsOnAsRun};
 
 /// What is told behind which an activation goes on is told in each run for which the machine stands,

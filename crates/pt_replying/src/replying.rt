@@ -6,7 +6,7 @@ use pt_base::{ActNo, Memory, Seq};
 use pt_happenings::Happening;
 use pt_heap::Value;
 use pt_pendings::{Origin, Pending};
-use pt_turning::{BlockCode, Called, Machine, Standing, Waiting, go_on, tell};
+use pt_returning::{BlockCode, Called, Machine, Standing, Waiting, go_on, tell};
 use std::alloc::Global;
 
 /// What control tells of a reply with a value.

@@ -3,8 +3,8 @@ use Rattle.std.proofs.Common.{◌≡◌, ℕ, List, Bool, Option, Some, None, sy
 use Rattle.std.specs.Prelude.{codes}
 use Rattle.pt_heap.specs.declared.value.Value.{Value}
 use Rattle.pt_failing.specs.pt_arising.pt_replying.pt_turning.pt_telling.pt_transfers.pt_machine_state.declared.blocks.BlockCode.{BlockCode}
-use Rattle.pt_failing.specs.pt_arising.pt_replying.pt_turning.pt_telling.pt_run_state.pt_purposes.sem_rows.pt_host.declared.places.TheConstants.{RUNTIME_ERROR}
-use Rattle.pt_failing.specs.pt_arising.pt_replying.pt_turning.pt_telling.pt_run_state.pt_purposes.sem_rows.declared.heap_rows.progress.Progress.TheVariants.{FailsSaying}
+use Rattle.pt_failing.specs.pt_arising.pt_replying.pt_turning.sem_rows.pt_host.declared.places.TheConstants.{RUNTIME_ERROR}
+use Rattle.pt_failing.specs.pt_arising.pt_replying.pt_turning.sem_rows.declared.heap_rows.progress.Progress.TheVariants.{FailsSaying}
 use Rattle.pt_failing.specs.pt_arising.pt_replying.pt_turning.pt_telling.pt_run_state.declared.machine.Machine.{Machine}
 use Rattle.pt_failing.specs.declared.failing.Failed.{Failed}
 use Rattle.pt_failing.specs.Failing.{FailsSo, context_of, goes}

@@ -29,17 +29,17 @@ use Rattle.sem_steps.specs.Steps.{Steps, minded}
 use Rattle.sem_steps.proofs.Moves.{join}
 use Rattle.pt_happenings.specs.Views.{happening_view}
 use Rattle.pt_openers.specs.Openers.{active_in}
-use Rattle.pt_failing.specs.pt_arising.pt_replying.pt_turning.pt_telling.pt_run_state.pt_purposes.sem_rows.pt_host.World.{Names, World, Stores, Program}
-use Rattle.pt_failing.specs.pt_arising.pt_replying.pt_turning.pt_telling.pt_run_state.pt_purposes.sem_rows.pt_host.Raising.{raise_active}
-use Rattle.pt_failing.specs.pt_arising.pt_replying.pt_turning.pt_telling.pt_run_state.pt_purposes.sem_rows.pt_host.HeapHost.{heap_host}
-use Rattle.pt_failing.specs.pt_arising.pt_replying.pt_turning.pt_telling.pt_run_state.pt_purposes.sem_rows.heap_rows.Leads.{by_tree, giving}
-use Rattle.pt_failing.specs.pt_arising.pt_replying.pt_turning.pt_telling.pt_run_state.pt_purposes.sem_rows.heap_rows.Views.{slots_view}
+use Rattle.pt_failing.specs.pt_arising.pt_replying.pt_turning.sem_rows.pt_host.World.{Names, World, Stores, Program}
+use Rattle.pt_failing.specs.pt_arising.pt_replying.pt_turning.sem_rows.pt_host.Raising.{raise_active}
+use Rattle.pt_failing.specs.pt_arising.pt_replying.pt_turning.sem_rows.pt_host.HeapHost.{heap_host}
+use Rattle.pt_failing.specs.pt_arising.pt_replying.pt_turning.sem_rows.heap_rows.Leads.{by_tree, giving}
+use Rattle.pt_failing.specs.pt_arising.pt_replying.pt_turning.sem_rows.heap_rows.Views.{slots_view}
 use Rattle.pt_failing.specs.pt_arising.pt_replying.pt_turning.pt_telling.pt_transfers.pt_machine_state.declared.blocks.BlockCode.{BlockCode}
 use Rattle.pt_failing.specs.pt_arising.pt_replying.pt_turning.pt_telling.pt_transfers.pt_machine_state.Blocks.{IsBlockOf}
 use Rattle.pt_failing.specs.pt_arising.pt_replying.pt_turning.pt_telling.pt_transfers.pt_machine_state.Views.{stores_of}
 use Rattle.pt_failing.specs.pt_arising.pt_replying.pt_turning.pt_telling.pt_run_state.pt_purposes.Seen.{block_of, active_of}
 use Rattle.pt_failing.specs.pt_arising.pt_replying.pt_turning.pt_telling.pt_run_state.pt_purposes.Openers.{Ways}
-use Rattle.pt_failing.proofs.pt_arising.pt_replying.pt_turning.pt_telling.pt_run_state.pt_purposes.Seeing.{parts_tell}
+use Rattle.pt_failing.proofs.pt_arising.pt_replying.pt_turning.pt_tracing.pt_purposes.Seeing.{parts_tell}
 use Rattle.pt_failing.proofs.pt_arising.pt_replying.pt_turning.pt_telling.Around.{are-seen}
 use Rattle.pt_failing.specs.pt_arising.pt_replying.pt_turning.pt_telling.pt_run_state.declared.machine.Machine.{Machine as Held}
 use Rattle.pt_failing.specs.pt_arising.pt_replying.pt_turning.pt_telling.pt_run_state.Stands.{Stands}

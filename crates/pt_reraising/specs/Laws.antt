@@ -15,11 +15,11 @@ use Rattle.sem_run.specs.run.State.{State, OpenAsk, with_store}
 use Rattle.sem_run.specs.run.Views.{here_of}
 use Rattle.sem_run.specs.run.Step.{of_call}
 use Rattle.sem_steps.specs.Steps.{minded}
-use Rattle.pt_failing.specs.pt_arising.pt_replying.pt_turning.pt_telling.pt_run_state.pt_purposes.sem_rows.pt_host.World.{Names, World, Program}
-use Rattle.pt_failing.specs.pt_arising.pt_replying.pt_turning.pt_telling.pt_run_state.pt_purposes.sem_rows.pt_host.HeapHost.{heap_host}
-use Rattle.pt_failing.specs.pt_arising.pt_replying.pt_turning.pt_telling.pt_run_state.pt_purposes.sem_rows.heap_rows.Views.{slots_view}
-use Rattle.pt_failing.specs.pt_arising.pt_replying.pt_turning.pt_telling.pt_run_state.pt_purposes.sem_rows.heap_rows.Told.{told}
-use Rattle.pt_failing.specs.pt_arising.pt_replying.pt_turning.pt_telling.pt_run_state.pt_purposes.sem_rows.declared.heap_rows.progress.Progress.TheVariants.{RaisesAgain}
+use Rattle.pt_failing.specs.pt_arising.pt_replying.pt_turning.sem_rows.pt_host.World.{Names, World, Program}
+use Rattle.pt_failing.specs.pt_arising.pt_replying.pt_turning.sem_rows.pt_host.HeapHost.{heap_host}
+use Rattle.pt_failing.specs.pt_arising.pt_replying.pt_turning.sem_rows.heap_rows.Views.{slots_view}
+use Rattle.pt_failing.specs.pt_arising.pt_replying.pt_turning.sem_rows.heap_rows.Told.{told}
+use Rattle.pt_failing.specs.pt_arising.pt_replying.pt_turning.sem_rows.declared.heap_rows.progress.Progress.TheVariants.{RaisesAgain}
 use Rattle.pt_failing.specs.pt_arising.pt_replying.pt_turning.pt_telling.pt_transfers.pt_machine_state.declared.blocks.BlockCode.{BlockCode}
 use Rattle.pt_failing.specs.pt_arising.pt_replying.pt_turning.pt_telling.pt_transfers.pt_machine_state.Blocks.{IsBlockOf}
 use Rattle.pt_failing.specs.pt_arising.pt_replying.pt_turning.pt_telling.pt_transfers.pt_machine_state.Views.{stores_of}

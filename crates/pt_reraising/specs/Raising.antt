@@ -5,9 +5,9 @@ use Rattle.pt_heap.specs.declared.value.Value.{Value}
 use Rattle.pt_happenings.specs.declared.happening.Happening.{Happening}
 use Rattle.pt_happenings.specs.declared.happening.Happening.TheVariants.{RaisesAgain}
 use Rattle.pt_failing.specs.pt_arising.pt_replying.pt_turning.pt_telling.pt_transfers.pt_machine_state.declared.blocks.BlockCode.{BlockCode}
-use Rattle.pt_failing.specs.pt_arising.pt_replying.pt_turning.pt_telling.pt_run_state.pt_purposes.sem_rows.pt_host.declared.places.TheConstants.{RUNTIME_ERROR}
-use Rattle.pt_failing.specs.pt_arising.pt_replying.pt_turning.pt_telling.pt_run_state.pt_purposes.sem_rows.declared.heap_rows.progress.Progress.{Progress}
-use Rattle.pt_failing.specs.pt_arising.pt_replying.pt_turning.pt_telling.pt_run_state.pt_purposes.sem_rows.declared.heap_rows.progress.Progress.TheVariants.{FailsSaying}
+use Rattle.pt_failing.specs.pt_arising.pt_replying.pt_turning.sem_rows.pt_host.declared.places.TheConstants.{RUNTIME_ERROR}
+use Rattle.pt_failing.specs.pt_arising.pt_replying.pt_turning.sem_rows.declared.heap_rows.progress.Progress.{Progress}
+use Rattle.pt_failing.specs.pt_arising.pt_replying.pt_turning.sem_rows.declared.heap_rows.progress.Progress.TheVariants.{FailsSaying}
 use Rattle.pt_failing.specs.pt_arising.pt_replying.pt_turning.pt_telling.pt_run_state.declared.machine.Machine.{Machine}
 use Rattle.pt_failing.specs.pt_arising.pt_replying.pt_turning.pt_telling.Telling.{Told}
 use Rattle.pt_failing.specs.pt_arising.pt_replying.pt_turning.Turning.{raised_in}

@@ -6,13 +6,12 @@ ghost use Rattle.pt_reraising.specs.Raising.{RaisesSo, again_told, alone, none_a
 
 use pt_base::{Memory, Seq, Text};
 use pt_failing::{
-    BlockCode, Failed, Failing, Machine, Waiting, below_top, context_of, fail, land_raise, tell_on,
+    BlockCode, Failed, Failing, Machine, Progress, RUNTIME_ERROR, Waiting, below_top, context_of,
+    fail, land_raise, tell_on,
 };
 use pt_happenings::Happening;
 use pt_heap::Value;
 use pt_pendings::{Origin, Pending};
-use sem_rows::RUNTIME_ERROR;
-use sem_rows::heap_rows::Progress;
 use std::alloc::Global;
 
 /// What is told of it, of an act alone.

@@ -9,20 +9,20 @@ use Rattle.sem_run.specs.run.State.{State, at, answering, hearing, store}
 use Rattle.sem_run.specs.run.Outcome as O
 use Rattle.sem_run.specs.run.Step.{by_phase, close, close_frame, return_to, pass_result}
 use Rattle.sem_steps.specs.Steps.{stays, behind_step}
-use Rattle.pt_telling.specs.pt_run_state.pt_purposes.sem_rows.pt_host.World.{Names, World, CodeFacts, Program}
-use Rattle.pt_telling.specs.pt_run_state.pt_purposes.sem_rows.pt_host.HeapHost.{heap_host}
+use Rattle.pt_opening.specs.pt_host.World.{Names, World, CodeFacts, Program}
+use Rattle.pt_opening.specs.pt_host.HeapHost.{heap_host}
 use Rattle.pt_pendings.specs.declared.reply.End.{End}
 use Rattle.pt_pendings.specs.declared.pending.Pending.{Pending}
 use Rattle.pt_pendings.specs.declared.pending.Pending.TheVariants as pending
 use Rattle.pt_pendings.specs.Stands as pend
 use Rattle.pt_pendings.specs.Views.{end_view}
-use Rattle.pt_telling.specs.pt_run_state.pt_purposes.declared.opener.Opener.{Opener}
-use Rattle.pt_telling.specs.pt_run_state.pt_purposes.declared.purpose.Purpose.{Purpose}
-use Rattle.pt_telling.specs.pt_run_state.pt_purposes.Seen.{block_of, frame_of}
-use Rattle.pt_telling.specs.pt_run_state.pt_purposes.Openers as openers
-use Rattle.pt_telling.specs.pt_run_state.pt_purposes.Openers.{Ways, AreOpeners, IsOpener, IsOpenFor, standpoint}
-use Rattle.pt_telling.specs.pt_run_state.declared.machine.Machine.{Machine as Held}
-use Rattle.pt_telling.specs.pt_run_state.Stands.{newest, AreGivenOnce, numbers_kept, StandsAround}
+use Rattle.pt_opening.specs.pt_purposes.declared.opener.Opener.{Opener}
+use Rattle.pt_opening.specs.pt_purposes.declared.purpose.Purpose.{Purpose}
+use Rattle.pt_opening.specs.pt_purposes.Seen.{block_of, frame_of}
+use Rattle.pt_opening.specs.pt_purposes.Openers as openers
+use Rattle.pt_opening.specs.pt_purposes.Openers.{Ways, AreOpeners, IsOpener, IsOpenFor, standpoint}
+use Rattle.pt_opening.specs.pt_run_state.declared.machine.Machine.{Machine as Held}
+use Rattle.pt_opening.specs.pt_run_state.Stands.{newest, AreGivenOnce, numbers_kept, StandsAround}
 use Rattle.pt_returning.specs.Returning.{returned_to}
 use Rattle.pt_returning.specs.Laws as laws
 use Rattle.pt_returning.specs.Laws.{asked_by, facts_here, result_here, GoesTo, ReturnsAsRun}
@@ -111,7 +111,7 @@ module _ {S : Type 0} (program : Program) (machine : Machine S Value) (ways : Wa
     goes-so t goes = subst (λ g. GoesTo program machine ways minds n known g o t) given-is goes
 
     passed : (g : Option ℕ) (u : Purpose) (p : run.Purpose S Names Value World) → o.purpose ≡ u
-        → IsOpenFor machine ways o.running.activation r.activation.state o.todo (asked_by o) known g
+        → IsOpenFor machine ways o.running.activation r.activation.state o.why (asked_by o) known g
         u p → Passed g p
     passed _ _ _ same (openers.block_of_ask called is_act q f waits leads) =
         let ph : run.Phase S Names Value World = answering q (f given (store closed)) in (

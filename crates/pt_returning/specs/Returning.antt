@@ -1,8 +1,8 @@
 -- The newest activation closes, and the one that waits for it is the newest (Language Reference 4.1).
 use Rattle.std.specs.Prelude.{List, [], ◌∷◌, Option, Some, None}
-use Rattle.pt_telling.specs.pt_run_state.pt_purposes.declared.opener.Opener.{Opener}
-use Rattle.pt_telling.specs.pt_run_state.declared.machine.Machine.{Machine}
-use Rattle.pt_telling.specs.pt_run_state.Stands.{newest}
+use Rattle.pt_opening.specs.pt_purposes.declared.opener.Opener.{Opener}
+use Rattle.pt_opening.specs.pt_run_state.declared.machine.Machine.{Machine}
+use Rattle.pt_opening.specs.pt_run_state.Stands.{newest}
 use Rattle.pt_returning.specs.declared.closing.Returned.{Returned}
 
 -- what the activation that waits is open for, with the one that closed, and the machine then
@@ -14,7 +14,7 @@ abbrev pub returned_of : Opener → Machine → Returned
 returned_of o m = record {
   closed = newest m;
   purpose = o.purpose;
-  todo = o.todo;
+  why = o.why;
   context = o.context;
   generator = o.generator;
 }

@@ -2,19 +2,19 @@
 ghost use Rattle.std.specs.Prelude.{◌≡◌};
 ghost use Rattle.pt_returning.specs.Returning.{closed_by};
 
-use pt_base::Seq;
+use pt_frames::Purpose as For;
 use pt_heap::Value;
-use pt_telling::{Machine, Opener, Purpose, Running, Step};
+use pt_opening::{Machine, Opener, Purpose, Running};
 use std::mem;
 
-/// What an activation that waited was open for: what goes on in it, what is done on the result before,
-/// in this order, and the context of an exception that arises then; and the generator that has gone on
-/// above it, if one has. And the one that has closed, of whose names a class may be made.
+/// What an activation that waited was open for: what goes on in it, what the result is for, and the
+/// context of an exception that arises then; and the generator that has gone on above it, if one has.
+/// And the one that has closed, of whose names a class may be made.
 #[derive(Drop)]
 pub struct Returned {
     pub closed: Running,
     pub purpose: Purpose,
-    pub todo: Seq<Step>,
+    pub why: For,
     pub context: Option<Value>,
     pub generator: Option<u32>,
 }
@@ -31,7 +31,7 @@ pub fn close(machine: &mut Machine) -> Option<Returned>
     let Opener {
         running,
         purpose,
-        todo,
+        why,
         context,
         generator,
     } = opener;
@@ -44,7 +44,7 @@ pub fn close(machine: &mut Machine) -> Option<Returned>
     Some(Returned {
         closed,
         purpose,
-        todo,
+        why,
         context,
         generator,
     })

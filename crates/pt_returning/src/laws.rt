@@ -3,8 +3,8 @@ ghost use Rattle.std.specs.Prelude.{ℕ, Bool};
 ghost use Rattle.pt_heap.specs.declared.value.Value.{Value};
 ghost use Rattle.sem_run.specs.run.Events.{Event};
 ghost use Rattle.sem_run.specs.run.Machine.{Machine};
-ghost use Rattle.pt_telling.specs.pt_run_state.pt_purposes.sem_rows.pt_host.World.{Program};
-ghost use Rattle.pt_telling.specs.pt_run_state.pt_purposes.Openers.{Ways};
+ghost use Rattle.pt_opening.specs.pt_host.World.{Program};
+ghost use Rattle.pt_opening.specs.pt_purposes.Openers.{Ways};
 ghost use Rattle.pt_returning.specs.Laws.{ReturnsAsRun};
 
 /// The result of a block goes to the ask or to the hook that waits for it, behind the steps that are

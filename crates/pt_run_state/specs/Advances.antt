@@ -18,10 +18,10 @@ use Rattle.pt_purposes.specs.sem_rows.pt_host.World.{Names, World, Program}
 use Rattle.pt_purposes.specs.sem_rows.pt_host.Leaving.{leaving}
 use Rattle.pt_asking.specs.declared.asked.Question.{Question}
 use Rattle.pt_asking.specs.Asking.{question_view}
-use Rattle.pt_machine_state.specs.declared.machine.MachineEnd.{MachineEnd}
-use Rattle.pt_machine_state.specs.declared.machine.MachineEnd.TheVariants as end
-use Rattle.pt_machine_state.specs.declared.writes.Writes.{Writes}
-use Rattle.pt_machine_state.specs.Writing.{Adds}
+use Rattle.pt_transfers.specs.pt_machine_state.declared.machine.MachineEnd.{MachineEnd}
+use Rattle.pt_transfers.specs.pt_machine_state.declared.machine.MachineEnd.TheVariants as end
+use Rattle.pt_transfers.specs.pt_machine_state.declared.writes.Writes.{Writes}
+use Rattle.pt_transfers.specs.pt_machine_state.Writing.{Adds}
 use Rattle.pt_purposes.specs.Openers.{Ways}
 use Rattle.pt_run_state.specs.declared.machine.Machine.{Machine as Held}
 use Rattle.pt_run_state.specs.declared.machine.Turn.{Turn}

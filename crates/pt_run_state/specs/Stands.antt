@@ -19,7 +19,7 @@ use Rattle.pt_happenings.specs.declared.happening.Happening.{Happening}
 use Rattle.pt_happenings.specs.Views.{happening_view}
 use Rattle.pt_pendings.specs.declared.telling.Telling.{Telling}
 use Rattle.pt_pendings.specs.Stands.{IsPending, IsTold}
-use Rattle.pt_machine_state.specs.declared.machine.Standing.TheVariants as place
+use Rattle.pt_transfers.specs.pt_machine_state.declared.machine.Standing.TheVariants as place
 use Rattle.pt_purposes.specs.declared.standing.Standing.{Standing}
 use Rattle.pt_purposes.specs.declared.opener.Running.{Running}
 use Rattle.pt_purposes.specs.Seen.{block_of, active_at}

@@ -7,4 +7,11 @@
 mod machine;
 
 pub use machine::{Machine, Phase, Turn, Waiting};
-pub use pt_purposes::{Called, Course, Opener, Purpose, Running, Standing, Step};
+pub use pt_purposes::{
+    Base, Called, Course, Opener, Progress, Purpose, RECURSION_ERROR, RUNTIME_ERROR, Running,
+    Standing, TYPE_ERROR, allot, arise_while, base_of, class_object, error, error_saying,
+};
+pub use pt_transfers::{
+    BlockCode, Blocks, MachineEnd, Standing as CodeStanding, Writes, event as put_line, give_back,
+    is_told, land, leave_place, line, print,
+};

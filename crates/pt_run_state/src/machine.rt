@@ -1,12 +1,12 @@
 use pt_asking::Question;
 use pt_gen::Gens;
 use pt_heap::Value;
-use pt_machine_state::{Machine as CodeMachine, MachineEnd};
 use pt_monitor::Tools;
 use pt_openers::Openers;
 use pt_pendings::{Pending, Telling};
 use pt_purposes::{Course, Opener, Running, Standing};
 use pt_settrace::Hooks;
+use pt_transfers::{Machine as CodeMachine, MachineEnd};
 
 /// What waits in the newest activation while events are told: where it stands, which exception was
 /// active in it as the first of them came, and what goes on behind the last.

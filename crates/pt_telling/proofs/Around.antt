@@ -18,20 +18,20 @@ use Rattle.sem_run.specs.run.Hooks.{world_behind, event_of, enter_told}
 use Rattle.law_steps.specs.waiting.Seen.{Seen, IsSeenSo}
 use Rattle.law_steps.specs.waiting.Laws.{IsToldBySeen}
 use Rattle.law_steps.proofs.waiting.Telling.{seen_tells}
-use Rattle.pt_run_state.specs.pt_purposes.sem_rows.pt_host.World.{Names, World, Program}
-use Rattle.pt_run_state.specs.pt_purposes.sem_rows.pt_host.Errors.{enters}
-use Rattle.pt_run_state.specs.pt_purposes.sem_rows.pt_host.HeapHost.{heap_host}
-use Rattle.pt_run_state.specs.pt_purposes.sem_rows.heap_rows.Views.{world_view}
+use Rattle.pt_tracing.specs.pt_purposes.sem_rows.pt_host.World.{Names, World, Program}
+use Rattle.pt_tracing.specs.pt_purposes.sem_rows.pt_host.Errors.{enters}
+use Rattle.pt_tracing.specs.pt_purposes.sem_rows.pt_host.HeapHost.{heap_host}
+use Rattle.pt_tracing.specs.pt_purposes.sem_rows.heap_rows.Views.{world_view}
 use Rattle.pt_happenings.specs.declared.happening.Happening.{Happening}
 use Rattle.pt_happenings.specs.declared.happening.Happening.TheVariants as happening
 use Rattle.pt_happenings.specs.Views.{happening_view, event_view}
-use Rattle.pt_transfers.specs.pt_machine_state.declared.blocks.BlockCode.{BlockCode}
-use Rattle.pt_transfers.specs.pt_machine_state.Changes.{line_of, entry_of, heap_with_entry}
-use Rattle.pt_run_state.specs.pt_purposes.Seen.{block_of, frame_of, seen_of}
-use Rattle.pt_run_state.specs.pt_purposes.Openers.{Ways}
-use Rattle.pt_run_state.proofs.pt_purposes.Seeing.{openers_are_seen, parts_tell}
-use Rattle.pt_run_state.specs.declared.machine.Machine.{Machine as Held}
-use Rattle.pt_run_state.specs.Stands.{world_of, newest, StandsAround}
+use Rattle.pt_tracing.specs.pt_machine_state.declared.blocks.BlockCode.{BlockCode}
+use Rattle.pt_tracing.specs.pt_machine_state.Changes.{line_of, entry_of, heap_with_entry}
+use Rattle.pt_tracing.specs.pt_purposes.Seen.{block_of, frame_of, seen_of}
+use Rattle.pt_tracing.specs.pt_purposes.Openers.{Ways}
+use Rattle.pt_tracing.proofs.pt_purposes.Seeing.{openers_are_seen, parts_tell}
+use Rattle.pt_tracing.specs.pt_run_state.declared.machine.Machine.{Machine as Held}
+use Rattle.pt_tracing.specs.pt_run_state.Stands.{world_of, newest, StandsAround}
 use Rattle.pt_telling.specs.Telling.{is_silent, event_at, entered_heap, entered_by}
 use Rattle.pt_telling.specs.Laws.{IsNamed}
 

@@ -19,9 +19,9 @@ use Rattle.sem_steps.specs.Asking.{asked, behind_log, if_minded, if_due, due_in}
 use Rattle.sem_steps.specs.Laws.{ComesTo, asked_of, with_hooks, asking_these, heard, calling}
 use Rattle.sem_steps.proofs.Moves.{join}
 use Rattle.sem_steps.proofs.InOrder.{asks_in_order}
-use Rattle.pt_run_state.specs.pt_purposes.sem_rows.pt_host.World.{Names, World, Program}
-use Rattle.pt_run_state.specs.pt_purposes.sem_rows.pt_host.HeapHost.{heap_host}
-use Rattle.pt_run_state.specs.pt_purposes.sem_rows.pt_host.LogLines.{log_text, kind_word, class_behind}
+use Rattle.pt_tracing.specs.pt_purposes.sem_rows.pt_host.World.{Names, World, Program}
+use Rattle.pt_tracing.specs.pt_purposes.sem_rows.pt_host.HeapHost.{heap_host}
+use Rattle.pt_tracing.specs.pt_purposes.sem_rows.pt_host.LogLines.{log_text, kind_word, class_behind}
 use Rattle.pt_settrace.specs.Tracing.{Tracing, function_in, lines_in}
 use Rattle.pt_settrace.specs.Laws.{IsKept}
 use Rattle.pt_happenings.specs.declared.event.Event.{Event as Told}
@@ -37,18 +37,18 @@ use Rattle.pt_asking.specs.Due.{due_by}
 use Rattle.pt_asking.specs.Asking.{asked_view, next_view, question_view, hook_view}
 use Rattle.pt_asking.specs.Laws.{AreHooksOf}
 use Rattle.pt_asking.proofs.Alike.{asks_as_run as asks-alike}
-use Rattle.pt_transfers.specs.pt_machine_state.declared.blocks.BlockCode.{BlockCode}
-use Rattle.pt_transfers.specs.pt_machine_state.Writing.{event_line}
-use Rattle.pt_run_state.specs.pt_purposes.declared.standing.Standing.{Standing}
-use Rattle.pt_run_state.specs.pt_purposes.declared.standing.Standing.TheVariants.{AtPlace}
-use Rattle.pt_run_state.specs.pt_purposes.Seen.{block_of, frame_of}
-use Rattle.pt_run_state.specs.pt_purposes.Openers.{Ways, IsEventIn, UnlessGone, standpoint}
-use Rattle.pt_run_state.specs.declared.machine.Machine.{Machine as Held}
-use Rattle.pt_run_state.specs.declared.machine.Phase.{Phase}
-use Rattle.pt_run_state.specs.declared.machine.Phase.TheVariants.{Turning, Telling as Tells}
-use Rattle.pt_run_state.specs.declared.machine.Waiting.{Waiting}
-use Rattle.pt_run_state.specs.Stands as stands
-use Rattle.pt_run_state.specs.Stands.{newest, Stands, StandsAround, IsPhase, IsToTell}
+use Rattle.pt_tracing.specs.pt_machine_state.declared.blocks.BlockCode.{BlockCode}
+use Rattle.pt_tracing.specs.pt_machine_state.Writing.{event_line}
+use Rattle.pt_tracing.specs.pt_purposes.declared.standing.Standing.{Standing}
+use Rattle.pt_tracing.specs.pt_purposes.declared.standing.Standing.TheVariants.{AtPlace}
+use Rattle.pt_tracing.specs.pt_purposes.Seen.{block_of, frame_of}
+use Rattle.pt_tracing.specs.pt_purposes.Openers.{Ways, IsEventIn, UnlessGone, standpoint}
+use Rattle.pt_tracing.specs.pt_run_state.declared.machine.Machine.{Machine as Held}
+use Rattle.pt_tracing.specs.pt_run_state.declared.machine.Phase.{Phase}
+use Rattle.pt_tracing.specs.pt_run_state.declared.machine.Phase.TheVariants.{Turning, Telling as Tells}
+use Rattle.pt_tracing.specs.pt_run_state.declared.machine.Waiting.{Waiting}
+use Rattle.pt_tracing.specs.pt_run_state.Stands as stands
+use Rattle.pt_tracing.specs.pt_run_state.Stands.{newest, Stands, StandsAround, IsPhase, IsToTell}
 use Rattle.pt_telling.specs.Telling as telling
 use Rattle.pt_telling.specs.Telling.{is_silent, told}
 use Rattle.pt_telling.specs.Asks.{FoundSo, IsNext, lines_of_kind, event_lines, leaving, waiting_of, beyond, told_behind, found_by}

@@ -2,5 +2,6 @@ pub mod Around
 pub mod Entries
 pub mod Tells
 pub mod Asks
-pub use Rattle.pt_transfers.proofs as pt_transfers
-pub use Rattle.pt_run_state.proofs as pt_run_state
+pub use Rattle.pt_tracing.proofs.pt_transfers as pt_transfers
+pub use Rattle.pt_tracing.proofs.pt_run_state as pt_run_state
+pub use Rattle.pt_tracing.proofs as pt_tracing

@@ -12,17 +12,17 @@ use Rattle.sem_run.specs.run.Outcome.{Output, gives}
 use Rattle.sem_run.specs.run.Hooks.{all_hooks, event_of, enter_told}
 use Rattle.sem_run.specs.run.Step.{step, by_phase, first_event}
 use Rattle.sem_steps.specs.Steps.{Steps, stays, behind_step, minded}
-use Rattle.pt_run_state.specs.pt_purposes.sem_rows.pt_host.World.{Names, World, Program}
-use Rattle.pt_run_state.specs.pt_purposes.sem_rows.pt_host.HeapHost.{heap_host}
+use Rattle.pt_tracing.specs.pt_purposes.sem_rows.pt_host.World.{Names, World, Program}
+use Rattle.pt_tracing.specs.pt_purposes.sem_rows.pt_host.HeapHost.{heap_host}
 use Rattle.pt_happenings.specs.declared.happening.Happening.{Happening}
 use Rattle.pt_happenings.specs.Views.{happening_view}
 use Rattle.pt_pendings.specs.declared.telling.Left.TheVariants.{From}
-use Rattle.pt_transfers.specs.pt_machine_state.declared.blocks.BlockCode.{BlockCode}
-use Rattle.pt_run_state.specs.pt_purposes.Seen.{block_of}
-use Rattle.pt_run_state.specs.pt_purposes.Openers.{Ways}
-use Rattle.pt_run_state.specs.declared.machine.Machine.{Machine as Held}
-use Rattle.pt_run_state.specs.declared.machine.Waiting.{Waiting}
-use Rattle.pt_run_state.specs.Stands.{telling, Stands, StandsAround, IsToTell}
+use Rattle.pt_tracing.specs.pt_machine_state.declared.blocks.BlockCode.{BlockCode}
+use Rattle.pt_tracing.specs.pt_purposes.Seen.{block_of}
+use Rattle.pt_tracing.specs.pt_purposes.Openers.{Ways}
+use Rattle.pt_tracing.specs.pt_run_state.declared.machine.Machine.{Machine as Held}
+use Rattle.pt_tracing.specs.pt_run_state.declared.machine.Waiting.{Waiting}
+use Rattle.pt_tracing.specs.pt_run_state.Stands.{telling, Stands, StandsAround, IsToTell}
 use Rattle.pt_telling.specs.Telling.{Told, is_silent, event_at, entered_by, entered_by_all, with_event, told_in}
 use Rattle.pt_telling.specs.Laws.{IsNamed, Comes, BehindTold, event, onward, TellsAsRun}
 use Rattle.pt_telling.proofs.Around.{first-false, silent-is, around-told, event-is}

@@ -8,7 +8,7 @@ use Rattle.sem_run.specs.run.Outcome.{Output}
 use Rattle.sem_run.specs.run.Run as run
 use Rattle.sem_steps.specs.Steps.{minded}
 use Rattle.sem_steps.specs.Asking.{asked}
-use Rattle.pt_run_state.specs.pt_purposes.sem_rows.pt_host.LogLines.{kind_word, class_behind}
+use Rattle.pt_tracing.specs.pt_purposes.sem_rows.pt_host.LogLines.{kind_word, class_behind}
 use Rattle.pt_happenings.specs.Views.{happening_view, event_view}
 use Rattle.pt_happenings.specs.declared.event.Event.{Event}
 use Rattle.pt_pendings.specs.declared.telling.Left.{Left}
@@ -19,15 +19,15 @@ use Rattle.pt_asking.specs.declared.asked.Next.{Next}
 use Rattle.pt_asking.specs.declared.asked.Next.TheVariants.{Nobody, Consulted, Called}
 use Rattle.pt_asking.specs.Due.{due_by}
 use Rattle.pt_asking.specs.Asking.{asked_view}
-use Rattle.pt_transfers.specs.pt_machine_state.declared.blocks.BlockCode.{BlockCode}
-use Rattle.pt_transfers.specs.pt_machine_state.declared.writes.Writes.{Writes}
-use Rattle.pt_transfers.specs.pt_machine_state.Writing.{Adds, event_line}
-use Rattle.pt_run_state.specs.pt_purposes.declared.standing.Standing.{Standing}
-use Rattle.pt_run_state.specs.pt_purposes.declared.standing.Standing.TheVariants.{AtPlace}
-use Rattle.pt_run_state.specs.declared.machine.Machine.{Machine}
-use Rattle.pt_run_state.specs.declared.machine.Phase.{Phase}
-use Rattle.pt_run_state.specs.declared.machine.Phase.TheVariants.{Turning, Telling as Tells}
-use Rattle.pt_run_state.specs.declared.machine.Waiting.{Waiting}
+use Rattle.pt_tracing.specs.pt_machine_state.declared.blocks.BlockCode.{BlockCode}
+use Rattle.pt_tracing.specs.pt_machine_state.declared.writes.Writes.{Writes}
+use Rattle.pt_tracing.specs.pt_machine_state.Writing.{Adds, event_line}
+use Rattle.pt_tracing.specs.pt_purposes.declared.standing.Standing.{Standing}
+use Rattle.pt_tracing.specs.pt_purposes.declared.standing.Standing.TheVariants.{AtPlace}
+use Rattle.pt_tracing.specs.pt_run_state.declared.machine.Machine.{Machine}
+use Rattle.pt_tracing.specs.pt_run_state.declared.machine.Phase.{Phase}
+use Rattle.pt_tracing.specs.pt_run_state.declared.machine.Phase.TheVariants.{Turning, Telling as Tells}
+use Rattle.pt_tracing.specs.pt_run_state.declared.machine.Waiting.{Waiting}
 use Rattle.pt_telling.specs.declared.asking.Found.{Found}
 use Rattle.pt_telling.specs.declared.asking.Found.TheVariants as found
 use Rattle.pt_telling.specs.Telling.{Told, told}

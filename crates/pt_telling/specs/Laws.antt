@@ -11,8 +11,8 @@ use Rattle.sem_run.specs.run.Outcome.{Output}
 use Rattle.sem_run.specs.run.Run.{writes, Write}
 use Rattle.sem_run.specs.run.Step.{step}
 use Rattle.sem_steps.specs.Steps.{Steps, minded}
-use Rattle.pt_run_state.specs.pt_purposes.sem_rows.pt_host.World.{Names, World, Program}
-use Rattle.pt_run_state.specs.pt_purposes.sem_rows.pt_host.HeapHost.{heap_host}
+use Rattle.pt_tracing.specs.pt_purposes.sem_rows.pt_host.World.{Names, World, Program}
+use Rattle.pt_tracing.specs.pt_purposes.sem_rows.pt_host.HeapHost.{heap_host}
 use Rattle.pt_happenings.specs.declared.happening.Happening.{Happening}
 use Rattle.pt_happenings.specs.Views.{event_view}
 use Rattle.pt_pendings.specs.declared.telling.Telling.{Telling as Told}
@@ -20,15 +20,15 @@ use Rattle.pt_asking.specs.declared.asked.Asked.{Asked}
 use Rattle.pt_asking.specs.declared.asked.Question.{Question}
 use Rattle.pt_asking.specs.declared.asked.Hook.{Hook}
 use Rattle.pt_asking.specs.Asking.{question_view, hook_view}
-use Rattle.pt_run_state.specs.pt_purposes.declared.standing.Standing.{Standing}
-use Rattle.pt_run_state.specs.pt_purposes.Openers.{Ways}
-use Rattle.pt_run_state.specs.pt_purposes.Seen.{block_of}
+use Rattle.pt_tracing.specs.pt_purposes.declared.standing.Standing.{Standing}
+use Rattle.pt_tracing.specs.pt_purposes.Openers.{Ways}
+use Rattle.pt_tracing.specs.pt_purposes.Seen.{block_of}
 use Rattle.std.specs.Prelude.{Option}
-use Rattle.pt_transfers.specs.pt_machine_state.declared.blocks.BlockCode.{BlockCode}
-use Rattle.pt_run_state.specs.declared.machine.Machine.{Machine as Held}
-use Rattle.pt_run_state.specs.declared.machine.Phase.TheVariants.{Telling as Tells}
-use Rattle.pt_run_state.specs.declared.machine.Waiting.{Waiting}
-use Rattle.pt_run_state.specs.Stands.{Stands, IsToTell}
+use Rattle.pt_tracing.specs.pt_machine_state.declared.blocks.BlockCode.{BlockCode}
+use Rattle.pt_tracing.specs.pt_run_state.declared.machine.Machine.{Machine as Held}
+use Rattle.pt_tracing.specs.pt_run_state.declared.machine.Phase.TheVariants.{Telling as Tells}
+use Rattle.pt_tracing.specs.pt_run_state.declared.machine.Waiting.{Waiting}
+use Rattle.pt_tracing.specs.pt_run_state.Stands.{Stands, IsToTell}
 use Rattle.pt_telling.specs.declared.asking.Found.TheVariants as found
 use Rattle.pt_telling.specs.Telling.{told}
 use Rattle.pt_telling.specs.Telling as telling

@@ -8,12 +8,12 @@ use Rattle.pt_happenings.specs.declared.happening.Happening.TheVariants.{Raises}
 use Rattle.pt_happenings.specs.declared.event.Event.{Event}
 use Rattle.pt_pendings.specs.declared.telling.Left.TheVariants.{From}
 use Rattle.pt_openers.specs.Openers.{hook_runs}
-use Rattle.pt_transfers.specs.pt_machine_state.declared.blocks.BlockCode.{BlockCode}
-use Rattle.pt_transfers.specs.pt_machine_state.Changes.{entered, line_of}
-use Rattle.pt_run_state.specs.pt_purposes.Seen.{has_hook}
-use Rattle.pt_run_state.specs.declared.machine.Machine.{Machine}
-use Rattle.pt_run_state.specs.declared.machine.Phase.TheVariants.{Telling as Tells}
-use Rattle.pt_run_state.specs.declared.machine.Waiting.{Waiting}
+use Rattle.pt_tracing.specs.pt_machine_state.declared.blocks.BlockCode.{BlockCode}
+use Rattle.pt_tracing.specs.pt_machine_state.Changes.{entered, line_of}
+use Rattle.pt_tracing.specs.pt_purposes.Seen.{has_hook}
+use Rattle.pt_tracing.specs.pt_run_state.declared.machine.Machine.{Machine}
+use Rattle.pt_tracing.specs.pt_run_state.declared.machine.Phase.TheVariants.{Telling as Tells}
+use Rattle.pt_tracing.specs.pt_run_state.declared.machine.Waiting.{Waiting}
 
 abbrev pub is_silent : Machine → Bool
 is_silent m = m.code.here.hidden || hook_runs has_hook m.openers

@@ -1,6 +1,6 @@
 //! Those are asked who are left at the event that is told.
 ghost use Rattle.std.specs.Prelude.{◌≡◌, [], true, if◌then◌else◌, IfOk};
-ghost use Rattle.pt_transfers.specs.pt_machine_state.Writing.{Adds};
+ghost use Rattle.pt_tracing.specs.pt_machine_state.Writing.{Adds};
 ghost use Rattle.pt_telling.specs.Asks.{event_lines, Finds, FindsIn, found_by, IsNext};
 ghost use Rattle.pt_telling.specs.Asks.{is_telling, leaving, told_behind};
 
@@ -10,8 +10,7 @@ use pt_asking::{Asked, Hook, Next, Question, ask_next};
 use pt_base::Memory;
 use pt_heap::Value;
 use pt_pendings::{Left, Telling};
-use pt_run_state::{Machine, Phase, Standing, Waiting};
-use pt_transfers::{BlockCode, Writes};
+use pt_tracing::{BlockCode, Machine, Phase, Standing, Waiting, Writes};
 use std::mem;
 
 /// What is found at an event that is told.

@@ -1,17 +1,16 @@
 //! Exceptions that come to the newest frame.
 ghost use Rattle.std.specs.Prelude.{◌≡◌, List, OnOk};
-ghost use Rattle.pt_transfers.specs.pt_machine_state.Changes.{entered, entry_at, heap_with_entry};
+ghost use Rattle.pt_tracing.specs.pt_machine_state.Changes.{entered, entry_at, heap_with_entry};
 ghost use Rattle.pt_telling.specs.Telling.{entered_by, entered_by_all};
 
 use pt_base::{Line, Memory};
 use pt_frames::Activation;
 use pt_happenings::Happening;
 use pt_heap::{Heap, Object, TraceEntry, Value};
-use pt_run_state::Machine;
-use pt_transfers::{BlockCode, line};
+use pt_tracing::{BlockCode, Machine, line};
 
 /// An exception gets an entry of its traceback, at a line of an activation.
-#[tactic(auto, using(pt_transfers::proofs::EntryLemmas::entry_put, pt_transfers::proofs::EntryLemmas::other_put_back, pt_transfers::proofs::EntryLemmas::nothing_there))]
+#[tactic(auto, using(crate::proofs::Entries::entry_put, crate::proofs::Entries::other_put_back, crate::proofs::Entries::nothing_there))]
 fn enter(
     exception: Value,
     activation: &Activation,

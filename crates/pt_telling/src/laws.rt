@@ -3,8 +3,8 @@ ghost use Rattle.std.specs.Prelude.{ℕ, Bool};
 ghost use Rattle.pt_heap.specs.declared.value.Value.{Value};
 ghost use Rattle.sem_run.specs.run.Events.{Event};
 ghost use Rattle.sem_run.specs.run.Machine.{Machine};
-ghost use Rattle.pt_run_state.specs.pt_purposes.sem_rows.pt_host.World.{Program};
-ghost use Rattle.pt_run_state.specs.pt_purposes.Openers.{Ways};
+ghost use Rattle.pt_tracing.specs.pt_machine_state.pt_code_facts.sem_rows.pt_host.World.{Program};
+ghost use Rattle.pt_tracing.specs.pt_purposes.Openers.{Ways};
 ghost use Rattle.pt_telling.specs.Laws.{AsksAsRun, TellsAsRun};
 
 /// What the machine tells, a run tells for which it stands: nothing is written, and an event is told

@@ -11,11 +11,11 @@ mod telling;
 pub use asking::{Found, ask};
 pub use entering::enter_told;
 pub use laws::{asking_is_steps_of_a_run, telling_is_steps_of_a_run};
-pub use pt_run_state::{
-    Called, Course, Machine, Opener, Phase, Purpose, Running, Standing, Step, Waiting,
-};
-pub use pt_transfers::{
-    BlockCode, Blocks, MachineEnd, Standing as CodeStanding, Writes, give_back, is_told, land,
-    leave_place, line, print,
+pub use pt_asking::Hook;
+pub use pt_tracing::{
+    Base, BlockCode, Blocks, Called, CodeStanding, Course, Machine, MachineEnd, Opener, Phase,
+    Progress, Purpose, RECURSION_ERROR, RUNTIME_ERROR, Running, Standing, TYPE_ERROR, Turn,
+    Waiting, Writes, allot, arise_while, base_of, class_object, error, error_saying, give_back,
+    is_told, land, leave_place, line, print, put_line, trace_answered, trace_failed,
 };
 pub use telling::{is_silent, tell};

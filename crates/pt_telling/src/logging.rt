@@ -1,14 +1,14 @@
 //! The log has a line for each event of the four kinds of `sys.settrace`.
 ghost use Rattle.std.specs.Prelude.{◌≡◌, ◌∷◌, IfOk, OnOk};
 ghost use Rattle.pt_content.specs.Classes.{class_name};
-ghost use Rattle.pt_transfers.specs.pt_machine_state.Writing.{Adds};
+ghost use Rattle.pt_tracing.specs.pt_machine_state.Writing.{Adds};
 ghost use Rattle.pt_telling.specs.Asks.{event_lines};
 
 use pt_base::{Memory, Text};
 use pt_content::class_name;
 use pt_happenings::{Event, Happening};
 use pt_heap::{Heap, Value};
-use pt_transfers::{BlockCode, Writes, event as put_line};
+use pt_tracing::{BlockCode, Writes, put_line};
 use std::alloc::Global;
 
 /// What is told behind the name of a block of an exception.

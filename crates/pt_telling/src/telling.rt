@@ -6,8 +6,7 @@ use crate::entering::{enter_all_told, enter_told};
 use pt_base::{Memory, Seq};
 use pt_happenings::{Event, Happening};
 use pt_pendings::{Left, Telling};
-use pt_run_state::{Machine, Phase, Waiting};
-use pt_transfers::{BlockCode, line};
+use pt_tracing::{BlockCode, Machine, Phase, Waiting, line};
 use std::alloc::Global;
 
 /// Whether nothing is told: the newest block is hidden, or a hook runs.

@@ -5,8 +5,7 @@ ghost use Rattle.pt_tracing.specs.Answers.{answered, failed};
 use pt_base::Memory;
 use pt_events::{Event, EventKind};
 use pt_heap::Value;
-use pt_run_state::Machine;
-use pt_transfers::{BlockCode, line};
+use pt_run_state::{BlockCode, Machine, line};
 
 /// A trace function answered to an event of this kind in the newest frame, whose block this is.
 ///

@@ -26,9 +26,9 @@ use Rattle.sem_run.specs.run.Outcome as O
 use Rattle.sem_run.specs.run.Outcome.{Output}
 use Rattle.sem_run.specs.run.Step.{step, by_phase, begin_turn, proceed}
 use Rattle.sem_steps.specs.Steps.{Steps, stays, behind_step, minded}
-use Rattle.pt_telling.specs.pt_transfers.pt_machine_state.pt_code_facts.sem_rows.pt_host.World.{Names, World, Program}
-use Rattle.pt_telling.specs.pt_transfers.pt_machine_state.pt_code_facts.sem_rows.pt_host.HeapHost.{heap_host}
-use Rattle.pt_telling.specs.pt_transfers.pt_machine_state.pt_code_facts.sem_rows.heap_rows.Views.{slots_view}
+use Rattle.pt_telling.specs.pt_run_state.pt_purposes.sem_rows.pt_host.World.{Names, World, Program}
+use Rattle.pt_telling.specs.pt_run_state.pt_purposes.sem_rows.pt_host.HeapHost.{heap_host}
+use Rattle.pt_telling.specs.pt_run_state.pt_purposes.sem_rows.heap_rows.Views.{slots_view}
 use Rattle.pt_pendings.specs.declared.reply.End.{End}
 use Rattle.pt_pendings.specs.declared.reply.End.TheVariants.{Gave, LeftBy}
 use Rattle.pt_pendings.specs.declared.pending.Origin.{Origin}

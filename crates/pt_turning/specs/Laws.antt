@@ -8,7 +8,7 @@ use Rattle.sem_code_machine.specs.code_machine.CodeBlocks.{CodeBlocks}
 use Rattle.sem_run.specs.run.Machine.{Machine}
 use Rattle.sem_run.specs.run.Events.{Event}
 use Rattle.sem_run.specs.run.State.{State}
-use Rattle.pt_telling.specs.pt_transfers.pt_machine_state.pt_code_facts.sem_rows.pt_host.World.{Names, World, Program}
+use Rattle.pt_telling.specs.pt_run_state.pt_purposes.sem_rows.pt_host.World.{Names, World, Program}
 use Rattle.pt_pendings.specs.declared.reply.End.{End}
 use Rattle.pt_pendings.specs.declared.pending.Origin.{Origin}
 use Rattle.pt_pendings.specs.declared.pending.Pending.{Pending}

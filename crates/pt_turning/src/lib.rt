@@ -12,7 +12,10 @@ pub use laws::{
     what_waits_goes_on_as_in_a_run,
 };
 pub use pt_telling::{
-    BlockCode, Blocks, Called, CodeStanding, Course, Machine, Opener, Phase, Purpose, Running,
-    Standing, Step, Waiting, Writes, enter_told, give_back, leave_place, print, tell,
+    Base, BlockCode, Blocks, Called, CodeStanding, Course, Found, Hook, Machine, MachineEnd,
+    Opener, Phase, Progress, Purpose, RECURSION_ERROR, RUNTIME_ERROR, Running, Standing,
+    TYPE_ERROR, Turn, Waiting, Writes, allot, arise_while, ask, base_of, class_object, enter_told,
+    error, error_saying, give_back, is_silent, is_told, land, leave_place, line, print, put_line,
+    tell, trace_answered, trace_failed,
 };
 pub use raises::{below_top, land_raise, reraise};

@@ -1,0 +1,4 @@
+pub mod Next
+pub mod Marks
+pub mod Moves
+pub mod Extras
