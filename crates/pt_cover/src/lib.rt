@@ -19,4 +19,5 @@ mod told;
 
 pub use count_log::CountLog;
 pub use kind::ReportKind;
+pub use pieces::begins_line;
 pub use reporter::Reporter;

@@ -1,7 +1,7 @@
 ghost use Rattle.std.specs.Prelude.{◌≡◌, ◌==◌, position};
 ghost use Rattle.std.specs.List.{before_first, after_first};
 ghost use Rattle.pt_cover.specs.Numbers.{number_of};
-ghost use Rattle.pt_cover.specs.Pieces.{is_totals, kind_of, kind_named, line_of, name_of, behind_kind};
+ghost use Rattle.pt_cover.specs.Pieces.{is_line, is_totals, kind_of, kind_named, line_of, name_of, behind_kind};
 
 use crate::told::Told;
 
@@ -58,6 +58,13 @@ pub fn kind(piece: &[u8]) -> Told
     ensures { result ≡ kind_of piece.now }
 {
     kind_named(before(before(piece, b'\n'), b' '))
+}
+
+/// Whether a piece tells that a line begins.
+pub fn begins_line(piece: &[u8]) -> bool
+    ensures { result ≡ is_line (kind_of piece.now) }
+{
+    matches!(kind(piece), Told::Line)
 }
 
 /// The number that decimal digits write, of at most 32 bits.

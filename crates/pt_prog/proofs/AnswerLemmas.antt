@@ -1,5 +1,6 @@
 -- From the answer for a text over the prelude to that for a text, and to the answer to words.
-use Rattle.std.proofs.Common.{◌≡◌, ◌∙◌, ◌⊎◌, ℕ, List, Some, Result, Ok, Err, IfOk, IfErr, inl, inr, refl, sym, ap, subst}
+use Rattle.std.proofs.Common.{◌≡◌, ◌∙◌, ◌⊎◌, ℕ, List, Option, Some, None, Result, Ok, Err, IfOk, IfErr, inl, inr, refl, sym, ap, subst}
+use Rattle.std.specs.Prelude.{◌≤◌, IfSome, option_map}
 use Rattle.std.specs.declared.string.String.{String}
 use Rattle.std.specs.declared.alloc.Global.{Global}
 use Rattle.pt_base.specs.Taken.{Pieces}
@@ -17,12 +18,16 @@ use Rattle.pt_sinks.specs.declared.writing.WriteErr.{WriteErr}
 use Rattle.pt_sinks.specs.declared.writing.WriteErr.TheVariants as error
 use Rattle.pt_tree.specs.Syntax.{Stms}
 use Rattle.pt_prelude.specs.declared.source.TheConstants.{PRELUDE}
-use Rattle.pt_words.specs.Words.{Asked}
+use Rattle.pt_generated.specs.Script.{script_of}
+use Rattle.pt_words.specs.Words.{Asked, most_functions}
+use Rattle.pt_words.specs.declared.line.Command.{Command}
+use Rattle.pt_words.specs.declared.line.Command.TheVariants as command
+use Rattle.pt_prog.specs.Limits.{limit_of, script_limit}
 use Rattle.pt_prog.specs.declared.end.End.{End}
 use Rattle.pt_prog.specs.declared.end.End.TheVariants as end
 use Rattle.pt_prog.specs.LogText.{Text, final}
 use Rattle.pt_prog.specs.RunEnds.{ended}
-use Rattle.pt_prog.specs.Answer.{BrokeOffFor, BrokeOffOver, IsAnswer, IsAnswerFor, IsAnswerOver, IsBuilt, IsCodeAnswer, IsEndFor, IsNoPrelude, IsTextOf, WroteAllFor, WroteAllOver, Wrote, asked_for, end_of, of_no_prelude, of_no_text, of_its_text, of_prelude, of_text, bad_code, unbuilt_code, ran_code, of_code, refused, unbuilt, ran, wrote_code, no_prelude, over, refused_prelude, unbuilt_prelude, usage, read_fault, too_long}
+use Rattle.pt_prog.specs.Answer.{BrokeOffFor, BrokeOffOver, IsAnswer, IsAnswerFor, IsAnswerOver, IsBuilt, IsCodeAnswer, IsEndFor, IsNoPrelude, IsTextOf, IsTold, WroteAllFor, WroteAllOver, Wrote, asked_for, end_of, made_by, of_no_prelude, of_no_text, of_its_text, of_prelude, of_text, bad_code, unbuilt_code, ran_code, of_code, refused, unbuilt, ran, wrote_code, no_prelude, over, refused_prelude, unbuilt_prelude, usage, read_fault, too_long}
 
 -- an answer is neither a fault of a write nor want of memory
 abbrev IsOrdinary : End → Type 0
@@ -60,8 +65,8 @@ ordinary_for a text e ws (over prelude is x) = ordinary_over prelude a text e ws
 
 ordinary : (misread : Type 0) (words : List (String Global)) (told : Text → Told) (e : End) (ws : List Write) → IsAnswer misread words told e ws → IsOrdinary e
 ordinary misread words told e ws (usage n is w) = subst IsOrdinary (sym is) tt
-ordinary misread words told e ws (read_fault a n m is w) = subst IsOrdinary (sym is) tt
-ordinary misread words told e ws (too_long a n l is w) = subst IsOrdinary (sym is) tt
+ordinary misread words told e ws (read_fault a n r m is w) = subst IsOrdinary (sym is) tt
+ordinary misread words told e ws (too_long a n r l is w) = subst IsOrdinary (sym is) tt
 ordinary misread words told e ws (of_text a text t i) = ordinary_for a text e ws i
 
 module _ (misread : Type 0) (words : List (String Global)) (told : Text → Told) (out_old out_new log_old log_new : Pieces → Pieces → Type 0) where
@@ -147,15 +152,52 @@ no_fault r a b out.Out = a
 no_fault r a b out.Log = b
 
 -- a text that is told is the one that was read
-module _ (words : List (String Global)) (told : Text → Told) (b : Asked) (bytes : Text) (asked : asked_for words ≡ Some b) (whole : IsWhole (told b.script) bytes) where
-  same_text : (a : Asked) (text : Text) → asked_for words ≡ Some a → told a.script ≡ Holds text → (b ≡ a) × (bytes ≡ text)
-  same_text a text is holds =
-      let same : b ≡ a = cc in
-      let held : IsWhole (Holds text) bytes = subst (λ t. IsWhole t bytes) (ap (λ c. told c.script) same ∙ holds) whole in
-      (same, sym held)
+module _ (words : List (String Global)) (told : Text → Told) (b : Asked) (asked : asked_for words ≡ Some b) where
+  same_asked : (a : Asked) → asked_for words ≡ Some a → b ≡ a
+  same_asked a is = cc
 
-  pub complete : (e : End) → IsEndFor b bytes e ⊎ (e ≡ end.Memory) → (a : Asked) (text : Text) → asked_for words ≡ Some a → told a.script ≡ Holds text
-      → IsEndFor a text e ⊎ (e ≡ end.Memory)
-  complete e said a text is holds =
-      let same = same_text a text is holds in
-      elim said [ inl s ↦ inl (subst (λ t. IsEndFor a t e) same.1 (subst (λ c. IsEndFor c bytes e) same.0 s)) | inr m ↦ inr m ]
+  module _ (bytes : Text) (reads : made_by b.command ≡ None) (whole : IsWhole (told b.script) bytes) where
+    same_text : (a : Asked) (text : Text) → b ≡ a → IsTold (made_by a.command) (told a.script) (limit_of a.command) text → bytes ≡ text
+    same_text a text same holds =
+        let of_file : made_by a.command ≡ None = ap (λ c. made_by c.command) (sym same) ∙ reads in
+        let held = (subst (λ m. IsTold m (told a.script) (limit_of a.command) text) of_file holds).0 in
+        let read : IsWhole (Holds text) bytes = subst (λ t. IsWhole t bytes) (ap (λ c. told c.script) same ∙ held) whole in
+        sym read
+
+    pub complete : (e : End) → IsEndFor b bytes e ⊎ (e ≡ end.Memory) → (a : Asked) (text : Text) → asked_for words ≡ Some a
+        → IsTold (made_by a.command) (told a.script) (limit_of a.command) text → IsEndFor a text e ⊎ (e ≡ end.Memory)
+    complete e said a text is holds =
+        let same = same_asked a is in
+        let read = same_text a text same holds in
+        elim said [ inl s ↦ inl (subst (λ t. IsEndFor a t e) read (subst (λ c. IsEndFor c bytes e) same s)) | inr m ↦ inr m ]
+
+  -- and so is one that the command makes
+  pub made_complete : (script : Text) → made_by b.command ≡ Some script → (e : End) → IsEndFor b script e ⊎ (e ≡ end.Memory) → (a : Asked) (text : Text)
+      → asked_for words ≡ Some a → IsTold (made_by a.command) (told a.script) (limit_of a.command) text → IsEndFor a text e ⊎ (e ≡ end.Memory)
+  made_complete script makes e said a text is holds =
+      let same = same_asked a is in
+      let made : made_by a.command ≡ Some script = ap (λ c. made_by c.command) (sym same) ∙ makes in
+      let it : text ≡ script = subst (λ m. IsTold m (told a.script) (limit_of a.command) text) made holds in
+      elim said [ inl s ↦ inl (subst (λ t. IsEndFor a t e) (sym it) (subst (λ c. IsEndFor c script e) same s)) | inr m ↦ inr m ]
+
+-- where a command makes a script, its file would be one of a script
+pub made_limit : (c : Command) (script : Text) → made_by c ≡ Some script → limit_of c ≡ script_limit
+made_limit command.Run script m = absurd (let no : None ≡ Some script = m in cc)
+made_limit command.Trace script m = absurd (let no : None ≡ Some script = m in cc)
+made_limit command.Dis script m = absurd (let no : None ≡ Some script = m in cc)
+made_limit command.Build script m = absurd (let no : None ≡ Some script = m in cc)
+made_limit command.Exec script m = absurd (let no : None ≡ Some script = m in cc)
+made_limit command.Cover script m = absurd (let no : None ≡ Some script = m in cc)
+made_limit command.Profile script m = absurd (let no : None ≡ Some script = m in cc)
+made_limit (command.Gen count) script m = refl
+
+-- whether a command makes a script, as it is told by the number of its functions
+module _ (c : Command) (o : Option ℕ) (tells : option_map script_of o ≡ made_by c) where
+  pub reads_file : o ≡ None → made_by c ≡ None
+  reads_file none = sym tells ∙ ap (λ m. option_map script_of m) none
+
+  pub makes_script : (count : ℕ) → o ≡ Some count → made_by c ≡ Some (script_of count)
+  makes_script count some = sym tells ∙ ap (λ m. option_map script_of m) some
+
+pub count_within : (o : Option ℕ) (count : ℕ) → IfSome o (λ n. n ≤ most_functions) → o ≡ Some count → count ≤ most_functions
+count_within o count within some = subst (λ m. IfSome m (λ n. n ≤ most_functions)) some within

@@ -29,10 +29,10 @@ use Rattle.pt_words.specs.declared.line.Command.TheVariants as command
 use Rattle.pt_prog.specs.Limits.{reads_code}
 use Rattle.pt_prog.specs.declared.end.End.{End}
 use Rattle.pt_prog.specs.declared.end.End.TheVariants as end
-use Rattle.pt_prog.specs.LogText.{Text, final, totals}
+use Rattle.pt_prog.specs.LogText.{Text, final, summary, totals}
 use Rattle.pt_cover.specs.Reports.{logged}
 use Rattle.pt_cover.specs.declared.kind.ReportKind.{ReportKind}
-use Rattle.pt_prog.specs.Answer.{IsAnswerFor, IsAnswerOver, IsEndFor, IsNoPrelude, IsUnbuilt, IsBuilt, all_writes, end_of, is_run, last_writes, report_kind, report_on, reported, script_read, script_writes, tells_events, no_prelude, of_code, over, ran, refused, refused_prelude, unbuilt, unbuilt_prelude, wrote_code}
+use Rattle.pt_prog.specs.Answer.{IsAnswerFor, IsAnswerOver, IsEndFor, IsNoPrelude, IsUnbuilt, IsBuilt, all_writes, end_of, is_run, last_writes, lines_in, report_kind, report_on, reported, script_read, script_writes, sums_up, tells_events, with_summary, no_prelude, of_code, over, ran, refused, refused_prelude, unbuilt, unbuilt_prelude, wrote_code}
 
 one_ending : (prelude ss : Stms) (n : ℕ) (o p : Outcome Value World) → RunsTo prelude ss n o → RunsTo prelude ss n p → o ≡ p
 one_ending prelude ss n o p a b =
@@ -48,6 +48,7 @@ run_no_code command.Build e = refl
 run_no_code command.Exec e = absurd (true≢false (sym e))
 run_no_code command.Cover e = refl
 run_no_code command.Profile e = refl
+run_no_code (command.Gen count) e = refl
 
 -- a report goes to the log
 outs_to_out : (ps : Pieces) → outs (map (write to_out) ps) ≡ ps
@@ -147,6 +148,18 @@ module _ (prelude : Stms) (a : Asked) (text : Text) where
       let ending : o ≡ p = one_ending prelude zz a.steps o p (subst (λ s. RunsTo prelude s a.steps o) same r) q in
       script_prints k ss o w ∙ (λ i. prints (all_events k) (same i) (ending i)) ∙ sym (script_prints k zz p v)
 
+  -- and so with a summary behind it
+  one_output_summed : (b : Bool) (k : Option ReportKind) (ss zz : Stms) (o p : Outcome Value World) (w v : Work) → IsBuilt text ss → IsBuilt text zz
+      → RunsTo prelude ss a.steps o → RunsTo prelude zz a.steps p
+      → outs (with_summary b a.steps o (script_writes k a text prelude ss o w)) ≡ outs (with_summary b a.steps p (script_writes k a text prelude zz p v))
+  one_output_summed false k ss zz o p w v b c r q = one_output k ss zz o p w v b c r q
+  one_output_summed true k ss zz o p w v b c r q =
+      let same : ss ≡ zz = one_script text ss zz b.is_script c.is_script in
+      let outcome : o ≡ p = one_ending prelude zz a.steps o p (subst (λ s. RunsTo prelude s a.steps o) same r) q in
+      outs_append (script_writes k a text prelude ss o w) (summary (end_of a.steps o.ending) o.units (lines_in o))
+      ∙ (λ i. one_output k ss zz o p w v b c r q i ++ outs (summary (end_of a.steps (outcome i).ending) (outcome i).units (lines_in (outcome i))))
+      ∙ sym (outs_append (script_writes k a text prelude zz p v) (summary (end_of a.steps p.ending) p.units (lines_in p)))
+
   same_final : (e f : End) (ws vs : List Write) → e ≡ f → ws ≡ final e → vs ≡ final f → outs ws ≡ outs vs
   same_final e f ws vs same u v = ap outs (u ∙ ap final same ∙ sym v)
 
@@ -161,7 +174,7 @@ module _ (prelude : Stms) (a : Asked) (text : Text) where
   prints_once e f ws vs runs (unbuilt k b x i u) (ran ss o m c y r d j v) = absurd (not_both text k ss x y)
   prints_once e f ws vs runs (ran ss o k b x r c i u) (refused q n y j v) = absurd (never_both text ss q x.is_script y)
   prints_once e f ws vs runs (ran ss o k b x r h i u) (unbuilt l c y j v) = absurd (not_both text l ss y x)
-  prints_once e f ws vs runs (ran ss o k b x r h i u) (ran zz p m c y q d j v) = ap outs u ∙ one_output (report_kind a.command) ss zz o p k m x y r q ∙ sym (ap outs v)
+  prints_once e f ws vs runs (ran ss o k b x r h i u) (ran zz p m c y q d j v) = ap outs u ∙ one_output_summed (sums_up a.command) (report_kind a.command) ss zz o p k m x y r q ∙ sym (ap outs v)
   prints_once e f ws vs runs (wrote_code ls b x i u) y = absurd (run_or_code runs b)
   prints_once e f ws vs runs x (wrote_code ms b y j v) = absurd (run_or_code runs b)
 

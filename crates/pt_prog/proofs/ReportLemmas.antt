@@ -31,9 +31,31 @@ use Rattle.pt_words.specs.declared.line.Command.TheVariants as command
 use Rattle.pt_prog.specs.declared.end.End.{End}
 use Rattle.pt_prog.specs.LogText.{Text}
 use Rattle.pt_prog.specs.RunEnds.{unless_failed}
-use Rattle.pt_prog.specs.Answer.{BrokeOffOver, IsAnswerOver, IsBuilt, ReportedFront, WritesFirst, WroteAllOver, WroteFrontOver, all_told, all_writes, end_of, is_run, of_all, of_answer, of_code, of_code_run, of_front, of_reported_run, of_run, ran, refused, report_kind, report_on, reported, script_read, script_writes, unbuilt, wrote_code}
+use Rattle.pt_prog.specs.Answer.{BrokeOffOver, IsAnswerOver, IsBuilt, ReportedFront, WritesFirst, WroteAllOver, WroteFrontOver, all_told, all_writes, end_of, is_run, of_all, of_answer, of_code, of_code_run, of_front, of_reported_run, of_run, ran, refused, report_kind, report_on, reported, script_read, script_writes, sums_up, unbuilt, with_summary, wrote_code}
 use Rattle.pt_prog.proofs.EndLaws.{not_both, outs_reported}
 use Rattle.pt_sinks.proofs.WritingLemmas.{front_of_all, logs_append}
+
+-- what is reported is a run
+pub reports_run : (c : Command) (k : ReportKind) → report_kind c ≡ Some k → is_run c ≡ true
+reports_run command.Run k r = absurd (let no : None ≡ Some k = r in cc)
+reports_run command.Trace k r = absurd (let no : None ≡ Some k = r in cc)
+reports_run command.Dis k r = absurd (let no : None ≡ Some k = r in cc)
+reports_run command.Build k r = absurd (let no : None ≡ Some k = r in cc)
+reports_run command.Exec k r = absurd (let no : None ≡ Some k = r in cc)
+reports_run command.Cover k r = refl
+reports_run command.Profile k r = refl
+reports_run (command.Gen count) k r = absurd (let no : None ≡ Some k = r in cc)
+
+-- and has no summary
+pub reports_unsummed : (c : Command) (k : ReportKind) → report_kind c ≡ Some k → sums_up c ≡ false
+reports_unsummed command.Run k r = refl
+reports_unsummed command.Trace k r = refl
+reports_unsummed command.Dis k r = refl
+reports_unsummed command.Build k r = refl
+reports_unsummed command.Exec k r = refl
+reports_unsummed command.Cover k r = refl
+reports_unsummed command.Profile k r = refl
+reports_unsummed (command.Gen count) k r = absurd (let no : None ≡ Some k = r in cc)
 
 -- what a plain run of a script with its events and totals came to
 record PlainRun (a : Asked) (text : Text) (prelude ss : Stms) (e : End) (ws : List Write) : Type 0 where
@@ -135,7 +157,8 @@ module _ (prelude : Stms) (a : Asked) (text : Text) (ss : Stms) (is : IsBuilt te
           record {
             writes = reported k a ss told;
             is_answer = ran ss r.outcome r.work is_one is r.runs r.code_runs r.ends
-                (ap (λ q. script_writes q a text prelude ss r.outcome r.work) (sym reports));
+                (λ i. with_summary (sym (reports_unsummed a.command k reports) i) a.steps r.outcome
+                (script_writes (sym reports i) a text prelude ss r.outcome r.work));
             took = all_reported told none (subst (Took out_old out_new (Taken c o e t f below) Counting) r.writes w.took);
           }
 
@@ -207,13 +230,3 @@ pub failed_so : (f : Option SinkErr) (r : Result End WriteErr) (which : Out) →
 failed_so None (Ok x) which e = e
 failed_so (Some why) (Ok x) which e = absurd (let no : unless_failed (Some why) (Ok x) ≡ Err (error.Failed which) = e in cc)
 failed_so f (Err why) which e = e
-
--- what is reported is a run
-pub reports_run : (c : Command) (k : ReportKind) → report_kind c ≡ Some k → is_run c ≡ true
-reports_run command.Run k r = absurd (let no : None ≡ Some k = r in cc)
-reports_run command.Trace k r = absurd (let no : None ≡ Some k = r in cc)
-reports_run command.Dis k r = absurd (let no : None ≡ Some k = r in cc)
-reports_run command.Build k r = absurd (let no : None ≡ Some k = r in cc)
-reports_run command.Exec k r = absurd (let no : None ≡ Some k = r in cc)
-reports_run command.Cover k r = refl
-reports_run command.Profile k r = refl

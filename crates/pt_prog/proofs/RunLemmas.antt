@@ -1,5 +1,5 @@
 -- From what was written of a run, and behind it, to the answer for a text over a prelude.
-use Rattle.std.proofs.Common.{◌≡◌, ◌∙◌, ◌++◌, ◌-◌, ◌^◌, ℕ, min, true, List, Option, Some, None, Result, Ok, Err, IfOk, IfErr, inr, refl, sym, ap, subst}
+use Rattle.std.proofs.Common.{◌≡◌, ◌∙◌, ◌++◌, ◌-◌, ◌^◌, ℕ, min, true, false, List, Option, Some, None, Result, Ok, Err, IfOk, IfErr, inr, refl, sym, ap, subst}
 use Rattle.std.specs.Prelude.{IsErr, IsErrAnd, MatchOption}
 use Rattle.pt_base.specs.Taken.{Pieces}
 use Rattle.pt_tree.specs.Syntax.{Stms}
@@ -34,7 +34,7 @@ use Rattle.pt_prog.specs.declared.end.End.TheVariants as end
 use Rattle.pt_prog.specs.LogText.{Text, final, line_of, totals, traced}
 use Rattle.pt_prog.specs.RunEnds.{end_of_run, last_of_run}
 use Rattle.pt_prog.specs.Limits.{reads_code}
-use Rattle.pt_prog.specs.Answer.{BrokeOffOver, IsAnswerOver, IsBuilt, IsFileOf, IsRunnableFile, IsUnbuiltFile, WroteAllOver, WroteFrontOver, code_read, end_of, is_run, last_writes, of_answer, of_code, of_code_run, of_run, ran, ran_code, report_kind, run_writes, script_read, script_writes, tells_events}
+use Rattle.pt_prog.specs.Answer.{BrokeOffOver, IsAnswerOver, IsBuilt, IsFileOf, IsRunnableFile, IsUnbuiltFile, WroteAllOver, WroteFrontOver, code_read, end_of, is_run, last_writes, of_answer, of_code, of_code_run, of_run, ran, ran_code, report_kind, run_writes, script_read, script_writes, sums_up, tells_events, with_summary}
 
 -- the end of a run is that of its outcome
 pub same_end : (name : ℕ → List ℕ) (n : ℕ) (x : RunEnd) (e : Ending Value World) → IsEnding name x e → end_of_run n x ≡ end_of n e
@@ -122,25 +122,39 @@ module _ (prelude : Stms) (a : Asked) (text : Text) (out_old out_new log_old log
 
 -- what a run took that came to an outcome by this work
 pub record RunTaken (a : Asked) (p : Program) (x : Ended) (o : Outcome Value World) (w : Work) (out_old out_ran log_old log_ran : Pieces → Pieces → Type 0) : Type 0 where
-  units : o.units ≡ x.totals.acts
-  instructions : x.totals.instructions ≡ min w.instructions (2 ^ 64 - 1)
-  depth : x.totals.depth ≡ w.depth
-  ends : IsEnding (block_name p) x.end o.ending
-  took : Took out_old out_ran log_old log_ran (kept (tells_events a) o.written)
+  pub units : o.units ≡ x.totals.acts
+  pub instructions : x.totals.instructions ≡ min w.instructions (2 ^ 64 - 1)
+  pub depth : x.totals.depth ≡ w.depth
+  pub ends : IsEnding (block_name p) x.end o.ending
+  pub took : Took out_old out_ran log_old log_ran (kept (tells_events a) o.written)
+
+-- behind it stand its totals and its last write, and these are all
+module _ (a : Asked) (p : Program) (x : Ended) (o : Outcome Value World) (w : Work) (out_old out_ran log_old log_ran : Pieces → Pieces → Type 0)
+    (f : RunTaken a p x o w out_old out_ran log_old log_ran) where
+  same_totals : totals a.stats x.totals.acts x.totals.instructions x.totals.depth ≡ totals a.stats o.units (min w.instructions (2 ^ 64 - 1)) w.depth
+  same_totals = λ i. totals a.stats (sym f.units i) (f.instructions i) (f.depth i)
+
+  pub all_are_written : kept (tells_events a) o.written
+      ++ (totals a.stats x.totals.acts x.totals.instructions x.totals.depth ++ last_of_run p.file p.source a.steps x.end) ≡ run_writes p a o w
+  all_are_written =
+      ap (λ ts. kept (tells_events a) o.written ++ (ts ++ last_of_run p.file p.source a.steps x.end)) same_totals
+      ∙ ap (λ l. kept (tells_events a) o.written ++ (totals a.stats o.units (min w.instructions (2 ^ 64 - 1)) w.depth ++ l))
+      (same_last p a.steps x.end o.ending f.ends)
 
 -- the answer of a run, for a text of a script or for the bytes of code
 abbrev pub Says : (prelude : Stms) → Asked → Text → Program → Outcome Value World → Work → Type 0
 Says prelude a text p o w = (e : End) (ws : List Write) → e ≡ end_of a.steps o.ending → ws ≡ run_writes p a o w → IsAnswerOver prelude a text e ws
 
-module _ (prelude : Stms) (a : Asked) (text : Text) (ss : Stms) (is : IsBuilt text ss) (runs : is_run a.command ≡ true) (plain : report_kind a.command ≡ None) (x : Ended)
-    (out_old out_ran log_old log_ran : Pieces → Pieces → Type 0)
+module _ (prelude : Stms) (a : Asked) (text : Text) (ss : Stms) (is : IsBuilt text ss) (runs : is_run a.command ≡ true) (plain : report_kind a.command ≡ None)
+    (unsummed : sums_up a.command ≡ false) (x : Ended) (out_old out_ran log_old log_ran : Pieces → Pieces → Type 0)
     (f : ScriptFinished prelude ss a.steps (tells_events a) out_old out_ran log_old log_ran x) where
   pub script_taken : RunTaken a (script_read a text prelude ss) x f.outcome f.work out_old out_ran log_old log_ran
   script_taken = record { units = f.units; instructions = f.instructions; depth = f.depth; ends = f.ends; took = f.took }
 
   pub script_says : Says prelude a text (script_read a text prelude ss) f.outcome f.work
   script_says e ws is_end are =
-      ran ss f.outcome f.work runs is f.runs f.code_runs is_end (are ∙ sym (ap (λ k. script_writes k a text prelude ss f.outcome f.work) plain))
+      ran ss f.outcome f.work runs is f.runs f.code_runs is_end
+      (are ∙ (λ i. with_summary (sym unsummed i) a.steps f.outcome (script_writes (sym plain i) a text prelude ss f.outcome f.work)))
 
 module _ (prelude : Stms) (a : Asked) (text : Text) (c : Code) (ready : IsRunnable (code_of prelude)) (is : IsRunnableFile text c) (reads : reads_code a.command ≡ true) (x : Ended)
     (out_old out_ran log_old log_ran : Pieces → Pieces → Type 0) (f : CodeFinished (code_of prelude) c a.steps (tells_events a) out_old out_ran log_old log_ran x) where
@@ -165,14 +179,8 @@ module _ (prelude : Stms) (a : Asked) (text : Text) (p : Program) (x : Ended) (o
   abbrev all_written : List Write
   all_written = written ++ (totals_written ++ last_written)
 
-  same_totals : totals_written ≡ totals a.stats o.units (min w.instructions (2 ^ 64 - 1)) w.depth
-  same_totals = λ i. totals a.stats (sym f.units i) (f.instructions i) (f.depth i)
-
   is_all : all_written ≡ run_writes p a o w
-  is_all =
-      ap (λ ts. written ++ (ts ++ last_written)) same_totals
-      ∙ ap (λ l. written ++ (totals a.stats o.units (min w.instructions (2 ^ 64 - 1)) w.depth ++ l))
-      (same_last p a.steps x.end o.ending f.ends)
+  is_all = all_are_written a p x o w out_old out_ran log_old log_ran f
 
   pub answer : IsAnswerOver prelude a text (end_of_run a.steps x.end) all_written
   answer = says (end_of_run a.steps x.end) all_written (same_end (block_name p) a.steps x.end o.ending f.ends) is_all

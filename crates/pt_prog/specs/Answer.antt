@@ -46,6 +46,8 @@ use Rattle.pt_cover.specs.declared.kind.ReportKind.TheVariants as kind
 use Rattle.pt_cover.specs.HasTaken.{counts_of}
 use Rattle.pt_cover.specs.Kept.{counted, report_of}
 use Rattle.pt_cover.specs.Reports.{logged}
+use Rattle.pt_generated.specs.Lines.{line_count}
+use Rattle.pt_generated.specs.Script.{script_of}
 use Rattle.pt_reported.specs.Reported.{lines_of, names_of}
 use Rattle.pt_words.specs.Words.{Asked, command_line}
 use Rattle.pt_words.specs.declared.line.Command.{Command}
@@ -56,7 +58,7 @@ use Rattle.pt_prog.specs.declared.end.File.TheVariants as file
 use Rattle.pt_prog.specs.declared.end.CodeRefusal.{CodeRefusal}
 use Rattle.pt_prog.specs.declared.end.CodeRefusal.TheVariants as refusal
 use Rattle.pt_prog.specs.Limits.{limit_of, reads_code}
-use Rattle.pt_prog.specs.LogText.{Text, final, line_of, totals, traced}
+use Rattle.pt_prog.specs.LogText.{Text, final, line_of, summary, totals, traced}
 
 -- P holds of what is there
 abbrev pub OfSome : {A : Type 0} → Option A → (A → Type 0) → Type 0
@@ -80,6 +82,7 @@ is_run command.Build = false
 is_run command.Exec = false
 is_run command.Cover = true
 is_run command.Profile = true
+is_run (command.Gen count) = true
 
 abbrev pub traces : Command → Bool
 traces command.Run = false
@@ -89,6 +92,7 @@ traces command.Build = false
 traces command.Exec = false
 traces command.Cover = false
 traces command.Profile = false
+traces (command.Gen count) = false
 
 -- what the log has a report on behind the events of a run, if anything
 abbrev pub report_kind : Command → Option ReportKind
@@ -99,6 +103,29 @@ report_kind command.Build = None
 report_kind command.Exec = None
 report_kind command.Cover = Some kind.Lines
 report_kind command.Profile = Some kind.Names
+report_kind (command.Gen count) = None
+
+-- behind the run a summary of it goes to out
+abbrev pub sums_up : Command → Bool
+sums_up command.Run = false
+sums_up command.Trace = false
+sums_up command.Dis = false
+sums_up command.Build = false
+sums_up command.Exec = false
+sums_up command.Cover = false
+sums_up command.Profile = false
+sums_up (command.Gen count) = true
+
+-- the script that a command makes, where it reads no file
+abbrev pub made_by : Command → Option Text
+made_by command.Run = None
+made_by command.Trace = None
+made_by command.Dis = None
+made_by command.Build = None
+made_by command.Exec = None
+made_by command.Cover = None
+made_by command.Profile = None
+made_by (command.Gen count) = Some (script_of count)
 
 -- the log has a line for each event: `trace` is `run --events`
 abbrev pub tells_events : Asked → Bool
@@ -129,6 +156,7 @@ IsWrittenBy command.Build code bytes = HasFile code × (bytes ≡ file code)
 IsWrittenBy command.Exec code bytes = ⊥
 IsWrittenBy command.Cover code bytes = ⊥
 IsWrittenBy command.Profile code bytes = ⊥
+IsWrittenBy (command.Gen count) code bytes = ⊥
 
 -- the text is a script, and so the command writes its code
 pub record IsCodeBy (command : Command) (text bytes : Text) : Type 0 where
@@ -183,6 +211,15 @@ reported k a ss ws = map (write to_out) (outs ws) ++ map (write to_log) (logged 
 abbrev pub script_writes : Option ReportKind → Asked → Text → (prelude script : Stms) → Outcome Value World → Work → List Write
 script_writes None a text prelude script o w = run_writes (script_read a text prelude script) a o w
 script_writes (Some k) a text prelude script o w = reported k a script (all_writes (script_read a text prelude script) a.steps true true o w)
+
+-- the lines that begin in visible blocks, as a run writes them to the log with its events; the count stands still at the greatest u64
+abbrev pub lines_in : Outcome Value World → ℕ
+lines_in o = line_count (logs o.written)
+
+-- behind what the run of at most n acts writes its summary, where it is asked for
+abbrev pub with_summary : Bool → (n : ℕ) → Outcome Value World → List Write → List Write
+with_summary true n o ws = ws ++ summary (end_of n o.ending) o.units (lines_in o)
+with_summary false n o ws = ws
 
 -- what the run of a script writes first with its events and totals, whether or not it comes to an outcome
 pub data WritesFirst (a : Asked) (text : Text) (prelude script : Stms) : List Write → Type 0 where
@@ -247,7 +284,7 @@ pub data IsAnswerOver (prelude : Stms) (a : Asked) (text : Text) (e : End) (ws :
   unbuilt : (line : Line) → is_run a.command ≡ true → IsUnbuilt text line → e ≡ end.Unbuilt line → ws ≡ final e → IsAnswerOver prelude a text e ws
   ran : (script : Stms) (o : Outcome Value World) (w : Work) → is_run a.command ≡ true → IsBuilt text script → RunsTo prelude script a.steps o
       → CodeRunsBy prelude script a.steps o w → e ≡ end_of a.steps o.ending
-      → ws ≡ script_writes (report_kind a.command) a text prelude script o w → IsAnswerOver prelude a text e ws
+      → ws ≡ with_summary (sums_up a.command) a.steps o (script_writes (report_kind a.command) a text prelude script o w) → IsAnswerOver prelude a text e ws
   wrote_code : (bytes : Text) → is_run a.command ≡ false → IsCodeBy a.command text bytes → e ≡ end.Done → ws ≡ write to_out bytes ∷ []
       → IsAnswerOver prelude a text e ws
 
@@ -260,18 +297,23 @@ pub data IsAnswerFor (a : Asked) (text : Text) (e : End) (ws : List Write) : Typ
 abbrev pub IsEndFor : Asked → Text → End → Type 0
 IsEndFor a text e = (ws : List Write) × IsAnswerFor a text e ws
 
--- the text of the file that the words name: the one that the shelf tells, or any within the limit where it doesn't tell
+-- the script that the command makes, or else the text of the file that the words name: the one that the shelf tells, or any within the limit where it
+-- doesn't tell
+abbrev pub IsSource : (made : Option Text) → Told → (limit : ℕ) → Text → Type 0
+IsSource (Some script) told limit text = text ≡ script
+IsSource None told limit text = IsWhole told text × (length text ≤ limit)
+
 pub record IsTextOf (words : List (String Global)) (told : Text → Told) (a : Asked) (text : Text) : Type 0 where
   pub asked : asked_for words ≡ Some a
-  pub is_whole : IsWhole (told a.script) text
-  pub within : length text ≤ limit_of a.command
+  pub is_source : IsSource (made_by a.command) (told a.script) (limit_of a.command) text
 
 -- the answer to words, over a shelf that tells so, whose reading may have failed by a fault
 pub data IsAnswer (misread : Type 0) (words : List (String Global)) (told : Text → Told) (e : End) (ws : List Write) : Type 0 where
   usage : asked_for words ≡ None → e ≡ end.Usage → ws ≡ final e → IsAnswer misread words told e ws
-  read_fault : (a : Asked) → asked_for words ≡ Some a → misread ⊎ IsLacked (told a.script) → e ≡ end.ReadFault → ws ≡ final e → IsAnswer misread words told e ws
-  too_long : (a : Asked) → asked_for words ≡ Some a → IsLonger (told a.script) (limit_of a.command) → e ≡ end.TooLong file.First → ws ≡ final e
-      → IsAnswer misread words told e ws
+  read_fault : (a : Asked) → asked_for words ≡ Some a → made_by a.command ≡ None → misread ⊎ IsLacked (told a.script) → e ≡ end.ReadFault
+      → ws ≡ final e → IsAnswer misread words told e ws
+  too_long : (a : Asked) → asked_for words ≡ Some a → made_by a.command ≡ None → IsLonger (told a.script) (limit_of a.command)
+      → e ≡ end.TooLong file.First → ws ≡ final e → IsAnswer misread words told e ws
   of_text : (a : Asked) (text : Text) → IsTextOf words told a text → IsAnswerFor a text e ws → IsAnswer misread words told e ws
 
 -- out and the log, each as it was and as it is
@@ -339,7 +381,12 @@ module _ (out_old out_new log_old log_new : Pieces → Pieces → Type 0) where
   Wrote misread words told end.Memory = Took out_old out_new log_old log_new [] ⊎ WroteFront error.Memory misread words told
   Wrote misread words told e = WroteAll misread words told e
 
--- the end is the one that each text within the limit says that the shelf tells of
+-- the text is told: the command makes it, or the shelf tells of it, within the limit
+abbrev pub IsTold : (made : Option Text) → Told → (limit : ℕ) → Text → Type 0
+IsTold (Some script) told limit text = text ≡ script
+IsTold None told limit text = (told ≡ Holds text) × (length text ≤ limit)
+
+-- the end is the one that each such text says
 abbrev pub IsComplete : List (String Global) → (Text → Told) → End → Type 0
-IsComplete words told e = (a : Asked) (text : Text) → asked_for words ≡ Some a → told a.script ≡ Holds text → length text ≤ limit_of a.command
+IsComplete words told e = (a : Asked) (text : Text) → asked_for words ≡ Some a → IsTold (made_by a.command) (told a.script) (limit_of a.command) text
     → IsEndFor a text e ⊎ (e ≡ end.Memory)

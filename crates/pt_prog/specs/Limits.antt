@@ -20,6 +20,7 @@ reads_code command.Build = false
 reads_code command.Exec = true
 reads_code command.Cover = false
 reads_code command.Profile = false
+reads_code (command.Gen count) = false
 
 -- the bytes that the command's file may have
 abbrev pub limit_of : Command → ℕ

@@ -1,8 +1,8 @@
--- The texts that the log gets at the end.
-use Rattle.std.specs.Prelude.{ℕ, List, [], ◌∷◌, ◌++◌, codes, Bool, true, false, Option, Some, None}
+-- The texts that the log gets at the end, and that of a summary.
+use Rattle.std.specs.Prelude.{ℕ, List, [], ◌∷◌, ◌++◌, codes, Bool, true, false, Option, Some, None, if◌then◌else◌}
 use Rattle.std.specs.Fmt.{decimal}
 use Rattle.pt_base.specs.Words.{word_of}
-use Rattle.sem_run.specs.run.Run.{Write, write, to_log}
+use Rattle.sem_run.specs.run.Run.{Write, write, to_log, to_out}
 use Rattle.pt_tracebacks.specs.Lines.{source_lines}
 use Rattle.pt_tracebacks.specs.Texts.{traceback_text}
 use Rattle.pt_tracebacks.specs.declared.summary.ExceptionSummary.{ExceptionSummary}
@@ -52,3 +52,25 @@ totals_text acts instructions depth = total (codes "acts ") acts ++ (total (code
 abbrev pub totals : Bool → (acts instructions depth : ℕ) → List Write
 totals true acts instructions depth = write to_log (totals_text acts instructions depth) ∷ []
 totals false acts instructions depth = []
+
+-- the summary of a run that came to its end, as one write to out; a run that ends otherwise has none
+abbrev pub summary_text : (acts lines : ℕ) → Text
+summary_text acts lines = total (codes "acts ") acts ++ (total (codes "lines ") lines ++ codes "ending done\n")
+
+abbrev pub is_done : End → Bool
+is_done end.Done = true
+is_done (end.Exited code) = false
+is_done end.Raised = false
+is_done (end.Spent bound) = false
+is_done (end.Outside what line) = false
+is_done end.Usage = false
+is_done (end.Refused error) = false
+is_done (end.BadCode error) = false
+is_done (end.TooLong which) = false
+is_done end.ReadFault = false
+is_done (end.WriteFault which) = false
+is_done end.Memory = false
+is_done (end.Unbuilt line) = false
+
+abbrev pub summary : End → (acts lines : ℕ) → List Write
+summary e acts lines = if is_done e then write to_out (summary_text acts lines) ∷ [] else []

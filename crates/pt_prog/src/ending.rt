@@ -1,15 +1,15 @@
-//! The last writes of a call, which go to the log.
+//! The last writes of a call: those to the log, and a summary.
 
 ghost use Rattle.std.specs.Prelude.{◌≡◌, ◌≢◌, ◌≤◌, ◌∷◌, ◌++◌, [], Err, Some, IfOk, OnOk, IfErr};
 ghost use Rattle.std.specs.Option.{option_map};
 ghost use Rattle.pt_base.specs.Faults.{Rose};
-ghost use Rattle.pt_prog.specs.LogText.{final, line_of, totals, traced};
+ghost use Rattle.pt_prog.specs.LogText.{final, is_done, line_of, summary, totals, traced};
 ghost use Rattle.pt_prog.specs.RunEnds.{end_of_run, last_of_run};
 ghost use Rattle.pt_sinks.specs.Writing.{Took, TookFront};
 ghost use Rattle.pt_sinks.specs.declared.writing.Out.TheVariants as stream;
 
 use crate::end::End;
-use crate::log_text::{final_text, totals_text};
+use crate::log_text::{final_text, summary_text, totals_text};
 use pt_base::Sink;
 use pt_run_script::{RunEnd, Totals};
 use pt_sinks::{Out, WriteErr, put};
@@ -187,4 +187,48 @@ pub fn write_totals<O: Sink, L: Sink>(
         return Err(WriteErr::Memory);
     };
     put(Out::Log, text.as_str().as_bytes(), out, log)
+}
+
+/// Whether it came to its end.
+fn is_done(end: &End) -> bool
+    ensures { result ≡ is_done end.now }
+{
+    matches!(end, End::Done)
+}
+
+/// Sums up a run that ended so, where it came to its end, and gives the end.
+///
+/// # Errors
+///
+/// Failed where a sink's count of faults rose, and Memory. A front of the summary is then written.
+pub fn write_summary<O: Sink, L: Sink>(
+    alloc: Global,
+    end: End,
+    acts: u64,
+    lines: u64,
+    out: &mut O,
+    log: &mut L,
+) -> Result<End, WriteErr>
+    ensures ok { IfOk result (λ e. (e ≡ end)
+        × Took (O.taken out.old) (O.taken out.new) (L.taken log.old) (L.taken log.new)
+        (summary end acts lines)) }
+    ensures err { IfErr result (λ why.
+        TookFront (O.taken out.old) (O.taken out.new) (L.taken log.old) (L.taken log.new)
+        why (summary end acts lines)) }
+    ensures out_failed { result ≡ Err (WriteErr.Failed stream.Out)
+        → Rose (O.faults out.old) (O.faults out.new) × (O.faults out.new ≤ O.most out.new) }
+    ensures log_failed { result ≡ Err (WriteErr.Failed stream.Log)
+        → Rose (L.faults log.old) (L.faults log.new) × (L.faults log.new ≤ L.most log.new) }
+    ensures most { (O.most out.new ≡ O.most out.old) × (L.most log.new ≡ L.most log.old) }
+    ensures later { (O.faults out.old ≤ O.faults out.new)
+        × (L.faults log.old ≤ L.faults log.new) }
+{
+    if !is_done(&end) {
+        return Ok(end);
+    }
+    let Ok(text) = summary_text(alloc, acts, lines) else {
+        return Err(WriteErr::Memory);
+    };
+    put(Out::Out, text.as_str().as_bytes(), out, log)?;
+    Ok(end)
 }

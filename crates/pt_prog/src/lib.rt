@@ -3,6 +3,7 @@
 #![tactic(auto)]
 
 mod build;
+mod counting;
 mod dis;
 mod end;
 mod ending;
@@ -13,6 +14,7 @@ mod prelude;
 mod program;
 mod reporting;
 mod running;
+mod summing;
 
 pub use end::{CodeRefusal, End, File, status};
 pub use laws::a_text_prints_one_output;

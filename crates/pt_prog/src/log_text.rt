@@ -1,7 +1,7 @@
-//! The texts that the log gets at the end.
+//! The texts that the log gets at the end, and that of a summary.
 
 ghost use Rattle.std.specs.Prelude.{◌≡◌, IfOk, option_map, string_bytes};
-ghost use Rattle.pt_prog.specs.LogText.{final_text, totals_text};
+ghost use Rattle.pt_prog.specs.LogText.{final_text, summary_text, totals_text};
 
 use crate::end::End;
 use pt_run_script::Totals;
@@ -43,4 +43,11 @@ pub fn totals_text(alloc: Global, totals: &Totals) -> Result<String, AllocError>
         depth,
     } = totals;
     format!(in alloc; "acts {acts}\ninstructions {instructions}\ndepth {depth}\n")
+}
+
+/// The summary of a run that came to its end.
+pub fn summary_text(alloc: Global, acts: u64, lines: u64) -> Result<String, AllocError>
+    ensures { IfOk result (λ text. string_bytes text ≡ summary_text acts lines) }
+{
+    format!(in alloc; "acts {acts}\nlines {lines}\nending done\n")
 }

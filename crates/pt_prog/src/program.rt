@@ -1,14 +1,16 @@
-ghost use Rattle.std.specs.Prelude.{◌≡◌, ◌≢◌, ◌≤◌, ◌⊎◌, None, Some, Err, IfErr, IfOk};
-ghost use Rattle.std.specs.Prelude.{ℕ, List, false, length};
+ghost use Rattle.std.specs.Prelude.{◌≡◌, ◌≢◌, ◌≤◌, ◌⊎◌, None, Some, Err, IfErr, IfOk, IfSome};
+ghost use Rattle.std.specs.Prelude.{ℕ, List, false, length, option_map};
 ghost use Rattle.pt_base.specs.Faults.{Rose};
 ghost use Rattle.pt_base.specs.Told.{IsLacked, IsLonger};
 ghost use Rattle.pt_prog.specs.Answer.{BrokeOffFor, BrokeOffOver, IsBuilt, IsComplete, OfAsked};
-ghost use Rattle.pt_prog.specs.Answer.{Wrote, WroteAllFor, WroteAllOver, asked_for};
+ghost use Rattle.pt_generated.specs.Script as generated;
+ghost use Rattle.pt_prog.specs.Answer.{Wrote, WroteAllFor, WroteAllOver, asked_for, made_by};
 ghost use Rattle.pt_prog.specs.Limits.{limit_of, reads_code, script_limit};
 ghost use Rattle.pt_prog.specs.RunEnds.{ended};
 ghost use Rattle.pt_sinks.specs.declared.writing.Out.TheVariants as stream;
 ghost use Rattle.pt_tree.specs.StatementFold.{script_of};
 ghost use Rattle.pt_words.specs.Asked.{asked};
+ghost use Rattle.pt_words.specs.Words.{CountFits, most_functions};
 
 use crate::build::file_of;
 use crate::dis::listing_of;
@@ -19,6 +21,7 @@ use crate::prelude::prelude;
 use crate::running::run_built;
 use pt_base::{Failure, Shelf, ShelfErr, Sink};
 use pt_front::front;
+use pt_generated::script_of;
 use pt_sinks::{Out, WriteErr, put};
 use pt_tree::Script;
 use pt_words::{Command, CommandLine, WordsErr, parse};
@@ -40,7 +43,8 @@ fn reads_code(command: Command) -> bool
         | Command::Dis
         | Command::Build
         | Command::Cover
-        | Command::Profile => false,
+        | Command::Profile
+        | Command::Gen { .. } => false,
     }
 }
 
@@ -89,9 +93,8 @@ fn answer_text<O: Sink, L: Sink>(
         Err(Failure::Memory) => return Err(WriteErr::Memory),
     };
     match line.command {
-        Command::Run | Command::Trace | Command::Cover | Command::Profile => {
-            run_built(alloc, line, text, prelude, &script, out, log)
-        }
+        Command::Run | Command::Trace | Command::Cover | Command::Profile | Command::Gen { .. } =>
+            run_built(alloc, line, text, prelude, &script, out, log),
         Command::Dis => {
             let lines = listing_of(alloc, &script)?;
             put(Out::Out, lines.as_str().as_bytes(), out, log)?;
@@ -168,6 +171,51 @@ fn answer_file<O: Sink, L: Sink>(
     }
 }
 
+/// Of how many functions a command makes its script, where it makes one.
+fn made_by(command: Command) -> Option<u32>
+    ensures made { option_map generated.script_of result ≡ made_by command }
+    ensures fits { CountFits command → IfSome result (λ count. count ≤ most_functions) }
+{
+    match command {
+        Command::Gen { count } => Some(count),
+        Command::Run
+        | Command::Trace
+        | Command::Dis
+        | Command::Build
+        | Command::Exec
+        | Command::Cover
+        | Command::Profile => None,
+    }
+}
+
+/// Answers for the script of so many functions that the command makes.
+fn answer_made<O: Sink, L: Sink>(
+    alloc: Global,
+    line: &CommandLine,
+    count: u32,
+    out: &mut O,
+    log: &mut L,
+) -> Result<End, WriteErr>
+    requires makes { made_by line.now.command ≡ Some (generated.script_of count) }
+    requires fits { count ≤ most_functions }
+    ensures ok { IfOk result
+        (WroteAllFor (O.taken out.old) (O.taken out.new) (L.taken log.old) (L.taken log.new)
+        (asked line.now) (generated.script_of count)) }
+    ensures err { IfErr result
+        (BrokeOffFor (O.taken out.old) (O.taken out.new) (L.taken log.old) (L.taken log.new)
+        (asked line.now) (generated.script_of count)) }
+    ensures out_failed { result ≡ Err (WriteErr.Failed stream.Out)
+        → Rose (O.faults out.old) (O.faults out.new) × (O.faults out.new ≤ O.most out.new) }
+    ensures log_failed { result ≡ Err (WriteErr.Failed stream.Log)
+        → Rose (L.faults log.old) (L.faults log.new) × (L.faults log.new ≤ L.most log.new) }
+    ensures most { (O.most out.new ≡ O.most out.old) × (L.most log.new ≡ L.most log.old) }
+    ensures later { (O.faults out.old ≤ O.faults out.new)
+        × (L.faults log.old ≤ L.faults log.new) }
+{
+    let text = script_of(alloc, count)?;
+    answer_file(alloc, line, text.as_slice(), out, log)
+}
+
 /// A write that failed, and want of memory, as ends.
 fn ended(answer: Result<End, WriteErr>) -> End
     ensures { result ≡ ended answer }
@@ -179,15 +227,17 @@ fn ended(answer: Result<End, WriteErr>) -> End
     }
 }
 
-/// All that the program does: reads the words and the file that they name, a script or code, and
-/// runs it, or writes the listing or the file of a script's code.
+/// All that the program does: reads the words and the file that they name, a script or code, or
+/// makes the script of a number, and runs it, or writes the listing or the file of a script's code.
 ///
 /// The order of answers is Usage, ReadFault, TooLong, Refused or BadCode, for a run Unbuilt, and
 /// then those of the run. The prelude, over which all runs, comes before the file's text: where it
 /// is no script that is built, the answer says so, whatever the text is. Behind what a run writes
 /// the log gets the totals, where they are asked for, and in one write the traceback of an exception
 /// that left the script or the text of the end. With `cover` and `profile` a report on lines or
-/// names stands before the totals. After a write that failed nothing more is written.
+/// names stands before the totals. With `gen`, which reads no file, out gets a summary of the run in
+/// one write behind all that, where the script came to its end. After a write that failed nothing
+/// more is written.
 pub fn top<F: Shelf, O: Sink, L: Sink>(
     alloc: Global,
     words: &[String],
@@ -220,7 +270,8 @@ pub fn top<F: Shelf, O: Sink, L: Sink>(
         (Rose (F.faults shelf.old) (F.faults shelf.new)) words.now (F.told shelf.old) result }
     ensures kept { F.told shelf.new ≡ F.told shelf.old }
 
-    // Where no count of faults rose, the end of a text that is told is the one that the text says.
+    // Where no count of faults rose, the end of a text that is told, or that the command makes, is
+    // the one that the text says.
     ensures complete { (Rose (F.faults shelf.old) (F.faults shelf.new) → ⊥)
         → (Rose (O.faults out.old) (O.faults out.new) → ⊥)
         → (Rose (L.faults log.old) (L.faults log.new) → ⊥)
@@ -231,6 +282,10 @@ pub fn top<F: Shelf, O: Sink, L: Sink>(
         Err(WordsErr::Usage) => return ended(write_final(alloc, End::Usage, out, log)),
         Err(WordsErr::Memory) => return End::Memory,
     };
+    let made = made_by(line.command);
+    if let Some(count) = made {
+        return ended(answer_made(alloc, &line, count, out, log));
+    }
     match shelf.read(alloc, line.script, limit_of(line.command)) {
         Ok(text) => ended(answer_file(alloc, &line, text.as_slice(), out, log)),
         Err(ShelfErr::Failed) => ended(write_final(alloc, End::ReadFault, out, log)),

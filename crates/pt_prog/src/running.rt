@@ -1,10 +1,10 @@
 //! The run of a script that a text is, with what the log gets behind it.
 
-ghost use Rattle.std.specs.Prelude.{◌≡◌, ◌≤◌, ℕ, List, Err, IfErr, IfOk, None, true};
+ghost use Rattle.std.specs.Prelude.{◌≡◌, ◌≤◌, ℕ, List, Err, IfErr, IfOk, None, false, true};
 ghost use Rattle.pt_base.specs.Faults.{Rose};
 ghost use Rattle.pt_front.specs.Text.{IsScript};
 ghost use Rattle.pt_prog.specs.Answer.{BrokeOffOver, IsBuilt, WroteAllOver, is_run, report_kind};
-ghost use Rattle.pt_prog.specs.Answer.{tells_events, traces};
+ghost use Rattle.pt_prog.specs.Answer.{sums_up, tells_events, traces};
 ghost use Rattle.pt_sinks.specs.declared.writing.Out.TheVariants as stream;
 ghost use Rattle.pt_supported.specs.Built.{Built};
 ghost use Rattle.pt_tree.specs.StatementFold.{script_of};
@@ -13,6 +13,7 @@ ghost use Rattle.pt_words.specs.Asked.{asked};
 use crate::end::End;
 use crate::ending::{write_final, write_last, write_totals};
 use crate::reporting::run_reported;
+use crate::summing::run_summed;
 use pt_base::Sink;
 use pt_cover::ReportKind;
 use pt_heap::Seed;
@@ -34,13 +35,14 @@ pub fn tells_events(line: &CommandLine) -> bool
         | Command::Build
         | Command::Exec
         | Command::Cover
-        | Command::Profile => false,
+        | Command::Profile
+        | Command::Gen { .. } => false,
     };
     traces || line.events
 }
 
-/// Runs a script that a text is, all of which is built, over a prelude, without a report, and writes
-/// what the log gets behind it.
+/// Runs a script that a text is, all of which is built, over a prelude, without a report or a
+/// summary, and writes what the log gets behind it.
 ///
 /// # Errors
 ///
@@ -59,6 +61,7 @@ pub fn run_plainly<O: Sink, L: Sink>(
     requires is_built { Built (script_of script.now) }
     requires is_run { is_run line.now.command ≡ true }
     requires reports_nothing { report_kind line.now.command ≡ None }
+    requires sums_nothing { sums_up line.now.command ≡ false }
     ensures ok { IfOk result
         (WroteAllOver (O.taken out.old) (O.taken out.new) (L.taken log.old) (L.taken log.new)
         (script_of prelude.now) (asked line.now) text.now) }
@@ -86,9 +89,30 @@ fn report_kind(command: Command) -> Option<ReportKind>
     ensures { result ≡ report_kind command }
 {
     match command {
-        Command::Run | Command::Trace | Command::Dis | Command::Build | Command::Exec => None,
+        Command::Run
+        | Command::Trace
+        | Command::Dis
+        | Command::Build
+        | Command::Exec
+        | Command::Gen { .. } => None,
         Command::Cover => Some(ReportKind::Lines),
         Command::Profile => Some(ReportKind::Names),
+    }
+}
+
+/// Whether out has a summary behind a run.
+fn sums_up(command: Command) -> bool
+    ensures { result ≡ sums_up command }
+{
+    match command {
+        Command::Gen { .. } => true,
+        Command::Run
+        | Command::Trace
+        | Command::Dis
+        | Command::Build
+        | Command::Exec
+        | Command::Cover
+        | Command::Profile => false,
     }
 }
 
@@ -126,6 +150,9 @@ pub fn run_built<O: Sink, L: Sink>(
 {
     if let Some(first) = first_unbuilt(script) {
         return write_final(alloc, End::Unbuilt { line: first }, out, log);
+    }
+    if sums_up(line.command) {
+        return run_summed(alloc, line, text, prelude, script, out, log);
     }
     match report_kind(line.command) {
         None => run_plainly(alloc, line, text, prelude, script, out, log),

@@ -3,5 +3,5 @@
 
 mod run;
 
-pub use pt_run_code::{RunEnd, Totals, run_code};
+pub use pt_run_code::{Ended, RunEnd, Totals, run_code};
 pub use run::run_script;

@@ -3,3 +3,4 @@ pub mod Rows
 pub mod Rules
 pub mod Walking
 pub mod ReaderLemmas
+pub mod CommandLemmas

@@ -18,7 +18,7 @@ use Rattle.clap.specs.Simple.{App, HasMatchesOf, is_simple, matches_of}
 use Rattle.clap.specs.declared.error.Error.{Error}
 use Rattle.clap.specs.declared.error.kind.ErrorKind.TheVariants as kind
 use Rattle.clap.specs.declared.parser.matches.ArgMatches.{ArgMatches}
-use Rattle.pt_words.specs.Words.{Text, Sorted, Asked, asked_by, asked_of, command_line, command_named, no_words, put_option, put_word, sort_words, steps_of}
+use Rattle.pt_words.specs.Words.{Text, Sorted, Asked, asked_by, asked_of, command_line, command_of, no_words, put_option, put_word, sort_words, steps_of}
 use Rattle.pt_words.specs.Form.{HasUses, HaveNoUses, form, is_regular, listed}
 use Rattle.pt_words.specs.declared.line.Command.{Command}
 use Rattle.pt_words.specs.Asked.{asked}
@@ -117,7 +117,7 @@ module _ (s : Sorted) (idles : s.awaits ≡ false) where
   same_of : (files : List Text) → asked_of files clipped ≡ asked_of files s
   same_of [] = refl
   same_of (word ∷ []) = refl
-  same_of (word ∷ script ∷ []) = same_by (command_named word) script (steps_of s.steps)
+  same_of (word ∷ script ∷ []) = same_by (command_of word script) script (steps_of s.steps)
   same_of (word ∷ script ∷ more ∷ rest) = refl
 
 given : (xs : List Text) (o : Option (List Text)) → o ≡ listed xs → unwrap_or o [] ≡ xs

@@ -1,6 +1,6 @@
 -- What words are a command line, and what they ask for: COMMAND FIRST [SECOND] [--steps N] [--events] [--stats], with the options in any place.
-use Rattle.std.specs.Prelude.{ℕ, ◌+◌, ◌^◌, ◌==◌, ◌&&◌, Bool, true, false, not, List, [], ◌∷◌, ◌++◌, codes, length, nat_lt, nat_le, Option, Some, None}
-use Rattle.std.specs.Prelude.{option_and_then, if◌then◌else◌}
+use Rattle.std.specs.Prelude.{ℕ, ◌≤◌, ◌+◌, ◌^◌, ◌==◌, ◌&&◌, Bool, true, false, not, List, [], ◌∷◌, ◌++◌, codes, length, nat_lt, nat_le, Option, Some, None}
+use Rattle.std.specs.Prelude.{option_and_then, option_map, if◌then◌else◌}
 use Rattle.std.specs.List.{list_all, list_any, before_first, after_first}
 use Rattle.std.specs.Str.{bytes_eq}
 use Rattle.std.specs.Str.Parse.{digits_value}
@@ -65,7 +65,7 @@ abbrev pub sort_words : List Text → Sorted → Option Sorted
 sort_words [] s = Some s
 sort_words (word ∷ words) s = option_and_then (sort_words words) (put_word word s)
 
--- the command, its file, how many acts its run may take, and what the log is to have
+-- the command, its file or number, how many acts its run may take, and what the log is to have
 pub record Asked : Type 0 where
   pub command : Command
   pub script : Text
@@ -89,7 +89,22 @@ steps_of [] = Some default_steps
 steps_of (value ∷ []) = number_of value
 steps_of values = None
 
--- the commands that are there: each takes one file, `exec` one of code and the others a script
+-- the functions that a script which is made may have
+abbrev pub most_functions : ℕ
+most_functions = 2000
+
+-- as many, or fewer
+abbrev pub within_functions : ℕ → Option ℕ
+within_functions n = if nat_le n most_functions then Some n else None
+
+abbrev pub count_of : Text → Option ℕ
+count_of text = option_and_then within_functions (number_of text)
+
+abbrev pub CountFits : Command → Type 0
+CountFits (command.Gen count) = count ≤ most_functions
+CountFits c = Unit {0}
+
+-- the commands with a file: `exec` takes one of code and the others a script
 abbrev pub command_named : Text → Option Command
 command_named word =
     if bytes_eq word (codes "run") then Some command.Run
@@ -100,6 +115,10 @@ command_named word =
     else (if bytes_eq word (codes "cover") then Some command.Cover
     else (if bytes_eq word (codes "profile") then Some command.Profile else None))))))
 
+-- the command of a word and the one behind it, which names a file or, for `gen`, is a number
+unfoldable pub command_of : (word first : Text) → Option Command
+command_of word first = if bytes_eq word (codes "gen") then option_map command.Gen (count_of first) else command_named word
+
 abbrev pub asked_by : Sorted → Option Command → (script : Text) → Option ℕ → Option Asked
 asked_by s (Some c) script (Some n) =
     if nat_le s.events 1 && nat_le s.stats 1 && not s.awaits
@@ -108,7 +127,7 @@ asked_by s (Some c) script (Some n) =
 asked_by s c script n = None
 
 abbrev pub asked_of : List Text → Sorted → Option Asked
-asked_of (word ∷ script ∷ []) s = asked_by s (command_named word) script (steps_of s.steps)
+asked_of (word ∷ script ∷ []) s = asked_by s (command_of word script) script (steps_of s.steps)
 asked_of words s = None
 
 -- what the words of a command line ask for, where they are one

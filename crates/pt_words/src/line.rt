@@ -15,13 +15,16 @@ pub enum Command {
     Cover,
     /// A script is run, and the calls and lines of each name are told on the log.
     Profile,
+    /// A script with so many functions is made and run, and the run is summed up.
+    Gen { count: u32 },
 }
 
 /// What the words of a command line ask for.
 #[derive(Clone, Copy, Debug, PartialEq, Eq)]
 pub struct CommandLine<'a> {
     pub command: Command,
-    /// The name of the file, a script's or of code. It isn't empty and doesn't begin with `-`.
+    /// The name of the file, a script's or of code, or the number of which a script is made. It
+    /// isn't empty and doesn't begin with `-`.
     pub script: &'a str,
     /// How many acts the run may take.
     pub steps: u64,

@@ -3,14 +3,18 @@
 ghost use Rattle.std.specs.Prelude.{◌≡◌, false, map, option_map};
 ghost use Rattle.std.specs.Option.{option_copied};
 ghost use Rattle.pt_words.specs.Asked.{asked};
-ghost use Rattle.pt_words.specs.Words.{asked_of, command_named, number_of, steps_of};
+ghost use Rattle.pt_words.specs.Words.{asked_of, command_named, command_of, count_of};
+ghost use Rattle.pt_words.specs.Words.{number_of, steps_of};
 
 use crate::{Command, CommandLine};
 
 /// How many acts a run may take where the words don't say it.
 const DEFAULT_STEPS: u64 = 10_000_000;
 
-/// The command that a word names.
+/// The functions that a script which is made may have.
+const MOST_FUNCTIONS: u64 = 2_000;
+
+/// The command with a file that a word names.
 fn command_named(word: &str) -> Option<Command>
     ensures { result ≡ command_named word.now }
 {
@@ -34,6 +38,30 @@ fn number(text: &str) -> Option<u64>
         return None;
     }
     text.parse::<u64>().ok()
+}
+
+/// How many functions a script is to have.
+fn count(text: &str) -> Option<u32>
+    ensures { result ≡ count_of text.now }
+{
+    let count = number(text)?;
+    if count <= MOST_FUNCTIONS {
+        Some(count as u32)
+    } else {
+        None
+    }
+}
+
+/// The command of a word and the one behind it.
+#[tactic(auto, unfolding(crate::specs::Words::command_of))]
+fn command_of(word: &str, first: &str) -> Option<Command>
+    ensures { result ≡ command_of word.now first.now }
+{
+    if word == "gen" {
+        let count = count(first)?;
+        return Some(Command::Gen { count });
+    }
+    command_named(word)
 }
 
 /// How many acts a run may take, by the values of `--steps`.
@@ -66,7 +94,7 @@ pub(crate) fn line<'a>(
     let [command, script] = files else {
         return None;
     };
-    let command = command_named(command)?;
+    let command = command_of(command, script)?;
     let steps = steps(values)?;
     if events > 1 || stats > 1 {
         return None;

@@ -33,7 +33,7 @@ use Rattle.pt_words.specs.Words.{Asked}
 use Rattle.pt_prog.specs.declared.end.End.{End}
 use Rattle.pt_prog.specs.LogText.{Text, totals}
 use Rattle.pt_prog.specs.Answer.{IsAnswerFor, IsAnswerOver, IsBuilt, IsCodeAnswer, IsFileOf, IsNoPrelude, IsUnbuilt}
-use Rattle.pt_prog.specs.Answer.{bad_code, code_read, end_of, is_run, last_writes, no_prelude, of_code, over, ran, ran_code, refused, refused_prelude, run_writes, script_read, script_writes, tells_events, unbuilt, unbuilt_code, unbuilt_prelude, wrote_code}
+use Rattle.pt_prog.specs.Answer.{bad_code, code_read, end_of, is_run, last_writes, no_prelude, of_code, over, ran, ran_code, refused, refused_prelude, run_writes, script_read, script_writes, tells_events, unbuilt, unbuilt_code, unbuilt_prelude, with_summary, wrote_code}
 use Rattle.law_program.specs.exec_answers.Laws.{AskAlike, ExecAnswersAsRun, ExecHasOneAnswer, IsBuiltAs, RunAnswersAsExec, WriteAlike}
 use Rattle.law_program.proofs.exec_answers.CodeFiles.{built_or_unbuilt, fits_or_bad, its_file, one_code}
 use Rattle.law_program.proofs.exec_answers.Ends.{both_ways, code_answer, no_code, one_answer}
@@ -164,7 +164,7 @@ module _ (text : Text) (ss : Stms) (bytes : Text) (made : IsBuiltAs text ss byte
               work = w;
               runs = subst (λ n. CodeRunsTo first_code c n o w) alike.steps run.1.1;
               ends = i ∙ same_end a b alike text (program_of prelude ss) o w;
-              writes = u ∙ ap (λ k. script_writes k a text prelude zz o w) alike.reports_nothing
+              writes = u ∙ (λ m. with_summary (alike.sums_nothing m) a.steps o (script_writes (alike.reports_nothing m) a text prelude zz o w))
                   ∙ ap (λ s. run_writes (script_read a text prelude s) a o w) same;
             },
           )
@@ -213,7 +213,7 @@ module _ (text : Text) (ss : Stms) (bytes : Text) (made : IsBuiltAs text ss byte
               ws,
               (
                 ran ss o w alike.runs made.is_built run.0 run.1 (r.ends ∙ sym (same_end a b alike text (program_of prelude ss) o w))
-                    (ap (λ k. script_writes k a text prelude ss o w) (sym alike.reports_nothing)),
+                    (λ m. with_summary (sym alike.sums_nothing m) a.steps o (script_writes (sym alike.reports_nothing m) a text prelude ss o w)),
                 alike_so file o w e ws vs r.ends refl r.writes,
               ),
             )

@@ -24,6 +24,7 @@ no_code command.Build e f = absurd (true≢false (sym f))
 no_code command.Exec e f = absurd (true≢false (sym e))
 no_code command.Cover e f = absurd (true≢false (sym f))
 no_code command.Profile e f = absurd (true≢false (sym f))
+no_code (command.Gen count) e f = absurd (true≢false (sym f))
 
 no_bytes : {A : Type 0} (c : Command) (text bytes : Text) → reads_code c ≡ true → IsCodeBy c text bytes → A
 no_bytes command.Run text bytes e w = absurd (true≢false (sym e))
@@ -33,6 +34,7 @@ no_bytes command.Build text bytes e w = absurd (true≢false (sym e))
 no_bytes command.Exec text bytes e w = absurd w.is_written
 no_bytes command.Cover text bytes e w = absurd w.is_written
 no_bytes command.Profile text bytes e w = absurd w.is_written
+no_bytes (command.Gen count) text bytes e w = absurd w.is_written
 
 pub both_ways : {A : Type 0} (b : Bool) → b ≡ true → b ≡ false → A
 both_ways b t f = absurd (true≢false (sym t ∙ f))

@@ -1,6 +1,6 @@
 -- What the laws say of answers: that a text says one end and a code file has one answer; and of `exec` of the file that `build` writes of a supported
 -- script, beside `run` and `trace` of the script.
-use Rattle.std.specs.Prelude.{◌≡◌, List, ◌++◌, true, Some, None}
+use Rattle.std.specs.Prelude.{◌≡◌, List, ◌++◌, false, true, Some, None}
 use Rattle.pt_tree.specs.Syntax.{Stms}
 use Rattle.sem_run.specs.run.Run.{Write}
 use Rattle.law_typed_pieces.specs.law_operands.law_files.sem_compile.compile.ScriptCode.{code_of}
@@ -12,7 +12,7 @@ use Rattle.pt_prog.specs.declared.end.End.{End}
 use Rattle.pt_prog.specs.declared.end.End.TheVariants as end
 use Rattle.pt_prog.specs.Limits.{reads_code}
 use Rattle.pt_prog.specs.LogText.{Text, traced}
-use Rattle.pt_prog.specs.Answer.{IsAnswerFor, IsBuilt, IsCodeBy, IsEndFor, is_run, report_kind, tells_events}
+use Rattle.pt_prog.specs.Answer.{IsAnswerFor, IsBuilt, IsCodeBy, IsEndFor, is_run, report_kind, sums_up, tells_events}
 
 -- for a command line a text says one end at most: that of a script, and the bytes of a code file
 abbrev pub TextSaysOneEnd : Type 0
@@ -27,6 +27,7 @@ CodeFileHasOneAnswer = (a : Asked) (bytes : Text) (e f : End) (ws vs : List Writ
 pub record AskAlike (a b : Asked) : Type 0 where
   pub runs : is_run a.command ≡ true
   pub reports_nothing : report_kind a.command ≡ None
+  pub sums_nothing : sums_up a.command ≡ false
   pub executes : reads_code b.command ≡ true
   pub steps : a.steps ≡ b.steps
   pub stats : a.stats ≡ b.stats

@@ -25,19 +25,19 @@ returns-in_err-write_totals-clause-err g c =
     let done = subst (λ b. ScriptFinished (script_of c.args.prelude.now) (script_of c.args.script.now) c.args.line.now.steps b (g.O.Sink.taken c.args.out.now) (g.O.Sink.taken c.run_script.new.out)
     (g.L.Sink.taken c.args.log.now) (g.L.Sink.taken c.run_script.new.log) c.in_ok-ended.ended) c.tells_events-events.ensures c.in_ok-ended.ensures.ok in
     every_err (script_of c.args.prelude.now) (asked c.args.line.now) c.args.text.now _ _ _ _ c.from_residual-in_err-write_totals.result _ c.from_residual-in_err-write_totals.ensures
-    (front_of_totals (script_of c.args.prelude.now) (asked c.args.line.now) c.args.text.now (script_read (asked c.args.line.now) c.args.text.now (script_of c.args.prelude.now) (script_of c.args.script.now)) c.in_ok-ended.ended done.outcome done.work (script_says (script_of c.args.prelude.now) (asked c.args.line.now) c.args.text.now (script_of c.args.script.now) (record { is_script = c.requires.is_script; is_built = c.requires.is_built }) c.requires.is_run c.requires.reports_nothing c.in_ok-ended.ended _ _ _ _ done) _ _ _ _ (script_taken (script_of c.args.prelude.now) (asked c.args.line.now) c.args.text.now (script_of c.args.script.now) (record { is_script = c.requires.is_script; is_built = c.requires.is_built }) c.requires.is_run c.requires.reports_nothing c.in_ok-ended.ended _ _ _ _ done) _ _ _
+    (front_of_totals (script_of c.args.prelude.now) (asked c.args.line.now) c.args.text.now (script_read (asked c.args.line.now) c.args.text.now (script_of c.args.prelude.now) (script_of c.args.script.now)) c.in_ok-ended.ended done.outcome done.work (script_says (script_of c.args.prelude.now) (asked c.args.line.now) c.args.text.now (script_of c.args.script.now) (record { is_script = c.requires.is_script; is_built = c.requires.is_built }) c.requires.is_run c.requires.reports_nothing c.requires.sums_nothing c.in_ok-ended.ended _ _ _ _ done) _ _ _ _ (script_taken (script_of c.args.prelude.now) (asked c.args.line.now) c.args.text.now (script_of c.args.script.now) (record { is_script = c.requires.is_script; is_built = c.requires.is_built }) c.requires.is_run c.requires.reports_nothing c.requires.sums_nothing c.in_ok-ended.ended _ _ _ _ done) _ _ _
     c.in_err-write_totals.ensures.err)
 
 pub returns-clause-ok : goal.returns-clause-ok
 returns-clause-ok g c =
     let done = subst (λ b. ScriptFinished (script_of c.args.prelude.now) (script_of c.args.script.now) c.args.line.now.steps b (g.O.Sink.taken c.args.out.now) (g.O.Sink.taken c.run_script.new.out)
     (g.L.Sink.taken c.args.log.now) (g.L.Sink.taken c.run_script.new.log) c.in_ok-ended.ended) c.tells_events-events.ensures c.in_ok-ended.ensures.ok in
-    ok_behind (script_of c.args.prelude.now) (asked c.args.line.now) c.args.text.now (script_read (asked c.args.line.now) c.args.text.now (script_of c.args.prelude.now) (script_of c.args.script.now)) c.in_ok-ended.ended done.outcome done.work (script_says (script_of c.args.prelude.now) (asked c.args.line.now) c.args.text.now (script_of c.args.script.now) (record { is_script = c.requires.is_script; is_built = c.requires.is_built }) c.requires.is_run c.requires.reports_nothing c.in_ok-ended.ended _ _ _ _ done) _ _ _ _ (script_taken (script_of c.args.prelude.now) (asked c.args.line.now) c.args.text.now (script_of c.args.script.now) (record { is_script = c.requires.is_script; is_built = c.requires.is_built }) c.requires.is_run c.requires.reports_nothing c.in_ok-ended.ended _ _ _ _ done) _ _ _ _
+    ok_behind (script_of c.args.prelude.now) (asked c.args.line.now) c.args.text.now (script_read (asked c.args.line.now) c.args.text.now (script_of c.args.prelude.now) (script_of c.args.script.now)) c.in_ok-ended.ended done.outcome done.work (script_says (script_of c.args.prelude.now) (asked c.args.line.now) c.args.text.now (script_of c.args.script.now) (record { is_script = c.requires.is_script; is_built = c.requires.is_built }) c.requires.is_run c.requires.reports_nothing c.requires.sums_nothing c.in_ok-ended.ended _ _ _ _ done) _ _ _ _ (script_taken (script_of c.args.prelude.now) (asked c.args.line.now) c.args.text.now (script_of c.args.script.now) (record { is_script = c.requires.is_script; is_built = c.requires.is_built }) c.requires.is_run c.requires.reports_nothing c.requires.sums_nothing c.in_ok-ended.ended _ _ _ _ done) _ _ _ _
     c.in_ok-write_totals.ensures.ok c.write_last.result c.write_last.ensures.ok
 
 pub returns-clause-err : goal.returns-clause-err
 returns-clause-err g c =
     let done = subst (λ b. ScriptFinished (script_of c.args.prelude.now) (script_of c.args.script.now) c.args.line.now.steps b (g.O.Sink.taken c.args.out.now) (g.O.Sink.taken c.run_script.new.out)
     (g.L.Sink.taken c.args.log.now) (g.L.Sink.taken c.run_script.new.log) c.in_ok-ended.ended) c.tells_events-events.ensures c.in_ok-ended.ensures.ok in
-    err_behind (script_of c.args.prelude.now) (asked c.args.line.now) c.args.text.now (script_read (asked c.args.line.now) c.args.text.now (script_of c.args.prelude.now) (script_of c.args.script.now)) c.in_ok-ended.ended done.outcome done.work (script_says (script_of c.args.prelude.now) (asked c.args.line.now) c.args.text.now (script_of c.args.script.now) (record { is_script = c.requires.is_script; is_built = c.requires.is_built }) c.requires.is_run c.requires.reports_nothing c.in_ok-ended.ended _ _ _ _ done) _ _ _ _ (script_taken (script_of c.args.prelude.now) (asked c.args.line.now) c.args.text.now (script_of c.args.script.now) (record { is_script = c.requires.is_script; is_built = c.requires.is_built }) c.requires.is_run c.requires.reports_nothing c.in_ok-ended.ended _ _ _ _ done) _ _ _ _
+    err_behind (script_of c.args.prelude.now) (asked c.args.line.now) c.args.text.now (script_read (asked c.args.line.now) c.args.text.now (script_of c.args.prelude.now) (script_of c.args.script.now)) c.in_ok-ended.ended done.outcome done.work (script_says (script_of c.args.prelude.now) (asked c.args.line.now) c.args.text.now (script_of c.args.script.now) (record { is_script = c.requires.is_script; is_built = c.requires.is_built }) c.requires.is_run c.requires.reports_nothing c.requires.sums_nothing c.in_ok-ended.ended _ _ _ _ done) _ _ _ _ (script_taken (script_of c.args.prelude.now) (asked c.args.line.now) c.args.text.now (script_of c.args.script.now) (record { is_script = c.requires.is_script; is_built = c.requires.is_built }) c.requires.is_run c.requires.reports_nothing c.requires.sums_nothing c.in_ok-ended.ended _ _ _ _ done) _ _ _ _
     c.in_ok-write_totals.ensures.ok c.write_last.result c.write_last.ensures.err
