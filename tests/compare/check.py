@@ -15,6 +15,7 @@ import warnings
 
 from answers import DONE, HERE, OUTSIDE, RAISED, SPENT, ByDefinitions, ByProgram, by_cpython, events_of, tracebacks
 import deep
+import instances
 from form_counts import forms_of, table
 from layout import broken, compared
 from programs import program
@@ -66,7 +67,9 @@ def differences(run, trace, text):
 
 def random_script(seed):
     """Every second one has line ends within parentheses, most have containers, and some exceptions, comprehensions, stars and orders of sequences,
-    builtins that come seldom or are written in Python, and classes."""
+    builtins that come seldom or are written in Python, and classes; some ask special methods of instances in loops, tests, `with` and unpacking."""
+    if seed % 9 == 4:
+        return instances.script(seed)
     text = program(seed, containers=seed % 4 > 0, exceptions=seed % 5 == 0, forms=seed % 4 > 1, builtins=seed % 3 == 0, helpers=seed % 3 == 1,
                    classes=seed % 7 < 2)
     return broken(text, seed) if seed % 2 else text

@@ -36,7 +36,7 @@ CLASSES = [
     "class A:\n    try:\n        x = missing\n    except NameError: x = 1\n    finally: y = 2\nprint(A.x, A.y)\n", "class A:\n    global g\n    g = 1\n    def h(self):\n        global g\n        g += 1\nA().h()\nprint(g)\nA.g\n", "def f():\n    n = 1\n    class A:\n        nonlocal n\n        n = 2\n    print(n)\n    A.n\nf()\n",
     "class A:\n    def __init__(self): self.__x = 1\nclass B(A):\n    def f(self): return self._A__x\nprint(B().f())\n", "class A: pass\nclass A(A):\n    x = 1\nprint(A.x, A.__name__)\n", "class E(StopIteration): pass\nfor x in iter([1]): print(x)\ntry: raise E(1)\nexcept StopIteration as e: print(e.args)\n",
     "class E(SystemExit): pass\nraise E(3)\n", "class E(Exception):\n    args = 5\nprint(E(1).args)\n", "class E(Exception): pass\ne = E(1)\ne.x = 2\nprint(e.x, e.args, e.__cause__, e.__context__)\n", "class A:\n    def __init__(self): raise KeyError(1)\ntry: A()\nexcept KeyError: print('raised')\nA()\n",
-    "class A: pass\nA()()\n", "class A: pass\nprint(A() is None, not A)\nA() + 1\n", "class A:\n    __init__ = 5\nA()\n", "class A:\n    def __init__(self): pass\n    def f(self):\n        self.__init__()\n        return A.__init__\nA().f()()\n", "class A:\n    def f(self): return self\na = A()\nprint(a.f().f() is a)\na.f.x = 1\n",
+    "class A:\n    def __call__(self): pass\nA()()\n", "class A: pass\nprint(A() is None, not A)\nA() + 1\n", "class A:\n    __init__ = 5\nA()\n", "class A:\n    def __init__(self): pass\n    def f(self):\n        self.__init__()\n        return A.__init__\nA().f()()\n", "class A:\n    def f(self): return self\na = A()\nprint(a.f().f() is a)\na.f.x = 1\n",
     "class A:\n    def f(self, n): return n if n == 0 else self.f(n - 1)\nprint(A().f(9))\n", "class A:\n    def f(x, self): return super().__x\nA().f(1)\n",
     "class A:\n    def f(self): return 'f'\nclass B(A):\n    def f(self): return super().f\nprint(B().f()(), B.f(B)(B()))\n", "class A:\n    x = 1\nclass B(A):\n    def f(self): return super().x\nA.x = 2\nprint(B().f())\ndel A.x\nB().f()\n",
 ]
@@ -57,9 +57,8 @@ OWN = [
     ("class A(int): print(1)\n", "1\n", ("outside", "Feature", 1)),
     ("class E(Exception):\n    def __init__(self): pass\nraise E\n", "", ("outside", "Feature", 3)),
     ("class A:\n    __init__ = print\nA()\n", "", ("outside", "Feature", 3)),
-    ("class A: pass\nprint(A())\n", "", ("outside", "Helper", 2)),
-    ("class A: pass\nA() == 1\n", "", ("outside", "Helper", 2)),
-    ("class A:\n    def __call__(self): pass\nA()()\n", "", ("outside", "Feature", 3)),
+    ("class A: pass\nprint(A())\n", "<A object>\n", ("done",)),
+    ("class A: pass\nA()()\n", "", ("raised", "<TypeError>", "'A' object is not callable")),
     ("class A:\n    x = 1\n    __y__ = 2\n", "", ("outside", "Special", 3)),
     ("super(int, 1)\n", "", ("outside", "Feature", 1)),
 ]

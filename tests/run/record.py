@@ -51,7 +51,8 @@ def describe(v, depth=3):
         return f"dict({', '.join(describe(k) + ': ' + describe(x, depth - 1) for k, x in v.items())})" if depth else "..."
     if v is None or isinstance(v, (int, str)):
         return repr(v)
-    return f"<{type(v).__name__}>"
+    # each builtin iterator is of one class here
+    return "<iterator>" if type(v).__module__ == "builtins" and type(v).__name__.endswith("iterator") else f"<{type(v).__name__}>"
 
 
 class Recorder:

@@ -217,8 +217,8 @@ def method(row, name, receiver, *args):
 
 
 def changed_item(row, change, container, index):
-    """Of a list by an integer; of dictionaries and instances that isn't there yet."""
-    if isinstance(container, (dict, *INSTANCES)):
+    """Of a list by an integer; of dictionaries that isn't there yet."""
+    if isinstance(container, dict):
         return FEATURE
     if not isinstance(container, list):
         return f"TypeError: '{class_name(container)}' object is not subscriptable"

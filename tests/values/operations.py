@@ -157,8 +157,9 @@ class Rows:
         told = self.shown(answer)
         first = operands[0][1]["0"] if operands and operands[0][0] == "Obj" else None
         assert all(i == first for i in changed) and len(self.after) >= len(self.before)
-        if kind in ("next", "call_next") or kind[0] == "i" and kind not in ("item", "iter"):
-            if first is not None and self.after[first][0] in ("List", "Cursor"):
+        unpacks = kind.startswith("unpack")
+        if unpacks or kind in ("next", "call_next") or kind[0] == "i" and kind not in ("item", "iter"):
+            if first is not None and self.after[first][0] in (("Cursor",) if unpacks else ("List", "Cursor")):
                 told += f" | {self.made(first)}"
         return told
 

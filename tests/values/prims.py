@@ -9,6 +9,7 @@ answer that changes a list or an iterator is followed by what that is then. What
 is answered.
 """
 
+import itertools
 import operator
 import random
 import types
@@ -280,13 +281,13 @@ def binary(row, sign, a, b):
 
 
 def in_place(row, sign, a, b):
-    """A list changes in place, of items of lists and tuples."""
+    """A list changes in place, of items of lists and tuples; a helper goes through what else is iterable."""
     if isinstance(a, list) and sign == "+":
         if row.is_instance(b):
             return "help extend"
         if not isinstance(b, (list, tuple)):
             if isinstance(b, (str, range, Iterator, dict, set, type({}.keys()))):
-                return FEATURE
+                return "help extend"
             return f"TypeError: '{row.class_name(b)}' object is not iterable"
         a += b
         return row.shown(a)
@@ -305,8 +306,6 @@ IN_PLACE = {"-": set.difference_update, "&": set.intersection_update, "|": set.u
 
 
 def unary(row, sign, a):
-    if row.is_instance(a):
-        return FEATURE
     try:
         return row.shown(UNARY[sign](a))
     except TypeError:
@@ -465,12 +464,23 @@ def next_of(row, end, a, *default):
         return row.item(default[0]) if default else end
 
 
+def unpacked_from(row, count, it):
+    """One item more than is wanted is taken; an iterator that has come to the end goes over nothing."""
+    place = it.place
+    found = list(itertools.islice(it, count + 1)) if it.over is not None else []
+    if len(found) <= count:
+        it.over, it.place = None, place
+    if len(found) != count:
+        return f"ValueError: {'too many' if len(found) > count else 'not enough'} values to unpack"
+    return " ".join(["values", *map(row.item, found)])
+
+
 def unpacked(row, count, a):
     if row.is_instance(a):
         return f"help take {count}"
-    if isinstance(a, (dict, set, type({}.keys()), Iterator)):
-        return FEATURE
-    if not isinstance(a, (str, list, tuple, range)):
+    if isinstance(a, Iterator):
+        return unpacked_from(row, count, a)
+    if not isinstance(a, (str, list, tuple, range, dict, set, type({}.keys()))):
         return f"TypeError: '{row.class_name(a)}' object is not iterable"
     if len(a) != count:
         return f"ValueError: {'too many' if len(a) > count else 'not enough'} values to unpack"
@@ -478,12 +488,12 @@ def unpacked(row, count, a):
 
 
 def item(row, a, i):
-    """An index is an integer or a slice; the method of an instance isn't asked yet."""
+    """An index is an integer or a slice; the method of an instance isn't asked here."""
     if isinstance(a, dict):
         told = found(row, i, a) if not isinstance(i, type({}.keys())) else False
         return told or f"KeyError: {row.item(i)}"
     if not isinstance(a, (str, list, tuple, range)):
-        return FEATURE if row.is_instance(a) else f"TypeError: '{row.class_name(a)}' object is not subscriptable"
+        return f"TypeError: '{row.class_name(a)}' object is not subscriptable"
     if isinstance(i, slice):
         # CPython hands out an operand that it would have to copy
         return (f"s{spelled(a[i])}" if isinstance(a, str) else row.made(a[i])) + " new"
@@ -656,8 +666,9 @@ def answer(line):
         told = answered(row)
     except Other as other:
         told = str(other)
-    if row.kind in ("next", "call_next") or row.kind[0] == "i" and row.kind not in ("item", "iter"):
-        if row.values and isinstance(row.values[0], (list, Iterator)):
+    unpacks = row.kind.startswith("unpack")
+    if unpacks or row.kind in ("next", "call_next") or row.kind[0] == "i" and row.kind not in ("item", "iter"):
+        if row.values and isinstance(row.values[0], Iterator if unpacks else (list, Iterator)):
             told += f" | {row.made(row.values[0])}"
     return told
 

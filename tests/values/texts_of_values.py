@@ -81,7 +81,7 @@ def item(row, a, i):
         told = prims.item(row, a, i)
         return f"{told} new" if isinstance(a, str) and told[0] == "s" and not told.endswith(" new") else told
     if not isinstance(a, (str, list, tuple, range)):
-        return FEATURE if isinstance(a, dict) or row.is_instance(a) else f"TypeError: '{row.class_name(a)}' object is not subscriptable"
+        return FEATURE if isinstance(a, dict) else f"TypeError: '{row.class_name(a)}' object is not subscriptable"
     try:
         return row.fresh(a[i])
     except (TypeError, ValueError) as error:

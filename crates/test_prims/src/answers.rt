@@ -308,12 +308,13 @@ fn write_told(line: &mut String, row: Row, answer: &PrimAns) -> Result<(), NoRow
     Ok(())
 }
 
-/// Whether an operation may change its first operand.
-fn may_change(op: Op) -> bool {
+/// Whether an operation may change its first operand, which is a list or an iterator.
+fn may_change(op: Op, is_list: bool) -> bool {
     match op {
         Op::InPlace(_) => true,
         Op::Next => true,
         Op::Call(pt_content::Function::Next) => true,
+        Op::Unpack { .. } => !is_list,
         _ => false,
     }
 }
@@ -324,13 +325,13 @@ pub fn write_answer(line: &mut String, row: Row, op: Op, answer: &PrimAns) -> Re
     let Some(Value::Obj(id)) = row.operands.first() else {
         return Ok(());
     };
-    if !may_change(op) {
-        return Ok(());
-    }
-    match object_at(row.heap, *id) {
-        Some(Object::List(_)) => {}
-        Some(Object::Cursor(_)) => {}
+    let is_list = match object_at(row.heap, *id) {
+        Some(Object::List(_)) => true,
+        Some(Object::Cursor(_)) => false,
         _ => return Ok(()),
+    };
+    if !may_change(op, is_list) {
+        return Ok(());
     }
     line.push_str(" | ")?;
     write_made(line, row, *id, DEPTH)
