@@ -7,7 +7,7 @@ SUPPORTED = (
     ast.Return, ast.Global, ast.Nonlocal, ast.FunctionDef, ast.Constant, ast.Name, ast.UnaryOp, ast.BinOp, ast.BoolOp, ast.Compare, ast.IfExp, ast.Call,
     ast.keyword, ast.Lambda, ast.arg, ast.Tuple, ast.List, ast.Set, ast.Dict, ast.Attribute, ast.Subscript, ast.Slice, ast.Starred, ast.JoinedStr,
     ast.FormattedValue, ast.ListComp, ast.SetComp, ast.DictComp, ast.Assert, ast.Raise, ast.Try, ast.ExceptHandler,
-    ast.Import, ast.ImportFrom, ast.alias, ast.ClassDef)
+    ast.Import, ast.ImportFrom, ast.alias, ast.ClassDef, ast.With)
 
 # builtins that are to give generators, and aren't there yet; and the keyword, which other letters make a name
 UNAVAILABLE = frozenset("map filter zip enumerate reversed class".split())
@@ -18,12 +18,13 @@ def place(node):
 
 
 def parts(node):
-    """The parts of a node in the order of the source; annotations are none, and the parameters of a function and those of clauses are."""
+    """The parts of a node in the order of the source; annotations are none, and the parameters of a function and
+    those of clauses and of the items of a `with` are."""
     found = []
     for field, value in ast.iter_fields(node):
         if field not in ("annotation", "returns"):
             found += [x for x in (value if isinstance(value, list) else [value]) if isinstance(x, ast.AST)]
-    found += [x for a in found if isinstance(a, (ast.arguments, ast.comprehension)) for x in ast.iter_child_nodes(a)]
+    found += [x for a in found if isinstance(a, (ast.arguments, ast.comprehension, ast.withitem)) for x in ast.iter_child_nodes(a)]
     return sorted((x for x in found if hasattr(x, "lineno")), key=place)
 
 

@@ -31,6 +31,7 @@ ROWS = [
 ]
 
 SUPPORTED = [
+    "with a: pass\n", "with a as b, c(d) as e:\n    f\n",
     "import a\n", "import a, b as c\n", "from a import b\n", "from map import zip as b, c\n", "import open as a\n",
     "None\nTrue\nFalse\n...\n1\n'a'\n'a' 'b'\n", "x = -1\ny = +x\nz = ~x\nw = not x\n",
     "a = 1 + 2 - 3 * 4 // 5 % 6 ** 7 / 8 & 9 | 10 ^ 11 << 12 >> 13\n", "a = 1 < 2 <= 3 == 4 != 5 >= 6 > 7 is 8 is not 9 in b not in c\n",
@@ -132,7 +133,7 @@ UNSUPPORTED = [
     "x = (a\n     == (b for b in d) in\n     c)\n", "x = a in (b for b in c)\n", "f(1,\n  (b for b in c))\n",
     "f(a=\n  (b for b in c))\n", "def f(*, a, b=\n  (c for c in d)): pass\n", "@(a for a in b)\ndef f(): pass\n",
     "@a\n@(b for b in c)\ndef f(): pass\n", 
-    "with a: pass\n", "ｃｌａｓｓ = 1\n", "x = [0 for\n  ｃｌａｓｓ in y]\n", "def f(a,\n  ｃｌａｓｓ): pass\n", "class A:\n    ｃｌａｓｓ\n",
+    "ｃｌａｓｓ = 1\n", "x = [0 for\n  ｃｌａｓｓ in y]\n", "def f(a,\n  ｃｌａｓｓ): pass\n", "class A:\n    ｃｌａｓｓ\n",
     "import a, b as map\n", "from a import map\n", "from a import b as enumerate\n", "map(f, [1])\n", "x = reversed\n", "print(\n  zip)\n", "map = 1\n", "a = filter = 1\n",
     "zip += 1\n",
     "del zip\n", "enumerate: int\n", "def zip(): pass\n", "@f(1)\ndef zip(): pass\n", "def f(a,\n  map=1): pass\n", "lambda enumerate: 1\n",

@@ -354,7 +354,7 @@ inst.x | *** AttributeError: 'C' object has no attribute 'x'
 inst.__code__ | *** AttributeError: 'C' object has no attribute '__code__'
 err | refused
 err.__cause__ | None false
-err.args | *** Outside: feature
+err.args | () false
 func | <function object> true
 func.__code__ | refused
 func.__name__ | *** Outside: feature
@@ -371,7 +371,7 @@ f'{sorted}' | '<builtin_function_or_method object>' true
 {sum: 1}[sum] | 1 true
 sum.x | *** AttributeError: 'builtin_function_or_method' object has no attribute 'x'
 sum.__code__ | refused
-sum.__name__ | *** Outside: feature
+sum.__name__ | *** AttributeError: 'builtin_function_or_method' object has no attribute '__name__'
 sum(l) | refused
 l or sorted(l) | refused
 list | <class 'list'> true
